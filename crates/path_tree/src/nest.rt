@@ -1,0 +1,256 @@
+//! The forms of the grammar, each read from the front of some tokens.
+//!
+//! Each function takes the operations that were seen and gives those that were seen then, as bits.
+//! `depth` is the number of levels that may still be opened.
+
+ghost use Rattle.std.specs.Prelude.{◌≤◌};
+ghost use Rattle.path_tree.specs.declared.token.Symbol.TheVariants.{Comma, Semicolon, Colon};
+ghost use Rattle.path_tree.specs.Lexeme.{lexemes};
+ghost use Rattle.path_tree.specs.Known.{known_of};
+ghost use Rattle.path_tree.specs.Reading.{Gives, node_read, parts_read, group_in, burst_in, bounded_in, opened_in, named_in, name_at, limit_of, nested_in, items_in, parts_at, sequence_in, symbol_at};
+
+use crate::front::{after, behind, start_of};
+use crate::lookup::{constant_of, is_seen, operation_of, with};
+use crate::node::Node;
+use crate::parts::{Parts, list_node, put, sequence_node};
+use crate::path_fault::PathFault;
+use crate::scope::Scope;
+use crate::token::{Kind, Symbol, Token, is_same_symbol};
+use std::alloc::Global;
+
+/// What was read, the operations that were seen then, and the tokens behind.
+pub(crate) type Read<'t, T> = Result<(T, u32, &'t [Token]), PathFault>;
+
+/// A number as a bound.
+#[tactic(auto, unfolding(crate::specs::Reading::limit_of))]
+fn limit(n: u32, at: usize) -> Result<u16, PathFault>
+    ensures { Gives (λ x. x) result (limit_of n) }
+{
+    if n >= 1 && n <= 65535 {
+        Ok(n as u16)
+    } else {
+        Err(PathFault::BadBound(at))
+    }
+}
+
+/// An operation that was not seen before.
+#[tactic(auto, unfolding(crate::specs::Reading::name_at))]
+fn name<'t>(scope: &Scope, text: &[u8], at: usize, tokens: &'t [Token], seen: u32) -> Read<'t, Node>
+    ensures { Gives node_read result (name_at (known_of scope.now) text.now seen (lexemes tokens.now)) }
+{
+    match operation_of(scope.operations, text) {
+        None => Err(PathFault::UnknownName(at)),
+        Some(op) => {
+            if is_seen(seen, op) {
+                Err(PathFault::RepeatedName(at))
+            } else {
+                Ok((Node::Name(op), with(seen, op), tokens))
+            }
+        }
+    }
+}
+
+/// A list, one level deeper.
+#[cycle(reading)]
+#[tactic(auto, unfolding(crate::specs::Reading::list_in), using(crate::proofs::Steps::nested_step))]
+fn nested<'t>(
+    alloc: Global,
+    scope: &Scope,
+    at: usize,
+    tokens: &'t [Token],
+    seen: u32,
+    depth: u8,
+) -> Read<'t, Node>
+    ensures { Gives node_read result (nested_in scope.now depth seen (lexemes tokens.now)) }
+{
+    if depth == 0 {
+        return Err(PathFault::TooDeep(at));
+    }
+    let (parts, seen, rest) = list(alloc, scope, tokens, seen, depth - 1, scope.most)?;
+    Ok((list_node(alloc, parts)?, seen, rest))
+}
+
+/// A list in parentheses, behind the symbol that opens.
+#[cycle(reading)]
+#[tactic(auto, unfolding(crate::specs::Reading::group_in))]
+fn group<'t>(
+    alloc: Global,
+    scope: &Scope,
+    at: usize,
+    tokens: &'t [Token],
+    seen: u32,
+    depth: u8,
+) -> Read<'t, Node>
+    ensures { Gives node_read result (group_in (nested_in scope.now depth) seen (lexemes tokens.now)) }
+{
+    let (inside, seen, rest) = nested(alloc, scope, at, tokens, seen, depth)?;
+    let rest = behind(rest, Symbol::CloseParen)?;
+    Ok((inside, seen, rest))
+}
+
+/// A list in brackets, behind the symbol that opens.
+#[cycle(reading)]
+#[tactic(auto, unfolding(crate::specs::Reading::burst_in))]
+fn burst<'t>(
+    alloc: Global,
+    scope: &Scope,
+    at: usize,
+    tokens: &'t [Token],
+    seen: u32,
+    depth: u8,
+) -> Read<'t, Node>
+    ensures { Gives node_read result (burst_in (nested_in scope.now depth) seen (lexemes tokens.now)) }
+{
+    let (inside, seen, rest) = nested(alloc, scope, at, tokens, seen, depth)?;
+    let rest = behind(rest, Symbol::CloseBracket)?;
+    Ok((Node::Burst(Box::new(alloc, inside)?), seen, rest))
+}
+
+/// What stands behind a number that bounds.
+#[cycle(reading)]
+#[tactic(auto, unfolding(crate::specs::Reading::bounded_in))]
+fn bounded<'t>(
+    alloc: Global,
+    scope: &Scope,
+    n: u32,
+    at: usize,
+    tokens: &'t [Token],
+    seen: u32,
+    depth: u8,
+) -> Read<'t, Node>
+    ensures { Gives node_read result (bounded_in (nested_in scope.now depth) n seen (lexemes tokens.now)) }
+{
+    let limit = limit(n, at)?;
+    let paren = behind(tokens, Symbol::Colon)?;
+    let opened = behind(paren, Symbol::OpenParen)?;
+    let (inside, seen, rest) = group(alloc, scope, start_of(paren), opened, seen, depth)?;
+    Ok((Node::Bound(limit, Box::new(alloc, inside)?), seen, rest))
+}
+
+/// What begins with a name.
+#[cycle(reading)]
+#[tactic(auto, unfolding(crate::specs::Reading::named_in))]
+fn named<'t>(
+    alloc: Global,
+    scope: &Scope,
+    text: &[u8],
+    at: usize,
+    tokens: &'t [Token],
+    seen: u32,
+    depth: u8,
+) -> Read<'t, Node>
+    ensures { Gives node_read result (named_in (known_of scope.now) (nested_in scope.now depth) text.now (lexemes tokens.now) (symbol_at Colon (lexemes tokens.now)) seen) }
+{
+    match after(tokens, Symbol::Colon) {
+        None => name(scope, text, at, tokens, seen),
+        Some(_) => match constant_of(scope.constants, text) {
+            None => Err(PathFault::UnknownName(at)),
+            Some(n) => bounded(alloc, scope, n, at, tokens, seen, depth),
+        },
+    }
+}
+
+/// What stands behind a symbol that opens.
+#[cycle(reading)]
+#[tactic(auto, unfolding(crate::specs::Reading::opened_in))]
+fn opened<'t>(
+    alloc: Global,
+    scope: &Scope,
+    symbol: Symbol,
+    at: usize,
+    tokens: &'t [Token],
+    seen: u32,
+    depth: u8,
+) -> Read<'t, Node>
+    ensures { Gives node_read result (opened_in (nested_in scope.now depth) symbol seen (lexemes tokens.now)) }
+{
+    if is_same_symbol(symbol, Symbol::OpenParen) {
+        group(alloc, scope, at, tokens, seen, depth)
+    } else if is_same_symbol(symbol, Symbol::OpenBracket) {
+        burst(alloc, scope, at, tokens, seen, depth)
+    } else {
+        Err(PathFault::Expected(at))
+    }
+}
+
+/// One item.
+#[cycle(reading)]
+#[tactic(auto, unfolding(crate::specs::Reading::item_in))]
+fn item<'t>(
+    alloc: Global,
+    scope: &Scope,
+    tokens: &'t [Token],
+    seen: u32,
+    depth: u8,
+) -> Read<'t, Node>
+    ensures { Gives node_read result (items_in scope.now depth seen (lexemes tokens.now)) }
+{
+    match tokens {
+        [] => Err(PathFault::Expected(0)),
+        [token, rest @ ..] => {
+            let at = token.start;
+            match &token.kind {
+                Kind::Number(n) => bounded(alloc, scope, *n, at, rest, seen, depth),
+                Kind::Name(name) => named(alloc, scope, name.as_bytes(), at, rest, seen, depth),
+                Kind::Symbol(s) => opened(alloc, scope, *s, at, rest, seen, depth),
+                Kind::Text(_) => Err(PathFault::Expected(at)),
+                Kind::EndMark => Err(PathFault::Expected(at)),
+            }
+        }
+    }
+}
+
+/// Items behind semicolons.
+#[cycle(reading)]
+#[tactic(auto, unfolding(crate::specs::Reading::with_others), using(crate::proofs::Steps::parts_step))]
+fn sequence<'t>(
+    alloc: Global,
+    scope: &Scope,
+    tokens: &'t [Token],
+    seen: u32,
+    depth: u8,
+    left: u32,
+) -> Read<'t, Parts>
+    requires { left ≤ scope.now.most }
+    ensures { Gives parts_read result (parts_at Semicolon (items_in scope.now depth) left seen (lexemes tokens.now)) }
+{
+    if left == 0 {
+        return Err(PathFault::Expected(start_of(tokens)));
+    }
+    let (first, seen, rest) = item(alloc, scope, tokens, seen, depth)?;
+    match after(rest, Symbol::Semicolon) {
+        None => Ok((Parts::One(first), seen, rest)),
+        Some(rest) => {
+            let (others, seen, rest) = sequence(alloc, scope, rest, seen, depth, left - 1)?;
+            Ok((Parts::Several(put(alloc, first, others)?), seen, rest))
+        }
+    }
+}
+
+/// Sequences behind commas.
+#[cycle(reading)]
+#[tactic(auto, unfolding(crate::specs::Reading::sequence_in, crate::specs::Reading::with_others), using(crate::proofs::Steps::parts_step))]
+pub(crate) fn list<'t>(
+    alloc: Global,
+    scope: &Scope,
+    tokens: &'t [Token],
+    seen: u32,
+    depth: u8,
+    left: u32,
+) -> Read<'t, Parts>
+    requires { left ≤ scope.now.most }
+    ensures { Gives parts_read result (parts_at Comma (sequence_in (items_in scope.now depth) scope.now.most) left seen (lexemes tokens.now)) }
+{
+    if left == 0 {
+        return Err(PathFault::Expected(start_of(tokens)));
+    }
+    let (parts, seen, rest) = sequence(alloc, scope, tokens, seen, depth, scope.most)?;
+    let first = sequence_node(alloc, parts)?;
+    match after(rest, Symbol::Comma) {
+        None => Ok((Parts::One(first), seen, rest)),
+        Some(rest) => {
+            let (others, seen, rest) = list(alloc, scope, rest, seen, depth, left - 1)?;
+            Ok((Parts::Several(put(alloc, first, others)?), seen, rest))
+        }
+    }
+}
