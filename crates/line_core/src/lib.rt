@@ -1,0 +1,14 @@
+//! Answers to the lines of a text, from any reader to any writer.
+//!
+//! A `Machine` answers one line at a time. `run_lines` reads a text in pieces, cuts it into lines and
+//! writes the answers, all those of a piece before the next read. A line ends with LF; the last one
+//! may lack it; a CR before LF is dropped. Bytes that are no text are harmless: a line is bytes.
+#![tactic(auto)]
+
+mod engine;
+mod machine;
+mod send;
+
+pub use engine::{MOST_READS, run_lines};
+pub use machine::{LinesEnd, LinesFault, Machine};
+pub use send::write_whole;
