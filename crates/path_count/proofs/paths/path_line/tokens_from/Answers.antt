@@ -1,0 +1,7 @@
+use Rattle.std.proofs.Common.{sym, ap, ◌∙◌}
+use Rattle.std.proofs.lemmas.List.{drop-map}
+use Rattle.path_tree.specs.Lexeme.{lexemes, lexeme_of}
+use Rattle.path_count.proofs.paths.path_line.tokens_from.Goals as goal
+
+pub returns : goal.returns
+returns c = ap lexemes c.split_at.ensures.back ∙ sym (drop-map (λ t. lexeme_of t.kind) c.args.at c.args.tokens.now)
