@@ -1,0 +1,9 @@
+pub mod Openings
+pub mod Padding
+pub mod Tables
+pub mod TableRows
+pub mod Apart
+pub mod Decoding
+pub mod Encoding
+pub mod Rising
+pub mod Unique

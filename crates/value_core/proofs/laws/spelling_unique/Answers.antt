@@ -1,0 +1,5 @@
+use Rattle.value_core.proofs.Unique.{unique}
+use Rattle.value_core.proofs.laws.spelling_unique.Goals as goal
+
+pub returns : goal.returns
+returns c = unique

@@ -1,0 +1,56 @@
+-- What a part holds.
+use Rattle.std.specs.Prelude.{ℕ, ◌≤◌, List, [], length, All}
+use Rattle.std.specs.FinMap as map
+use Rattle.value_core.specs.declared.datum.Datum.{Datum}
+use Rattle.value_core.specs.declared.kind.Elem.{Elem}
+use Rattle.value_core.specs.declared.kind.Kind.{Kind}
+use Rattle.value_core.specs.declared.kind.Kind.TheVariants as kind
+use Rattle.value_core.specs.Limits.{most_elements}
+use Rattle.value_core.specs.Plain.{IsText}
+use Rattle.value_core.specs.Datum.{IsElement}
+use Rattle.value_core.specs.TextOrder.{text_cmp}
+
+-- an array and a queue (its oldest first) are lists, a table is a finite map from texts
+pub data Contents : Type 0 where
+  array : Elem → List Datum → Contents
+  queue : Elem → List Datum → Contents
+  table : Elem → map.FinMap text_cmp Datum → Contents
+
+-- the kind of a value
+abbrev pub kind_of : Contents → Kind
+kind_of (array e xs) = kind.Array (length xs) e
+kind_of (queue e xs) = kind.Queue e
+kind_of (table e m) = kind.Table e
+
+-- the elements of an array or a queue, in order
+abbrev pub elements_of : Contents → List Datum
+elements_of (array e xs) = xs
+elements_of (queue e xs) = xs
+elements_of (table e m) = []
+
+-- the rows of a table, in the order of their keys
+abbrev pub rows_of : Contents → List (List ℕ × Datum)
+rows_of (array e xs) = []
+rows_of (queue e xs) = []
+rows_of (table e m) = map.entries m
+
+-- at most 1,024 elements of one sort
+pub record AreElements (e : Elem) (xs : List Datum) : Type 0 where
+  pub each : All (IsElement e) xs
+  pub few : length xs ≤ most_elements
+
+-- a text, and an element under it
+pub record IsRow (e : Elem) (row : List ℕ × Datum) : Type 0 where
+  pub key : IsText row.0
+  pub element : IsElement e row.1
+
+-- at most 1,024 elements of one sort, under texts
+pub record AreRows (e : Elem) (m : map.FinMap text_cmp Datum) : Type 0 where
+  pub each : All (IsRow e) (map.entries m)
+  pub few : map.len m ≤ most_elements
+
+-- the contents that a value can have
+abbrev pub IsContents : Contents → Type 0
+IsContents (array e xs) = AreElements e xs
+IsContents (queue e xs) = AreElements e xs
+IsContents (table e m) = AreRows e m

@@ -1,0 +1,18 @@
+-- Laws of spellings.
+use Rattle.std.specs.Prelude.{◌≡◌, ℕ, ◌+◌, ◌*◌, List, Some, slice_get, take, drop}
+use Rattle.std.specs.Int.{w32, to_be_bytes}
+use Rattle.value_core.specs.declared.datum.Datum.{Datum}
+use Rattle.value_core.specs.declared.datum.Datum.TheVariants as datum
+use Rattle.value_core.specs.declared.kind.Elem.TheVariants as elem
+use Rattle.value_core.specs.declared.kind.Kind.{Kind}
+use Rattle.value_core.specs.Contents.{Contents, array, IsContents}
+use Rattle.value_core.specs.Spelling.{Spells, spelling}
+
+-- no two values share a spelling, in one kind or in two
+abbrev pub SpellingUnique : Type 0
+SpellingUnique = (bytes : List ℕ) (k l : Kind) (first second : Contents) → Spells bytes k first → Spells bytes l second → first ≡ second
+
+-- the integer at place i of an array stands in the four bytes from 4 + 4 * i on
+abbrev pub IntegersStandInPlace : Type 0
+IntegersStandInPlace = (xs : List Datum) (i n : ℕ) → IsContents (array elem.Integer xs) → slice_get xs i ≡ Some (datum.Integer n) →
+    take 4 (drop (4 + 4 * i) (spelling (array elem.Integer xs))) ≡ to_be_bytes w32 n

@@ -1,0 +1,16 @@
+pub mod Limits
+pub mod Plain
+pub mod Text
+pub mod TextOrder
+pub mod Datum
+pub mod Cells
+pub mod Line
+pub mod Contents
+pub mod Spelling
+pub mod Laws
+pub mod Meaning
+pub mod Words
+pub mod Rows
+pub mod Body
+pub mod Code
+pub mod Kinds

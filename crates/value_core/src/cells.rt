@@ -1,0 +1,136 @@
+//! The elements of an array: integers in four bytes each, texts in their rows.
+
+ghost use Rattle.std.specs.Prelude.{◌≡◌, ◌<◌, ◌++◌, ◌∷◌, [], length, replicate, slice_get, slice_set, IfOk, OnOk, OnErr};
+ghost use Rattle.value_core.specs.Datum.{elem_of, zero_of};
+ghost use Rattle.value_core.specs.Cells.{cells_sort, cells_data};
+
+use crate::datum::Datum;
+use crate::kind::Elem;
+use crate::text::Text;
+use std::alloc::{AllocError, Global};
+
+/// The elements of an array.
+#[derive(Drop)]
+pub enum Cells {
+    Integers(Vec<u32>),
+    Texts(Vec<Text>),
+}
+
+impl Cells {
+    /// No elements of this sort, with room for so many.
+    pub fn with_capacity(alloc: Global, sort: Elem, room: usize) -> Result<Cells, AllocError>
+        ensures sort { IfOk result (λ cells. cells_sort cells ≡ sort) }
+        ensures data { IfOk result (λ cells. cells_data cells ≡ []) }
+    {
+        match sort {
+            Elem::Integer => Ok(Cells::Integers(Vec::with_capacity(alloc, room)?)),
+            Elem::Text => Ok(Cells::Texts(Vec::with_capacity(alloc, room)?)),
+        }
+    }
+
+    /// So many zeros or empty texts.
+    pub fn zeros(alloc: Global, sort: Elem, count: usize) -> Result<Cells, AllocError>
+        ensures sort { IfOk result (λ cells. cells_sort cells ≡ sort) }
+        ensures data { IfOk result (λ cells. cells_data cells ≡ replicate count (zero_of sort)) }
+    {
+        match sort {
+            Elem::Integer => Ok(Cells::Integers(vec![in alloc; 0; count]?)),
+            Elem::Text => Ok(Cells::Texts(vec![in alloc; Text::empty(); count]?)),
+        }
+    }
+
+    /// Which sort its elements are.
+    pub fn sort(&self) -> Elem
+        ensures { result ≡ cells_sort self.now }
+    {
+        match self {
+            Cells::Integers(_) => Elem::Integer,
+            Cells::Texts(_) => Elem::Text,
+        }
+    }
+
+    /// The number of elements.
+    pub fn len(&self) -> usize
+        ensures { result ≡ length (cells_data self.now) }
+    {
+        match self {
+            Cells::Integers(all) => all.len(),
+            Cells::Texts(all) => all.len(),
+        }
+    }
+
+    /// The element at a place, counted from 0.
+    pub fn get(&self, place: usize) -> Option<Datum>
+        ensures { result ≡ slice_get (cells_data self.now) place }
+    {
+        match self {
+            Cells::Integers(all) => all.get(place).copied().map(Datum::Integer),
+            Cells::Texts(all) => all.get(place).copied().map(Datum::Text),
+        }
+    }
+
+    /// Puts an element in the place of another.
+    pub fn set(&mut self, place: usize, datum: Datum)
+        requires place { place < length (cells_data self.old) }
+        requires sort { elem_of datum ≡ cells_sort self.old }
+        ensures sort { cells_sort self.new ≡ cells_sort self.old }
+        ensures data { cells_data self.new ≡ slice_set (cells_data self.old) place datum }
+    {
+        match self {
+            Cells::Integers(all) => match datum {
+                Datum::Integer(number) => all[place] = number,
+                Datum::Text(_) => unreachable!(),
+            },
+            Cells::Texts(all) => match datum {
+                Datum::Text(text) => all[place] = text,
+                Datum::Integer(_) => unreachable!(),
+            },
+        }
+    }
+
+    /// Adds an element behind the others.
+    pub fn push(&mut self, datum: Datum) -> Result<(), AllocError>
+        requires { elem_of datum ≡ cells_sort self.old }
+        ensures sort { cells_sort self.new ≡ cells_sort self.old }
+        ensures ok { OnOk result (cells_data self.new ≡ cells_data self.old ++ datum ∷ []) }
+        ensures err { OnErr result (cells_data self.new ≡ cells_data self.old) }
+    {
+        match self {
+            Cells::Integers(all) => match datum {
+                Datum::Integer(number) => Ok(all.push(number)?),
+                Datum::Text(_) => unreachable!(),
+            },
+            Cells::Texts(all) => match datum {
+                Datum::Text(text) => Ok(all.push(text)?),
+                Datum::Integer(_) => unreachable!(),
+            },
+        }
+    }
+
+    /// How many bytes spell the elements.
+    pub fn spelled_len(&self) -> usize {
+        match self {
+            Cells::Integers(all) => all.len().saturating_mul(4),
+            Cells::Texts(all) => {
+                let mut total = 0usize;
+                for text in all {
+                    total = total.saturating_add(text.spelled_len());
+                }
+                total
+            }
+        }
+    }
+
+    /// The elements, in order.
+    pub fn list(&self, alloc: Global) -> Result<Vec<Datum>, AllocError>
+        ensures { IfOk result (λ list. list.items ≡ cells_data self.now) }
+    {
+        let mut list = Vec::with_capacity(alloc, self.len())?;
+        for place in 0..self.len() {
+            if let Some(datum) = self.get(place) {
+                list.push(datum)?;
+            }
+        }
+        Ok(list)
+    }
+}

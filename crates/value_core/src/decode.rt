@@ -1,0 +1,171 @@
+//! Values from their bytes.
+
+ghost use Rattle.std.specs.Prelude.{◌≡◌, ◌≤◌, List, IfOk, IsErrOf, IsTrue, ◌↔◌, ◌++◌};
+ghost use Rattle.value_core.specs.declared.datum.Datum.{Datum};
+ghost use Rattle.value_core.specs.Limits.{most_elements};
+ghost use Rattle.value_core.specs.Contents.{Contents};
+ghost use Rattle.value_core.specs.Spelling.{Spells, SpellElements, SpellRows, IsAfter, header};
+ghost use Rattle.value_core.specs.Rows.{rows_sort, rows_map};
+ghost use Rattle.value_core.specs.TextOrder.{text_cmp};
+ghost use Rattle.std.specs.FinMap as map;
+ghost use Rattle.value_core.specs.Cells.{cells_sort, cells_data};
+ghost use Rattle.value_core.specs.Line.{line_sort, line_data};
+
+use crate::cells::Cells;
+use crate::kind::{Elem, Kind};
+use crate::limits::MOST_ELEMENTS;
+use crate::line::Line;
+use crate::reader::{read_datum, read_header, read_row};
+use crate::rows::Rows;
+use crate::text::Text;
+use crate::value::{Body, Value};
+use std::alloc::{AllocError, Global};
+use std::cmp::Ordering;
+use thiserror::Error;
+
+/// Why bytes gave no value.
+#[derive(Clone, Copy, Debug, PartialEq, Eq, Error)]
+pub enum DecodeFault {
+    /// They spell no value of this kind.
+    #[error("damaged")]
+    Damaged,
+    /// Memory was refused.
+    #[error("out of memory")]
+    Memory,
+}
+
+impl From<AllocError> for DecodeFault {
+    ghost use Rattle.std.specs.Prelude.{◌≡◌};
+    ghost use Rattle.value_core.specs.declared.decode.DecodeFault.TheVariants.{Memory};
+
+    ghost from_gives = { λ _ e. e ≡ Memory };
+
+    fn from(_: AllocError) -> DecodeFault {
+        DecodeFault::Memory
+    }
+}
+
+// The elements of an array, so many, that the bytes are.
+fn decode_cells(alloc: Global, sort: Elem, count: usize, bytes: &[u8]) -> Result<Cells, DecodeFault>
+    ensures sort { IfOk result (λ cells. cells_sort cells ≡ sort) }
+    ensures found { IfOk result (λ cells. SpellElements bytes.now sort count (cells_data cells)) }
+    ensures damaged { IsErrOf result DecodeFault.Damaged → (xs : List Datum) → SpellElements bytes.now sort count xs → ⊥ }
+{
+    let mut cells = Cells::with_capacity(alloc, sort, count)?;
+    let mut rest = bytes;
+    for place in 0..count {
+        let Some((datum, behind)) = read_datum(sort, rest) else {
+            return Err(DecodeFault::Damaged);
+        };
+        cells.push(datum)?;
+        rest = behind;
+    }
+    if !rest.is_empty() {
+        return Err(DecodeFault::Damaged);
+    }
+    Ok(cells)
+}
+
+// The elements of a queue, so many, that the bytes are.
+fn decode_line(alloc: Global, sort: Elem, count: usize, bytes: &[u8]) -> Result<Line, DecodeFault>
+    ensures sort { IfOk result (λ line. line_sort line ≡ sort) }
+    ensures found { IfOk result (λ line. SpellElements bytes.now sort count (line_data line)) }
+    ensures damaged { IsErrOf result DecodeFault.Damaged → (xs : List Datum) → SpellElements bytes.now sort count xs → ⊥ }
+{
+    let mut line = Line::with_capacity(alloc, sort, count)?;
+    let mut rest = bytes;
+    for place in 0..count {
+        let Some((datum, behind)) = read_datum(sort, rest) else {
+            return Err(DecodeFault::Damaged);
+        };
+        line.push(datum)?;
+        rest = behind;
+    }
+    if !rest.is_empty() {
+        return Err(DecodeFault::Damaged);
+    }
+    Ok(line)
+}
+
+// The rows of a table, so many, that the bytes are.
+fn decode_rows(alloc: Global, sort: Elem, count: usize, bytes: &[u8]) -> Result<Rows, DecodeFault>
+    ensures sort { IfOk result (λ rows. rows_sort rows ≡ sort) }
+    ensures found { IfOk result (λ rows. SpellRows bytes.now sort count (rows_map rows)) }
+    ensures damaged { IsErrOf result DecodeFault.Damaged → (m : map.FinMap text_cmp Datum) → SpellRows bytes.now sort count m → ⊥ }
+{
+    let mut rows = Rows::new(alloc, sort);
+    let mut rest = bytes;
+    let mut last: Option<Text> = None;
+    for place in 0..count {
+        let Some(row) = read_row(sort, rest) else {
+            return Err(DecodeFault::Damaged);
+        };
+        let (key, datum, behind) = row;
+        if !rises(&last, &key) {
+            return Err(DecodeFault::Damaged);
+        }
+        rows.insert(key, datum)?;
+        last = Some(key);
+        rest = behind;
+    }
+    if !rest.is_empty() {
+        return Err(DecodeFault::Damaged);
+    }
+    Ok(rows)
+}
+
+// Whether a key comes after the last one.
+fn rises(last: &Option<Text>, key: &Text) -> bool
+    ensures { IsTrue result ↔ IsAfter last.now key.now }
+{
+    match last {
+        Some(last) => matches!(last.cmp(key), Ordering::Less),
+        None => true,
+    }
+}
+
+// The value of this kind, with so many elements, that the bytes behind the header are.
+fn decode_elements(
+    alloc: Global,
+    kind: Kind,
+    count: u16,
+    bytes: &[u8],
+) -> Result<Value, DecodeFault>
+    requires { count ≤ most_elements }
+    ensures found { IfOk result (λ value. Spells (header kind count ++ bytes.now) kind value) }
+    ensures damaged { IsErrOf result DecodeFault.Damaged → (value : Contents) → Spells (header kind count ++ bytes.now) kind value → ⊥ }
+{
+    let many = count as usize;
+    match kind {
+        Kind::Array(length, sort) => {
+            if count != length {
+                return Err(DecodeFault::Damaged);
+            }
+            let cells = decode_cells(alloc, sort, many, bytes)?;
+            Ok(Value::of(Body::Array(cells)))
+        }
+        Kind::Queue(sort) => {
+            let line = decode_line(alloc, sort, many, bytes)?;
+            Ok(Value::of(Body::Queue(line)))
+        }
+        Kind::Table(sort) => {
+            let rows = decode_rows(alloc, sort, many, bytes)?;
+            Ok(Value::of(Body::Table(rows)))
+        }
+    }
+}
+
+/// The value of this kind that the bytes spell. `Damaged` where they spell none, whatever memory there
+/// is; `Memory` where it was refused before that was seen.
+pub fn decode(alloc: Global, kind: Kind, bytes: &[u8]) -> Result<Value, DecodeFault>
+    ensures found { IfOk result (λ value. Spells bytes.now kind value) }
+    ensures damaged { IsErrOf result DecodeFault.Damaged → (value : Contents) → Spells bytes.now kind value → ⊥ }
+{
+    let Some((code, count, rest)) = read_header(bytes) else {
+        return Err(DecodeFault::Damaged);
+    };
+    if code != kind.code() || count > MOST_ELEMENTS {
+        return Err(DecodeFault::Damaged);
+    }
+    decode_elements(alloc, kind, count, rest)
+}

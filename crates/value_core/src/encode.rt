@@ -1,0 +1,87 @@
+//! The bytes of a value.
+
+ghost use Rattle.std.specs.Prelude.{◌≡◌, ◌++◌, OnOk, IfOk};
+ghost use Rattle.std.specs.List.{flat_map};
+ghost use Rattle.std.specs.Int.{w32, to_be_bytes};
+ghost use Rattle.value_core.specs.Contents.{kind_of};
+ghost use Rattle.value_core.specs.Cells.{cells_data};
+ghost use Rattle.value_core.specs.Line.{line_data};
+ghost use Rattle.value_core.specs.Spelling.{spelled_text, spelled_datum, header, Spells};
+
+use crate::cells::Cells;
+use crate::datum::Datum;
+use crate::kind::Kind;
+use crate::limits::TextLength;
+use crate::line::Line;
+use crate::text::Text;
+use crate::value::{Body, Value};
+use std::alloc::{AllocError, Global};
+
+/// The bytes that spell the value.
+pub fn encode(alloc: Global, value: &Value) -> Result<Vec<u8>, AllocError>
+    ensures { IfOk result (λ bytes. Spells bytes.items (kind_of value.now) value.now) }
+{
+    let mut out = Vec::with_capacity(alloc, value.spelled_len())?;
+    put_header(&mut out, value.kind(), value.count() as u16)?;
+    match value.body() {
+        Body::Array(cells) => put_cells(&mut out, cells)?,
+        Body::Queue(line) => put_line(&mut out, line)?,
+        Body::Table(rows) => rows.put(&mut out)?,
+    }
+    Ok(out)
+}
+
+fn put_header(out: &mut Vec<u8>, kind: Kind, count: u16) -> Result<(), AllocError>
+    ensures { OnOk result (out.new.items ≡ out.old.items ++ header kind count) }
+{
+    out.push(1)?;
+    out.push(kind.code())?;
+    out.extend_from_slice(&count.to_be_bytes())
+}
+
+/// Adds the length of a text, and its bytes.
+pub fn put_text(out: &mut Vec<u8>, text: &Text) -> Result<(), AllocError>
+    ensures { OnOk result (out.new.items ≡ out.old.items ++ spelled_text text.now) }
+{
+    let len: TextLength = text.len();
+    out.extend_from_slice(&len.to_be_bytes())?;
+    out.extend_from_slice(text.bytes())
+}
+
+/// Adds four bytes, the highest first.
+pub fn put_integer(out: &mut Vec<u8>, number: u32) -> Result<(), AllocError>
+    ensures { OnOk result (out.new.items ≡ out.old.items ++ to_be_bytes w32 number) }
+{
+    out.extend_from_slice(&number.to_be_bytes())
+}
+
+fn put_datum(out: &mut Vec<u8>, datum: &Datum) -> Result<(), AllocError>
+    ensures { OnOk result (out.new.items ≡ out.old.items ++ spelled_datum datum.now) }
+{
+    match datum {
+        Datum::Integer(number) => put_integer(out, *number),
+        Datum::Text(text) => put_text(out, text),
+    }
+}
+
+fn put_cells(out: &mut Vec<u8>, cells: &Cells) -> Result<(), AllocError>
+    ensures { OnOk result (out.new.items ≡ out.old.items ++ flat_map spelled_datum (cells_data cells.now)) }
+{
+    for place in 0..cells.len() {
+        if let Some(datum) = cells.get(place) {
+            put_datum(out, &datum)?;
+        }
+    }
+    Ok(())
+}
+
+fn put_line(out: &mut Vec<u8>, line: &Line) -> Result<(), AllocError>
+    ensures { OnOk result (out.new.items ≡ out.old.items ++ flat_map spelled_datum (line_data line.now)) }
+{
+    for place in 0..line.len() {
+        if let Some(datum) = line.get(place) {
+            put_datum(out, &datum)?;
+        }
+    }
+    Ok(())
+}

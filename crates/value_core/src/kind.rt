@@ -1,0 +1,50 @@
+//! The kinds of values.
+
+ghost use Rattle.std.specs.Prelude.{◌≡◌};
+ghost use Rattle.value_core.specs.Kinds.{sort_of};
+ghost use Rattle.value_core.specs.Spelling.{code_of};
+
+/// What an element is.
+#[derive(Clone, Copy, Debug, PartialEq, Eq)]
+pub enum Elem {
+    /// An integer from 0 to 4294967295.
+    Integer,
+    /// A text of at most 255 bytes from 32 to 126.
+    Text,
+}
+
+/// What a part holds.
+#[derive(Clone, Copy, Debug, PartialEq, Eq)]
+pub enum Kind {
+    /// So many elements, at most 1,024.
+    Array(u16, Elem),
+    /// At most 1,024 elements, the oldest first.
+    Queue(Elem),
+    /// At most 1,024 elements, each under a text.
+    Table(Elem),
+}
+
+impl Kind {
+    /// What its elements are.
+    pub fn sort(&self) -> Elem
+        ensures { result ≡ sort_of self.now }
+    {
+        match self {
+            Kind::Array(_, sort) | Kind::Queue(sort) | Kind::Table(sort) => *sort,
+        }
+    }
+
+    /// The byte that stands for it in the bytes of a value.
+    pub fn code(&self) -> u8
+        ensures { result ≡ code_of self.now }
+    {
+        match self {
+            Kind::Array(_, Elem::Integer) => 1,
+            Kind::Array(_, Elem::Text) => 2,
+            Kind::Queue(Elem::Integer) => 3,
+            Kind::Queue(Elem::Text) => 4,
+            Kind::Table(Elem::Integer) => 5,
+            Kind::Table(Elem::Text) => 6,
+        }
+    }
+}

@@ -1,0 +1,13 @@
+//! Laws of the bytes of values, over the definitions alone.
+
+ghost use Rattle.value_core.specs.Laws.{SpellingUnique, IntegersStandInPlace};
+
+/// No two values share a spelling.
+pub fn spelling_unique()
+    ensures { SpellingUnique }
+{}
+
+/// The integers of an array stand at fixed places of its bytes.
+pub fn integers_stand_in_place()
+    ensures { IntegersStandInPlace }
+{}

@@ -1,0 +1,23 @@
+//! Values of a part: arrays, queues and tables of integers or texts, with their operations and their bytes.
+//!
+//! A contract sees a `value::Value` as its `Contents`: an array and a queue are lists, a table is a finite
+//! map. Each value has one spelling in bytes: `encode::encode` writes it, and `decode::decode` reads exactly
+//! the spellings. An operation that is refused says so by a word (`refusal::Refusal`) and changes nothing.
+#![tactic(auto)]
+
+pub mod arithmetic;
+mod cells;
+pub mod datum;
+pub mod decode;
+pub mod encode;
+pub mod kind;
+pub mod laws;
+pub mod limits;
+mod line;
+mod reader;
+pub mod refusal;
+mod rows;
+#[cfg(test)]
+mod tests;
+pub mod text;
+pub mod value;

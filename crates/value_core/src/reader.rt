@@ -1,0 +1,99 @@
+//! What stands at the front of bytes: each function answers it with the bytes behind it, or `None` where
+//! the bytes begin with no such thing.
+
+ghost use Rattle.std.specs.Prelude.{◌≡◌, ◌≢◌, ◌<◌, ◌≤◌, ◌^◌, ◌++◌, ◌∷◌, List, ℕ, IfSome, IfNone};
+ghost use Rattle.std.specs.Int.{w16, w32, to_be_bytes};
+ghost use Rattle.value_core.specs.declared.datum.Datum.{Datum};
+ghost use Rattle.value_core.specs.Limits.{spelled_length, most_text_bytes};
+ghost use Rattle.value_core.specs.Plain.{IsText};
+ghost use Rattle.value_core.specs.Datum.{IsElement};
+ghost use Rattle.value_core.specs.Contents.{IsRow};
+ghost use Rattle.value_core.specs.Spelling.{spelled_text, spelled_datum, spelled_row};
+
+use crate::datum::Datum;
+use crate::kind::Elem;
+use crate::limits::TextLength;
+use crate::text::Text;
+
+/// The byte of the kind, and the number of elements.
+pub fn read_header(bytes: &[u8]) -> Option<(u8, u16, &[u8])>
+    ensures some { IfSome result (λ r. (bytes.now ≡ 1 ∷ r.0 ∷ to_be_bytes w16 r.1 ++ r.2.now) × (r.1 < 2 ^ 16)) }
+    ensures none { IfNone result ((code count : ℕ) (rest : List ℕ) → bytes.now ≢ 1 ∷ code ∷ to_be_bytes w16 count ++ rest) }
+{
+    match bytes {
+        [1, code, high, low, rest @ ..] => Some((*code, u16::from_be_bytes([*high, *low]), rest)),
+        _ => None,
+    }
+}
+
+fn read_integer(bytes: &[u8]) -> Option<(u32, &[u8])>
+    ensures some { IfSome result (λ r. (bytes.now ≡ to_be_bytes w32 r.0 ++ r.1.now) × (r.0 < 2 ^ 32)) }
+    ensures none { IfNone result ((n : ℕ) (rest : List ℕ) → bytes.now ≢ to_be_bytes w32 n ++ rest) }
+{
+    match bytes {
+        [a, b, c, d, rest @ ..] => Some((u32::from_be_bytes([*a, *b, *c, *d]), rest)),
+        _ => None,
+    }
+}
+
+// The length of a text.
+fn read_length(bytes: &[u8]) -> Option<(TextLength, &[u8])>
+    ensures some { IfSome result (λ r. bytes.now ≡ spelled_length r.0 ++ r.1.now) }
+    ensures none { IfNone result ((n : ℕ) (rest : List ℕ) → n ≤ most_text_bytes → bytes.now ≢ spelled_length n ++ rest) }
+{
+    match bytes {
+        [len, rest @ ..] => Some((TextLength::from_be_bytes([*len]), rest)),
+        _ => None,
+    }
+}
+
+fn read_text(bytes: &[u8]) -> Option<(Text, &[u8])>
+    ensures some { IfSome result (λ r. IsText r.0 × (bytes.now ≡ spelled_text r.0 ++ r.1.now)) }
+    ensures none { IfNone result ((text rest : List ℕ) → IsText text → bytes.now ≢ spelled_text text ++ rest) }
+{
+    let Some((len, rest)) = read_length(bytes) else {
+        return None;
+    };
+    if rest.len() < len as usize {
+        return None;
+    }
+    let (front, behind) = rest.split_at(len as usize);
+    let text = Text::from_bytes(front)?;
+    Some((text, behind))
+}
+
+/// An integer or a text.
+pub fn read_datum(sort: Elem, bytes: &[u8]) -> Option<(Datum, &[u8])>
+    ensures some { IfSome result (λ r. IsElement sort r.0 × (bytes.now ≡ spelled_datum r.0 ++ r.1.now)) }
+    ensures none { IfNone result ((datum : Datum) (rest : List ℕ) → IsElement sort datum → bytes.now ≢ spelled_datum datum ++ rest) }
+{
+    match sort {
+        Elem::Integer => {
+            let Some((number, rest)) = read_integer(bytes) else {
+                return None;
+            };
+            Some((Datum::Integer(number), rest))
+        }
+        Elem::Text => {
+            let Some((text, rest)) = read_text(bytes) else {
+                return None;
+            };
+            Some((Datum::Text(text), rest))
+        }
+    }
+}
+
+/// The key of a table, and what stands under it.
+pub fn read_row(sort: Elem, bytes: &[u8]) -> Option<(Text, Datum, &[u8])>
+    ensures some { IfSome result (λ r. IsRow sort (r.0, r.1) × (bytes.now ≡ spelled_row (r.0, r.1) ++ r.2.now)) }
+    ensures none { IfNone result ((row : List ℕ × Datum) (rest : List ℕ) → IsRow sort row → bytes.now ≢ spelled_row row ++ rest) }
+{
+    let Some(front) = read_text(bytes) else {
+        return None;
+    };
+    let (key, behind) = front;
+    let Some((datum, rest)) = read_datum(sort, behind) else {
+        return None;
+    };
+    Some((key, datum, rest))
+}

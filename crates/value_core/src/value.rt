@@ -1,0 +1,274 @@
+//! Values, and the operations on them.
+
+ghost use Rattle.std.specs.Prelude.{◌≡◌, IfOk};
+ghost use Rattle.value_core.specs.Datum.{elem_of, IsElement};
+ghost use Rattle.value_core.specs.Kinds.{sort_of, IsKind, IsArray, IsQueue, IsTable};
+ghost use Rattle.value_core.specs.Body.{contents_of};
+ghost use Rattle.value_core.specs.Contents.{kind_of, elements_of, rows_of, IsContents};
+ghost use Rattle.value_core.specs.Meaning.{opening_of, element_at, with_element, oldest_of, without_oldest, with_newest, has_key, under_key, with_row, without_key, count_of, Changes, Grows};
+
+use crate::cells::Cells;
+use crate::datum::Datum;
+use crate::kind::Kind;
+use crate::limits::{HEADER_BYTES, MOST_ELEMENTS};
+use crate::line::Line;
+use crate::refusal::{GrowFault, Refusal};
+use crate::rows::Rows;
+use crate::text::Text;
+use std::alloc::{AllocError, Global};
+use std::marker::Model;
+
+/// An array, a queue or a table, of at most 1,024 integers or texts.
+#[derive(Drop)]
+pub struct Value {
+    body: Body,
+}
+
+// Each kind keeps integers and texts apart, so that an integer takes four bytes.
+#[derive(Drop)]
+pub(crate) enum Body {
+    Array(Cells),
+    Queue(Line),
+    Table(Rows),
+}
+
+impl Model for Value {
+    ghost use Rattle.value_core.specs.Contents.{Contents, IsContents};
+    ghost use Rattle.value_core.specs.Code.{contents_code};
+
+    ghost Value = { Contents };
+
+    ghost coded = { contents_code };
+
+    ghost use Rattle.value_core.specs.Body.{contents_of};
+
+    ghost view = { λ a. contents_of a.body };
+
+    ghost invariant = { λ a. IsContents (contents_of a.body) };
+}
+
+impl Value {
+    // The value that is kept so.
+    pub(crate) fn of(body: Body) -> Value
+        requires { IsContents (contents_of body) }
+        ensures { result ≡ contents_of body }
+    {
+        Value { body }
+    }
+
+    // How many bytes spell the value, so that they are made in one growth.
+    pub(crate) fn spelled_len(&self) -> usize {
+        let elements = match &self.body {
+            Body::Array(cells) => cells.spelled_len(),
+            Body::Queue(line) => line.spelled_len(),
+            Body::Table(rows) => rows.spelled_len(),
+        };
+        elements.saturating_add(HEADER_BYTES)
+    }
+
+    // How the value is kept.
+    pub(crate) fn body(&self) -> &Body
+        ensures body { contents_of result.now ≡ self.now }
+        ensures contents { IsContents self.now }
+    {
+        &self.body
+    }
+
+    /// The value that a part of this kind begins with: zeros or empty texts, an empty queue, an empty
+    /// table.
+    pub fn opening(alloc: Global, kind: Kind) -> Result<Value, AllocError>
+        requires { IsKind kind }
+        ensures { IfOk result (λ value. (value ≡ opening_of kind) × (kind_of value ≡ kind)) }
+    {
+        let body = match kind {
+            Kind::Array(count, sort) => Body::Array(Cells::zeros(alloc, sort, count as usize)?),
+            Kind::Queue(sort) => Body::Queue(Line::new(alloc, sort)),
+            Kind::Table(sort) => Body::Table(Rows::new(alloc, sort)),
+        };
+        Ok(Value { body })
+    }
+
+    /// Its kind: an array's with its length.
+    pub fn kind(&self) -> Kind
+        ensures kind { result ≡ kind_of self.now }
+        ensures contents { IsContents self.now }
+    {
+        match &self.body {
+            Body::Array(cells) => Kind::Array(cells.len() as u16, cells.sort()),
+            Body::Queue(line) => Kind::Queue(line.sort()),
+            Body::Table(rows) => Kind::Table(rows.sort()),
+        }
+    }
+
+    /// The length of an array or a queue, the number of keys of a table; from 0 to 1,024.
+    pub fn count(&self) -> u32
+        ensures { result ≡ count_of self.now }
+    {
+        match &self.body {
+            Body::Array(cells) => cells.len() as u32,
+            Body::Queue(line) => line.len() as u32,
+            Body::Table(rows) => rows.len() as u32,
+        }
+    }
+
+    /// The elements of an array or a queue, in order, the oldest first; of a table none.
+    pub fn elements(&self, alloc: Global) -> Result<Vec<Datum>, AllocError>
+        ensures { IfOk result (λ list. list.items ≡ elements_of self.now) }
+    {
+        match &self.body {
+            Body::Array(cells) => cells.list(alloc),
+            Body::Queue(line) => line.list(alloc),
+            Body::Table(_) => Ok(Vec::new(alloc)),
+        }
+    }
+
+    /// The keys of a table and what stands under them, keys rising; of an array or a queue none.
+    pub fn rows(&self, alloc: Global) -> Result<Vec<(Text, Datum)>, AllocError>
+        ensures { IfOk result (λ list. list.items ≡ rows_of self.now) }
+    {
+        match &self.body {
+            Body::Table(rows) => rows.list(alloc),
+            Body::Array(_) | Body::Queue(_) => Ok(Vec::new(alloc)),
+        }
+    }
+
+    /// The element of an array at an index, counted from 0. Refused `index` where the index is not below
+    /// the array's length.
+    pub fn element(&self, index: u32) -> Result<Datum, Refusal>
+        requires { IsArray (kind_of self.now) }
+        ensures value { result ≡ element_at self.now index }
+        ensures sort { IfOk result (IsElement (sort_of (kind_of self.now))) }
+    {
+        let Body::Array(cells) = &self.body else {
+            unreachable!();
+        };
+        cells.get(index as usize).ok_or(Refusal::Index)
+    }
+
+    /// Puts an element in the place of the one at an index. Refused `index` as by `element`, and then
+    /// nothing changes.
+    pub fn set(&mut self, index: u32, datum: Datum) -> Result<(), Refusal>
+        requires kind { IsArray (kind_of self.old) }
+        requires sort { elem_of datum ≡ sort_of (kind_of self.old) }
+        ensures change { Changes result (with_element self.old index datum) self.old self.new }
+        ensures kind { kind_of self.new ≡ kind_of self.old }
+    {
+        let _sort = datum.elem();
+        let Body::Array(cells) = &mut self.body else {
+            unreachable!();
+        };
+        if index as usize >= cells.len() {
+            return Err(Refusal::Index);
+        }
+        cells.set(index as usize, datum);
+        Ok(())
+    }
+
+    /// The oldest element of a queue. Refused `empty` where there is none.
+    pub fn first(&self) -> Result<Datum, Refusal>
+        requires { IsQueue (kind_of self.now) }
+        ensures value { result ≡ oldest_of self.now }
+        ensures sort { IfOk result (IsElement (sort_of (kind_of self.now))) }
+    {
+        let Body::Queue(line) = &self.body else {
+            unreachable!();
+        };
+        line.get(0).ok_or(Refusal::Empty)
+    }
+
+    /// Removes the oldest element of a queue. Refused `empty` where there is none, and then nothing
+    /// changes.
+    pub fn take(&mut self) -> Result<(), Refusal>
+        requires { IsQueue (kind_of self.old) }
+        ensures change { Changes result (without_oldest self.old) self.old self.new }
+        ensures kind { kind_of self.new ≡ kind_of self.old }
+    {
+        let Body::Queue(line) = &mut self.body else {
+            unreachable!();
+        };
+        if line.len() == 0 {
+            return Err(Refusal::Empty);
+        }
+        line.take();
+        Ok(())
+    }
+
+    /// Adds an element to a queue, as its newest. Refused `full` at 1,024 elements, then `Memory`; nothing
+    /// changes in either case.
+    pub fn append(&mut self, datum: Datum) -> Result<(), GrowFault>
+        requires kind { IsQueue (kind_of self.old) }
+        requires sort { elem_of datum ≡ sort_of (kind_of self.old) }
+        ensures change { Grows result (with_newest self.old datum) self.old self.new }
+        ensures kind { kind_of self.new ≡ kind_of self.old }
+    {
+        let _sort = datum.elem();
+        let Body::Queue(line) = &mut self.body else {
+            unreachable!();
+        };
+        if line.len() >= MOST_ELEMENTS as usize {
+            return Err(GrowFault::Refused(Refusal::Full));
+        }
+        line.push(datum)?;
+        Ok(())
+    }
+
+    /// Whether a table has a key.
+    pub fn has(&self, key: &Text) -> bool
+        requires { IsTable (kind_of self.now) }
+        ensures { result ≡ has_key self.now key.now }
+    {
+        let Body::Table(rows) = &self.body else {
+            unreachable!();
+        };
+        rows.has(key)
+    }
+
+    /// What stands under a key of a table. Refused `missing` where the table has no such key.
+    pub fn lookup(&self, key: &Text) -> Result<Datum, Refusal>
+        requires { IsTable (kind_of self.now) }
+        ensures value { result ≡ under_key self.now key.now }
+        ensures sort { IfOk result (IsElement (sort_of (kind_of self.now))) }
+    {
+        let Body::Table(rows) = &self.body else {
+            unreachable!();
+        };
+        rows.get(key).ok_or(Refusal::Missing)
+    }
+
+    /// Puts an element under a key of a table, in the place of what stood there. Refused `full` for a new
+    /// key at 1,024 keys, then `Memory`; nothing changes in either case.
+    pub fn store(&mut self, key: Text, datum: Datum) -> Result<(), GrowFault>
+        requires kind { IsTable (kind_of self.old) }
+        requires sort { elem_of datum ≡ sort_of (kind_of self.old) }
+        ensures change { Grows result (with_row self.old key datum) self.old self.new }
+        ensures kind { kind_of self.new ≡ kind_of self.old }
+    {
+        let _sort = datum.elem();
+        let _bytes = key.bytes();
+        let Body::Table(rows) = &mut self.body else {
+            unreachable!();
+        };
+        if rows.len() >= MOST_ELEMENTS as usize && !rows.has(&key) {
+            return Err(GrowFault::Refused(Refusal::Full));
+        }
+        rows.insert(key, datum)?;
+        Ok(())
+    }
+
+    /// Removes a key of a table. Refused `missing` where the table has no such key, and then nothing
+    /// changes.
+    pub fn erase(&mut self, key: &Text) -> Result<(), Refusal>
+        requires { IsTable (kind_of self.old) }
+        ensures change { Changes result (without_key self.old key.now) self.old self.new }
+        ensures kind { kind_of self.new ≡ kind_of self.old }
+    {
+        let Body::Table(rows) = &mut self.body else {
+            unreachable!();
+        };
+        if !rows.has(key) {
+            return Err(Refusal::Missing);
+        }
+        rows.remove(key);
+        Ok(())
+    }
+}
