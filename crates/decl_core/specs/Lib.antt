@@ -1,0 +1,11 @@
+pub mod RefusalWord
+pub mod PartPlace
+pub mod Form
+pub mod View
+pub mod Footprint
+pub mod Meaning
+pub mod Terms
+pub mod Reader
+pub mod Reading
+pub mod Scopes
+pub mod Grammar

@@ -1,0 +1,53 @@
+//! Objects and their operations.
+
+use crate::stmt::Stmt;
+use path_tree::name::Name;
+use path_tree::tree::PathTree;
+use std::sync::Arc;
+use value_core::kind::{Elem, Kind};
+
+/// A part of an object.
+#[derive(Debug, Drop)]
+pub struct Part {
+    /// Its name.
+    pub name: Name,
+    /// What it holds.
+    pub kind: Kind,
+}
+
+/// A parameter of an operation.
+#[derive(Debug, Drop)]
+pub struct Param {
+    /// Its name.
+    pub name: Name,
+    /// What its argument is.
+    pub kind: Elem,
+}
+
+/// An operation of an object.
+#[derive(Drop)]
+pub struct Operation {
+    /// Its name.
+    pub name: Name,
+    /// Its parameters, by their numbers; at most 8.
+    pub params: Vec<Param>,
+    /// What a function replies; a procedure replies nothing.
+    pub result: Option<Elem>,
+    /// What it does.
+    pub body: Vec<Stmt>,
+    /// Of each part of the object, in order, what it holds where the operation names it.
+    pub kinds: Vec<Option<Kind>>,
+}
+
+/// An object: parts, the operations on them, and the paths that say which operations may run when.
+#[derive(Drop)]
+pub struct Object {
+    /// Its name.
+    pub name: Name,
+    /// Its parts, by their numbers; at most 16.
+    pub parts: Vec<Part>,
+    /// Its paths, in order; at most 16.
+    pub paths: Vec<PathTree>,
+    /// Its operations, by their numbers; at most 32.
+    pub operations: Vec<Arc<Operation>>,
+}
