@@ -52,35 +52,38 @@ fn counters_agree_with_the_definitions(rt: HostRuntime) -> Result<(), Fail> {
     let alloc = rt.alloc();
     // the time of a question grows with a power of the events, the higher the deeper bursts are nested
     let rows: [(&[&str], u32); 9] = [
-        (&["path 2:(a) end"], 1_000),
-        (&["path a; b; c end", "path 3:(a, d) end"], 1_000),
+        (&["path 2:(a) end"], 2_000),
+        (&["path a; b; c end", "path 3:(a, d) end"], 2_000),
         (
             &["path 3:(a; (b, c; d)) end", "path 2:(a, b), e end"],
             1_000,
         ),
-        (&["path 1:([a], b) end", "path c; d end"], 150),
-        (&["path 2:(a; [b, c]), d end"], 150),
-        (&["path 1:([2:(a; b)], [c], d) end"], 150),
+        (&["path 1:([a], b) end", "path c; d end"], 300),
+        (&["path 2:(a; [b, c]), d end"], 300),
+        (&["path 1:([2:(a; b)], [c], d) end"], 300),
         (
             &["path a, b; 2:([c]), d end", "path 1:(a, [b; e]) end"],
             150,
         ),
-        (&["path [[a], b]; [c; d] end", "path 2:([a, c]) end"], 32),
+        (&["path [[a], b]; [c; d] end", "path 2:([a, c]) end"], 64),
         (
             &["path [a; [b; c]]; 1:([d], e) end", "path 4:(a, b, c) end"],
-            32,
+            64,
         ),
     ];
     let mut seed = 2_463_534_242;
+    let mut events = 0usize;
     for (sources, calls) in rows {
         let trees = paths(&rt, alloc, sources)?;
         let mut counters = compile(alloc, &trees, OPERATIONS)?;
-        compare(&rt, alloc, &trees, &mut counters, calls, &mut seed)?;
+        let added = compare(&rt, alloc, &trees, &mut counters, calls, &mut seed)?;
+        events = events.saturating_add(added);
     }
+    assert!(rt; events >= 2_000, "{events} events");
     Ok(())
 }
 
-// A run of drawn calls, each of which is asked of both.
+// A run of drawn calls, each of which is asked of both, and how many events it makes.
 fn compare(
     rt: &impl Abort,
     alloc: Global,
@@ -88,7 +91,7 @@ fn compare(
     counters: &mut Counters,
     calls: u32,
     seed: &mut u32,
-) -> Result<(), Fail> {
+) -> Result<usize, Fail> {
     let mut events: Vec<Happening> = Vec::new(alloc);
     let mut running: Vec<(u32, u8)> = Vec::new(alloc);
     for number in 0..calls {
@@ -111,5 +114,5 @@ fn compare(
         let left = running.iter().filter(|call| call.1 == op).count();
         assert_eq!(rt; counters.running(op) as usize, left);
     }
-    Ok(())
+    Ok(events.len())
 }

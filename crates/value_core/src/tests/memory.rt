@@ -90,3 +90,31 @@ fn refused_decode(rt: HostRuntime) -> Result<(), Fail> {
     }
     Ok(())
 }
+
+#[test]
+fn refused_listing(rt: HostRuntime) -> Result<(), Fail> {
+    let kind = Kind::Array(3, Elem::Integer);
+    let array = match opening(rt.alloc(), kind) {
+        Ok(array) => array,
+        Err(_) => opening(rt.alloc(), kind)?,
+    };
+    let elements = match array.elements(rt.alloc()) {
+        Ok(elements) => elements,
+        Err(_) => array.elements(rt.alloc())?,
+    };
+    assert_eq!(rt; elements.len(), 3);
+    let mut table = opening(rt.alloc(), Kind::Table(Elem::Integer))?;
+    if store(&mut table, name(5), datum(Elem::Integer, 7)).is_err() {
+        store(&mut table, name(5), datum(Elem::Integer, 7))?;
+    }
+    let rows = match table.rows(rt.alloc()) {
+        Ok(rows) => rows,
+        Err(_) => table.rows(rt.alloc())?,
+    };
+    assert_eq!(rt; rows.len(), 1);
+    for (key, element) in &rows {
+        assert_eq!(rt; *key, name(5));
+        assert_eq!(rt; *element, datum(Elem::Integer, 7));
+    }
+    Ok(())
+}
