@@ -28,3 +28,4 @@ pub mod Spelled
 pub mod SpelledSigns
 pub mod Written
 pub mod Printed
+pub mod ReadPaths

@@ -85,3 +85,9 @@ place_fails error known most from tokens long h other to p =
 -- the operations of a path that stands somewhere have names
 pub place_below : (known : Known) (ws : List Lexeme) (from : ℕ) (e : Path) (to : ℕ) → IsPathAt known ws from e to → NamesBelow e (length known.operations)
 place_below known ws from e to p = subst (λ e. NamesBelow e (length known.operations)) (sym p.is) (tree_below known p.text 32 p.fits)
+
+-- the same, with the rest as what stands behind the end
+pub place_read : (known : Known) (most from : ℕ) (tokens rest : List Token) (e : Path) → length tokens < most → path_at known most (lexemes (drop from tokens)) ≡ Some (e, lexemes rest) →
+    path_at known most (drop from (lexemes tokens)) ≡ Some (e, drop (length tokens - length rest) (lexemes tokens))
+place_read known most from tokens rest e long h =
+    ap (path_at known most) (lexemes_behind tokens from) ∙ read_there known most from (length tokens - length rest) tokens e long (place_found known most from tokens rest e h)

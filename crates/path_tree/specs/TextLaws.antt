@@ -1,11 +1,12 @@
 -- Laws of the texts of paths.
-use Rattle.std.specs.Prelude.{◌≡◌, ℕ, ◌-◌, List, ◌++◌, length}
+use Rattle.std.specs.Prelude.{◌≡◌, ℕ, ◌-◌, ◌<◌, List, ◌++◌, length, drop, Some}
 use Rattle.path_tree.specs.declared.token.Token.{Token}
 use Rattle.path_tree.specs.Path.{Path}
 use Rattle.path_tree.specs.Names.{NamesBelow}
 use Rattle.path_tree.specs.Limits.{IsPathTree}
 use Rattle.path_tree.specs.Lexeme.{Lexeme, lexemes}
 use Rattle.path_tree.specs.Known.{Known}
+use Rattle.path_tree.specs.Reading.{path_at}
 use Rattle.path_tree.specs.Grammar.{IsPathAt}
 use Rattle.path_tree.specs.Canonical.{canonical_lexemes, canonical_bytes, AreDistinct}
 use Rattle.path_tree.specs.Tokens.{Placed, placed_tokens, AreTokens}
@@ -14,6 +15,12 @@ use Rattle.path_tree.specs.Written.{AreFreeNames}
 -- at one place no two paths stand, nor one path with two ends
 abbrev pub OneTree : Type 0
 OneTree = (known : Known) (ws : List Lexeme) (from to last : ℕ) (e other : Path) → IsPathAt known ws from e to → IsPathAt known ws from other last → (other ≡ e) × (last ≡ to)
+
+-- what is read from left to right is a path that stands in front, and behind it the rest; and what stands in front is read
+abbrev pub PathsAreRead : Type 0
+PathsAreRead = (known : Known) (most : ℕ) (ws : List Lexeme) (e : Path) →
+    ((rest : List Lexeme) → path_at known most ws ≡ Some (e, rest) → IsPathAt known ws 0 e (length ws - length rest) × (drop (length ws - length rest) ws ≡ rest) × (length rest < length ws))
+    × ((to : ℕ) → length ws < most → IsPathAt known ws 0 e to → path_at known most ws ≡ Some (e, drop to ws))
 
 -- the canonical text of a path derives it and no other, whatever stands behind it
 abbrev pub CanonicalText : Type 0

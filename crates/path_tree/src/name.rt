@@ -1,10 +1,16 @@
 //! Names: identifiers in lower case.
 
-ghost use Rattle.std.specs.Prelude.{◌≡◌, ◌↔◌, IsTrue, IfOk, MatchOption};
+ghost use Rattle.std.specs.Prelude.{◌≡◌, ◌↔◌, IsTrue, IfOk, MatchOption, bytes_eq};
+ghost use Rattle.std.proofs.Common.{rules};
+ghost use Rattle.std.specs.Cmp.{partial_equiv_from_equiv};
+ghost use Rattle.std.specs.Cmp.Lexicographic.{nat_list_eq_equiv};
+ghost use Rattle.std.specs.Cmp.Rules.{hashing};
+ghost use Rattle.std.specs.Hash as fed;
 ghost use Rattle.std.specs.Str.{str_to_ascii_lowercase};
 ghost use Rattle.path_tree.specs.Identifier.{IsIdentifier, IsName, IsLetter, IsWordByte};
 
 use std::alloc::{AllocError, Global};
+use std::hash::{Hash, Hasher};
 use std::marker::Model;
 
 /// The most bytes of an identifier.
@@ -66,6 +72,40 @@ impl Name {
             return true;
         }
         bytes.eq_ignore_ascii_case(&self.text)
+    }
+
+    /// A second name of the same bytes.
+    pub fn copy(&self, alloc: Global) -> Result<Name, AllocError>
+        ensures { IfOk result (λ name. name ≡ self.now) }
+    {
+        let text = self.text.to_vec(alloc)?;
+        Ok(Name { text })
+    }
+}
+
+/// Names are the same where their bytes are.
+impl PartialEq for Name {
+    ghost eq = { bytes_eq };
+
+    ghost laws = { partial_equiv_from_equiv nat_list_eq_equiv };
+
+    fn eq(&self, other: &Name) -> bool {
+        self.as_bytes() == other.as_bytes()
+    }
+}
+
+impl Eq for Name {
+    ghost laws = { nat_list_eq_equiv };
+}
+
+/// A name is hashed as its bytes are.
+impl Hash for Name {
+    ghost hash_input = { fed.slice fed.u8 };
+
+    ghost respects_eq = { Prim.search (hashing, rules) };
+
+    fn hash<H: Hasher>(&self, state: &mut H) {
+        self.as_bytes().hash(state);
     }
 }
 

@@ -1,6 +1,6 @@
 //! Reading a path from tokens.
 
-ghost use Rattle.std.specs.Prelude.{◌≡◌, ◌≤◌, ◌<◌, length, ℕ, IfOk, MatchResult};
+ghost use Rattle.std.specs.Prelude.{◌≡◌, ◌≤◌, ◌<◌, ◌+◌, length, drop, ℕ, IfOk, MatchResult};
 ghost use Rattle.path_tree.specs.Path.{Path, path_of};
 ghost use Rattle.path_tree.specs.Names.{NamesBelow};
 ghost use Rattle.path_tree.specs.Lexeme.{lexemes};
@@ -66,6 +66,8 @@ pub fn parse_path(
     ensures found { IfOk result (λ x. IsPathAt (known_with consts.now names.now) (lexemes tokens.now) from x.0 x.1) }
     // Its operations are those of the names.
     ensures known { IfOk result (λ x. NamesBelow x.0 (length names.now)) }
+    // The same, read from left to right: for a reader of larger texts.
+    ensures read { Gives (λ x. (x.0, drop x.1 (lexemes tokens.now))) result (path_at (known_with consts.now names.now) (length tokens.now + 1) (drop from (lexemes tokens.now))) }
     // Wherever a path stands, its tree and its end are given, unless memory runs out.
     ensures only { (e : Path) (to : ℕ) → IsPathAt (known_with consts.now names.now) (lexemes tokens.now) from e to →
         MatchResult result (λ x. (x.0 ≡ e) × (x.1 ≡ to)) (λ fault. fault ≡ PathFault.Memory) }

@@ -14,6 +14,7 @@ use crate::print::print_path;
 use crate::read::parse_path;
 use crate::tree::PathTree;
 use std::alloc::{AllocError, Global};
+use std::hash::{DefaultHasher, Hash, Hasher};
 use std::process::Abort;
 use std::test::Fail;
 
@@ -164,6 +165,35 @@ fn levels_and_nodes_are_limited(rt: HostRuntime) -> Result<(), Fail> {
     Ok(())
 }
 
+#[test]
+fn names_are_the_same_by_their_bytes(rt: HostRuntime) -> Result<(), Fail> {
+    let alloc = rt.alloc();
+    let none = "no identifier";
+    let name = Name::read(alloc, b"Ab_1")?.ok_or(none)?;
+    let copy = name.copy(alloc)?;
+    assert_eq!(rt; name, copy);
+    assert_eq!(rt; copy.as_bytes(), b"ab_1".as_slice());
+    for (text, is_same) in [
+        ("ab_1", true),
+        ("AB_1", true),
+        ("ab_", false),
+        ("ab_2", false),
+        ("ab_11", false),
+        ("a", false),
+    ] {
+        let other = Name::read(alloc, text.as_bytes())?.ok_or(none)?;
+        assert_eq!(rt; name == other, is_same, "{text}");
+        assert_eq!(rt; hash_of(&name) == hash_of(&other), is_same, "{text}");
+    }
+    Ok(())
+}
+
+fn hash_of(name: &Name) -> u64 {
+    let mut state = DefaultHasher::new();
+    name.hash(&mut state);
+    state.finish()
+}
+
 // That a path that is printed and read again is the same path follows from the contracts of the
 // three calls: this is proved, and not run.
 fn read_back(
@@ -218,5 +248,22 @@ fn refused_parse_and_print(rt: HostRuntime) -> Result<(), Fail> {
         Err(_) => print_path(alloc, &path, &names)?,
     };
     assert_eq!(rt; text.as_slice(), source.as_slice());
+    Ok(())
+}
+
+// Run with each allocation refused in turn: a refused copy is good when made again.
+#[test]
+fn refused_copy(rt: HostRuntime) -> Result<(), Fail> {
+    let alloc = rt.alloc();
+    let name = match Name::read(alloc, b"start") {
+        Ok(name) => name,
+        Err(_) => Name::read(alloc, b"start")?,
+    };
+    let name = name.ok_or("no identifier")?;
+    let copy = match name.copy(alloc) {
+        Ok(copy) => copy,
+        Err(_) => name.copy(alloc)?,
+    };
+    assert_eq!(rt; copy, name);
     Ok(())
 }

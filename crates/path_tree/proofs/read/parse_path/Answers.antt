@@ -3,7 +3,7 @@ use Rattle.std.proofs.lemmas.Result.{err_from_is_err_and}
 use Rattle.path_tree.specs.Path.{path_of}
 use Rattle.path_tree.specs.Lexeme.{lexemes}
 use Rattle.path_tree.specs.Known.{Known, known_with}
-use Rattle.path_tree.proofs.Places.{place_tree, place_within, place_found, place_only, place_fails, place_below}
+use Rattle.path_tree.proofs.Places.{place_tree, place_within, place_found, place_only, place_read, place_fails, place_below}
 use Rattle.path_tree.proofs.read.parse_path.Goals as goal
 
 pub path_tree-requires : goal.path_tree-requires
@@ -36,3 +36,8 @@ returns-in_err-root-clause-only c = λ e to p.
     let q = err_from_is_err_and c.from_residual.result c.from_residual.ensures.1 in
     let memory = place_fails c.in_err-root.field-0.0 known (length c.args.tokens.now + 1) c.args.from c.args.tokens.now (omega arith) (rw c.split_at.ensures.back at c.in_err-root.ensures) e to p in
     rw (q.1, q.2) memory
+
+pub returns-clause-read : goal.returns-clause-read
+returns-clause-read c =
+    let known : Known = known_with c.args.consts.now c.args.names.now in
+    rw c.path_tree.ensures (place_read known (length c.args.tokens.now + 1) c.args.from c.args.tokens.now c.in_ok-root.rest.now (path_of c.in_ok-root.root) (omega arith) (rw c.split_at.ensures.back at c.in_ok-root.ensures))
