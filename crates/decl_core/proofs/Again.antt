@@ -54,7 +54,7 @@ level_again : (depth : ℕ) → 0 < depth → level_of depth ≡ Some (depth - 1
 level_again zero h = absurd (omega arith)
 level_again (suc depth) h = let e : suc depth - 1 ≡ depth = omega arith in rw e refl
 
-part_again : (names : Names) (depth p : ℕ) (kind : Kind) (bytes : List ℕ) (ws : List Lexeme) → 0 < depth → found_in names.parts bytes ≡ Some (p, kind) → part_in names depth (symbol OpenParen ∷ identifier bytes ∷ ws) ≡ Some (p, kind, ws)
+pub part_again : (names : Names) (depth p : ℕ) (kind : Kind) (bytes : List ℕ) (ws : List Lexeme) → 0 < depth → found_in names.parts bytes ≡ Some (p, kind) → part_in names depth (symbol OpenParen ∷ identifier bytes ∷ ws) ≡ Some (p, kind, ws)
 unfolding part_in
 part_again names depth p kind bytes ws deep found = rw (level_again depth deep, found) refl
 

@@ -90,15 +90,15 @@ NestedFinds names depth nested = (ws : List Lexeme) (x : Form) (rest : List Lexe
 abbrev pub TermFinds : Names → ℕ → Reader Form → Type 0
 TermFinds names depth term = (ws : List Lexeme) (x : Form) (rest : List Lexeme) → term ws ≡ Some (x, rest) → TermRead names depth ws x rest
 
-integer_is : (x : Form) (f : Integers) → integer_form x ≡ Some f → x ≡ an_integer f
+pub integer_is : (x : Form) (f : Integers) → integer_form x ≡ Some f → x ≡ an_integer f
 integer_is (an_integer g) f h = cc
 integer_is (a_text g) f h = absurd cc
 
-text_is : (x : Form) (f : Texts) → text_form x ≡ Some f → x ≡ a_text f
+pub text_is : (x : Form) (f : Texts) → text_form x ≡ Some f → x ≡ a_text f
 text_is (an_integer g) f h = absurd cc
 text_is (a_text g) f h = cc
 
-part_found : (names : Names) (depth : ℕ) (ws : List Lexeme) (x : ℕ × Kind × List Lexeme) → part_in names depth ws ≡ Some x → PartRead names depth ws x
+pub part_found : (names : Names) (depth : ℕ) (ws : List Lexeme) (x : ℕ × Kind × List Lexeme) → part_in names depth ws ≡ Some x → PartRead names depth ws x
 unfolding part_in
 part_found names depth ws x h =
     let a = bind_some (symbol_at OpenParen ws) (λ opened. level_of depth >>= λ left. name_at opened >>= λ q. found_in names.parts q.0 >>= λ p. Some (p.0, p.1, q.1)) x h in

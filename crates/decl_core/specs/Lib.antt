@@ -2,6 +2,7 @@ pub mod RefusalWord
 pub mod PartPlace
 pub mod Form
 pub mod View
+pub mod Bodies
 pub mod Footprint
 pub mod Meaning
 pub mod Terms
@@ -9,3 +10,15 @@ pub mod Reader
 pub mod Reading
 pub mod Scopes
 pub mod Grammar
+pub mod Series
+pub mod Statements
+pub mod StatementReading
+pub mod ObjectForm
+pub mod Declarations
+pub mod DeclarationReading
+pub mod ObjectMap
+pub mod ObjectLaws
+pub mod Typed
+pub mod TypedOnce
+pub mod DeclFaults
+pub mod FootprintLaws

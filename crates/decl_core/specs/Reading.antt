@@ -1,5 +1,5 @@
 -- Reading an expression from left to right, step by step.
-use Rattle.std.specs.Prelude.{ℕ, zero, suc, List, [], ◌∷◌, length, Bool, true, false, Option, Some, None, nat_le, ◌&&◌, bytes_eq, if◌then◌else◌}
+use Rattle.std.specs.Prelude.{ℕ, zero, suc, List, [], ◌∷◌, length, Bool, true, false, Option, Some, None, nat_le, ◌&&◌, ◌||◌, is_some, bytes_eq, if◌then◌else◌}
 use Rattle.path_tree.specs.declared.token.Symbol.{Symbol}
 use Rattle.path_tree.specs.declared.token.Symbol.TheVariants.{Plus, Minus, OpenParen, CloseParen, OpenBracket, CloseBracket, Comma, First, Lookup, Count}
 use Rattle.path_tree.specs.Lexeme.{Lexeme, symbol, number as number_lexeme, identifier, string, end_mark, same_symbol}
@@ -12,11 +12,18 @@ use Rattle.value_core.specs.declared.kind.Kind.TheVariants as kind
 use Rattle.decl_core.specs.Form.{From, argument, element, oldest, under, Integers, number, integer_from, count, add, subtract, Texts, literal, text_from, Form, an_integer, a_text}
 use Rattle.decl_core.specs.Reader.{◌>>=◌, Reader}
 
--- what an expression may name: constants with their values, parameters and parts with their kinds
+-- the names declared so far: constants with their values, parameters and parts with their kinds, operations; in a function's body also which function it is, and its kind
 pub record Names : Type 0 where
   pub constants : List (List ℕ × ℕ)
   pub params : List (List ℕ × Elem)
   pub parts : List (List ℕ × Kind)
+  pub operations : List (List ℕ)
+  pub function : Option (List ℕ × Elem)
+
+-- one of these names has these bytes
+abbrev pub is_among : List (List ℕ) → List ℕ → Bool
+is_among [] bytes = false
+is_among (x ∷ xs) bytes = bytes_eq x bytes || is_among xs bytes
 
 -- one place further
 abbrev pub next : {A : Type 0} → Option (ℕ × A) → Option (ℕ × A)
@@ -27,6 +34,10 @@ next None = None
 abbrev pub found_in : {A : Type 0} → List (List ℕ × A) → List ℕ → Option (ℕ × A)
 found_in [] bytes = None
 found_in (x ∷ xs) bytes = if bytes_eq x.0 bytes then Some (0, x.1) else next (found_in xs bytes)
+
+-- a name is declared already
+abbrev pub is_known : Names → List ℕ → Bool
+is_known names bytes = is_some (value_of names.constants bytes) || is_some (found_in names.params bytes) || is_some (found_in names.parts bytes) || is_among names.operations bytes
 
 -- which sort the elements are of an array, of a queue, of a table
 abbrev pub array_sort : Kind → Option Elem

@@ -1,5 +1,5 @@
 -- The trees of the code, without where they lie in memory.
-use Rattle.std.specs.Prelude.{List, [], ◌∷◌, map}
+use Rattle.std.specs.Prelude.{List, [], ◌∷◌}
 use Rattle.decl_core.specs.declared.expr.Source.{Source}
 use Rattle.decl_core.specs.declared.expr.Source.TheVariants as sources
 use Rattle.decl_core.specs.declared.expr.IntegerExpr.{IntegerExpr, Row_of-Signed, end_of-Signed, more_of-Signed}
@@ -14,8 +14,7 @@ use Rattle.decl_core.specs.declared.stmt.Cond.{Cond}
 use Rattle.decl_core.specs.declared.stmt.Cond.TheVariants as conds
 use Rattle.decl_core.specs.declared.stmt.Stmt.{Stmt, Row_of-Stmt, end_of-Stmt, more_of-Stmt}
 use Rattle.decl_core.specs.declared.stmt.Stmt.TheVariants as stmts
-use Rattle.decl_core.specs.declared.object.Operation.{Operation}
-use Rattle.decl_core.specs.Form.{From, argument, element, oldest, under, Integers, number, integer_from, count, add, subtract, Texts, literal, text_from, Form, an_integer, a_text, Condition, compare, same_texts, other_texts, has, is_not, Statement, block, set_element, set_result, append, take, store, erase, choose, refuse, Statements, nothing, first_and, Body}
+use Rattle.decl_core.specs.Form.{From, argument, element, oldest, under, Integers, number, integer_from, count, add, subtract, Texts, literal, text_from, Form, an_integer, a_text, Condition, compare, same_texts, other_texts, has, is_not, Statement, block, set_element, set_result, append, take, store, erase, choose, refuse, Statements, nothing, first_and}
 
 -- a sum is its first term, with each further term added or subtracted
 abbrev mutual
@@ -79,6 +78,3 @@ total_of_list first (s ∷ rest) = total_of_list (with_term first s) rest
 abbrev pub all_of : List Stmt → Statements
 all_of [] = nothing
 all_of (s ∷ rest) = first_and (statement_of s) (all_of rest)
-
-abbrev pub body_of : Operation → Body
-body_of o = record { params = map (λ p. p.kind) o.params.items; result = o.result; statements = all_of o.body.items }

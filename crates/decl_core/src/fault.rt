@@ -2,6 +2,7 @@
 
 ghost use Rattle.std.specs.Prelude.{◌≡◌};
 ghost use Rattle.decl_core.specs.declared.fault.DeclFault.TheVariants.{Memory};
+ghost use Rattle.decl_core.specs.DeclFaults.{fault_number, fault_name, fault_place};
 
 use path_tree::lex::fault::LexFault;
 use path_tree::path_fault::PathFault;
@@ -36,6 +37,56 @@ pub enum DeclFault {
     /// Memory was refused.
     #[error("Memory")]
     Memory,
+}
+
+impl DeclFault {
+    /// The number of the fault: 10 to 15, or that of the fault of the tokens or of the path.
+    pub fn number(&self) -> u8
+        ensures { result ≡ fault_number self.now }
+    {
+        match self {
+            DeclFault::Lex(fault) => fault.number(),
+            DeclFault::Path(fault) => fault.number(),
+            DeclFault::Syntax(_) => 10,
+            DeclFault::DuplicateName(_) => 11,
+            DeclFault::WrongType(_) => 12,
+            DeclFault::UnknownName(_) => 13,
+            DeclFault::TooMany(_) => 14,
+            DeclFault::Memory => 15,
+        }
+    }
+
+    /// The name of the fault, as in `WrongType`.
+    pub fn name(&self) -> &'static str
+        ensures { result.now ≡ fault_name self.now }
+    {
+        match self {
+            DeclFault::Lex(fault) => fault.name(),
+            DeclFault::Path(fault) => fault.name(),
+            DeclFault::Syntax(_) => "Syntax",
+            DeclFault::DuplicateName(_) => "DuplicateName",
+            DeclFault::WrongType(_) => "WrongType",
+            DeclFault::UnknownName(_) => "UnknownName",
+            DeclFault::TooMany(_) => "TooMany",
+            DeclFault::Memory => "Memory",
+        }
+    }
+
+    /// The byte of the source where the fault stands, or `None` where it has no place.
+    pub fn at(&self) -> Option<usize>
+        ensures { result ≡ fault_place self.now }
+    {
+        match self {
+            DeclFault::Lex(fault) => fault.at(),
+            DeclFault::Path(fault) => fault.at(),
+            DeclFault::Memory => None,
+            DeclFault::Syntax(at)
+            | DeclFault::DuplicateName(at)
+            | DeclFault::WrongType(at)
+            | DeclFault::UnknownName(at)
+            | DeclFault::TooMany(at) => Some(*at),
+        }
+    }
 }
 
 impl From<AllocError> for DeclFault {

@@ -4,7 +4,8 @@
 //! part p.
 
 ghost use Rattle.std.specs.Prelude.{◌≡◌};
-ghost use Rattle.decl_core.specs.View.{from_of, integers_of, texts_of, form_of, condition_of, statement_of, all_of, body_of};
+ghost use Rattle.decl_core.specs.View.{from_of, integers_of, texts_of, form_of, condition_of, statement_of, all_of};
+ghost use Rattle.decl_core.specs.Bodies.{body_of};
 ghost use Rattle.decl_core.specs.Footprint.{with_part, named_from, named_in_integers, named_in_texts, named_in, named_in_condition, named_in_statement, named_in_all, changed_by_statement as by_statement, changed_by_all, reads_of, writes_of};
 ghost use Rattle.decl_core.specs.Terms.{named_in_signed, named_in_terms};
 
@@ -137,7 +138,7 @@ fn named_by_statement(s: &Stmt, so_far: u16) -> u16
 }
 
 #[cycle(reading)]
-fn named_by_block(all: &[Stmt], so_far: u16) -> u16
+pub(crate) fn named_by_block(all: &[Stmt], so_far: u16) -> u16
     ensures { result ≡ named_in_all (all_of all.now) so_far }
 {
     let mut named = so_far;

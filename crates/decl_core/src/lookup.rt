@@ -3,12 +3,16 @@
 ghost use Rattle.std.specs.Prelude.{◌≡◌, ◌≤◌, ◌<◌, length, IfSome};
 ghost use Rattle.path_tree.specs.Known.{value_of, constants_of};
 ghost use Rattle.decl_core.specs.Reading.{found_in};
-ghost use Rattle.decl_core.specs.Scopes.{params_of, parts_of};
+ghost use Rattle.decl_core.specs.Reading.{is_among, is_known as is_known_in};
+ghost use Rattle.decl_core.specs.Declarations.{operation_names};
+ghost use Rattle.decl_core.specs.Scopes.{names_of, operations_of, own_and, params_of, parts_of};
 
 use crate::id::{ParamId, PartId};
-use crate::object::{Param, Part};
+use crate::object::{Operation, Param, Part};
 use crate::scope::Scope;
 use path_tree::lookup::Constant;
+use path_tree::name::Name;
+use std::sync::Arc;
 use value_core::kind::{Elem, Kind};
 
 /// The value of the constant of this name.
@@ -76,10 +80,33 @@ pub(crate) fn part_of(parts: &[Part], text: &[u8]) -> Option<(PartId, Kind)>
     }
 }
 
-/// Whether a constant, a parameter or a part has this name: it is then of the wrong kind where it is
-/// none of those that are sought.
-pub(crate) fn is_known(scope: &Scope, text: &[u8]) -> bool {
+/// Whether one of these operations has this name.
+pub(crate) fn is_operation(operations: &[Arc<Operation>], text: &[u8]) -> bool
+    ensures { result ≡ is_among (operation_names (operations_of operations.now)) text.now }
+{
+    match operations {
+        [] => false,
+        [operation, rest @ ..] => operation.name.as_bytes() == text || is_operation(rest, text),
+    }
+}
+
+/// Whether this is the name of the operation itself.
+fn is_own(own: Option<&Name>, operations: &[Arc<Operation>], text: &[u8]) -> bool
+    ensures { result ≡ is_among (own_and own.entry (operation_names (operations_of operations.now))) text.now }
+{
+    match own {
+        None => is_operation(operations, text),
+        Some(name) => name.as_bytes() == text || is_operation(operations, text),
+    }
+}
+
+/// Whether a constant, a parameter, a part or an operation has this name: it is then of the wrong kind
+/// where it is none of those that are sought.
+pub(crate) fn is_known(scope: &Scope, text: &[u8]) -> bool
+    ensures { result ≡ is_known_in (names_of scope.now) text.now }
+{
     constant_of(scope.constants, text).is_some()
         || param_of(scope.params, text).is_some()
         || place_of(scope.parts, text).is_some()
+        || is_own(scope.own, scope.operations, text)
 }

@@ -1,5 +1,10 @@
 //! Objects and their operations.
 
+ghost use Rattle.std.specs.Prelude.{◌≤◌, length, map};
+ghost use Rattle.decl_core.specs.View.{all_of};
+ghost use Rattle.decl_core.specs.Typed.{IsWellTyped};
+ghost use Rattle.decl_core.specs.TypedOnce.{well_typed_once};
+
 use crate::stmt::Stmt;
 use path_tree::name::Name;
 use path_tree::tree::PathTree;
@@ -37,6 +42,9 @@ pub struct Operation {
     pub body: Vec<Stmt>,
     /// Of each part of the object, in order, what it holds where the operation names it.
     pub kinds: Vec<Option<Kind>>,
+    ghost few_parts: { length kinds.items ≤ 16 },
+    // what the body uses is known, and each expression is of the sort that is due
+    ghost typed: { IsWellTyped kinds.items (map (λ p. p.kind) params.items) result (all_of body.items) } by { well_typed_once kinds.items (map (λ p. p.kind) params.items) result (all_of body.items) },
 }
 
 /// An object: parts, the operations on them, and the paths that say which operations may run when.

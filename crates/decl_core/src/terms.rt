@@ -2,11 +2,9 @@
 //!
 //! `depth` is the number of levels of expressions that may still be opened.
 
-ghost use Rattle.std.specs.Prelude.{◌≡◌, ◌<◌, IfOk, List, length, Some};
+ghost use Rattle.std.specs.Prelude.{◌≡◌, ◌<◌, IfOk, Some};
 ghost use Rattle.path_tree.specs.declared.token.Symbol.TheVariants.{OpenBracket};
-ghost use Rattle.path_tree.specs.Lexeme.{lexemes, Lexeme};
-ghost use Rattle.decl_core.specs.Form.{Form};
-ghost use Rattle.decl_core.specs.Grammar.{IsExprBefore, EndsExpr};
+ghost use Rattle.path_tree.specs.Lexeme.{lexemes};
 ghost use Rattle.path_tree.specs.Reading.{symbol_at};
 ghost use Rattle.decl_core.specs.View.{form_of, integers_of};
 ghost use Rattle.decl_core.specs.Reader.{Gives};
@@ -51,7 +49,7 @@ fn value(alloc: Global, scope: &Scope, bytes: &[u8], at: usize) -> Result<Expr, 
 
 /// A part's name behind the parenthesis that opens.
 #[tactic(auto, unfolding(crate::specs::Reading::part_in))]
-fn part<'t>(
+pub(crate) fn part<'t>(
     scope: &Scope,
     tokens: &'t [Token],
     depth: u8,
@@ -97,7 +95,7 @@ fn count<'t>(scope: &Scope, tokens: &'t [Token], depth: u8) -> Read<'t, Expr>
 /// An expression, one level deeper.
 #[cycle(expressions)]
 #[tactic(auto, using(crate::proofs::Sums::nested_step))]
-fn nested<'t>(
+pub(crate) fn nested<'t>(
     alloc: Global,
     scope: &Scope,
     at: usize,
@@ -278,25 +276,4 @@ fn more<'t>(
         }
     }
     Err(DeclFault::Syntax(start_of(rest)))
-}
-
-/// The expression at the front of the tokens, and the tokens behind it.
-///
-/// The fault told is the first from left to right: `Syntax` at a token that the grammar does not have
-/// there; `UnknownName` at a name; `WrongType` at a name or at the first token of an expression of the
-/// wrong kind; `TooMany` at the token that opens a level too many; `Memory` where room was refused.
-pub(crate) fn read_expr<'t>(
-    alloc: Global,
-    scope: &Scope,
-    tokens: &'t [Token],
-    depth: u8,
-) -> Read<'t, Expr>
-    requires inside { length tokens.now < scope.now.most }
-    // What is read is an expression of the grammar.
-    ensures found { IfOk result (λ x. IsExprBefore (names_of scope.now) depth (lexemes tokens.now) (form_of x.0) (lexemes x.1.now)) }
-    // An expression of the grammar is read whole, unless memory runs out.
-    ensures only { (x : Form) (rest : List Lexeme) → IsExprBefore (names_of scope.now) depth (lexemes tokens.now) x rest → EndsExpr rest →
-        Gives {Y = Form × List Lexeme} form_read result (Some (x, rest)) }
-{
-    expr(alloc, scope, tokens, depth)
 }

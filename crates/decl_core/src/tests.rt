@@ -3,8 +3,9 @@
 use crate::expr::Expr;
 use crate::fault::DeclFault;
 use crate::object::{Param, Part};
+use crate::read::read_objects;
 use crate::scope::Scope;
-use crate::terms::read_expr;
+use crate::terms::expr;
 use path_tree::lex::lex;
 use path_tree::lookup::Constant;
 use path_tree::name::Name;
@@ -48,16 +49,21 @@ fn sort_of(rt: &impl Abort, alloc: Global, source: &[u8]) -> Result<Result<Elem,
         name: name(alloc, "t")?,
         kind: Kind::Table(Elem::Integer),
     })?;
+    let own_name = name(alloc, "f")?;
+    let own = Some(&own_name);
     let tokens = lex(alloc, source).expect(rt, "tokens");
     assert!(rt; params.len() <= 8 && parts.len() <= 16);
     let scope = Scope {
         constants: &constants,
         params: &params,
         parts: &parts,
+        operations: &[],
+        own,
+        result: None,
         most: 131072,
     };
     assert!(rt; tokens.len() < 131072);
-    let sort = match read_expr(alloc, &scope, &tokens, 32) {
+    let sort = match expr(alloc, &scope, &tokens, 32) {
         Ok((Expr::Integer(_), _)) => Ok(Elem::Integer),
         Ok((Expr::Text(_), _)) => Ok(Elem::Text),
         Err(fault) => Err(fault),
@@ -119,5 +125,17 @@ fn a_sum_of_32000_terms_is_read_and_dropped(rt: HostRuntime) -> Result<(), Fail>
         source.push(b'1')?;
     }
     assert_eq!(&rt; sort_of(&rt, alloc, &source)?, Ok(Elem::Integer));
+    Ok(())
+}
+
+#[test]
+fn the_objects_of_the_rows_are_read(rt: HostRuntime) -> Result<(), Fail> {
+    let alloc = rt.alloc();
+    let objects = read_objects(
+        alloc,
+        b"object cell; path 1:([get], put, bump) end; var v : array [1] of integer; entry function get : integer; begin get := v[0] end; entry procedure put(x : integer); begin v[0] := x end; entry procedure bump(x : integer); begin v[0] := v[0] + x end; end;",
+    )
+    .expect(&rt, "objects");
+    assert_eq!(&rt; objects.len(), 1);
     Ok(())
 }

@@ -1,0 +1,27 @@
+-- Objects and operations without where they lie in memory.
+use Rattle.std.specs.Prelude.{ℕ, ◌+◌, ◌==◌, List, [], ◌∷◌, Option, Some, None, if◌then◌else◌}
+use Rattle.std.specs.Int.{bit_at}
+use Rattle.value_core.specs.declared.kind.Elem.{Elem}
+use Rattle.value_core.specs.declared.kind.Kind.{Kind}
+use Rattle.path_tree.specs.Path.{Path}
+use Rattle.decl_core.specs.Form.{Statements}
+
+-- an operation: what it is given, what it replies, what it does, and of each part of the object what it holds where the operation names it
+pub record OperationForm : Type 0 where
+  pub name : List ℕ
+  pub params : List (List ℕ × Elem)
+  pub result : Option Elem
+  pub statements : Statements
+  pub kinds : List (Option Kind)
+
+-- an object
+pub record ObjectForm : Type 0 where
+  pub name : List ℕ
+  pub parts : List (List ℕ × Kind)
+  pub paths : List Path
+  pub operations : List OperationForm
+
+-- of each part what it holds, where its bit is set; the first of them has this number
+abbrev pub kinds_from : ℕ → ℕ → List (List ℕ × Kind) → List (Option Kind)
+kinds_from reads place [] = []
+kinds_from reads place (p ∷ parts) = (if bit_at reads place == 1 then Some p.1 else None) ∷ kinds_from reads (place + 1) parts

@@ -1,0 +1,65 @@
+//! The first fault of an object with more than 32 names of operations.
+//!
+//! It has one: at the 33rd of them at the latest. The pass is the same, but for the paths, which may use all
+//! of these names.
+
+use crate::constants::constants;
+use crate::crowd_path::behind_path;
+use crate::entry::entries;
+use crate::fault::DeclFault;
+use crate::front::{after, behind, start_of};
+use crate::parts::parts;
+use crate::paths::MOST_PATHS;
+use indexmap::IndexSet;
+use path_tree::lookup::Constant;
+use path_tree::name::Name;
+use path_tree::token::{Symbol, Token};
+use std::alloc::Global;
+
+/// The tokens behind the paths, so many more at most.
+fn behind_paths<'t>(
+    alloc: Global,
+    constants: &[Constant],
+    names: &IndexSet<Name>,
+    left: usize,
+    tokens: &'t [Token],
+) -> Result<&'t [Token], DeclFault> {
+    if after(tokens, Symbol::Path).is_none() {
+        return Ok(tokens);
+    }
+    if left == 0 {
+        return Err(DeclFault::TooMany(start_of(tokens)));
+    }
+    let rest = behind_path(alloc, constants, names, tokens)?;
+    let rest = behind(rest, Symbol::Semicolon)?;
+    behind_paths(alloc, constants, names, left - 1, rest)
+}
+
+/// What stands behind the object, where nothing in it has a fault: its last names are then no operations of
+/// it, and what stands there is no object.
+fn behind_object<'t>(
+    alloc: Global,
+    names: &[Name],
+    tokens: &'t [Token],
+) -> Result<&'t [Token], DeclFault> {
+    let mut known = IndexSet::new(alloc);
+    for name in names {
+        let name = name.copy(alloc)?;
+        known.insert(name)?;
+    }
+    let (constants, rest) = constants(alloc, Vec::new(alloc), 16, tokens)?;
+    let rest = behind_paths(alloc, &constants, &known, MOST_PATHS, rest)?;
+    let (parts, rest) = parts(alloc, &constants, Vec::new(alloc), 16, rest)?;
+    let (_operations, rest) = entries(alloc, &constants, &parts, Vec::new(alloc), 32, rest)?;
+    let rest = behind(rest, Symbol::End)?;
+    let rest = behind(rest, Symbol::Semicolon)?;
+    Ok(rest)
+}
+
+/// The first fault of an object with so many names.
+pub(crate) fn fault_of_crowd(alloc: Global, names: &[Name], tokens: &[Token]) -> DeclFault {
+    match behind_object(alloc, names, tokens) {
+        Err(fault) => fault,
+        Ok(rest) => DeclFault::Syntax(start_of(rest)),
+    }
+}
