@@ -1,0 +1,4 @@
+pub mod Running
+pub mod Openly
+pub mod NeverMeet
+pub mod Examples

@@ -1,0 +1,2 @@
+pub mod Separates
+pub mod Laws
