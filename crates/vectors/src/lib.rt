@@ -9,6 +9,14 @@ pub mod fakes;
 #[cfg(test)]
 mod limits;
 #[cfg(test)]
+mod object_texts;
+#[cfg(test)]
+mod objects_faults;
+#[cfg(test)]
+mod objects_limits;
+#[cfg(test)]
+mod objects_rows;
+#[cfg(test)]
 mod paths_faults;
 #[cfg(test)]
 mod paths_rows;
