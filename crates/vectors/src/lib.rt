@@ -15,6 +15,8 @@ mod objects_faults;
 #[cfg(test)]
 mod objects_limits;
 #[cfg(test)]
+mod objects_names;
+#[cfg(test)]
 mod objects_rows;
 #[cfg(test)]
 mod paths_faults;

@@ -324,10 +324,26 @@ fn a_path_of_33_operations_has_limits(rt: HostRuntime) {
     is_told(&rt, alloc, &text.bytes, 5, "TooDeep", text.mark);
 }
 
-// What is told where the path here stands before 33 operations.
+// Asserts what is told where this stands before 32 operations, and that behind them.
+fn row_of_33_is_told(
+    rt: &impl Abort,
+    alloc: Global,
+    front: &str,
+    last: &str,
+    number: u8,
+    name: &str,
+) {
+    let mut text = Text::new(alloc);
+    text.add(rt, "object a; ", 0);
+    text.add(rt, front, 0);
+    let mark = text.mark;
+    text.add_times(rt, "entry procedure p#; begin end; ", 32);
+    text.add(rt, last, 0);
+    is_told(rt, alloc, &text.bytes, number, name, mark.or(text.mark));
+}
+
 #[test]
 fn the_33rd_operation_is_known_to_paths(rt: HostRuntime) {
-    let alloc = rt.alloc();
     for (front, last, number, name) in [
         (
             "path p32 end; ",
@@ -371,6 +387,14 @@ fn the_33rd_operation_is_known_to_paths(rt: HostRuntime) {
             1,
             "Expected",
         ),
+    ] {
+        row_of_33_is_told(&rt, rt.alloc(), front, last, number, name);
+    }
+}
+
+#[test]
+fn faults_before_the_33rd_operation_come_first(rt: HostRuntime) {
+    for (front, last, number, name) in [
         (
             "path p32 end ^path p32 end; ",
             "entry procedure p32; begin end; end;",
@@ -395,6 +419,14 @@ fn the_33rd_operation_is_known_to_paths(rt: HostRuntime) {
             11,
             "DuplicateName",
         ),
+    ] {
+        row_of_33_is_told(&rt, rt.alloc(), front, last, number, name);
+    }
+}
+
+#[test]
+fn faults_at_the_33rd_operation_come_first(rt: HostRuntime) {
+    for (front, last, number, name) in [
         (
             "path p32 end; ",
             "entry procedure ^; entry procedure p32; begin end; end;",
@@ -432,16 +464,7 @@ fn the_33rd_operation_is_known_to_paths(rt: HostRuntime) {
             "Syntax",
         ),
     ] {
-        let mut text = Text::new(alloc);
-        text.add(&rt, "object a; ", 0);
-        text.add(&rt, front, 0);
-        let mut mark = text.mark;
-        text.add_times(&rt, "entry procedure p#; begin end; ", 32);
-        text.add(&rt, last, 0);
-        if mark.is_none() {
-            mark = text.mark;
-        }
-        is_told(&rt, alloc, &text.bytes, number, name, mark);
+        row_of_33_is_told(&rt, rt.alloc(), front, last, number, name);
     }
 }
 
