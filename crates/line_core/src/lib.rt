@@ -3,10 +3,14 @@
 //! A `Machine` answers one line at a time. `run_lines` reads a text in pieces, cuts it into lines and
 //! writes the answers, all those of a piece before the next read. A line ends with LF; the last one
 //! may lack it; a CR before LF is dropped. Bytes that are no text are harmless: a line is bytes.
+//!
+//! `reply` has the texts that answers are made of: a word and a name or a number, and the number, the name
+//! and the place of a fault.
 #![tactic(auto)]
 
 mod engine;
 mod machine;
+pub mod reply;
 mod send;
 
 pub use engine::{MOST_READS, run_lines};

@@ -9,7 +9,6 @@ pub mod Laws
 pub mod Words
 pub mod Asked
 pub mod Command
-pub mod Reply
 pub mod Named
 pub mod Told
 pub mod PathLine

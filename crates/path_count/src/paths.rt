@@ -5,7 +5,6 @@ mod command;
 mod machine;
 mod operations;
 mod path_line;
-mod reply;
 mod words;
 
 ghost use Rattle.std.specs.Prelude.{◌++◌, [], List, ℕ, IfOk, IfSome, OnErr, unwrap_or};

@@ -7,7 +7,7 @@ ghost use Rattle.path_count.specs.Stands.{StandsFor};
 ghost use Rattle.path_count.specs.Calls.{StartAnswer, FinishAnswer};
 
 use crate::counters::Counters;
-use crate::paths::reply::push_reply;
+use line_core::reply::push_reply;
 use path_tree::node::OpId;
 use std::alloc::AllocError;
 

@@ -6,7 +6,7 @@ ghost use Rattle.path_tree.specs.declared.token.Symbol.TheVariants.{Semicolon};
 ghost use Rattle.path_count.specs.PathLine.{IsPathEnd};
 ghost use Rattle.path_count.specs.ReadLine.{IsReadLine, IsReadTokens, line_fault_text};
 
-use crate::paths::reply::{push_fault, push_number};
+use line_core::reply::{push_fault, push_number};
 use path_tree::lex::fault::LexFault;
 use path_tree::lex::lex;
 use path_tree::name::Name;

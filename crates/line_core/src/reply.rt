@@ -1,7 +1,7 @@
 //! The lines that answer.
 
 ghost use Rattle.std.specs.Prelude.{◌≡◌, ◌++◌, OnOk, Option, codes, decimal};
-ghost use Rattle.path_count.specs.Reply.{reply, fault_text, place_text};
+ghost use Rattle.line_core.specs.Reply.{reply, fault_text, place_text};
 
 use itoa::Buffer;
 use std::alloc::AllocError;
