@@ -22,6 +22,7 @@ pub mod StatementSteps
 pub mod StatementsRead
 pub mod StatementsFound
 pub mod Refusals
+pub mod Limits
 pub mod Files
 pub mod Sources
 pub mod SkippedTexts
@@ -29,6 +30,7 @@ pub mod SkippedStatements
 pub mod SkippedDeclarations
 pub mod OperationNames
 pub mod Typing
+pub mod Touched
 pub mod Naming
 pub mod Operations
 pub mod TypedRows

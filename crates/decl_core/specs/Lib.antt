@@ -20,5 +20,7 @@ pub mod ObjectMap
 pub mod ObjectLaws
 pub mod Typed
 pub mod TypedOnce
+pub mod KindOnce
 pub mod DeclFaults
+pub mod Touched
 pub mod FootprintLaws

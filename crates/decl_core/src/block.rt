@@ -7,7 +7,7 @@ ghost use Rattle.std.specs.Prelude.{◌≡◌, Some, None};
 ghost use Rattle.path_tree.specs.Lexeme.{lexemes};
 ghost use Rattle.path_tree.specs.Reading.{symbol_at};
 ghost use Rattle.path_tree.specs.declared.token.Symbol.TheVariants.{OpenBracket, Else};
-ghost use Rattle.decl_core.specs.Form.{block as block_form, nothing};
+ghost use Rattle.decl_core.specs.Form.{block as block_form, choose, nothing};
 ghost use Rattle.decl_core.specs.View.{form_of, condition_of, statement_of, all_of};
 ghost use Rattle.decl_core.specs.Reader.{Gives};
 ghost use Rattle.decl_core.specs.StatementReading.{sorted as sorted_form, result_sort as result_sort_in, string_at, word_of_refusal, element_in, result_in, assigned_in, append_in, take_in, store_in, erase_in, refuse_in, other_in, if_in, block_in, worded_statement, statements_at, body_in};
@@ -304,6 +304,15 @@ fn other<'t>(
     }
 }
 
+/// One statement or the other, by a condition.
+fn choice_of(alloc: Global, c: Cond, s: Stmt, t: Stmt) -> Result<Stmt, DeclFault>
+    ensures { Gives statement_of result (Some (choose (condition_of c) (statement_of s) (statement_of t))) }
+{
+    let s = Box::new(alloc, s)?;
+    let t = Box::new(alloc, t)?;
+    Ok(Stmt::If(c, s, t))
+}
+
 /// What stands behind `if`.
 #[cycle(statements)]
 #[tactic(auto, unfolding(crate::specs::StatementReading::if_in))]
@@ -321,9 +330,8 @@ fn choice<'t>(
     let opened = behind(rest, Symbol::Then)?;
     let (s, rest) = inner(alloc, scope, at, opened, depth)?;
     let (t, rest) = other(alloc, scope, at, rest, depth)?;
-    let s = Box::new(alloc, s)?;
-    let t = Box::new(alloc, t)?;
-    Ok((Stmt::If(c, s, t), rest))
+    let chosen = choice_of(alloc, c, s, t)?;
+    Ok((chosen, rest))
 }
 
 /// Statements up to `end`, each of which may open so many levels less one.

@@ -35,6 +35,28 @@ fn behind_paths<'t>(
     behind_paths(alloc, constants, names, left - 1, rest)
 }
 
+/// The names, to look for one among them.
+fn set_of(alloc: Global, names: &[Name]) -> Result<IndexSet<Name>, DeclFault> {
+    let mut known = IndexSet::new(alloc);
+    for name in names {
+        let name = name.copy(alloc)?;
+        known.insert(name)?;
+    }
+    Ok(known)
+}
+
+/// What stands behind the object whose constants and paths are read.
+fn behind_parts<'t>(
+    alloc: Global,
+    constants: &[Constant],
+    tokens: &'t [Token],
+) -> Result<&'t [Token], DeclFault> {
+    let (parts, rest) = parts(alloc, constants, Vec::new(alloc), 16, tokens)?;
+    let (_operations, rest) = entries(alloc, constants, &parts, Vec::new(alloc), 32, rest)?;
+    let rest = behind(rest, Symbol::End)?;
+    behind(rest, Symbol::Semicolon)
+}
+
 /// What stands behind the object, where nothing in it has a fault: its last names are then no operations of
 /// it, and what stands there is no object.
 fn behind_object<'t>(
@@ -42,18 +64,10 @@ fn behind_object<'t>(
     names: &[Name],
     tokens: &'t [Token],
 ) -> Result<&'t [Token], DeclFault> {
-    let mut known = IndexSet::new(alloc);
-    for name in names {
-        let name = name.copy(alloc)?;
-        known.insert(name)?;
-    }
+    let known = set_of(alloc, names)?;
     let (constants, rest) = constants(alloc, Vec::new(alloc), 16, tokens)?;
     let rest = behind_paths(alloc, &constants, &known, MOST_PATHS, rest)?;
-    let (parts, rest) = parts(alloc, &constants, Vec::new(alloc), 16, rest)?;
-    let (_operations, rest) = entries(alloc, &constants, &parts, Vec::new(alloc), 32, rest)?;
-    let rest = behind(rest, Symbol::End)?;
-    let rest = behind(rest, Symbol::Semicolon)?;
-    Ok(rest)
+    behind_parts(alloc, &constants, rest)
 }
 
 /// The first fault of an object with so many names.

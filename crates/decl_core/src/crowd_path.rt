@@ -177,6 +177,22 @@ fn behind_item<'t>(walk: &mut Walk, tokens: &'t [Token]) -> Result<(bool, &'t [T
     Ok((false, rest))
 }
 
+/// An item and what stands behind it: the tokens behind, and whether another item has to follow.
+fn step<'t>(
+    alloc: Global,
+    walk: &mut Walk,
+    constants: &[Constant],
+    names: &IndexSet<Name>,
+    tokens: &'t [Token],
+) -> Result<(bool, &'t [Token]), DeclFault> {
+    let (is_whole, rest) = item(alloc, walk, constants, names, tokens)?;
+    if is_whole {
+        behind_item(walk, rest)
+    } else {
+        Ok((true, rest))
+    }
+}
+
 /// The tokens behind the path that stands in front.
 pub(crate) fn behind_path<'t>(
     alloc: Global,
@@ -192,18 +208,14 @@ pub(crate) fn behind_path<'t>(
     walk.open(Symbol::End, start_of(tokens))?;
     let mut rest = behind(tokens, Symbol::Path)?;
     for _ in 0..MOST {
-        let (is_whole, behind_it) = item(alloc, &mut walk, constants, names, rest)?;
+        let (is_more, behind_it) = step(alloc, &mut walk, constants, names, rest)?;
         rest = behind_it;
-        if is_whole {
-            let (is_more, behind_it) = behind_item(&mut walk, rest)?;
-            rest = behind_it;
-            if !is_more {
-                return if walk.nodes > MOST_NODES {
-                    Err(DeclFault::Path(PathFault::TooMany))
-                } else {
-                    Ok(rest)
-                };
-            }
+        if !is_more {
+            return if walk.nodes > MOST_NODES {
+                Err(DeclFault::Path(PathFault::TooMany))
+            } else {
+                Ok(rest)
+            };
         }
     }
     Err(DeclFault::Syntax(start_of(rest)))

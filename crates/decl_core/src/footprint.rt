@@ -3,11 +3,13 @@
 //! Each function takes the parts so far and gives them with those that it finds, as bits: bit p stands for
 //! part p.
 
-ghost use Rattle.std.specs.Prelude.{◌≡◌};
+ghost use Rattle.std.specs.Prelude.{◌≡◌, ◌↔◌, ℕ};
+ghost use Rattle.std.specs.Int.{bit_at};
 ghost use Rattle.decl_core.specs.View.{from_of, integers_of, texts_of, form_of, condition_of, statement_of, all_of};
 ghost use Rattle.decl_core.specs.Bodies.{body_of};
 ghost use Rattle.decl_core.specs.Footprint.{with_part, named_from, named_in_integers, named_in_texts, named_in, named_in_condition, named_in_statement, named_in_all, changed_by_statement as by_statement, changed_by_all, reads_of, writes_of};
 ghost use Rattle.decl_core.specs.Terms.{named_in_signed, named_in_terms};
+ghost use Rattle.decl_core.specs.Touched.{Reads, Writes};
 
 use crate::expr::{Expr, IntegerExpr, Signed, Source, TextExpr};
 use crate::id::PartId;
@@ -16,14 +18,16 @@ use crate::stmt::{Cond, Stmt};
 
 /// The parts that an operation reads: those that its text names, as bits.
 pub fn reads(operation: &Operation) -> u16
-    ensures { result ≡ reads_of (body_of operation.now) }
+    ensures fold { result ≡ reads_of (body_of operation.now) }
+    ensures named { (p : ℕ) → (bit_at result p ≡ 1) ↔ Reads (body_of operation.now).statements p }
 {
     named_by_block(&operation.body, 0)
 }
 
 /// The parts that an operation writes: those that a statement of it changes, as bits.
 pub fn writes(operation: &Operation) -> u16
-    ensures { result ≡ writes_of (body_of operation.now) }
+    ensures fold { result ≡ writes_of (body_of operation.now) }
+    ensures changed { (p : ℕ) → (bit_at result p ≡ 1) ↔ Writes (body_of operation.now).statements p }
 {
     changed_by_block(&operation.body, 0)
 }

@@ -3,16 +3,12 @@
 #![tactic(auto)]
 
 mod block;
-#[cfg(test)]
-mod body_tests;
 mod catalog;
 mod collect;
 mod condition;
 mod constants;
 mod crowd;
 mod crowd_path;
-#[cfg(test)]
-mod declaration_tests;
 mod entry;
 pub mod expr;
 pub mod fault;
@@ -33,6 +29,4 @@ pub mod read;
 mod scope;
 pub mod stmt;
 mod terms;
-#[cfg(test)]
-mod tests;
 pub mod word;

@@ -1,9 +1,11 @@
 //! Objects and their operations.
 
 ghost use Rattle.std.specs.Prelude.{◌≤◌, length, map};
+ghost use Rattle.value_core.specs.Kinds.{IsKind};
 ghost use Rattle.decl_core.specs.View.{all_of};
 ghost use Rattle.decl_core.specs.Typed.{IsWellTyped};
 ghost use Rattle.decl_core.specs.TypedOnce.{well_typed_once};
+ghost use Rattle.decl_core.specs.KindOnce.{is_kind_once};
 
 use crate::stmt::Stmt;
 use path_tree::name::Name;
@@ -18,6 +20,8 @@ pub struct Part {
     pub name: Name,
     /// What it holds.
     pub kind: Kind,
+    // an array has at most 1,024 elements
+    ghost sized: { IsKind kind } by { is_kind_once kind },
 }
 
 /// A parameter of an operation.
@@ -58,4 +62,7 @@ pub struct Object {
     pub paths: Vec<PathTree>,
     /// Its operations, by their numbers; at most 32.
     pub operations: Vec<Arc<Operation>>,
+    ghost few: { length parts.items ≤ 16 },
+    ghost few_paths: { length paths.items ≤ 16 },
+    ghost few_operations: { length operations.items ≤ 32 },
 }

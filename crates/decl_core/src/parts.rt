@@ -4,6 +4,7 @@ ghost use Rattle.std.specs.Prelude.{◌≡◌, ◌-◌, ◌+◌, ◌≤◌, ◌+
 ghost use Rattle.path_tree.specs.declared.token.Symbol.TheVariants.{Var};
 ghost use Rattle.path_tree.specs.Known.{constants_of};
 ghost use Rattle.path_tree.specs.Lexeme.{lexemes};
+ghost use Rattle.value_core.specs.Kinds.{IsKind};
 ghost use Rattle.decl_core.specs.Declarations.{begins as begins_with, begins_name as a_name_begins, each_with, names_of_parts};
 ghost use Rattle.decl_core.specs.DeclarationReading.{part_group_in, var_in};
 ghost use Rattle.decl_core.specs.Reader.{Gives};
@@ -55,6 +56,7 @@ fn room(parts: &[Part]) -> u8
 
 /// Parts of these names and of one kind, behind those before.
 fn with_parts(before: Vec<Part>, names: Vec<Name>, kind: Kind) -> Result<Vec<Part>, AllocError>
+    requires { IsKind kind }
     ensures parts { IfOk result (λ all. parts_of all.items ≡ parts_of before.items ++ each_with kind names.items) }
     ensures length { IfOk result (λ all. length all.items ≡ length before.items + length names.items) }
 {

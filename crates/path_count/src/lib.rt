@@ -12,5 +12,3 @@ pub mod laws;
 mod object;
 pub mod paths;
 mod program;
-#[cfg(test)]
-mod tests;

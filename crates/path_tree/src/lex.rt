@@ -5,8 +5,6 @@ mod gap;
 pub mod laws;
 mod number;
 mod sign;
-#[cfg(test)]
-mod tests;
 mod text;
 pub mod word;
 

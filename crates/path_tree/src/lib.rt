@@ -20,7 +20,5 @@ pub mod print;
 pub mod read;
 mod scope;
 mod small;
-#[cfg(test)]
-mod tests;
 pub mod token;
 pub mod tree;

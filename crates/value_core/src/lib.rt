@@ -17,7 +17,5 @@ mod line;
 mod reader;
 pub mod refusal;
 mod rows;
-#[cfg(test)]
-mod tests;
 pub mod text;
 pub mod value;

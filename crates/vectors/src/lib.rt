@@ -5,19 +5,11 @@
 
 #[cfg(test)]
 mod agreement;
+#[cfg(test)]
+mod counters;
 pub mod fakes;
 #[cfg(test)]
 mod limits;
-#[cfg(test)]
-mod object_texts;
-#[cfg(test)]
-mod objects_faults;
-#[cfg(test)]
-mod objects_limits;
-#[cfg(test)]
-mod objects_names;
-#[cfg(test)]
-mod objects_rows;
 #[cfg(test)]
 mod paths_faults;
 #[cfg(test)]
@@ -25,3 +17,9 @@ mod paths_rows;
 #[cfg(test)]
 mod refused;
 pub mod slow;
+#[cfg(test)]
+mod tokens;
+#[cfg(test)]
+mod trees;
+#[cfg(test)]
+mod values;

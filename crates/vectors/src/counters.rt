@@ -1,6 +1,6 @@
 //! Runs of counters whose answers follow from the meaning of their paths, and the last start.
 
-use crate::counters::{Counters, MOST_STARTS, compile};
+use path_count::counters::{Counters, MOST_STARTS, compile};
 use path_tree::lex::fault::LexFault;
 use path_tree::lex::lex;
 use path_tree::name::Name;

@@ -3,16 +3,16 @@
 use super::helpers::{
     append, element, erase, first, has, lookup, name, opening, set, store, take, text,
 };
-use crate::arithmetic::{add, sub};
-use crate::datum::Datum;
-use crate::decode::{DecodeFault, decode};
-use crate::encode::encode;
-use crate::kind::{Elem, Kind};
-use crate::refusal::{GrowFault, Refusal};
-use crate::text::Text;
 use std::alloc::{AllocError, Global};
 use std::process::Abort;
 use std::test::Fail;
+use value_core::arithmetic::{add, sub};
+use value_core::datum::Datum;
+use value_core::decode::{DecodeFault, decode};
+use value_core::encode::encode;
+use value_core::kind::{Elem, Kind};
+use value_core::refusal::{GrowFault, Refusal};
+use value_core::text::Text;
 
 const FULL: Result<(), GrowFault> = Err(GrowFault::Refused(Refusal::Full));
 

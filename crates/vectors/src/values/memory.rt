@@ -1,11 +1,11 @@
 //! Wants of memory: each is told by name, changes nothing, and the call goes well when it is made again.
 
 use super::helpers::{append, datum, first, lookup, name, opening, store};
-use crate::decode::{DecodeFault, decode};
-use crate::encode::encode;
-use crate::kind::{Elem, Kind};
-use crate::refusal::{GrowFault, Refusal};
 use std::test::Fail;
+use value_core::decode::{DecodeFault, decode};
+use value_core::encode::encode;
+use value_core::kind::{Elem, Kind};
+use value_core::refusal::{GrowFault, Refusal};
 
 #[test]
 fn refused_opening(rt: HostRuntime) -> Result<(), Fail> {

@@ -4,7 +4,7 @@ use Rattle.path_tree.specs.Lexeme.{lexemes}
 use Rattle.path_tree.specs.Known.{known_with}
 use Rattle.path_tree.specs.Grammar.{IsPathAt}
 use Rattle.path_tree.specs.Tokens.{AreTokens, placed_tokens}
-use Rattle.path_tree.proofs.tests.read_back.Goals as goal
+use Rattle.vectors.proofs.trees.read_back.Goals as goal
 
 pub returns-in-Ok : goal.returns-in-Ok
 returns-in-Ok g c =

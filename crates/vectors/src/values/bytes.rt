@@ -1,15 +1,15 @@
 //! Bytes of values, from outside and back.
 
 use super::helpers::{append, element, first, lookup, opening, set, store, text};
-use crate::datum::Datum;
-use crate::decode::{DecodeFault, decode};
-use crate::encode::encode;
-use crate::kind::{Elem, Kind};
-use crate::refusal::Refusal;
-use crate::value::Value;
 use std::alloc::Global;
 use std::process::Abort;
 use std::test::Fail;
+use value_core::datum::Datum;
+use value_core::decode::{DecodeFault, decode};
+use value_core::encode::encode;
+use value_core::kind::{Elem, Kind};
+use value_core::refusal::Refusal;
+use value_core::value::Value;
 
 const ONE_INTEGER: Kind = Kind::Array(1, Elem::Integer);
 

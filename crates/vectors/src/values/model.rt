@@ -1,12 +1,12 @@
 //! A row of random operations beside plain lists.
 
 use super::helpers::{append, element, erase, first, has, lookup, name, opening, set, store, take};
-use crate::datum::Datum;
-use crate::decode::decode;
-use crate::encode::encode;
-use crate::kind::{Elem, Kind};
-use crate::refusal::Refusal;
 use std::test::Fail;
+use value_core::datum::Datum;
+use value_core::decode::decode;
+use value_core::encode::encode;
+use value_core::kind::{Elem, Kind};
+use value_core::refusal::Refusal;
 
 // The next number of a row that looks like chance.
 fn next(seed: &mut u32) -> u32 {

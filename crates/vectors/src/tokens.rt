@@ -1,8 +1,8 @@
 //! What no clause of the lexer says: that its definitions are those that were meant.
 
-use crate::lex::fault::LexFault;
-use crate::lex::lex;
-use crate::token::{Kind, Token};
+use path_tree::lex::fault::LexFault;
+use path_tree::lex::lex;
+use path_tree::token::{Kind, Token};
 use std::alloc::Global;
 use std::test::Fail;
 

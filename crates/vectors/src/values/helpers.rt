@@ -1,11 +1,11 @@
 //! Operations that test the kind first, and values to begin with.
 
-use crate::datum::Datum;
-use crate::kind::{Elem, Kind};
-use crate::refusal::{GrowFault, Refusal};
-use crate::text::Text;
-use crate::value::Value;
 use std::alloc::{AllocError, Global};
+use value_core::datum::Datum;
+use value_core::kind::{Elem, Kind};
+use value_core::refusal::{GrowFault, Refusal};
+use value_core::text::Text;
+use value_core::value::Value;
 
 /// What a test does to a value whose kind does not fit.
 const UNFIT: Refusal = Refusal::Range;
