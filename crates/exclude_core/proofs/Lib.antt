@@ -2,3 +2,12 @@ pub mod Running
 pub mod Openly
 pub mod NeverMeet
 pub mod Examples
+pub mod Symmetry
+pub mod NodeNumbers
+pub mod Separations
+pub mod Contested
+pub mod Rest
+pub mod Certified
+pub mod OneCertificate
+pub mod Searching
+pub mod Reports

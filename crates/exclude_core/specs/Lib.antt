@@ -1,2 +1,10 @@
 pub mod Separates
 pub mod Laws
+pub mod Search
+pub mod Exclusive
+pub mod Certificate
+pub mod Refusals
+pub mod Report
+pub mod CheckFaults
+pub mod Rest
+pub mod CertificateLaws

@@ -1,6 +1,7 @@
-//! Laws of separation, over paths and traces alone.
+//! Laws of separation and of certificates, over paths, traces and objects alone.
 
 ghost use Rattle.exclude_core.specs.Laws.{MeetingOpenly, SeparatedNeverMeet};
+ghost use Rattle.exclude_core.specs.CertificateLaws.{CertifiedIsExclusive, OneFirstCertificate};
 
 /// In a trace that satisfies a path, two running calls of operations that are separated in it have one
 /// number, so they are one call.
@@ -12,4 +13,15 @@ pub fn separated_never_meet()
 /// burst in it holds both.
 pub fn meeting_openly()
     ensures { MeetingOpenly }
+{}
+
+/// An object that has a certificate is exclusive.
+pub fn certified_is_exclusive()
+    ensures { CertifiedIsExclusive }
+{}
+
+/// Two certificates of an object, each entry with the first path and in it the first node that separates,
+/// are the same.
+pub fn one_first_certificate()
+    ensures { OneFirstCertificate }
 {}

@@ -4,6 +4,7 @@ ghost use Rattle.std.specs.Prelude.{◌≡◌};
 
 use clap::Error;
 use clap::error::ErrorKind;
+use exclude_core::report::CheckFault;
 use path_count::paths::PathsFault;
 use std::alloc::AllocError;
 use std::{fmt, io};
@@ -86,6 +87,20 @@ impl From<PathsFault> for Failure {
             PathsFault::ReadFault => Failure::ReadFault,
             PathsFault::WriteFault => Failure::WriteFault,
             PathsFault::Memory => Failure::Memory,
+        }
+    }
+}
+
+impl From<CheckFault> for Failure {
+    ghost use Rattle.std.specs.Prelude.{◌≡◌};
+    ghost use Rattle.pathserve.specs.Status.{check_failure_of};
+
+    ghost from_gives = { λ fault failure. failure ≡ check_failure_of fault };
+
+    fn from(fault: CheckFault) -> Failure {
+        match fault {
+            CheckFault::WriteFault => Failure::WriteFault,
+            CheckFault::Memory => Failure::Memory,
         }
     }
 }

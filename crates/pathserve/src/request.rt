@@ -1,26 +1,38 @@
 //! The command line.
 
-use clap::{Command, Error};
+use clap::{Arg, Command, Error};
 use std::alloc::{AllocError, Global};
 
 /// What a command line asks for.
 #[derive(Clone, Copy)]
-pub enum Request {
+pub enum Request<'a> {
     /// `pathserve paths`.
     Paths,
+    /// `pathserve check FILE`, with the path of the file.
+    Check(&'a str),
 }
 
 // The commands of the program.
 fn command<'a>(alloc: Global) -> Result<Command<'a>, AllocError> {
+    let file = Arg::new(alloc, "FILE").required(true);
+    let check = Command::new(alloc, "check").arg(file)?;
     Command::new(alloc, "pathserve")
         .subcommand_required(true)
-        .subcommand(Command::new(alloc, "paths"))
+        .subcommand(Command::new(alloc, "paths"))?
+        .subcommand(check)
 }
 
 /// What these words, the first of which names the program, ask for.
 ///
 /// An error is a mistake in them or a request for help, with the text to print, or a want of memory.
-pub fn request_of<'a>(alloc: Global, words: &'a [&'a str]) -> Result<Request, Error> {
-    let _matches = command(alloc)?.try_get_matches_from(words)?;
-    Ok(Request::Paths)
+pub fn request_of<'a>(alloc: Global, words: &'a [&'a str]) -> Result<Request<'a>, Error> {
+    let matches = command(alloc)?.try_get_matches_from(words)?;
+    // `check` alone has a file, and cannot be without
+    match matches.subcommand_matches("check") {
+        Some(check) => match check.get_str("FILE") {
+            Some(file) => Ok(Request::Check(file)),
+            None => Ok(Request::Paths),
+        },
+        None => Ok(Request::Paths),
+    }
 }

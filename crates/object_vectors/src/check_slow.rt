@@ -1,0 +1,295 @@
+//! The analyser beside a slow one, on many drawn objects. The slow one follows the definitions, pair by
+//! pair, part by part and node by node, over what was noted while the text was drawn: it knows neither the
+//! trees of the reader nor the walks of the analyser.
+
+use crate::check_bodies::{PARTS, Touched, draw_operation};
+use crate::check_footprints::only_object;
+use crate::check_paths::{DrawnNode, Form, OPERATIONS, draw_path};
+use crate::check_pen::Pen;
+use decl_core::object::Object;
+use exclude_core::analyse::{Accepted, Refusal, analyse};
+use exclude_core::certificate::{Certificate, Entry, check_certificate};
+use exclude_core::footprint::{Footprint, footprint};
+use std::alloc::{AllocError, Global};
+use std::process::Abort;
+use std::test::Fail;
+
+// An operation of a drawn object: its bit in paths, and what it touches.
+#[derive(Clone, Copy)]
+struct DrawnOperation {
+    bit: u8,
+    touched: Touched,
+}
+
+// A drawn object: its text, its operations, and the nodes of each path.
+#[derive(Drop)]
+struct DrawnObject {
+    text: Vec<u8>,
+    operations: Vec<DrawnOperation>,
+    paths: Vec<Vec<DrawnNode>>,
+}
+
+// Draws an object.
+fn draw_object(alloc: Global, pen: &mut Pen) -> Result<DrawnObject, AllocError> {
+    let count = pen.up_to(6) as usize;
+    let parts = pen.up_to(3);
+    let mut all = 0;
+    for (_, bit) in OPERATIONS.iter().take(count) {
+        all |= *bit;
+    }
+    pen.put("object o; ")?;
+    let mut paths = Vec::new(alloc);
+    for _ in 0..pen.up_to(3) {
+        paths.push(draw_path(alloc, pen, all)?)?;
+    }
+    pen.put("var ")?;
+    for (name, _) in PARTS.iter().take(parts as usize) {
+        pen.put(name)?;
+        pen.put(" : array [2] of integer; ")?;
+    }
+    let mut operations = Vec::new(alloc);
+    for (name, bit) in OPERATIONS.iter().take(count) {
+        let touched = draw_operation(pen, *name, parts)?;
+        operations.push(DrawnOperation { bit: *bit, touched })?;
+    }
+    pen.put("end;")?;
+    Ok(DrawnObject {
+        text: pen.take_text(alloc),
+        operations,
+        paths,
+    })
+}
+
+// The first part that one of two operations changes and the other one names.
+fn first_contested(a: Touched, b: Touched) -> Option<usize> {
+    for (part, (_, bit)) in PARTS.iter().enumerate() {
+        if a.changes & b.names & *bit != 0 || b.changes & a.names & *bit != 0 {
+            return Some(part);
+        }
+    }
+    None
+}
+
+// Whether a node separates the operations of these bits: it is a bound of 1, both stand in it, and no burst
+// in its content holds both.
+fn separates(nodes: &[DrawnNode], node: usize, both: u8) -> bool {
+    let mut rest = nodes.iter().skip(node);
+    let Some(bound) = rest.next() else {
+        return false;
+    };
+    if bound.form != Form::Bound(1) || bound.names & both != both {
+        return false;
+    }
+    for inner in rest {
+        if inner.left >= bound.left {
+            return true;
+        }
+        if inner.form == Form::Burst && inner.names & both == both {
+            return false;
+        }
+    }
+    true
+}
+
+// Whether the node of this path, counted from 1, separates the operations of these bits.
+fn is_separated_at(object: &DrawnObject, path: usize, node: usize, both: u8) -> bool {
+    match path
+        .checked_sub(1)
+        .and_then(|place| object.paths.get(place))
+    {
+        None => false,
+        Some(nodes) => separates(nodes, node, both),
+    }
+}
+
+// Each node that separates the operations of these bits, by the path and then by the node.
+fn separations(
+    alloc: Global,
+    object: &DrawnObject,
+    both: u8,
+) -> Result<Vec<(usize, usize)>, AllocError> {
+    let mut found = Vec::new(alloc);
+    for (place, nodes) in object.paths.iter().enumerate() {
+        for (node, _) in nodes.iter().enumerate() {
+            if separates(nodes, node, both) {
+                found.push((place.saturating_add(1), node))?;
+            }
+        }
+    }
+    Ok(found)
+}
+
+// The certificate of an object, or why it is refused.
+fn slow_analyse(
+    alloc: Global,
+    object: &DrawnObject,
+) -> Result<Result<Vec<Entry>, Refusal>, AllocError> {
+    let mut entries = Vec::new(alloc);
+    for (first, a) in object.operations.iter().enumerate() {
+        for (second, b) in object.operations.iter().enumerate().skip(first) {
+            let Some(part) = first_contested(a.touched, b.touched) else {
+                continue;
+            };
+            match separations(alloc, object, a.bit | b.bit)?.first() {
+                None => return Ok(Err(Refusal::Unseparated(first, second, part))),
+                Some((path, node)) => entries.push(Entry {
+                    first,
+                    second,
+                    path: *path,
+                    node: *node,
+                })?,
+            }
+        }
+    }
+    Ok(Ok(entries))
+}
+
+// How often something was met.
+#[derive(Clone, Copy)]
+struct Tally {
+    // Objects that are accepted, and those of them with a conflict.
+    accepted: u32,
+    certified: u32,
+    // Objects that are refused, and those of them that are so not for the first operation and itself.
+    refused: u32,
+    late: u32,
+    // Entries whose node is not the root of the first path.
+    far: u32,
+    // Other places that may stand in an entry, and places that may not.
+    other: u32,
+    unfit: u32,
+}
+
+// Counts one more, where something is so.
+fn count(number: &mut u32, is_so: bool) {
+    if is_so {
+        *number = number.saturating_add(1);
+    }
+}
+
+// Puts places into the entry of this number of a certificate, each that separates and some that are drawn,
+// and compares whether it is a certificate with them.
+fn ask_places(
+    rt: &impl Abort,
+    alloc: Global,
+    pen: &mut Pen,
+    drawn: &DrawnObject,
+    accepted: &Accepted,
+    number: usize,
+    tally: &mut Tally,
+) -> Result<(), AllocError> {
+    let entries = accepted.certificate().entries.to_vec(alloc)?;
+    let mut certificate = Certificate { entries };
+    let Some(told) = accepted.certificate().entries.get(number) else {
+        return Ok(());
+    };
+    let a = drawn.operations.get(told.first).expect(rt, "the first");
+    let b = drawn.operations.get(told.second).expect(rt, "the second");
+    let both = a.bit | b.bit;
+    let mut places = separations(alloc, drawn, both)?;
+    for _ in 0..4 {
+        places.push((pen.below(5) as usize, pen.below(12) as usize))?;
+    }
+    for (path, node) in places {
+        if let Some(entry) = certificate.entries.get_mut(number) {
+            entry.path = path;
+            entry.node = node;
+        }
+        let is_fit = is_separated_at(drawn, path, node, both);
+        let is_one = check_certificate(accepted.object(), &certificate);
+        assert_eq!(rt; is_one, is_fit, "path {path}, node {node}");
+        count(&mut tally.unfit, !is_fit);
+        count(
+            &mut tally.other,
+            is_fit && (path, node) != (told.path, told.node),
+        );
+    }
+    Ok(())
+}
+
+// Compares what the operations of an object touch with what was noted.
+fn compare_touched(rt: &impl Abort, object: &Object, drawn: &DrawnObject) {
+    assert_eq!(rt; object.paths.len(), drawn.paths.len());
+    assert_eq!(rt; object.operations.len(), drawn.operations.len());
+    for (operation, of) in object.operations.iter().zip(&drawn.operations) {
+        let Footprint { reads, writes } = footprint(operation);
+        assert_eq!(rt; reads, of.touched.names);
+        assert_eq!(rt; writes, of.touched.changes);
+    }
+}
+
+// Compares the certificate of an accepted object with these entries, and asks for other places in one of them.
+fn compare_accepted(
+    rt: &impl Abort,
+    alloc: Global,
+    pen: &mut Pen,
+    drawn: &DrawnObject,
+    accepted: &Accepted,
+    entries: &[Entry],
+    tally: &mut Tally,
+) -> Result<(), AllocError> {
+    assert_eq!(rt; accepted.certificate().entries.as_slice(), entries);
+    count(&mut tally.accepted, true);
+    count(&mut tally.certified, !entries.is_empty());
+    for entry in entries {
+        count(&mut tally.far, entry.path > 1 || entry.node > 0);
+    }
+    let drawn_number = pen.below(1_000) as usize;
+    let number = drawn_number.checked_rem(entries.len()).unwrap_or(0);
+    ask_places(rt, alloc, pen, drawn, accepted, number, tally)
+}
+
+// Draws an object, and compares what the two analysers say of it.
+fn compare(
+    rt: &impl Abort,
+    alloc: Global,
+    pen: &mut Pen,
+    tally: &mut Tally,
+) -> Result<(), AllocError> {
+    let drawn = draw_object(alloc, pen)?;
+    let object = only_object(rt, alloc, &drawn.text);
+    compare_touched(rt, &object, &drawn);
+    let slow = slow_analyse(alloc, &drawn)?;
+    match analyse(alloc, object) {
+        Ok(accepted) => {
+            let entries = slow.ok().expect(rt, "accepted by the slow one too");
+            compare_accepted(rt, alloc, pen, &drawn, &accepted, &entries, tally)
+        }
+        Err(refused) => {
+            let why = slow.err().expect(rt, "refused by the slow one too");
+            assert_eq!(rt; refused.why, why);
+            count(&mut tally.refused, true);
+            count(&mut tally.late, why != Refusal::Unseparated(0, 0, 0));
+            Ok(())
+        }
+    }
+}
+
+#[test]
+fn the_analyser_agrees_with_a_slow_one(rt: HostRuntime) -> Result<(), Fail> {
+    let mut pen = Pen::new(rt.alloc(), 2_463_534_242);
+    let mut tally = Tally {
+        accepted: 0,
+        certified: 0,
+        refused: 0,
+        late: 0,
+        far: 0,
+        other: 0,
+        unfit: 0,
+    };
+    for _ in 0..2_500 {
+        compare(&rt, rt.alloc(), &mut pen, &mut tally)?;
+    }
+    for (number, what) in [
+        (tally.accepted, "accepted"),
+        (tally.certified, "certified"),
+        (tally.refused, "refused"),
+        (tally.late, "late"),
+        (tally.far, "far"),
+        (tally.other, "other"),
+        (tally.unfit, "unfit"),
+    ] {
+        assert!(rt; number >= 200, "{number} {what}");
+    }
+    Ok(())
+}
