@@ -1,0 +1,7 @@
+pub mod Opening
+pub mod Papers
+pub mod PinRows
+pub mod Agreeing
+pub mod Becoming
+pub mod Saving
+pub mod Slots

@@ -1,0 +1,84 @@
+-- Parts saved one after the other.
+use Rattle.std.proofs.Common.{◌≡◌, ℕ, ◌<◌, ◌≤◌, ◌⊎◌, inl, inr, List, [], ◌∷◌, ◌++◌, length, Some, refl, sym, ap, subst, ◌∙◌, arith}
+use Rattle.std.specs.Prelude.{slice_get}
+use Rattle.std.specs.FinMap.{insert}
+use Rattle.std.proofs.lemmas.List.{length-append}
+use Rattle.std.proofs.lemmas.Option.{slice_get_within}
+use Rattle.decl_core.specs.declared.object.Part.{Part}
+use Rattle.shelf_core.specs.declared.hand.Stamp.{Stamp}
+use Rattle.shelf_core.specs.declared.save.SaveFault.{SaveFault}
+use Rattle.shelf_core.specs.declared.save.SaveFault.TheVariants.{Damaged, Device, Memory}
+use Rattle.shelf_core.specs.Device.{Assignment, Failed}
+use Rattle.shelf_core.specs.Papers.{Papers, part_key}
+use Rattle.shelf_core.specs.Saved.{IsFetched, AreFetched, with_parts, IsDamagedPin, SaveCause, PinSaveCause}
+use Rattle.shelf_core.proofs.Opening.{failed_since}
+
+-- the bytes of one part more are fetched
+more : (a : Assignment) (parts : List Part) (pins : List Stamp) (all : List (List ℕ)) (part : Part) (pin : Stamp) (bytes : List ℕ) →
+    AreFetched a parts pins all → IsFetched a part pin bytes → AreFetched a (parts ++ part ∷ []) (pins ++ pin ∷ []) (all ++ bytes ∷ [])
+more a [] [] [] part pin bytes so_far one = (one, tt)
+more a [] [] (b ∷ all) part pin bytes so_far one = absurd so_far
+more a [] (p ∷ pins) all part pin bytes so_far one = absurd so_far
+more a (q ∷ parts) [] all part pin bytes so_far one = absurd so_far
+more a (q ∷ parts) (p ∷ pins) [] part pin bytes so_far one = absurd so_far
+more a (q ∷ parts) (p ∷ pins) (b ∷ all) part pin bytes so_far one = (so_far.0, more a parts pins all part pin bytes so_far.1 one)
+
+-- the bytes of one part more are stored
+with_more : (papers : Papers) (object : List ℕ) (parts : List Part) (all : List (List ℕ)) (part : Part) (bytes : List ℕ) → length all ≡ length parts →
+    with_parts papers object (parts ++ part ∷ []) (all ++ bytes ∷ []) ≡ insert (with_parts papers object parts all) (part_key object part.name) bytes
+with_more papers object [] [] part bytes same = refl
+with_more papers object [] (b ∷ all) part bytes same = absurd (omega (arith, same))
+with_more papers object (q ∷ parts) [] part bytes same = absurd (omega (arith, same))
+with_more papers object (q ∷ parts) (b ∷ all) part bytes same = with_more (insert papers (part_key object q.name) b) object parts all part bytes (omega (arith, same))
+
+-- Some parts are saved. So far the devices were driven from these states on.
+pub record Saving (was holds : Papers → Type 0) (earlier agrees : Assignment → Type 0) (s t h k : ℕ) (object : List ℕ) (parts : List Part) (pins : List Stamp) : Type 0 where
+  pub all : List (List ℕ)
+  pub many : length all ≡ length parts
+  pub fetched : (a : Assignment) → agrees a → AreFetched a parts pins all
+  pub stored : (papers : Papers) → holds papers → (before : Papers) × was before × (papers ≡ with_parts before object parts all)
+  pub files : (a : Assignment) → agrees a → earlier a
+  pub shelf : s ≤ t
+  pub hand : h ≤ k
+
+pub start : (holds : Papers → Type 0) (agrees : Assignment → Type 0) (s h : ℕ) (object : List ℕ) → Saving holds holds agrees agrees s s h h object [] []
+start holds agrees s h object = record {
+  all = [];
+  many = refl;
+  fetched = λ a so. tt;
+  stored = λ papers is. (papers, is, refl);
+  files = λ a so. so;
+  shelf = omega arith;
+  hand = omega arith;
+}
+
+pub next : {was mid : Papers → Type 0} {earlier then : Assignment → Type 0} {s t u h k m : ℕ} {object : List ℕ} {parts : List Part} {pins : List Stamp} (holds : Papers → Type 0) (agrees : Assignment → Type 0) (part : Part) (pin : Stamp) →
+    Saving was mid earlier then s t h k object parts pins →
+    (bytes : List ℕ) × ((a : Assignment) → agrees a → IsFetched a part pin bytes) × ((papers : Papers) → holds papers → (before : Papers) × mid before × (papers ≡ insert before (part_key object part.name) bytes)) →
+    ((a : Assignment) → agrees a → then a) → t ≤ u → k ≤ m →
+    Saving was holds earlier agrees s u h m object (parts ++ part ∷ []) (pins ++ pin ∷ [])
+next {was = was} {object = object} {parts = parts} {pins = pins} holds agrees part pin so one files shelf hand =
+    let stored : (papers : Papers) → holds papers → (before : Papers) × was before × (papers ≡ with_parts before object (parts ++ part ∷ []) (so.all ++ one.0 ∷ [])) = λ papers is.
+    let last = one.2 papers is in
+    let first = so.stored last.0 last.1 in
+    (first.0, first.1, last.2 ∙ ap (λ p. insert p (part_key object part.name) one.0) first.2 ∙ sym (with_more first.0 object parts so.all part one.0 so.many)) in
+    record {
+      all = so.all ++ one.0 ∷ [];
+      many = omega (arith, length-append so.all (one.0 ∷ []), length-append parts (part ∷ []), so.many);
+      fetched = λ a is. more a parts pins so.all part pin one.0 (so.fetched a (files a is)) (one.1 a is);
+      stored = stored;
+      files = λ a is. so.files a (files a is);
+      shelf = omega (arith, so.shelf, shelf);
+      hand = omega (arith, so.hand, hand);
+    }
+
+-- why a part was not saved is why they all were not
+pub since : {was mid : Papers → Type 0} {earlier then : Assignment → Type 0} {s t u h k m : ℕ} {object : List ℕ} {parts : List Part} {pins : List Stamp} (agrees : Assignment → Type 0) (all : List Part) (stamps : List Stamp) (part : Part) (pin : Stamp) (number : ℕ) →
+    slice_get all number ≡ Some part → slice_get stamps number ≡ Some pin → Saving was mid earlier then s t h k object parts pins → t ≤ u → k ≤ m →
+    (e : SaveFault) → PinSaveCause agrees part pin number (Failed t u ⊎ Failed k m) e → SaveCause agrees all stamps (Failed s u ⊎ Failed h m) e
+since agrees all stamps part pin number there under so shelf hand (Damaged n) cause = λ a is. subst (λ j. IsDamagedPin a all stamps j) (sym cause.0) (record { part = part; pin = pin; part_there = there; pin_there = under; damaged = cause.1 a is })
+since {s = s} {t = t} {u = u} {h = h} {k = k} {m = m} agrees all stamps part pin number there under so shelf hand (Device n) cause = (subst (λ j. j < length all) (sym cause.0) (slice_get_within all number part there), either cause.1) where
+  either : Failed t u ⊎ Failed k m → Failed s u ⊎ Failed h m
+  either (inl f) = inl (failed_since s t u so.shelf shelf f)
+  either (inr f) = inr (failed_since h k m so.hand hand f)
+since agrees all stamps part pin number there under so shelf hand Memory cause = tt

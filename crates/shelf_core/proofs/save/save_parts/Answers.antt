@@ -1,0 +1,70 @@
+use Rattle.std.proofs.Common.{◌≡◌, ◌+◌, ◌<◌, ◌≤◌, List, [], ◌∷◌, ◌++◌, Some, length, take, sym, ap, subst, ◌∙◌, refl, arith, slice_index_or}
+use Rattle.std.specs.Prelude.{slice_get}
+use Rattle.std.proofs.lemmas.List.{take_more, take_all}
+use Rattle.std.proofs.lemmas.Option.{slice_get_read, slice_get-get_or}
+use Rattle.decl_core.specs.declared.object.Part.{Part}
+use Rattle.shelf_core.specs.declared.hand.Stamp.{Stamp}
+use Rattle.shelf_core.specs.Papers.{Papers}
+use Rattle.shelf_core.specs.Pins.{no_stamp}
+use Rattle.shelf_core.specs.Saved.{AreFetched, with_parts}
+use Rattle.shelf_core.proofs.Saving.{start, next, since}
+use Rattle.shelf_core.proofs.save.save_parts.Goals as goal
+
+pub loop-number-init : goal.loop-number-init
+loop-number-init g c = start _ _ _ _ _
+
+pub loop-number-preserved : goal.loop-number-preserved
+loop-number-preserved g c =
+    let parts = c.args.object.now.parts.items in
+    let part = c.index-part.result.now in
+    let n = c.loop-number.number in
+    let within : n < length parts = omega (arith, c.loop-number-test.true, c.len-number-end.ensures, c.args.object.now.parts.ok.0) in
+    let pin : Stamp = slice_index_or c.as_slice-stamps.result.now n no_stamp in
+    let same : slice_index_or c.args.pins.now n no_stamp ≡ pin = ap (λ (ps : List Stamp). slice_index_or ps n no_stamp) (sym c.as_slice-stamps.ensures.stamps) in
+    let longer : take (n + 1) parts ≡ take n parts ++ part ∷ [] = take_more parts n part within ∙ ap (λ (p : Part). take n parts ++ p ∷ []) (sym c.index-part.ensures) in
+    let further : take (n + 1) c.args.pins.now ≡ take n c.args.pins.now ++ pin ∷ [] = take_more c.args.pins.now n no_stamp (omega (arith, within, c.requires)) ∙ ap (λ (p : Stamp). take n c.args.pins.now ++ p ∷ []) same in
+    rw (longer, further) (next _ _ part pin c.loop-number.invariant c.in-Ok.ensures.ok c.save_part.ensures.files c.save_part.ensures.counted_shelf c.save_part.ensures.counted_hand)
+
+pub returns-in-Err-clause-files : goal.returns-in-Err-clause-files
+returns-in-Err-clause-files g c = λ a is. c.loop-number.invariant.files a (c.save_part.ensures.files a is)
+
+pub returns-in-Err-clause-counted_shelf : goal.returns-in-Err-clause-counted_shelf
+returns-in-Err-clause-counted_shelf g c = omega (arith, c.loop-number.invariant.shelf, c.save_part.ensures.counted_shelf)
+
+pub returns-in-Err-clause-counted_hand : goal.returns-in-Err-clause-counted_hand
+returns-in-Err-clause-counted_hand g c = omega (arith, c.loop-number.invariant.hand, c.save_part.ensures.counted_hand)
+
+pub returns-in-Err-clause-cause : goal.returns-in-Err-clause-cause
+returns-in-Err-clause-cause g c =
+    let parts = c.args.object.now.parts.items in
+    let part = c.index-part.result.now in
+    let n = c.loop-number.number in
+    let within : n < length parts = omega (arith, c.loop-number-test.true, c.len-number-end.ensures, c.args.object.now.parts.ok.0) in
+    let pin : Stamp = slice_index_or c.as_slice-stamps.result.now n no_stamp in
+    let same : slice_index_or c.args.pins.now n no_stamp ≡ pin = ap (λ (ps : List Stamp). slice_index_or ps n no_stamp) (sym c.as_slice-stamps.ensures.stamps) in
+    let there : slice_get parts n ≡ Some part = slice_get_read parts (length parts) n part refl within c.index-part.ensures in
+    let under : slice_get c.args.pins.now n ≡ Some pin = slice_get-get_or c.args.pins.now n no_stamp (omega (arith, within, c.requires)) ∙ ap (λ (p : Stamp). Some p) same in
+    since _ parts c.args.pins.now part pin n there under c.loop-number.invariant c.save_part.ensures.counted_shelf c.save_part.ensures.counted_hand _ c.in-Err.ensures.cause
+
+pub returns-clause-ok : goal.returns-clause-ok
+returns-clause-ok g c =
+    let parts = c.args.object.now.parts.items in
+    let n = c.loop-number.number in
+    let so_far = c.loop-number.invariant in
+    let end : length parts ≤ n = omega (arith, c.loop-number-test.false, c.len-number-end.ensures, c.args.object.now.parts.ok.0) in
+    let whole : take n parts ≡ parts = take_all n parts end in
+    let pinned : take n c.args.pins.now ≡ c.args.pins.now = take_all n c.args.pins.now (omega (arith, end, c.requires)) in (
+      so_far.all,
+      λ a is. subst (λ ps. AreFetched a ps c.args.pins.now so_far.all) whole (subst (λ ss. AreFetched a (take n parts) ss so_far.all) pinned (so_far.fetched a is)),
+      so_far.many ∙ ap length whole,
+      λ papers is. subst (λ ps. (before : Papers) × g.S.Shelf.holds c.args.shelf.now before × (papers ≡ with_parts before c.args.object.now.name ps so_far.all)) whole (so_far.stored papers is),
+    )
+
+pub returns-clause-files : goal.returns-clause-files
+returns-clause-files g c = c.loop-number.invariant.files
+
+pub returns-clause-counted_shelf : goal.returns-clause-counted_shelf
+returns-clause-counted_shelf g c = c.loop-number.invariant.shelf
+
+pub returns-clause-counted_hand : goal.returns-clause-counted_hand
+returns-clause-counted_hand g c = c.loop-number.invariant.hand

@@ -1,0 +1,9 @@
+pub mod Device
+pub mod Faults
+pub mod Files
+pub mod MemShelf
+pub mod Opened
+pub mod Papers
+pub mod Wrapped
+pub mod Pins
+pub mod Saved

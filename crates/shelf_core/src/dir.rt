@@ -1,0 +1,262 @@
+//! Files in a folder, one for each number.
+
+ghost use Rattle.std.specs.Prelude.{◌≡◌};
+
+use crate::folder::{count, fault_of, no_memory};
+use crate::hand::{Hand, HandFault, Pen, Stamp};
+use crate::numbers::Numbers;
+use itoa::Buffer;
+use std::alloc::AllocError;
+use std::fs;
+use std::fs::{File, OpenFile};
+use std::io::{Read, Seek, SeekFrom, Write};
+use std::rt::Files;
+use std::sync::Arc;
+
+// The most bytes that a path has beyond its folder: a slash, 20 digits and the ending.
+const NAME_BYTES: usize = 25;
+
+// A file that is being written.
+#[derive(Drop)]
+struct Writing<F> {
+    number: u64,
+    // How many bytes it has, or `None` once an append has failed: then it can only be discarded.
+    len: Option<usize>,
+    file: F,
+}
+
+// A file that is being read.
+#[derive(Drop)]
+struct Reading<F> {
+    number: u64,
+    // How many bytes it had when it was opened.
+    len: u64,
+    file: F,
+}
+
+/// A hand that keeps its files in a folder, the one of number N as `FOLDER/N.val`.
+///
+/// Nothing is known of what a folder holds, so no clause says that what was written is read. A file stays
+/// open while it is written, and the one that was read last stays open for the next read. Only `create`
+/// takes memory, where more files are being written at a time than ever before.
+#[derive(Drop)]
+pub struct DirHand<R: Files + AllocGlobal> {
+    rt: R,
+    folder: String,
+    // The path that was used last.
+    path: String,
+    numbers: Arc<Numbers>,
+    writing: Vec<Writing<R::File>>,
+    reading: Option<Reading<R::File>>,
+    failures: u64,
+}
+
+impl<R: Files + AllocGlobal + Drop> DirHand<R> {
+    /// A hand on this folder, which has to be there. It touches no file yet.
+    pub fn new(rt: R, folder: &str, numbers: Arc<Numbers>) -> Result<DirHand<R>, AllocError> {
+        let alloc = rt.alloc();
+        let path = String::with_capacity(alloc, folder.len().saturating_add(NAME_BYTES))?;
+        let folder = String::from_str(alloc, folder)?;
+        Ok(DirHand {
+            rt,
+            folder,
+            path,
+            numbers,
+            writing: Vec::new(alloc),
+            reading: None,
+            failures: 0,
+        })
+    }
+}
+
+impl<R: Files + AllocGlobal> DirHand<R> {
+    // Puts the path of a file into the buffer.
+    fn set_path(&mut self, number: u64) -> Result<(), HandFault>
+        ensures { self.new.failures ≡ self.old.failures }
+    {
+        let mut digits = Buffer::new();
+        self.path.clear();
+        self.path.push_str(self.folder.as_str()).map_err(no_memory)?;
+        self.path.push('/').map_err(no_memory)?;
+        self.path
+            .push_str(digits.format(number))
+            .map_err(no_memory)?;
+        self.path.push_str(".val").map_err(no_memory)?;
+        Ok(())
+    }
+
+    // Removes a file from the folder.
+    fn remove(&mut self, number: u64) -> Result<(), HandFault>
+        ensures { self.new.failures ≡ self.old.failures }
+    {
+        self.set_path(number)?;
+        fs::remove_file(&self.rt, self.path.as_str()).map_err(fault_of)
+    }
+
+    // Makes a file, which was not there before.
+    fn create_file(&mut self, number: u64) -> Result<(), HandFault>
+        ensures { self.new.failures ≡ self.old.failures }
+    {
+        self.set_path(number)?;
+        self.writing.reserve(1).map_err(no_memory)?;
+        let file = File::create_new(&self.rt, self.path.as_str()).map_err(fault_of)?;
+        let writing = Writing {
+            number,
+            len: Some(0),
+            file,
+        };
+        if self.writing.push(writing).is_err() {
+            return Err(HandFault::Memory);
+        }
+        Ok(())
+    }
+
+    fn append_to(&mut self, number: u64, bytes: &[u8]) -> Result<(), HandFault>
+        ensures { self.new.failures ≡ self.old.failures }
+    {
+        let Some(place) = self.writing.iter().position(|w| w.number == number) else {
+            return Err(HandFault::Device);
+        };
+        let writing = &mut self.writing[place];
+        // The length is put back once the bytes are written.
+        let Some(len) = writing.len.take() else {
+            return Err(HandFault::Device);
+        };
+        let Some(after) = len.checked_add(bytes.len()) else {
+            return Err(HandFault::Device);
+        };
+        writing.file.write_all(bytes).map_err(fault_of)?;
+        writing.len = Some(after);
+        Ok(())
+    }
+
+    // Closes a file whose appends were all done, and answers its length.
+    fn close(&mut self, number: u64) -> Option<usize>
+        ensures { self.new.failures ≡ self.old.failures }
+    {
+        let place = self.writing.iter().position(|w| w.number == number)?;
+        let len = self.writing[place].len?;
+        let _ = self.writing.swap_remove(place);
+        Some(len)
+    }
+
+    // Closes and removes a file that is being written. It may stay if that fails.
+    fn give_up(&mut self, number: u64)
+        ensures { self.new.failures ≡ self.old.failures }
+    {
+        if let Some(place) = self.writing.iter().position(|w| w.number == number) {
+            let _ = self.writing.swap_remove(place);
+            let _ = self.remove(number);
+        }
+    }
+
+    // The file that was read last where it is this one, and else this one, opened.
+    fn opened(&mut self, number: u64) -> Result<Reading<R::File>, HandFault>
+        ensures { self.new.failures ≡ self.old.failures }
+    {
+        if let Some(reading) = self.reading.take() {
+            if reading.number == number {
+                return Ok(reading);
+            }
+        }
+        self.set_path(number)?;
+        let file = File::open(&self.rt, self.path.as_str()).map_err(fault_of)?;
+        let len = file.metadata().map_err(fault_of)?.len();
+        Ok(Reading { number, len, file })
+    }
+
+    // Reads at a place of a file. The file stays open where that succeeds.
+    fn read_at(&mut self, stamp: &Stamp, at: usize, into: &mut [u8]) -> Result<(), HandFault>
+        ensures { self.new.failures ≡ self.old.failures }
+    {
+        let mut reading = self.opened(stamp.number)?;
+        if reading.len < stamp.len as u64 {
+            return Err(HandFault::Device);
+        }
+        let start = SeekFrom::Start(at as u64);
+        reading.file.seek(start).map_err(fault_of)?;
+        reading.file.read_exact(into).map_err(fault_of)?;
+        self.reading = Some(reading);
+        Ok(())
+    }
+
+    // Closes a file where it was the one that was read last, and removes it.
+    fn remove_sealed(&mut self, number: u64) -> Result<(), HandFault>
+        ensures { self.new.failures ≡ self.old.failures }
+    {
+        if let Some(reading) = self.reading.take() {
+            if reading.number != number {
+                self.reading = Some(reading);
+            }
+        }
+        self.remove(number)
+    }
+}
+
+/// Each refusal of the system is `HandFault::Memory` where it wanted memory, and else `HandFault::Device`.
+///
+/// - `create` fails where a file of the drawn number is there. That number is not drawn again.
+/// - `append` and `seal` fail by `Device` where no such file is being written, or an earlier append to it
+///   failed. A failed append may have written a part of the bytes.
+/// - `discard` removes the file, but leaves it where the system refuses that.
+/// - `read` fails by `Device` where the file is shorter than its stamp says.
+/// - `retire` removes the file; after a failure it is there or not.
+impl<R: Files + AllocGlobal> Hand for DirHand<R> {
+    // No clause can say what a folder holds, so no assignment agrees.
+    ghost agrees = { λ h a. ⊥ };
+
+    ghost pending = { λ h n b. Unit {0} };
+
+    ghost failed = { λ h. h.failures };
+
+    fn create(&mut self) -> Result<Pen, HandFault> {
+        let number = self.numbers.draw();
+        match self.create_file(number) {
+            Ok(()) => Ok(Pen { number }),
+            Err(fault) => Err(count(&mut self.failures, fault)),
+        }
+    }
+
+    fn append(&mut self, pen: &mut Pen, bytes: &[u8]) -> Result<(), HandFault> {
+        match self.append_to(pen.number, bytes) {
+            Ok(()) => Ok(()),
+            Err(fault) => Err(count(&mut self.failures, fault)),
+        }
+    }
+
+    fn seal(&mut self, pen: Pen) -> Result<Stamp, (Pen, HandFault)> {
+        match self.close(pen.number) {
+            Some(len) => {
+                let Pen { number } = pen;
+                Ok(Stamp { number, len })
+            }
+            None => {
+                let fault = count(&mut self.failures, HandFault::Device);
+                Err((pen, fault))
+            }
+        }
+    }
+
+    fn discard(&mut self, pen: Pen) {
+        let Pen { number } = pen;
+        self.give_up(number);
+    }
+
+    fn read(&mut self, stamp: &Stamp, at: usize, into: &mut [u8]) -> Result<(), HandFault> {
+        match self.read_at(stamp, at, into) {
+            Ok(()) => Ok(()),
+            Err(fault) => Err(count(&mut self.failures, fault)),
+        }
+    }
+
+    fn retire(&mut self, stamp: &Stamp) -> Result<(), HandFault> {
+        match self.remove_sealed(stamp.number) {
+            Ok(()) => Ok(()),
+            Err(fault) => Err(count(&mut self.failures, fault)),
+        }
+    }
+
+    fn failures(&self) -> u64 {
+        self.failures
+    }
+}

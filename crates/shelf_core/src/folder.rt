@@ -1,0 +1,37 @@
+//! What the devices in a folder have in common: their faults.
+
+ghost use Rattle.std.specs.Prelude.{◌≡◌, ◌≤◌};
+ghost use Rattle.shelf_core.specs.Device.{FaultCause};
+
+use crate::hand::HandFault;
+use std::alloc::AllocError;
+use std::io;
+use std::io::ErrorKind;
+
+// The fault that an error of the system is.
+pub fn fault_of(error: io::Error) -> HandFault {
+    if error.kind() == ErrorKind::OutOfMemory {
+        HandFault::Memory
+    } else {
+        HandFault::Device
+    }
+}
+
+pub fn no_memory(_: AllocError) -> HandFault
+    ensures { result ≡ HandFault.Memory }
+{
+    HandFault::Memory
+}
+
+// Counts a fault, but where memory was wanted.
+pub fn count(failures: &mut u64, fault: HandFault) -> HandFault
+    ensures fault { result ≡ fault }
+    ensures counted { failures.old ≤ failures.new }
+    ensures cause { FaultCause failures.old failures.new result }
+{
+    match fault {
+        HandFault::Device => *failures = failures.saturating_add(1),
+        HandFault::Memory => {}
+    }
+    fault
+}

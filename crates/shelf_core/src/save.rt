@@ -1,0 +1,176 @@
+//! The parts of an object, from a hand to a shelf.
+
+ghost use Rattle.std.specs.Prelude.{◌≡◌, ◌≤◌, ◌⊎◌, ℕ, List, length, IfOk, IfErr, OnOk};
+ghost use Rattle.std.specs.FinMap.{insert};
+ghost use Rattle.shelf_core.specs.Device.{Assignment, Failed};
+ghost use Rattle.shelf_core.specs.Papers.{Papers, part_key};
+ghost use Rattle.shelf_core.specs.Saved.{save_fault_number, save_fault_name, save_fault_of, IsFetched, AreFetched, with_parts, SaveCause, PinSaveCause, StoreCause};
+
+use crate::hand::{Hand, HandFault, Stamp};
+use crate::open::write_key;
+use crate::pins::Pins;
+use crate::shelf::Shelf;
+use crate::whole::fetch;
+use decl_core::object::{Object, Part};
+use path_tree::name::Name;
+use std::alloc::{AllocError, Global};
+use thiserror::Error;
+use value_core::decode::{DecodeFault, decode};
+
+/// Why the parts of an object were not saved.
+#[derive(Clone, Copy, Debug, PartialEq, Eq, Error)]
+pub enum SaveFault {
+    /// The bytes under the pin of this part, counted from 0, spell no value of the part's kind. Nothing was
+    /// stored for it.
+    #[error("Damaged {0}")]
+    Damaged(usize),
+    /// The shelf or the hand failed at this part, counted from 0. Its count of failures rose in this call,
+    /// or stood at its end.
+    #[error("Device {0}")]
+    Device(usize),
+    /// Memory was refused.
+    #[error("Memory")]
+    Memory,
+}
+
+impl SaveFault {
+    /// The number of the fault: 1 to 3.
+    pub fn number(&self) -> u8
+        ensures { result ≡ save_fault_number self.now }
+    {
+        match self {
+            SaveFault::Damaged(_) => 1,
+            SaveFault::Device(_) => 2,
+            SaveFault::Memory => 3,
+        }
+    }
+
+    /// The name of the fault, as in `Damaged`.
+    pub fn name(&self) -> &'static str
+        ensures { result.now ≡ save_fault_name self.now }
+    {
+        match self {
+            SaveFault::Damaged(_) => "Damaged",
+            SaveFault::Device(_) => "Device",
+            SaveFault::Memory => "Memory",
+        }
+    }
+}
+
+impl From<AllocError> for SaveFault {
+    ghost use Rattle.std.specs.Prelude.{◌≡◌};
+    ghost use Rattle.shelf_core.specs.declared.save.SaveFault.TheVariants.{Memory};
+
+    ghost from_gives = { λ _ e. e ≡ Memory };
+
+    fn from(_: AllocError) -> SaveFault {
+        SaveFault::Memory
+    }
+}
+
+// A device's fault, as one of saving this part.
+fn of_device(fault: HandFault, number: usize) -> SaveFault
+    ensures { result ≡ save_fault_of fault number }
+{
+    match fault {
+        HandFault::Device => SaveFault::Device(number),
+        HandFault::Memory => SaveFault::Memory,
+    }
+}
+
+// The bytes under a part's pin, which spell a value of its kind.
+fn fetch_part<H: Hand>(
+    alloc: Global,
+    part: &Part,
+    pin: &Stamp,
+    number: usize,
+    hand: &mut H,
+) -> Result<Vec<u8>, SaveFault>
+    ensures ok { IfOk result (λ bytes. (a : Assignment) → H.agrees hand.new a → IsFetched a part.now pin.now bytes.items) }
+    ensures files { (a : Assignment) → H.agrees hand.new a → H.agrees hand.old a }
+    ensures counted { H.failed hand.old ≤ H.failed hand.new }
+    ensures cause { IfErr result (λ e. PinSaveCause (H.agrees hand.new) part.now pin.now number (Failed (H.failed hand.old) (H.failed hand.new)) e) }
+{
+    match fetch(alloc, hand, pin) {
+        Ok(bytes) => match decode(alloc, part.kind, &bytes) {
+            Ok(_) => Ok(bytes),
+            Err(DecodeFault::Damaged) => Err(SaveFault::Damaged(number)),
+            Err(DecodeFault::Memory) => Err(SaveFault::Memory),
+        },
+        Err(fault) => Err(of_device(fault, number)),
+    }
+}
+
+// Stores bytes under a part's name.
+fn store_part<S: Shelf>(
+    object: &Name,
+    part: &Part,
+    number: usize,
+    bytes: &[u8],
+    shelf: &mut S,
+    key: &mut Vec<u8>,
+) -> Result<(), SaveFault>
+    ensures ok { OnOk result ((papers : Papers) → S.holds shelf.new papers → (before : Papers) × S.holds shelf.old before × (papers ≡ insert before (part_key object.now part.now.name) bytes.now)) }
+    ensures counted { S.failed shelf.old ≤ S.failed shelf.new }
+    ensures cause { IfErr result (λ e. StoreCause number (Failed (S.failed shelf.old) (S.failed shelf.new)) e) }
+{
+    write_key(key, object, &part.name)?;
+    match shelf.store(key, bytes) {
+        Ok(()) => Ok(()),
+        Err(fault) => Err(of_device(fault, number)),
+    }
+}
+
+// Saves one part.
+fn save_part<S: Shelf, H: Hand>(
+    alloc: Global,
+    object: &Name,
+    part: &Part,
+    number: usize,
+    pin: &Stamp,
+    shelf: &mut S,
+    hand: &mut H,
+) -> Result<(), SaveFault>
+    ensures ok { OnOk result ((bytes : List ℕ) × ((a : Assignment) → H.agrees hand.new a → IsFetched a part.now pin.now bytes) × ((papers : Papers) → S.holds shelf.new papers → (before : Papers) × S.holds shelf.old before × (papers ≡ insert before (part_key object.now part.now.name) bytes))) }
+    ensures files { (a : Assignment) → H.agrees hand.new a → H.agrees hand.old a }
+    ensures counted_shelf { S.failed shelf.old ≤ S.failed shelf.new }
+    ensures counted_hand { H.failed hand.old ≤ H.failed hand.new }
+    ensures cause { IfErr result (λ e. PinSaveCause (H.agrees hand.new) part.now pin.now number (Failed (S.failed shelf.old) (S.failed shelf.new) ⊎ Failed (H.failed hand.old) (H.failed hand.new)) e) }
+{
+    let mut key = Vec::new(alloc);
+    let bytes = fetch_part(alloc, part, pin, number, hand)?;
+    store_part(object, part, number, &bytes, shelf, &mut key)?;
+    Ok(())
+}
+
+/// Saves each part of an object, in order: the bytes under its pin are read from the hand, and stored on
+/// the shelf under the part's name.
+///
+/// The first fault on the way is told: `Damaged` where the bytes under a part's pin spell no value of its
+/// kind, `Device` where the shelf or the hand failed at a part, `Memory` where memory was refused. The parts
+/// before it are saved then; of it, nothing is stored where it is damaged.
+pub fn save_parts<S: Shelf, H: Hand>(
+    alloc: Global,
+    object: &Object,
+    pins: &Pins,
+    shelf: &mut S,
+    hand: &mut H,
+) -> Result<(), SaveFault>
+    requires { length pins.now ≡ length object.now.parts.items }
+    ensures ok { OnOk result ((all : List (List ℕ)) × ((a : Assignment) → H.agrees hand.new a → AreFetched a object.now.parts.items pins.now all) × (length all ≡ length object.now.parts.items) × ((papers : Papers) → S.holds shelf.new papers → (before : Papers) × S.holds shelf.old before × (papers ≡ with_parts before object.now.name object.now.parts.items all))) }
+    ensures files { (a : Assignment) → H.agrees hand.new a → H.agrees hand.old a }
+    ensures counted_shelf { S.failed shelf.old ≤ S.failed shelf.new }
+    ensures counted_hand { H.failed hand.old ≤ H.failed hand.new }
+    ensures cause { IfErr result (λ e. SaveCause (H.agrees hand.new) object.now.parts.items pins.now (Failed (S.failed shelf.old) (S.failed shelf.new) ⊎ Failed (H.failed hand.old) (H.failed hand.new)) e) }
+{
+    let stamps = pins.as_slice();
+    for number in 0..object.parts.len() {
+        let part = &object.parts[number];
+        let pin = &stamps[number];
+        match save_part(alloc, &object.name, part, number, pin, shelf, hand) {
+            Ok(()) => {}
+            Err(fault) => return Err(fault),
+        }
+    }
+    Ok(())
+}

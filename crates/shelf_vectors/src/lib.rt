@@ -1,0 +1,28 @@
+//! What every hand and every shelf does, what theirs are told of folders, and how the parts of objects go
+//! from a shelf to a hand and back, over the public calls of `shelf_core`.
+#![tactic(auto)]
+
+#[cfg(test)]
+mod fake_shelf;
+#[cfg(test)]
+mod folder;
+#[cfg(test)]
+mod folder_shelf;
+#[cfg(test)]
+mod hand_calls;
+#[cfg(test)]
+mod hands;
+#[cfg(test)]
+mod numbers;
+#[cfg(test)]
+mod parts;
+#[cfg(test)]
+mod refused;
+#[cfg(test)]
+mod saving;
+#[cfg(test)]
+mod scratch;
+#[cfg(test)]
+mod shelves;
+#[cfg(test)]
+mod wrapped;
