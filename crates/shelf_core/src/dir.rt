@@ -1,6 +1,6 @@
 //! Files in a folder, one for each number.
 
-ghost use Rattle.std.specs.Prelude.{◌≡◌};
+ghost use Rattle.std.specs.Prelude.{◌≡◌, IfOk};
 
 use crate::folder::{count, fault_of, no_memory};
 use crate::hand::{Hand, HandFault, Pen, Stamp};
@@ -53,7 +53,9 @@ pub struct DirHand<R: Files + AllocGlobal> {
 
 impl<R: Files + AllocGlobal + Drop> DirHand<R> {
     /// A hand on this folder, which has to be there. It touches no file yet.
-    pub fn new(rt: R, folder: &str, numbers: Arc<Numbers>) -> Result<DirHand<R>, AllocError> {
+    pub fn new(rt: R, folder: &str, numbers: Arc<Numbers>) -> Result<DirHand<R>, AllocError>
+        ensures { IfOk result (λ hand. hand.failures ≡ 0) }
+    {
         let alloc = rt.alloc();
         let path = String::with_capacity(alloc, folder.len().saturating_add(NAME_BYTES))?;
         let folder = String::from_str(alloc, folder)?;

@@ -1,6 +1,6 @@
 //! A store of bytes under names, in a folder.
 
-ghost use Rattle.std.specs.Prelude.{◌≡◌};
+ghost use Rattle.std.specs.Prelude.{◌≡◌, IfOk};
 
 use crate::folder::{count, fault_of, no_memory};
 use crate::hand::HandFault;
@@ -30,7 +30,9 @@ fn is_name(name: &[u8]) -> bool {
 
 impl<R: Files + AllocGlobal + Drop> DirShelf<R> {
     /// A shelf on this folder, which has to be there. It touches no file yet.
-    pub fn new(rt: R, folder: &str) -> Result<DirShelf<R>, AllocError> {
+    pub fn new(rt: R, folder: &str) -> Result<DirShelf<R>, AllocError>
+        ensures { IfOk result (λ shelf. shelf.failures ≡ 0) }
+    {
         let folder = String::from_str(rt.alloc(), folder)?;
         Ok(DirShelf {
             rt,
