@@ -1,6 +1,7 @@
 //! What the devices in a folder have in common: their faults.
 
-ghost use Rattle.std.specs.Prelude.{◌≡◌, ◌≤◌};
+ghost use Rattle.std.specs.Prelude.{◌≡◌, ◌≢◌, ◌≤◌};
+ghost use Rattle.std.specs.IoError.{error_kind};
 ghost use Rattle.shelf_core.specs.Device.{FaultCause};
 
 use crate::hand::HandFault;
@@ -8,8 +9,11 @@ use std::alloc::AllocError;
 use std::io;
 use std::io::ErrorKind;
 
-// The fault that an error of the system is.
-pub fn fault_of(error: io::Error) -> HandFault {
+// The fault that an error of the system is: a want of memory, or one of the device.
+pub fn fault_of(error: io::Error) -> HandFault
+    ensures memory { error_kind error ≡ ErrorKind.OutOfMemory → result ≡ HandFault.Memory }
+    ensures device { error_kind error ≢ ErrorKind.OutOfMemory → result ≡ HandFault.Device }
+{
     if error.kind() == ErrorKind::OutOfMemory {
         HandFault::Memory
     } else {
