@@ -1,5 +1,5 @@
 -- Parts saved one after the other.
-use Rattle.std.proofs.Common.{◌≡◌, ℕ, ◌<◌, ◌≤◌, ◌⊎◌, inl, inr, List, [], ◌∷◌, ◌++◌, length, Some, refl, sym, ap, subst, ◌∙◌, arith}
+use Rattle.std.proofs.Common.{◌≡◌, ℕ, ◌+◌, ◌<◌, ◌≤◌, ◌⊎◌, inl, inr, List, [], ◌∷◌, ◌++◌, length, take, Some, refl, sym, ap, subst, ◌∙◌, arith}
 use Rattle.std.specs.Prelude.{slice_get}
 use Rattle.std.specs.FinMap.{insert}
 use Rattle.std.proofs.lemmas.List.{length-append}
@@ -10,7 +10,7 @@ use Rattle.shelf_core.specs.declared.save.SaveFault.{SaveFault}
 use Rattle.shelf_core.specs.declared.save.SaveFault.TheVariants.{Damaged, Device, Memory}
 use Rattle.shelf_core.specs.Device.{Assignment, Failed}
 use Rattle.shelf_core.specs.Papers.{Papers, part_key}
-use Rattle.shelf_core.specs.Saved.{IsFetched, AreFetched, with_parts, IsDamagedPin, SaveCause, PinSaveCause}
+use Rattle.shelf_core.specs.Saved.{IsFetched, AreFetched, with_parts, IsDamagedPin, SaveCause, PinSaveCause, IsSavedTo, IsStored, MaySave, SaveLeaves, PartLeft, PartLeaves, StoreCause, StoreLeaves}
 use Rattle.shelf_core.proofs.Opening.{failed_since}
 
 -- the bytes of one part more are fetched
@@ -82,3 +82,72 @@ since {s = s} {t = t} {u = u} {h = h} {k = k} {m = m} agrees all stamps part pin
   either (inl f) = inl (failed_since s t u so.shelf shelf f)
   either (inr f) = inr (failed_since h k m so.hand hand f)
 since agrees all stamps part pin number there under so shelf hand Memory cause = tt
+
+-- nothing of the next part is stored
+none_of : {was mid : Papers → Type 0} {earlier then : Assignment → Type 0} {s t h k : ℕ} {object : List ℕ} (agrees : Assignment → Type 0) (all : List Part) (pins : List Stamp) (n : ℕ) →
+    Saving was mid earlier then s t h k object (take n all) (take n pins) → ((a : Assignment) → agrees a → then a) →
+    (last papers : Papers) → mid last → papers ≡ last → (before : Papers) × was before × IsSavedTo agrees before papers object all pins n
+none_of agrees all pins n so files last papers is same =
+    let first = so.stored last is in
+    (first.0, first.1, record { all = so.all; fetched = λ a with. so.fetched a (files a with); many = so.many; stored = same ∙ first.2 })
+
+-- the next part is stored
+one_more : {was mid : Papers → Type 0} {earlier then : Assignment → Type 0} {s t h k : ℕ} {object : List ℕ} (agrees : Assignment → Type 0) (all : List Part) (pins : List Stamp) (part : Part) (pin : Stamp) (n : ℕ) →
+    take (n + 1) all ≡ take n all ++ part ∷ [] → take (n + 1) pins ≡ take n pins ++ pin ∷ [] →
+    Saving was mid earlier then s t h k object (take n all) (take n pins) → ((a : Assignment) → agrees a → then a) →
+    (last papers : Papers) → mid last → IsStored agrees last papers object part pin → (before : Papers) × was before × IsSavedTo agrees before papers object all pins (n + 1)
+one_more {object = object} agrees all pins part pin n longer further so files last papers is one =
+    let first = so.stored last is in
+    let rows : List (List ℕ) = so.all ++ one.bytes ∷ [] in
+    let fetched : (a : Assignment) → agrees a → AreFetched a (take (n + 1) all) (take (n + 1) pins) rows = λ a with.
+    rw (longer, further) (more a (take n all) (take n pins) so.all part pin one.bytes (so.fetched a (files a with)) (one.fetched a with)) in
+    let many : length rows ≡ length (take (n + 1) all) = omega (arith, length-append so.all (one.bytes ∷ []), ap length longer, length-append (take n all) (part ∷ []), so.many) in
+    let stored : papers ≡ with_parts first.0 object (take (n + 1) all) rows =
+    one.stored ∙ ap (λ p. insert p (part_key object part.name) one.bytes) first.2 ∙ sym (with_more first.0 object (take n all) so.all part one.bytes so.many) ∙ ap (λ ps. with_parts first.0 object ps rows) (sym longer) in
+    (first.0, first.1, record { all = rows; fetched = fetched; many = many; stored = stored })
+
+-- what a refused part leaves is what the call leaves
+pub leaves : {was mid : Papers → Type 0} {earlier then : Assignment → Type 0} {s t h k : ℕ} {object : List ℕ} (holds : Papers → Type 0) (agrees : Assignment → Type 0) (failed : Type 0) (all : List Part) (pins : List Stamp) (part : Part) (pin : Stamp) (n : ℕ) →
+    take (n + 1) all ≡ take n all ++ part ∷ [] → take (n + 1) pins ≡ take n pins ++ pin ∷ [] →
+    Saving was mid earlier then s t h k object (take n all) (take n pins) → ((a : Assignment) → agrees a → then a) →
+    (e : SaveFault) → PinSaveCause agrees part pin n failed e → PartLeaves agrees mid holds object part pin e → SaveLeaves agrees was holds object all pins e
+leaves holds agrees failed all pins part pin n longer further so files (Damaged m) cause left papers is =
+    let one = left papers is in
+    let rest = none_of agrees all pins n so files one.0 papers one.1 one.2 in
+    (rest.0, rest.1, n, sym cause.0, rest.2)
+leaves {was = was} {mid = mid} {object = object} holds agrees failed all pins part pin n longer further so files (Device m) cause left papers is = either (left papers is) where
+  either : (last : Papers) × mid last × PartLeft agrees last papers object part pin (Device m) → (before : Papers) × was before × (k : ℕ) × MaySave (Device m) k × IsSavedTo agrees before papers object all pins k
+  either (last, there, inl same) =
+      let rest = none_of agrees all pins n so files last papers there same in
+      (rest.0, rest.1, n, inl (sym cause.0), rest.2)
+  either (last, there, inr one) =
+      let rest = one_more agrees all pins part pin n longer further so files last papers there one in
+      (rest.0, rest.1, n + 1, inr (ap (λ j. j + 1) (sym cause.0)), rest.2)
+leaves {was = was} {mid = mid} {object = object} holds agrees failed all pins part pin n longer further so files Memory cause left papers is = either (left papers is) where
+  either : (last : Papers) × mid last × PartLeft agrees last papers object part pin Memory → (before : Papers) × was before × (k : ℕ) × MaySave Memory k × IsSavedTo agrees before papers object all pins k
+  either (last, there, inl same) =
+      let rest = none_of agrees all pins n so files last papers there same in
+      (rest.0, rest.1, n, tt, rest.2)
+  either (last, there, inr one) =
+      let rest = one_more agrees all pins part pin n longer further so files last papers there one in
+      (rest.0, rest.1, n + 1, tt, rest.2)
+
+-- what a failed store leaves is what its part leaves
+pub stored_or_not : (agrees : Assignment → Type 0) (was holds : Papers → Type 0) (object : List ℕ) (part : Part) (pin : Stamp) (bytes : List ℕ) (number : ℕ) (failed : Type 0) →
+    ((a : Assignment) → agrees a → IsFetched a part pin bytes) → (e : SaveFault) → StoreCause number failed e → StoreLeaves was holds (part_key object part.name) bytes →
+    PartLeaves agrees was holds object part pin e
+stored_or_not agrees was holds object part pin bytes number failed fetched (Damaged n) cause left papers is = absurd cause
+stored_or_not agrees was holds object part pin bytes number failed fetched (Device n) cause left papers is = either (left papers is) where
+  either : (before : Papers) × was before × ((papers ≡ before) ⊎ (papers ≡ insert before (part_key object part.name) bytes)) → (before : Papers) × was before × PartLeft agrees before papers object part pin (Device n)
+  either (before, there, inl same) = (before, there, inl same)
+  either (before, there, inr new) = (before, there, inr (record { bytes = bytes; fetched = fetched; stored = new }))
+stored_or_not agrees was holds object part pin bytes number failed fetched Memory cause left papers is = either (left papers is) where
+  either : (before : Papers) × was before × ((papers ≡ before) ⊎ (papers ≡ insert before (part_key object part.name) bytes)) → (before : Papers) × was before × PartLeft agrees before papers object part pin Memory
+  either (before, there, inl same) = (before, there, inl same)
+  either (before, there, inr new) = (before, there, inr (record { bytes = bytes; fetched = fetched; stored = new }))
+
+-- where nothing was stored, nothing is left of a part
+pub nothing_left : (agrees : Assignment → Type 0) (holds : Papers → Type 0) (object : List ℕ) (part : Part) (pin : Stamp) (e : SaveFault) → PartLeaves agrees holds holds object part pin e
+nothing_left agrees holds object part pin (Damaged n) papers is = (papers, is, refl)
+nothing_left agrees holds object part pin (Device n) papers is = (papers, is, inl refl)
+nothing_left agrees holds object part pin Memory papers is = (papers, is, inl refl)

@@ -1,5 +1,5 @@
 -- The parts of an object, from a hand to a shelf.
-use Rattle.std.specs.Prelude.{◌≡◌, ℕ, ◌<◌, List, [], ◌∷◌, Some, length, slice_get, codes}
+use Rattle.std.specs.Prelude.{◌≡◌, ℕ, ◌+◌, ◌<◌, ◌⊎◌, List, [], ◌∷◌, Some, length, take, slice_get, codes}
 use Rattle.std.specs.FinMap.{insert}
 use Rattle.value_core.specs.Contents.{Contents}
 use Rattle.value_core.specs.Spelling.{Spells}
@@ -74,3 +74,39 @@ abbrev pub StoreCause : ℕ → Type 0 → SaveFault → Type 0
 StoreCause number failed (Damaged n) = ⊥
 StoreCause number failed (Device n) = (n ≡ number) × failed
 StoreCause number failed Memory = Unit {0}
+
+-- the papers hold the first parts, so many, each with the bytes under its pin; else they are those of before
+pub record IsSavedTo (agrees : Assignment → Type 0) (before papers : Papers) (object : List ℕ) (parts : List Part) (pins : List Stamp) (number : ℕ) : Type 0 where
+  pub all : List (List ℕ)
+  pub fetched : (a : Assignment) → agrees a → AreFetched a (take number parts) (take number pins) all
+  pub many : length all ≡ length (take number parts)
+  pub stored : papers ≡ with_parts before object (take number parts) all
+
+-- how many parts may be saved where all were not: those before the refused one, and that one too where a device failed at it
+abbrev pub MaySave : SaveFault → ℕ → Type 0
+MaySave (Damaged n) k = k ≡ n
+MaySave (Device n) k = (k ≡ n) ⊎ (k ≡ n + 1)
+MaySave Memory k = Unit {0}
+
+-- What a refused call leaves: some first parts are saved, and nothing else is stored.
+abbrev pub SaveLeaves : (Assignment → Type 0) → (Papers → Type 0) → (Papers → Type 0) → List ℕ → List Part → List Stamp → SaveFault → Type 0
+SaveLeaves agrees was holds object parts pins e = (papers : Papers) → holds papers → (before : Papers) × was before × (k : ℕ) × MaySave e k × IsSavedTo agrees before papers object parts pins k
+
+-- one part is stored, with the bytes under its pin
+pub record IsStored (agrees : Assignment → Type 0) (before papers : Papers) (object : List ℕ) (part : Part) (pin : Stamp) : Type 0 where
+  pub bytes : List ℕ
+  pub fetched : (a : Assignment) → agrees a → IsFetched a part pin bytes
+  pub stored : papers ≡ insert before (part_key object part.name) bytes
+
+-- what a refused call leaves of one part: where its bytes are damaged, nothing; else nothing or all of it
+abbrev pub PartLeft : (Assignment → Type 0) → Papers → Papers → List ℕ → Part → Stamp → SaveFault → Type 0
+PartLeft agrees before papers object part pin (Damaged n) = papers ≡ before
+PartLeft agrees before papers object part pin (Device n) = (papers ≡ before) ⊎ IsStored agrees before papers object part pin
+PartLeft agrees before papers object part pin Memory = (papers ≡ before) ⊎ IsStored agrees before papers object part pin
+
+abbrev pub PartLeaves : (Assignment → Type 0) → (Papers → Type 0) → (Papers → Type 0) → List ℕ → Part → Stamp → SaveFault → Type 0
+PartLeaves agrees was holds object part pin e = (papers : Papers) → holds papers → (before : Papers) × was before × PartLeft agrees before papers object part pin e
+
+-- what a refused call of a shelf leaves: nothing or all of these bytes under this name
+abbrev pub StoreLeaves : (Papers → Type 0) → (Papers → Type 0) → List ℕ → List ℕ → Type 0
+StoreLeaves was holds name bytes = (papers : Papers) → holds papers → (before : Papers) × was before × ((papers ≡ before) ⊎ (papers ≡ insert before name bytes))

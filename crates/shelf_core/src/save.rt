@@ -1,10 +1,10 @@
 //! The parts of an object, from a hand to a shelf.
 
-ghost use Rattle.std.specs.Prelude.{◌≡◌, ◌≤◌, ◌⊎◌, ℕ, List, length, IfOk, IfErr, OnOk};
+ghost use Rattle.std.specs.Prelude.{◌≡◌, ◌≤◌, ◌⊎◌, ℕ, List, length, IfOk, IfErr, OnOk, OnErr};
 ghost use Rattle.std.specs.FinMap.{insert};
 ghost use Rattle.shelf_core.specs.Device.{Assignment, Failed};
 ghost use Rattle.shelf_core.specs.Papers.{Papers, part_key};
-ghost use Rattle.shelf_core.specs.Saved.{save_fault_number, save_fault_name, save_fault_of, IsFetched, AreFetched, with_parts, SaveCause, PinSaveCause, StoreCause};
+ghost use Rattle.shelf_core.specs.Saved.{save_fault_number, save_fault_name, save_fault_of, IsFetched, AreFetched, with_parts, SaveCause, PinSaveCause, StoreCause, SaveLeaves, PartLeaves, StoreLeaves};
 
 use crate::hand::{Hand, HandFault, Stamp};
 use crate::open::write_key;
@@ -111,10 +111,14 @@ fn store_part<S: Shelf>(
     key: &mut Vec<u8>,
 ) -> Result<(), SaveFault>
     ensures ok { OnOk result ((papers : Papers) → S.holds shelf.new papers → (before : Papers) × S.holds shelf.old before × (papers ≡ insert before (part_key object.now part.now.name) bytes.now)) }
+    ensures left { OnErr result (StoreLeaves (S.holds shelf.old) (S.holds shelf.new) (part_key object.now part.now.name) bytes.now) }
     ensures counted { S.failed shelf.old ≤ S.failed shelf.new }
     ensures cause { IfErr result (λ e. StoreCause number (Failed (S.failed shelf.old) (S.failed shelf.new)) e) }
 {
-    write_key(key, object, &part.name)?;
+    match write_key(key, object, &part.name) {
+        Ok(()) => {}
+        Err(_) => return Err(SaveFault::Memory),
+    }
     match shelf.store(key, bytes) {
         Ok(()) => Ok(()),
         Err(fault) => Err(of_device(fault, number)),
@@ -130,17 +134,23 @@ fn save_part<S: Shelf, H: Hand>(
     pin: &Stamp,
     shelf: &mut S,
     hand: &mut H,
+    key: &mut Vec<u8>,
 ) -> Result<(), SaveFault>
     ensures ok { OnOk result ((bytes : List ℕ) × ((a : Assignment) → H.agrees hand.new a → IsFetched a part.now pin.now bytes) × ((papers : Papers) → S.holds shelf.new papers → (before : Papers) × S.holds shelf.old before × (papers ≡ insert before (part_key object.now part.now.name) bytes))) }
+    ensures left { IfErr result (λ e. PartLeaves (H.agrees hand.new) (S.holds shelf.old) (S.holds shelf.new) object.now part.now pin.now e) }
     ensures files { (a : Assignment) → H.agrees hand.new a → H.agrees hand.old a }
     ensures counted_shelf { S.failed shelf.old ≤ S.failed shelf.new }
     ensures counted_hand { H.failed hand.old ≤ H.failed hand.new }
     ensures cause { IfErr result (λ e. PinSaveCause (H.agrees hand.new) part.now pin.now number (Failed (S.failed shelf.old) (S.failed shelf.new) ⊎ Failed (H.failed hand.old) (H.failed hand.new)) e) }
 {
-    let mut key = Vec::new(alloc);
-    let bytes = fetch_part(alloc, part, pin, number, hand)?;
-    store_part(object, part, number, &bytes, shelf, &mut key)?;
-    Ok(())
+    let bytes = match fetch_part(alloc, part, pin, number, hand) {
+        Ok(bytes) => bytes,
+        Err(fault) => return Err(fault),
+    };
+    match store_part(object, part, number, &bytes, shelf, key) {
+        Ok(()) => Ok(()),
+        Err(fault) => Err(fault),
+    }
 }
 
 /// Saves each part of an object, in order: the bytes under its pin are read from the hand, and stored on
@@ -148,7 +158,8 @@ fn save_part<S: Shelf, H: Hand>(
 ///
 /// The first fault on the way is told: `Damaged` where the bytes under a part's pin spell no value of its
 /// kind, `Device` where the shelf or the hand failed at a part, `Memory` where memory was refused. The parts
-/// before it are saved then; of it, nothing is stored where it is damaged.
+/// before it are saved then, and nothing after it. Of the part itself nothing is stored where it is damaged;
+/// where a device failed or memory was refused, nothing of it or all.
 pub fn save_parts<S: Shelf, H: Hand>(
     alloc: Global,
     object: &Object,
@@ -158,16 +169,27 @@ pub fn save_parts<S: Shelf, H: Hand>(
 ) -> Result<(), SaveFault>
     requires { length pins.now ≡ length object.now.parts.items }
     ensures ok { OnOk result ((all : List (List ℕ)) × ((a : Assignment) → H.agrees hand.new a → AreFetched a object.now.parts.items pins.now all) × (length all ≡ length object.now.parts.items) × ((papers : Papers) → S.holds shelf.new papers → (before : Papers) × S.holds shelf.old before × (papers ≡ with_parts before object.now.name object.now.parts.items all))) }
+    ensures left { IfErr result (λ e. SaveLeaves (H.agrees hand.new) (S.holds shelf.old) (S.holds shelf.new) object.now.name object.now.parts.items pins.now e) }
     ensures files { (a : Assignment) → H.agrees hand.new a → H.agrees hand.old a }
     ensures counted_shelf { S.failed shelf.old ≤ S.failed shelf.new }
     ensures counted_hand { H.failed hand.old ≤ H.failed hand.new }
     ensures cause { IfErr result (λ e. SaveCause (H.agrees hand.new) object.now.parts.items pins.now (Failed (S.failed shelf.old) (S.failed shelf.new) ⊎ Failed (H.failed hand.old) (H.failed hand.new)) e) }
 {
     let stamps = pins.as_slice();
+    let mut key = Vec::new(alloc);
     for number in 0..object.parts.len() {
         let part = &object.parts[number];
         let pin = &stamps[number];
-        match save_part(alloc, &object.name, part, number, pin, shelf, hand) {
+        match save_part(
+            alloc,
+            &object.name,
+            part,
+            number,
+            pin,
+            shelf,
+            hand,
+            &mut key,
+        ) {
             Ok(()) => {}
             Err(fault) => return Err(fault),
         }

@@ -7,7 +7,7 @@ use Rattle.shelf_core.specs.declared.hand.Stamp.{Stamp}
 use Rattle.shelf_core.specs.Papers.{Papers}
 use Rattle.shelf_core.specs.Pins.{no_stamp}
 use Rattle.shelf_core.specs.Saved.{AreFetched, with_parts}
-use Rattle.shelf_core.proofs.Saving.{start, next, since}
+use Rattle.shelf_core.proofs.Saving.{start, next, since, leaves}
 use Rattle.shelf_core.proofs.save.save_parts.Goals as goal
 
 pub loop-number-init : goal.loop-number-init
@@ -68,3 +68,15 @@ returns-clause-counted_shelf g c = c.loop-number.invariant.shelf
 
 pub returns-clause-counted_hand : goal.returns-clause-counted_hand
 returns-clause-counted_hand g c = c.loop-number.invariant.hand
+
+pub returns-in-Err-clause-left : goal.returns-in-Err-clause-left
+returns-in-Err-clause-left g c =
+    let parts = c.args.object.now.parts.items in
+    let part = c.index-part.result.now in
+    let n = c.loop-number.number in
+    let within : n < length parts = omega (arith, c.loop-number-test.true, c.len-number-end.ensures, c.args.object.now.parts.ok.0) in
+    let pin : Stamp = slice_index_or c.as_slice-stamps.result.now n no_stamp in
+    let same : slice_index_or c.args.pins.now n no_stamp ≡ pin = ap (λ (ps : List Stamp). slice_index_or ps n no_stamp) (sym c.as_slice-stamps.ensures.stamps) in
+    let longer : take (n + 1) parts ≡ take n parts ++ part ∷ [] = take_more parts n part within ∙ ap (λ (p : Part). take n parts ++ p ∷ []) (sym c.index-part.ensures) in
+    let further : take (n + 1) c.args.pins.now ≡ take n c.args.pins.now ++ pin ∷ [] = take_more c.args.pins.now n no_stamp (omega (arith, within, c.requires)) ∙ ap (λ (p : Stamp). take n c.args.pins.now ++ p ∷ []) same in
+    leaves _ _ _ parts c.args.pins.now part pin n longer further c.loop-number.invariant c.save_part.ensures.files _ c.in-Err.ensures.cause c.in-Err.ensures.left
