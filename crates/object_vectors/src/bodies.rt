@@ -1,14 +1,11 @@
-//! Bodies that are read, and the faults of those that are not.
-//!
-//! The rows of a table are texts. In each, `^` marks the byte of the fault and is no part of the text; lines
-//! that begin with `#` and empty lines are no rows.
+//! Bodies that are read, and the faults of those that are not. How the rows are read is said in `tables`.
 
-use crate::faults::{BODY, behind, rows_are_told};
-use decl_core::fault::DeclFault;
+use crate::faults::BODY;
+use crate::tables::{rows_are_told, rows_between_are_told, text_of};
 use decl_core::read::read_objects;
 use decl_core::stmt::Stmt;
 use std::alloc::Global;
-use std::test::Fail;
+use std::process::Abort;
 
 // What stands before the statements of a procedure f, with `n = 5`, the parameters x (integer) and s (text),
 // the arrays v of integers and w of texts, the queue q of texts and the table t of integers.
@@ -30,57 +27,27 @@ fn count_in_blocks(all: &[Stmt]) -> usize {
     count
 }
 
-// How many statements stand in the body of the last operation, and how many with those that stand in blocks
-// there. The body's text is that behind the front, and so are the places of faults.
-fn counts_of(
-    alloc: Global,
-    front: &str,
-    source: &[u8],
-) -> Result<Result<(usize, usize), DeclFault>, Fail> {
-    let mut whole = front.as_bytes().to_vec(alloc)?;
-    whole.extend_from_slice(source)?;
-    whole.extend_from_slice(BACK.as_bytes())?;
-    match read_objects(alloc, &whole) {
-        Ok(objects) => {
-            let mut counts = (0, 0);
-            for (_, object) in &objects {
-                for operation in &object.operations {
-                    counts = (operation.body.len(), count_in_blocks(&operation.body));
-                }
-            }
-            Ok(Ok(counts))
+// How many statements stand in the body of the last operation, and how many with those that stand in blocks there.
+fn counts_of(rt: &impl Abort, alloc: Global, front: &str, row: &str) -> (usize, usize) {
+    let mut whole = text_of(rt, alloc, front).bytes;
+    whole
+        .extend_from_slice(&text_of(rt, alloc, row).bytes)
+        .expect(rt, "memory");
+    whole
+        .extend_from_slice(BACK.as_bytes())
+        .expect(rt, "memory");
+    let objects = read_objects(alloc, &whole).expect(rt, "objects");
+    let mut counts = (0, 0);
+    for (_, object) in &objects {
+        for operation in &object.operations {
+            counts = (operation.body.len(), count_in_blocks(&operation.body));
         }
-        Err(fault) => Ok(Err(behind(front.len(), fault))),
     }
-}
-
-// How many statements stand in the body of the last operation.
-fn count_of(alloc: Global, front: &str, source: &[u8]) -> Result<Result<usize, DeclFault>, Fail> {
-    match counts_of(alloc, front, source)? {
-        Ok((count, _)) => Ok(Ok(count)),
-        Err(fault) => Ok(Err(fault)),
-    }
-}
-
-// A first text, then so many times another, and then an end.
-fn repeated(
-    alloc: Global,
-    begin: &str,
-    times: usize,
-    text: &str,
-    end: &str,
-) -> Result<Vec<u8>, Fail> {
-    let mut source = Vec::new(alloc);
-    source.extend_from_slice(begin.as_bytes())?;
-    for _ in 0..times {
-        source.extend_from_slice(text.as_bytes())?;
-    }
-    source.extend_from_slice(end.as_bytes())?;
-    Ok(source)
+    counts
 }
 
 #[test]
-fn bodies_have_statements(rt: HostRuntime) -> Result<(), Fail> {
+fn bodies_have_statements(rt: HostRuntime) {
     for (source, count) in [
         ("end", 1),
         (";; end", 3),
@@ -99,13 +66,8 @@ fn bodies_have_statements(rt: HostRuntime) -> Result<(), Fail> {
         ("begin begin end end end", 1),
         ("refuse('abcdefghijklmnop') end", 1),
     ] {
-        assert_eq!(rt;
-            count_of(rt.alloc(), BODY, source.as_bytes())?,
-            Ok(count),
-            "{source}"
-        );
+        assert_eq!(rt; counts_of(&rt, rt.alloc(), BODY, source).0, count);
     }
-    Ok(())
 }
 
 const UNKNOWN: &str = "
@@ -159,75 +121,32 @@ fn a_procedure_has_no_result(rt: HostRuntime) {
 }
 
 // The levels of `begin` and `if` in a body are 32 with its own `begin`, those of expressions 32.
+const TOO_MANY: &str = "
+31*begin |^begin
+31*if x = 1 then |^if zz = 1 then end
+31*if x = 1 then take(q) else |^begin end end
+if |32*not |^not x = 1 then end
+if |32*not |^(x) = 1 then end
+if |32*not |has^(t, s) then end
+take(q); v[|31*(|^(0
+";
+
 #[test]
-fn levels_have_limits(rt: HostRuntime) -> Result<(), Fail> {
-    let alloc = rt.alloc();
-    let mut source = repeated(alloc, "", 31, "begin ", "")?;
-    source.extend_from_slice(&repeated(alloc, "", 32, "end ", "")?)?;
-    assert_eq!(rt; count_of(alloc, FRONT, &source)?, Ok(1));
-    for (begin, times, text, end, told) in [
-        ("", 32, "begin ", "", Err(DeclFault::TooMany(186))),
-        ("", 31, "if x = 1 then ", "end", Ok(1)),
-        (
-            "",
-            31,
-            "if x = 1 then ",
-            "if zz = 1 then end",
-            Err(DeclFault::TooMany(434)),
-        ),
-        (
-            "",
-            31,
-            "if x = 1 then take(q) else ",
-            "begin end end",
-            Err(DeclFault::TooMany(837)),
-        ),
-        ("if ", 32, "not ", "x = 1 then end", Ok(1)),
-        (
-            "if ",
-            33,
-            "not ",
-            "x = 1 then end",
-            Err(DeclFault::TooMany(131)),
-        ),
-        (
-            "if ",
-            32,
-            "not ",
-            "(x) = 1 then end",
-            Err(DeclFault::TooMany(131)),
-        ),
-        (
-            "if ",
-            32,
-            "not ",
-            "has(t, s) then end",
-            Err(DeclFault::TooMany(134)),
-        ),
-        (
-            "take",
-            1,
-            "(q); v[",
-            "((((((((((((((((((((((((((((((((0",
-            Err(DeclFault::TooMany(42)),
-        ),
+fn levels_have_limits(rt: HostRuntime) {
+    for source in [
+        "31*begin |32*end |",
+        "31*if x = 1 then |end",
+        "if |32*not |x = 1 then end",
     ] {
-        let source = repeated(alloc, begin, times, text, end)?;
-        assert_eq!(rt;
-            count_of(alloc, FRONT, &source)?,
-            told,
-            "{begin}{times} {text}{end}"
-        );
+        assert_eq!(rt; counts_of(&rt, rt.alloc(), FRONT, source).0, 1);
     }
-    Ok(())
+    rows_between_are_told(&rt, rt.alloc(), FRONT, TOO_MANY, BACK, 14, "TooMany");
 }
 
 #[test]
-fn a_body_of_60000_statements_is_read_and_dropped(rt: HostRuntime) -> Result<(), Fail> {
-    let alloc = rt.alloc();
-    let source = repeated(alloc, "", 60000, ";", "end")?;
-    assert_eq!(rt; counts_of(alloc, FRONT, &source)?, Ok((60001, 60001)));
-    let source = repeated(alloc, "begin ", 59000, ";", "end end")?;
-    assert_eq!(rt; counts_of(alloc, FRONT, &source)?, Ok((1, 59002)));
-    Ok(())
+fn a_body_of_60000_statements_is_read_and_dropped(rt: HostRuntime) {
+    let counts = counts_of(&rt, rt.alloc(), FRONT, "60000*;|end");
+    assert_eq!(rt; counts, (60001, 60001));
+    let counts = counts_of(&rt, rt.alloc(), FRONT, "begin |59000*;|end end");
+    assert_eq!(rt; counts, (1, 59002));
 }

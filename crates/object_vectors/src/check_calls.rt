@@ -7,9 +7,8 @@ use decl_core::object::Object;
 use exclude_core::analyse::{Refusal, Refused, analyse};
 use exclude_core::certificate::{Certificate, Entry, check_certificate};
 use exclude_core::report::CheckFault;
-use std::alloc::{AllocError, Global};
+use std::alloc::Global;
 use std::process::Abort;
-use std::test::Fail;
 
 // The entry of two operations, with the path and the node.
 fn entry(first: usize, second: usize, path: usize, node: usize) -> Entry {
@@ -19,6 +18,14 @@ fn entry(first: usize, second: usize, path: usize, node: usize) -> Entry {
         path,
         node,
     }
+}
+
+// Whether an object has this name, a part, a path and so many operations.
+fn is_of(object: &Object, name: &[u8], operations: usize) -> bool {
+    object.name.as_bytes() == name
+        && object.parts.len() == 1
+        && object.paths.len() == 1
+        && object.operations.len() == operations
 }
 
 #[test]
@@ -38,11 +45,15 @@ fn an_accepted_object_has_its_certificate(rt: HostRuntime) {
         .as_slice()
     );
     assert!(rt; check_certificate(accepted.object(), accepted.certificate()));
-    let object = accepted.into_object();
-    assert_eq!(rt; object.name.as_bytes(), b"cell".as_slice());
-    assert_eq!(rt; object.parts.len(), 1);
-    assert_eq!(rt; object.paths.len(), 1);
-    assert_eq!(rt; object.operations.len(), 3);
+    assert!(rt; is_of(&accepted.into_object(), b"cell", 3));
+}
+
+// Asserts that the only object of a source is accepted, with an empty certificate.
+fn has_no_entries(rt: &impl Abort, alloc: Global, source: &[u8]) {
+    let object = only_object(rt, alloc, source);
+    let accepted = analyse(alloc, object).ok().expect(rt, "accepted");
+    let is_one = check_certificate(accepted.object(), accepted.certificate());
+    assert!(rt; accepted.certificate().entries.is_empty() && is_one);
 }
 
 #[test]
@@ -52,10 +63,7 @@ fn an_object_with_no_conflict_has_no_entries(rt: HostRuntime) {
         "object a; path 1:([p], q) end; entry procedure p; begin end; entry procedure q; begin refuse('no') end; end;",
         "object a; var t : table of text; entry function f : integer; begin f := count(t) end; end;",
     ] {
-        let object = only_object(&rt, rt.alloc(), source.as_bytes());
-        let accepted = analyse(rt.alloc(), object).ok().expect(&rt, "accepted");
-        assert!(rt; accepted.certificate().entries.is_empty(), "{source}");
-        assert!(rt; check_certificate(accepted.object(), accepted.certificate()));
+        has_no_entries(&rt, rt.alloc(), source.as_bytes());
     }
 }
 
@@ -66,39 +74,42 @@ fn refused(rt: &impl Abort, alloc: Global, source: &[u8]) -> Refused {
 }
 
 #[test]
-fn a_refused_object_is_handed_back(rt: HostRuntime) -> Result<(), Fail> {
+fn a_refused_object_is_handed_back(rt: HostRuntime) {
     let loose = refused(&rt, rt.alloc(), LOOSE);
-    assert_eq!(rt; loose.why, Refusal::Unseparated(0, 1, 0));
-    assert_eq!(rt; loose.object.name.as_bytes(), b"loose".as_slice());
-    assert_eq!(rt; loose.object.parts.len(), 1);
-    assert_eq!(rt; loose.object.paths.len(), 1);
-    assert_eq!(rt; loose.object.operations.len(), 2);
+    assert!(rt; loose.why == Refusal::Unseparated(0, 1, 0) && is_of(&loose.object, b"loose", 2));
     // which is refused for the same reason once more
-    let again = analyse(rt.alloc(), loose.object).err().ok_or("refused")?;
-    assert_eq!(rt; again.why, Refusal::Unseparated(0, 1, 0));
-
+    let again = analyse(rt.alloc(), loose.object)
+        .err()
+        .expect(&rt, "refused");
+    assert!(rt; again.why == Refusal::Unseparated(0, 1, 0));
     let solo = refused(&rt, rt.alloc(), SOLO);
-    assert_eq!(rt; solo.why, Refusal::Unseparated(0, 0, 0));
-    assert_eq!(rt; solo.object.name.as_bytes(), b"solo".as_slice());
+    assert!(rt; solo.why == Refusal::Unseparated(0, 0, 0) && is_of(&solo.object, b"solo", 1));
+}
 
-    let source = b"object late; path 1:(p, q) end; var u, v, w : array [1] of integer;
-      entry procedure p; begin v[0] := u[0] end; entry function q : integer; begin q := u[0] + v[0] end;
-      entry procedure r; begin w[0] := u[0] end; entry function s : integer; begin s := u[0] + w[0] end;
-      end;";
-    let late = refused(&rt, rt.alloc(), source);
-    assert_eq!(rt; late.why, Refusal::Unseparated(2, 2, 2));
-    let source = b"object later; path 1:(p, q), 1:(r) end; var u, v, w : array [1] of integer;
-      entry procedure p; begin v[0] := u[0] end; entry function q : integer; begin q := u[0] + v[0] end;
-      entry procedure r; begin w[0] := u[0] end; entry function s : integer; begin s := u[0] + w[0] end;
-      end;";
-    let later = refused(&rt, rt.alloc(), source);
-    assert_eq!(rt; later.why, Refusal::Unseparated(2, 3, 2));
-    assert_eq!(rt; later.object.operations.len(), 4);
-    Ok(())
+// Asserts why the only object of a source, of four operations, is refused.
+fn is_refused(rt: &impl Abort, alloc: Global, source: &[u8], why: Refusal) {
+    let told = refused(rt, alloc, source);
+    assert!(rt; told.why == why && told.object.operations.len() == 4);
+}
+
+const LATE: &[u8] = b"object late; path 1:(p, q) end; var u, v, w : array [1] of integer;
+  entry procedure p; begin v[0] := u[0] end; entry function q : integer; begin q := u[0] + v[0] end;
+  entry procedure r; begin w[0] := u[0] end; entry function s : integer; begin s := u[0] + w[0] end;
+end;";
+
+const LATER: &[u8] = b"object later; path 1:(p, q), 1:(r) end; var u, v, w : array [1] of integer;
+  entry procedure p; begin v[0] := u[0] end; entry function q : integer; begin q := u[0] + v[0] end;
+  entry procedure r; begin w[0] := u[0] end; entry function s : integer; begin s := u[0] + w[0] end;
+end;";
+
+#[test]
+fn a_pair_and_a_part_behind_others_are_told(rt: HostRuntime) {
+    is_refused(&rt, rt.alloc(), LATE, Refusal::Unseparated(2, 2, 2));
+    is_refused(&rt, rt.alloc(), LATER, Refusal::Unseparated(2, 3, 2));
 }
 
 #[test]
-fn refusals_and_faults_have_numbers_names_and_texts(rt: HostRuntime) -> Result<(), Fail> {
+fn refusals_have_numbers_names_and_texts(rt: HostRuntime) {
     for (refusal, number, name, text) in [
         (
             Refusal::Unseparated(3, 14, 15),
@@ -108,31 +119,28 @@ fn refusals_and_faults_have_numbers_names_and_texts(rt: HostRuntime) -> Result<(
         ),
         (Refusal::Memory, 2, "Memory", "Memory"),
     ] {
-        assert_eq!(rt; refusal.number(), number);
-        assert_eq!(rt; refusal.name(), name);
-        assert_eq!(rt;
-            format!(in rt.alloc(); "{refusal}")?.as_bytes(),
-            text.as_bytes()
-        );
+        assert!(rt; refusal.number() == number && refusal.name() == name);
+        let told = format!(in rt.alloc(); "{refusal}").expect(&rt, "memory");
+        assert!(rt; told.as_bytes() == text.as_bytes());
     }
+}
+
+#[test]
+fn faults_have_numbers_names_and_texts(rt: HostRuntime) {
     for (fault, number, text) in [
         (CheckFault::WriteFault, 1, "WriteFault"),
         (CheckFault::Memory, 2, "Memory"),
     ] {
-        assert_eq!(rt; fault.number(), number);
-        assert_eq!(rt; fault.name(), text);
-        assert_eq!(rt;
-            format!(in rt.alloc(); "{fault}")?.as_bytes(),
-            text.as_bytes()
-        );
+        assert!(rt; fault.number() == number && fault.name() == text);
+        let told = format!(in rt.alloc(); "{fault}").expect(&rt, "memory");
+        assert!(rt; told.as_bytes() == text.as_bytes());
     }
-    Ok(())
 }
 
 // Whether these entries are a certificate of an object.
-fn certifies(alloc: Global, object: &Object, entries: &[Entry]) -> Result<bool, AllocError> {
-    let entries = entries.to_vec(alloc)?;
-    Ok(check_certificate(object, &Certificate { entries }))
+fn certifies(rt: &impl Abort, alloc: Global, object: &Object, entries: &[Entry]) -> bool {
+    let entries = entries.to_vec(alloc).expect(rt, "memory");
+    check_certificate(object, &Certificate { entries })
 }
 
 // The entries of `BUFFER`, whose second path is a bound of 1 over a list of both operations.
@@ -141,10 +149,10 @@ fn buffered() -> [Entry; 3] {
 }
 
 #[test]
-fn a_certificate_has_an_entry_for_each_conflict(rt: HostRuntime) -> Result<(), Fail> {
+fn a_certificate_has_an_entry_for_each_conflict(rt: HostRuntime) {
     let buffer = only_object(&rt, rt.alloc(), BUFFER);
     let [a, b, c] = buffered();
-    assert!(rt; certifies(rt.alloc(), &buffer, &[a, b, c])?);
+    assert!(rt; certifies(&rt, rt.alloc(), &buffer, &[a, b, c]));
     for entries in [
         // one less
         [].as_slice(),
@@ -168,13 +176,12 @@ fn a_certificate_has_an_entry_for_each_conflict(rt: HostRuntime) -> Result<(), F
         [a, b, b].as_slice(),
         [a, b, entry(2, 2, 2, 0)].as_slice(),
     ] {
-        assert!(rt; !certifies(rt.alloc(), &buffer, entries)?, "{entries:?}");
+        assert!(rt; !certifies(&rt, rt.alloc(), &buffer, entries));
     }
-    Ok(())
 }
 
 #[test]
-fn each_entry_has_a_node_that_separates(rt: HostRuntime) -> Result<(), Fail> {
+fn each_entry_has_a_node_that_separates(rt: HostRuntime) {
     let buffer = only_object(&rt, rt.alloc(), BUFFER);
     for (path, node) in [
         // no path
@@ -200,18 +207,14 @@ fn each_entry_has_a_node_that_separates(rt: HostRuntime) -> Result<(), Fail> {
             let mut entries = buffered();
             entries[place].path = path;
             entries[place].node = node;
-            assert!(rt;
-                !certifies(rt.alloc(), &buffer, &entries)?,
-                "{path} {node} at {place}"
-            );
+            assert!(rt; !certifies(&rt, rt.alloc(), &buffer, &entries));
         }
     }
-    Ok(())
 }
 
 // Any node that separates will do, the first or another.
 #[test]
-fn another_node_that_separates_will_do(rt: HostRuntime) -> Result<(), Fail> {
+fn another_node_that_separates_will_do(rt: HostRuntime) {
     let source =
         b"object o; path 1:(1:(a, b)) end; path [c]; 1:(b), 1:(a) end; var v : array [1] of integer;
       entry procedure a; begin v[0] := 1 end; entry procedure b; begin v[0] := 2 end;
@@ -240,34 +243,33 @@ fn another_node_that_separates_will_do(rt: HostRuntime) -> Result<(), Fail> {
             entry(0, 1, b.0, b.1),
             entry(1, 1, c.0, c.1),
         ];
-        assert_eq!(rt;
-            certifies(rt.alloc(), &object, &entries)?,
-            is_one,
-            "{entries:?}"
-        );
+        assert!(rt; certifies(&rt, rt.alloc(), &object, &entries) == is_one);
     }
-    Ok(())
+}
+
+// Whether these entries are a certificate of the only object of a source.
+fn certified(rt: &impl Abort, alloc: Global, source: &[u8], entries: &[Entry]) -> bool {
+    certifies(rt, alloc, &only_object(rt, alloc, source), entries)
 }
 
 #[test]
-fn a_certificate_is_of_its_own_object(rt: HostRuntime) -> Result<(), Fail> {
-    let alloc = rt.alloc();
-    let cell = only_object(&rt, alloc, CELL);
-    let two = only_object(&rt, alloc, TWO);
-    let buffer = only_object(&rt, alloc, BUFFER);
-    let solo = only_object(&rt, alloc, SOLO);
-    let none = only_object(&rt, alloc, b"object none; end;");
+fn a_certificate_is_of_its_own_object(rt: HostRuntime) {
+    let none = b"object none; end;";
     let both = [entry(0, 0, 1, 0), entry(0, 1, 1, 0), entry(1, 1, 1, 0)];
-    assert!(rt; certifies(alloc, &two, &both)?);
-    assert!(rt; !certifies(alloc, &buffer, &both)?);
-    assert!(rt; !certifies(alloc, &cell, &both)?);
-    assert!(rt; !certifies(alloc, &two, &buffered())?);
-    assert!(rt; !certifies(alloc, &none, &both)?);
-    assert!(rt; certifies(alloc, &none, &[])?);
+    assert!(rt; certified(&rt, rt.alloc(), TWO, &both));
+    assert!(rt; certified(&rt, rt.alloc(), none, &[]));
+    for source in [BUFFER, CELL, none.as_slice()] {
+        assert!(rt; !certified(&rt, rt.alloc(), source, &both));
+    }
+    assert!(rt; !certified(&rt, rt.alloc(), TWO, &buffered()));
     // an object that is refused has none
-    assert!(rt; !certifies(alloc, &solo, &[])?);
-    assert!(rt; !certifies(alloc, &solo, &[entry(0, 0, 1, 0)])?);
-    // two operations that do not conflict have no entry: both only read
+    assert!(rt; !certified(&rt, rt.alloc(), SOLO, &[]));
+    assert!(rt; !certified(&rt, rt.alloc(), SOLO, &[entry(0, 0, 1, 0)]));
+}
+
+// `get`, the first operation, only reads.
+#[test]
+fn operations_that_do_not_conflict_have_no_entry(rt: HostRuntime) {
     let with_get = [
         entry(0, 0, 1, 0),
         entry(0, 1, 1, 0),
@@ -276,7 +278,6 @@ fn a_certificate_is_of_its_own_object(rt: HostRuntime) -> Result<(), Fail> {
         entry(1, 2, 1, 0),
         entry(2, 2, 1, 0),
     ];
-    assert!(rt; !certifies(alloc, &cell, &with_get)?);
-    assert!(rt; certifies(alloc, &cell, &with_get[1..])?);
-    Ok(())
+    assert!(rt; !certified(&rt, rt.alloc(), CELL, &with_get));
+    assert!(rt; certified(&rt, rt.alloc(), CELL, &with_get[1..]));
 }

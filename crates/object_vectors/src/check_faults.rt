@@ -1,11 +1,11 @@
 //! The line of each fault of a source, and the reports of sources that are cut and of writers that fail.
 
 use crate::check_rows::{CELL_REPORT, LOOSE_REPORT, is_reported};
+use crate::tables::text_of;
 use crate::texts::{BUFFER, CELL, LOOSE};
 use exclude_core::report::{CheckEnd, CheckFault, check_report};
-use std::alloc::{AllocError, Global};
+use std::alloc::Global;
 use std::process::Abort;
-use std::test::Fail;
 use vectors::fakes::Brim;
 
 // Sources that hold no objects, with the line of each.
@@ -70,53 +70,33 @@ fn each_fault_has_a_line(rt: HostRuntime) {
     }
 }
 
-// Adds the name of an operation in 31 bursts: 32 nodes.
-fn add_deep(path: &mut Vec<u8>, name: u8) -> Result<(), AllocError> {
-    for _ in 0..31 {
-        path.push(b'[')?;
-    }
-    path.push(name)?;
-    for _ in 0..31 {
-        path.push(b']')?;
-    }
-    Ok(())
-}
-
-// A list of eight such names: 257 nodes.
+// A list of eight names in 31 bursts each: 257 nodes.
 #[test]
-fn a_fault_with_no_place_has_a_line(rt: HostRuntime) -> Result<(), Fail> {
-    let mut source = Vec::new(rt.alloc());
-    source.extend_from_slice(b"object o; path ")?;
-    for name in b"abcdefg" {
-        add_deep(&mut source, *name)?;
-        source.extend_from_slice(b", ")?;
-    }
-    add_deep(&mut source, b'h')?;
-    source.extend_from_slice(b" end; ")?;
-    for name in b"abcdefgh" {
-        source.extend_from_slice(b"entry procedure ")?;
-        source.push(*name)?;
-        source.extend_from_slice(b"; begin end; ")?;
-    }
-    source.extend_from_slice(b"end;")?;
-    let line = b"path 6 TooMany\n";
-    is_reported(&rt, rt.alloc(), &source, line, CheckEnd::Faulty);
-    Ok(())
+fn a_fault_with_no_place_has_a_line(rt: HostRuntime) {
+    let row =
+        "object o; path |31*[|p00|31*]|, |31*[|p01|31*]|, |31*[|p02|31*]|, |31*[|p03|31*]|, |31*[|p04|31*]|, \
+|31*[|p05|31*]|, |31*[|p06|31*]|, |31*[|p07|31*]| end; |8*entry procedure p#; begin end; |end;";
+    let source = text_of(&rt, rt.alloc(), row).bytes;
+    is_reported(
+        &rt,
+        rt.alloc(),
+        &source,
+        b"path 6 TooMany\n",
+        CheckEnd::Faulty,
+    );
 }
 
 // Asserts that a source is faulty, and that its report is one line.
 fn is_one_line(rt: &impl Abort, alloc: Global, source: &[u8]) {
     let mut out = Vec::new(alloc);
     let end = check_report(alloc, source, &mut out);
-    assert_eq!(rt; end, Ok(CheckEnd::Faulty), "{} bytes", source.len());
     let lines = out.iter().filter(|byte| **byte == b'\n').count();
-    assert_eq!(rt; lines, 1, "{} bytes", source.len());
-    assert_eq!(rt; out.last(), Some(&b'\n'), "{} bytes", source.len());
+    assert!(rt; end == Ok(CheckEnd::Faulty) && lines == 1 && out.last() == Some(&b'\n'));
 }
 
 // The text without its last newline.
 #[test]
-fn every_front_of_a_text_is_faulty(rt: HostRuntime) -> Result<(), Fail> {
+fn every_front_of_a_text_is_faulty(rt: HostRuntime) {
     let whole = &BUFFER[..BUFFER.len() - 1];
     for (cut, _) in whole.iter().enumerate() {
         if cut > 0 {
@@ -125,16 +105,12 @@ fn every_front_of_a_text_is_faulty(rt: HostRuntime) -> Result<(), Fail> {
     }
     for (source, objects) in [(b"".as_slice(), 0), (whole, 1)] {
         let mut out = Vec::new(rt.alloc());
-        let end = check_report(rt.alloc(), source, &mut out);
-        assert_eq!(rt;
-            end,
-            Ok(CheckEnd::Counted {
-                objects,
-                refused: 0
-            })
-        );
+        let end = CheckEnd::Counted {
+            objects,
+            refused: 0,
+        };
+        assert!(rt; check_report(rt.alloc(), source, &mut out) == Ok(end));
     }
-    Ok(())
 }
 
 // Asserts that a writer with this much room, which takes so many bytes a write, gets so much of a report.
@@ -154,11 +130,11 @@ fn is_cut(
     };
     let ended = check_report(alloc, source, &mut brim);
     if room < report.len() {
-        assert_eq!(rt; ended, Err(CheckFault::WriteFault), "{room} and {most}");
-        assert_eq!(rt; brim.taken.as_slice(), &report[..room]);
+        assert!(rt;
+            ended == Err(CheckFault::WriteFault) && brim.taken.as_slice() == &report[..room]
+        );
     } else {
-        assert_eq!(rt; ended, Ok(end), "{room} and {most}");
-        assert_eq!(rt; brim.taken.as_slice(), report);
+        assert!(rt; ended == Ok(end) && brim.taken.as_slice() == report);
     }
 }
 
@@ -202,6 +178,6 @@ fn a_writer_that_takes_no_byte_fails(rt: HostRuntime) {
     let mut row = [0u8; 100];
     let mut left = row.as_mut_slice();
     let ended = check_report(rt.alloc(), CELL, &mut left);
-    assert_eq!(rt; ended, Err(CheckFault::WriteFault));
-    assert_eq!(rt; row.as_slice(), &CELL_REPORT.as_bytes()[..100]);
+    let report = CELL_REPORT.as_bytes();
+    assert!(rt; ended == Err(CheckFault::WriteFault) && row.as_slice() == &report[..100]);
 }

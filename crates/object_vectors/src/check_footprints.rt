@@ -1,34 +1,34 @@
 //! The parts that an operation names and those that it changes.
 
+use crate::tables::text_of;
 use crate::texts::BOOK;
 use decl_core::object::Object;
 use decl_core::read::read_objects;
 use exclude_core::footprint::{Footprint, footprint};
-use std::alloc::{AllocError, Global};
+use std::alloc::Global;
 use std::process::Abort;
-use std::test::Fail;
 
 /// The only object of a source.
 pub(crate) fn only_object(rt: &impl Abort, alloc: Global, source: &[u8]) -> Object {
     let objects = read_objects(alloc, source).expect(rt, "an object");
-    assert_eq!(rt; objects.len(), 1);
+    assert!(rt; objects.len() == 1);
     objects.into_values().next().expect(rt, "an object")
 }
 
 // Asserts that the operation of this number reads and writes these parts.
-fn touches(rt: &impl Abort, object: &Object, number: usize, reads: u16, writes: u16, what: &str) {
+fn touches(rt: &impl Abort, object: &Object, number: usize, reads: u16, writes: u16) {
     let operation = object.operations.get(number).expect(rt, "an operation");
-    assert_eq!(rt; footprint(operation), Footprint { reads, writes }, "{what}");
+    assert_eq!(rt; footprint(operation), Footprint { reads, writes });
 }
 
 #[test]
 fn operations_of_book_touch_its_table(rt: HostRuntime) {
     let book = only_object(&rt, rt.alloc(), BOOK);
-    assert_eq!(rt; book.operations.len(), 4);
-    touches(&rt, &book, 0, 1, 1, "write");
-    touches(&rt, &book, 1, 1, 0, "find");
-    touches(&rt, &book, 2, 1, 1, "wipe");
-    touches(&rt, &book, 3, 1, 0, "size");
+    assert!(rt; book.operations.len() == 4);
+    touches(&rt, &book, 0, 1, 1);
+    touches(&rt, &book, 1, 1, 0);
+    touches(&rt, &book, 2, 1, 1);
+    touches(&rt, &book, 3, 1, 0);
 }
 
 // What stands before and behind the statements of a function.
@@ -130,56 +130,47 @@ const TOUCHED: [(&str, u16, u16); 55] = [
     ("refuse('no'); erase(t, w[0])", W | T, T),
 ];
 
+// Asserts which parts a function with these statements reads and writes.
+fn is_touching(rt: &impl Abort, alloc: Global, statements: &str, reads: u16, writes: u16) {
+    let mut source = Vec::from_slice(alloc, FRONT).expect(rt, "memory");
+    source
+        .extend_from_slice(statements.as_bytes())
+        .expect(rt, "memory");
+    source.extend_from_slice(BACK).expect(rt, "memory");
+    let object = only_object(rt, alloc, &source);
+    touches(rt, &object, 0, reads, writes);
+}
+
 #[test]
-fn each_place_of_a_part_counts(rt: HostRuntime) -> Result<(), Fail> {
+fn each_place_of_a_part_counts(rt: HostRuntime) {
     for (statements, reads, writes) in TOUCHED {
-        let mut source = Vec::new(rt.alloc());
-        source.extend_from_slice(FRONT)?;
-        source.extend_from_slice(statements.as_bytes())?;
-        source.extend_from_slice(BACK)?;
-        let object = only_object(&rt, rt.alloc(), &source);
-        touches(&rt, &object, 0, reads, writes, statements);
+        is_touching(&rt, rt.alloc(), statements, reads, writes);
     }
-    Ok(())
 }
 
 // An object of 16 parts and of 16 operations, each of which changes one part and reads the one before it.
-fn chain(alloc: Global) -> Result<Vec<u8>, AllocError> {
-    let letters = b"abcdefghijklmnop";
-    let mut source = Vec::new(alloc);
-    source.extend_from_slice(b"object o; var ")?;
-    for letter in letters {
-        source.push(*letter)?;
-        source.extend_from_slice(b"0 : array [1] of integer; ")?;
-    }
-    let mut before = b'a';
-    for letter in letters {
-        source.extend_from_slice(b"entry procedure ")?;
-        source.push(*letter)?;
-        source.extend_from_slice(b"; begin ")?;
-        source.push(*letter)?;
-        source.extend_from_slice(b"0[0] := ")?;
-        source.push(before)?;
-        source.extend_from_slice(b"0[0] end; ")?;
-        before = *letter;
-    }
-    source.extend_from_slice(b"end;")?;
-    Ok(source)
-}
+const CHAIN: &str = "object o; var |16*v# : array [1] of integer; \
+|entry procedure a; begin v00[0] := v00[0] end; entry procedure b; begin v01[0] := v00[0] end; \
+entry procedure c; begin v02[0] := v01[0] end; entry procedure d; begin v03[0] := v02[0] end; \
+entry procedure e; begin v04[0] := v03[0] end; entry procedure f; begin v05[0] := v04[0] end; \
+entry procedure g; begin v06[0] := v05[0] end; entry procedure h; begin v07[0] := v06[0] end; \
+entry procedure i; begin v08[0] := v07[0] end; entry procedure j; begin v09[0] := v08[0] end; \
+entry procedure k; begin v10[0] := v09[0] end; entry procedure l; begin v11[0] := v10[0] end; \
+entry procedure m; begin v12[0] := v11[0] end; entry procedure n; begin v13[0] := v12[0] end; \
+entry procedure o; begin v14[0] := v13[0] end; entry procedure p; begin v15[0] := v14[0] end; end;";
 
 #[test]
-fn each_of_sixteen_parts_has_a_bit(rt: HostRuntime) -> Result<(), Fail> {
-    let source = chain(rt.alloc())?;
+fn each_of_sixteen_parts_has_a_bit(rt: HostRuntime) {
+    let source = text_of(&rt, rt.alloc(), CHAIN).bytes;
     let object = only_object(&rt, rt.alloc(), &source);
     let bits = [
         0x1, 0x2, 0x4, 0x8, 0x10, 0x20, 0x40, 0x80, 0x100, 0x200, 0x400, 0x800, 0x1000, 0x2000,
         0x4000, 0x8000,
     ];
-    assert_eq!(rt; object.operations.len(), 16);
+    assert!(rt; object.operations.len() == 16);
     let mut before = 0x1;
     for (number, bit) in bits.iter().enumerate() {
-        touches(&rt, &object, number, *bit | before, *bit, "a part of 16");
+        touches(&rt, &object, number, *bit | before, *bit);
         before = *bit;
     }
-    Ok(())
 }

@@ -4,11 +4,9 @@
 //! The nodes of a path are counted from 0, each before those in it, members from the left: names, lists and
 //! sequences of two members or more, bounds and bursts.
 
-use crate::check_rows::is_reported;
-use exclude_core::report::CheckEnd;
-use std::alloc::{AllocError, Global};
+use crate::check_rows::is_counted;
+use std::alloc::Global;
 use std::process::Abort;
-use std::test::Fail;
 
 // An object whose a and b both write v stands behind these paths: each two of a and b conflict.
 const WRITERS: &str = "
@@ -32,13 +30,37 @@ const READER: &str = "
 end;
 ";
 
-// The text of the object o with these paths.
-fn object(alloc: Global, paths: &str, rest: &str) -> Result<Vec<u8>, AllocError> {
-    let mut source = Vec::new(alloc);
-    source.extend_from_slice(b"object o; ")?;
-    source.extend_from_slice(paths.as_bytes())?;
-    source.extend_from_slice(rest.as_bytes())?;
-    Ok(source)
+// Asserts the report of a check of the object o with these paths, of which so many are refused.
+fn is_checked(
+    rt: &impl Abort,
+    alloc: Global,
+    paths: &str,
+    rest: &str,
+    report: &[u8],
+    refused: usize,
+) {
+    let mut source = Vec::from_slice(alloc, b"object o; ").expect(rt, "memory");
+    source
+        .extend_from_slice(paths.as_bytes())
+        .expect(rt, "memory");
+    source
+        .extend_from_slice(rest.as_bytes())
+        .expect(rt, "memory");
+    is_counted(rt, alloc, &source, report, 1, refused);
+}
+
+// Asserts that the object with these paths is refused, and what is told.
+fn is_refused(rt: &impl Abort, alloc: Global, paths: &str, rest: &str, told: &str) {
+    let mut report = Vec::from_slice(alloc, b"object o refused 1 Unseparated ").expect(
+        rt, "memory",
+    );
+    report
+        .extend_from_slice(told.as_bytes())
+        .expect(rt, "memory");
+    report
+        .extend_from_slice(b"\n1 objects, 1 refused\n")
+        .expect(rt, "memory");
+    is_checked(rt, alloc, paths, rest, &report, 1);
 }
 
 // Paths, and the path and the node that separate each two of a and b first.
@@ -90,13 +112,8 @@ const TOGETHER: [(&str, usize, usize); 33] = [
 ];
 
 #[test]
-fn each_two_writers_have_the_first_node(rt: HostRuntime) -> Result<(), Fail> {
-    let end = CheckEnd::Counted {
-        objects: 1,
-        refused: 0,
-    };
+fn each_two_writers_have_the_first_node(rt: HostRuntime) {
     for (paths, path, node) in TOGETHER {
-        let source = object(rt.alloc(), paths, WRITERS)?;
         let report = format!(in rt.alloc();
             "object o accepted
 pair a a path {path} node {node}
@@ -104,10 +121,10 @@ pair a b path {path} node {node}
 pair b b path {path} node {node}
 1 objects, 0 refused
 "
-        )?;
-        is_reported(&rt, rt.alloc(), &source, report.as_bytes(), end);
+        )
+        .expect(&rt, "memory");
+        is_checked(&rt, rt.alloc(), paths, WRITERS, report.as_bytes(), 0);
     }
-    Ok(())
 }
 
 // Paths, and the first path and node that separate a from b, and b from itself.
@@ -146,79 +163,63 @@ const APART: [(&str, usize, usize, usize, usize); 14] = [
 ];
 
 #[test]
-fn a_reader_and_a_writer_have_nodes_of_their_own(rt: HostRuntime) -> Result<(), Fail> {
-    let end = CheckEnd::Counted {
-        objects: 1,
-        refused: 0,
-    };
+fn a_reader_and_a_writer_have_nodes_of_their_own(rt: HostRuntime) {
     for (paths, path, node, own_path, own_node) in APART {
-        let source = object(rt.alloc(), paths, READER)?;
         let report = format!(in rt.alloc();
             "object o accepted
 pair a b path {path} node {node}
 pair b b path {own_path} node {own_node}
 1 objects, 0 refused
 "
-        )?;
-        is_reported(&rt, rt.alloc(), &source, report.as_bytes(), end);
+        )
+        .expect(&rt, "memory");
+        is_checked(&rt, rt.alloc(), paths, READER, report.as_bytes(), 0);
     }
-    Ok(())
 }
 
-// Paths, what stands behind them, and the two operations that are told.
+// Paths, what stands behind them, and the two operations and the part that are told.
 const UNSEPARATED: [(&str, &str, &str); 30] = [
-    ("", WRITERS, "a a"),
-    ("path a, b end;", WRITERS, "a a"),
-    ("path a; b end;", WRITERS, "a a"),
-    ("path 1:(c, d) end;", WRITERS, "a a"),
+    ("", WRITERS, "a a v"),
+    ("path a, b end;", WRITERS, "a a v"),
+    ("path a; b end;", WRITERS, "a a v"),
+    ("path 1:(c, d) end;", WRITERS, "a a v"),
     // a bound of another number
-    ("path 2:(a, b) end;", WRITERS, "a a"),
-    ("path 257:(a, b) end;", WRITERS, "a a"),
-    ("path 65535:(a, b) end;", WRITERS, "a a"),
-    ("path 2:(2:(a, b)) end;", WRITERS, "a a"),
-    ("path 2:(a, b) end;", READER, "a b"),
+    ("path 2:(a, b) end;", WRITERS, "a a v"),
+    ("path 257:(a, b) end;", WRITERS, "a a v"),
+    ("path 65535:(a, b) end;", WRITERS, "a a v"),
+    ("path 2:(2:(a, b)) end;", WRITERS, "a a v"),
+    ("path 2:(a, b) end;", READER, "a b v"),
     // a burst between the bound and the names
-    ("path 1:([a, b]) end;", WRITERS, "a a"),
-    ("path 1:([a, b]) end;", READER, "a b"),
-    ("path 1:([a; b]) end; path 1:(b) end;", READER, "a b"),
-    ("path 1:([2:(a), c; b]) end;", READER, "a b"),
-    ("path 1:([a, [b]]) end;", READER, "a b"),
-    ("path 1:(2:([a, b])) end;", READER, "a b"),
-    ("path 1:(c, [d, (a; e), b]) end;", READER, "a b"),
+    ("path 1:([a, b]) end;", WRITERS, "a a v"),
+    ("path 1:([a, b]) end;", READER, "a b v"),
+    ("path 1:([a; b]) end; path 1:(b) end;", READER, "a b v"),
+    ("path 1:([2:(a), c; b]) end;", READER, "a b v"),
+    ("path 1:([a, [b]]) end;", READER, "a b v"),
+    ("path 1:(2:([a, b])) end;", READER, "a b v"),
+    ("path 1:(c, [d, (a; e), b]) end;", READER, "a b v"),
     // a burst around one name keeps it not from itself
-    ("path 1:([a], b) end;", WRITERS, "a a"),
-    ("path 1:(a, [b]) end;", WRITERS, "b b"),
-    ("path 1:(a; [1:(c); b]) end;", WRITERS, "b b"),
-    ("path 1:([a], [b]) end;", READER, "b b"),
-    ("path 1:(a, 2:([2:(b)])) end;", READER, "b b"),
+    ("path 1:([a], b) end;", WRITERS, "a a v"),
+    ("path 1:(a, [b]) end;", WRITERS, "b b v"),
+    ("path 1:(a; [1:(c); b]) end;", WRITERS, "b b v"),
+    ("path 1:([a], [b]) end;", READER, "b b v"),
+    ("path 1:(a, 2:([2:(b)])) end;", READER, "b b v"),
     // bounds that hold one name each
-    ("path 1:(a), 1:(b) end;", WRITERS, "a b"),
-    ("path 1:(a); 1:(b) end;", WRITERS, "a b"),
-    ("path 2:(1:(a), 1:(b)) end;", WRITERS, "a b"),
-    ("path 1:(a), b end;", WRITERS, "a b"),
-    ("path b, c; 1:(a) end;", WRITERS, "a b"),
-    ("path 1:(b) end;", WRITERS, "a a"),
-    ("path 1:(a) end; path 1:(b) end;", WRITERS, "a b"),
-    ("path 1:(a, c) end; path 1:(c, b) end;", WRITERS, "a b"),
-    ("path 1:(a, c); 1:(b, d) end;", READER, "a b"),
+    ("path 1:(a), 1:(b) end;", WRITERS, "a b v"),
+    ("path 1:(a); 1:(b) end;", WRITERS, "a b v"),
+    ("path 2:(1:(a), 1:(b)) end;", WRITERS, "a b v"),
+    ("path 1:(a), b end;", WRITERS, "a b v"),
+    ("path b, c; 1:(a) end;", WRITERS, "a b v"),
+    ("path 1:(b) end;", WRITERS, "a a v"),
+    ("path 1:(a) end; path 1:(b) end;", WRITERS, "a b v"),
+    ("path 1:(a, c) end; path 1:(c, b) end;", WRITERS, "a b v"),
+    ("path 1:(a, c); 1:(b, d) end;", READER, "a b v"),
 ];
 
 #[test]
-fn two_operations_that_no_node_separates_are_told(rt: HostRuntime) -> Result<(), Fail> {
-    let end = CheckEnd::Counted {
-        objects: 1,
-        refused: 1,
-    };
+fn two_operations_that_no_node_separates_are_told(rt: HostRuntime) {
     for (paths, rest, pair) in UNSEPARATED {
-        let source = object(rt.alloc(), paths, rest)?;
-        let report = format!(in rt.alloc();
-            "object o refused 1 Unseparated {pair} v
-1 objects, 1 refused
-"
-        )?;
-        is_reported(&rt, rt.alloc(), &source, report.as_bytes(), end);
+        is_refused(&rt, rt.alloc(), paths, rest, pair);
     }
-    Ok(())
 }
 
 // An object in which a conflicts with c, b with c, and c with itself: of parts u, v and w, declared otherwise.
@@ -232,11 +233,7 @@ end;
 
 // The first two that are told, by the first and then by the second, and the first part at which they conflict.
 #[test]
-fn the_first_pair_and_the_first_part_are_told(rt: HostRuntime) -> Result<(), Fail> {
-    let end = CheckEnd::Counted {
-        objects: 1,
-        refused: 1,
-    };
+fn the_first_pair_and_the_first_part_are_told(rt: HostRuntime) {
     for (paths, told) in [
         ("path a, b, c end;", "a c w"),
         ("path 1:(b, c) end;", "a c w"),
@@ -246,13 +243,6 @@ fn the_first_pair_and_the_first_part_are_told(rt: HostRuntime) -> Result<(), Fai
         ("path 1:([a, b], [c]) end;", "c c w"),
         ("path 1:(a, [c]) end; path 1:(b, [c]) end;", "c c w"),
     ] {
-        let source = object(rt.alloc(), paths, THREE)?;
-        let report = format!(in rt.alloc();
-            "object o refused 1 Unseparated {told}
-1 objects, 1 refused
-"
-        )?;
-        is_reported(&rt, rt.alloc(), &source, report.as_bytes(), end);
+        is_refused(&rt, rt.alloc(), paths, THREE, told);
     }
-    Ok(())
 }

@@ -78,18 +78,18 @@ pub(crate) fn draw_path(
     };
     let root = Task::Node(named, LEVELS, Place::Alone);
     sketch.tasks.push(root)?;
-    pen.put("path ")?;
+    pen.put("path ");
     // more tasks than any of these paths has
     for _ in 0..1000 {
         match sketch.tasks.pop() {
             None => break,
-            Some(Task::Byte(byte)) => pen.put_byte(byte)?,
+            Some(Task::Byte(byte)) => pen.put_byte(byte),
             Some(Task::Node(names, left, place)) => {
                 draw_node(pen, &mut sketch, names, left, place)?;
             }
         }
     }
-    pen.put(" end; ")?;
+    pen.put(" end; ");
     Ok(sketch.nodes)
 }
 
@@ -109,7 +109,7 @@ fn draw_node(
         _ => return draw_row(pen, sketch, names, left, place),
     };
     sketch.nodes.push(DrawnNode { left, names, form })?;
-    pen.put(open)?;
+    pen.put(open);
     sketch.tasks.push(Task::Byte(close))?;
     let content = Task::Node(names, left.saturating_sub(1), Place::Alone);
     sketch.tasks.push(content)?;
@@ -135,11 +135,12 @@ fn draw_row(
         Place::Sequenced => true,
     };
     if pen.is_one_of(6) || (needed && !is_name) {
-        pen.put("(")?;
+        pen.put("(");
         sketch.tasks.push(Task::Byte(b')'))?;
     }
     if is_name {
-        put_name(pen, names)
+        put_name(pen, names);
+        Ok(())
     } else if is_list {
         leave_members(pen, sketch, names, left, Place::Listed, b',')
     } else {
@@ -148,13 +149,12 @@ fn draw_row(
 }
 
 // Writes the name of the operation of this bit.
-fn put_name(pen: &mut Pen, bit: u8) -> Result<(), AllocError> {
+fn put_name(pen: &mut Pen, bit: u8) {
     for (letter, of) in OPERATIONS {
         if of == bit {
-            pen.put_byte(letter)?;
+            pen.put_byte(letter);
         }
     }
-    Ok(())
 }
 
 // Leaves members, two at least, as tasks. With two levels left each is a name.

@@ -1,6 +1,6 @@
 //! What draws texts: a text that is written, and a fixed row of drawn numbers.
 
-use std::alloc::{AllocError, Global};
+use std::alloc::Global;
 
 /// A text that is written, and where the row of drawn numbers is.
 #[derive(Drop)]
@@ -51,16 +51,14 @@ impl Pen {
         }
     }
 
-    /// Writes a text.
-    pub(crate) fn put(&mut self, text: &str) -> Result<(), AllocError> {
-        self.text.extend_from_slice(text.as_bytes())?;
-        Ok(())
+    /// Writes a text. Where there is no memory it is left out, and what is written is no object.
+    pub(crate) fn put(&mut self, text: &str) {
+        let _ = self.text.extend_from_slice(text.as_bytes());
     }
 
-    /// Writes a byte.
-    pub(crate) fn put_byte(&mut self, byte: u8) -> Result<(), AllocError> {
-        self.text.push(byte)?;
-        Ok(())
+    /// Writes a byte, likewise.
+    pub(crate) fn put_byte(&mut self, byte: u8) {
+        let _ = self.text.push(byte);
     }
 
     /// What was written. The next text begins with nothing, further on in the row.

@@ -1,10 +1,10 @@
 //! Whole reports of a check: what is said of each object, the counts, and the faults of a source.
 
+use crate::tables::text_of;
 use crate::texts::{BOOK, BUFFER, CELL, LOOSE, SOLO};
 use exclude_core::report::{CheckEnd, check_report};
-use std::alloc::{AllocError, Global};
+use std::alloc::Global;
 use std::process::Abort;
-use std::test::Fail;
 
 /// The report of a check of `CELL`.
 pub(crate) const CELL_REPORT: &str = "object cell accepted
@@ -34,50 +34,39 @@ pub(crate) fn is_reported(
     assert_eq!(rt; out.as_slice(), report);
 }
 
-// Asserts that so many objects are counted in a source, so many of them as refused, in this report.
-fn is_counted(
+/// Asserts that so many objects are counted in a source, so many of them as refused, in this report.
+pub(crate) fn is_counted(
     rt: &impl Abort,
     alloc: Global,
     source: &[u8],
-    report: &str,
+    report: &[u8],
     objects: usize,
     refused: usize,
 ) {
     let end = CheckEnd::Counted { objects, refused };
-    is_reported(rt, alloc, source, report.as_bytes(), end);
-}
-
-// A byte so many times.
-fn repeated(alloc: Global, byte: u8, times: usize) -> Result<Vec<u8>, AllocError> {
-    let mut text = Vec::new(alloc);
-    for _ in 0..times {
-        text.push(byte)?;
-    }
-    Ok(text)
+    is_reported(rt, alloc, source, report, end);
 }
 
 #[test]
-fn an_empty_source_has_no_objects_to_refuse(rt: HostRuntime) -> Result<(), Fail> {
-    let none = "0 objects, 0 refused\n";
+fn an_empty_source_has_no_objects_to_refuse(rt: HostRuntime) {
+    let none = b"0 objects, 0 refused\n";
     for source in ["", " \n\t\r\n", "{ none }", "(* none *)"] {
         is_counted(&rt, rt.alloc(), source.as_bytes(), none, 0, 0);
     }
-    let mut spaces = repeated(rt.alloc(), b' ', 65_536)?;
+    let spaces = text_of(&rt, rt.alloc(), "65536* ").bytes;
     is_counted(&rt, rt.alloc(), &spaces, none, 0, 0);
-    spaces.push(b' ')?;
-    let long = b"lex 1 TooLong\n";
-    is_reported(&rt, rt.alloc(), &spaces, long, CheckEnd::Faulty);
-    Ok(())
+    let more = text_of(&rt, rt.alloc(), "65537* ").bytes;
+    is_reported(&rt, rt.alloc(), &more, b"lex 1 TooLong\n", CheckEnd::Faulty);
 }
 
 #[test]
 fn cell_is_accepted(rt: HostRuntime) {
-    is_counted(&rt, rt.alloc(), CELL, CELL_REPORT, 1, 0);
+    is_counted(&rt, rt.alloc(), CELL, CELL_REPORT.as_bytes(), 1, 0);
 }
 
 #[test]
 fn buffer_is_accepted(rt: HostRuntime) {
-    let report = "object buffer accepted
+    let report = b"object buffer accepted
 pair deposit deposit path 2 node 0
 pair deposit remove path 2 node 0
 pair remove remove path 2 node 0
@@ -89,7 +78,7 @@ pair remove remove path 2 node 0
 // Each two of its operations conflict but `find` and `size`, which only read.
 #[test]
 fn book_is_accepted(rt: HostRuntime) {
-    let report = "object book accepted
+    let report = b"object book accepted
 pair write write path 1 node 0
 pair write find path 1 node 0
 pair write wipe path 1 node 0
@@ -104,8 +93,8 @@ pair wipe size path 1 node 0
 
 #[test]
 fn loose_and_solo_are_refused(rt: HostRuntime) {
-    is_counted(&rt, rt.alloc(), LOOSE, LOOSE_REPORT, 1, 1);
-    let report = "object solo refused 1 Unseparated put put v
+    is_counted(&rt, rt.alloc(), LOOSE, LOOSE_REPORT.as_bytes(), 1, 1);
+    let report = b"object solo refused 1 Unseparated put put v
 1 objects, 1 refused
 ";
     is_counted(&rt, rt.alloc(), SOLO, report, 1, 1);
@@ -127,7 +116,7 @@ object Shared; var V : array [1] of integer;
   entry procedure PUT; begin v[0] := 1 end;
 end;
 ";
-    let report = "object empty accepted
+    let report = b"object empty accepted
 object readers accepted
 object apart accepted
 pair put put path 1 node 1
@@ -138,19 +127,18 @@ object shared refused 1 Unseparated put put v
     is_counted(&rt, rt.alloc(), source, report, 4, 1);
 }
 
-// These texts, one behind the other.
-fn joined(alloc: Global, texts: &[&[u8]]) -> Result<Vec<u8>, AllocError> {
-    let mut all = Vec::new(alloc);
-    for text in texts {
-        all.extend_from_slice(text)?;
-    }
-    Ok(all)
+// Three texts, one behind the other.
+fn joined(rt: &impl Abort, alloc: Global, first: &[u8], second: &[u8], third: &[u8]) -> Vec<u8> {
+    let mut all = Vec::from_slice(alloc, first).expect(rt, "memory");
+    all.extend_from_slice(second).expect(rt, "memory");
+    all.extend_from_slice(third).expect(rt, "memory");
+    all
 }
 
 #[test]
-fn several_objects_are_told_in_order(rt: HostRuntime) -> Result<(), Fail> {
-    let source = joined(rt.alloc(), &[CELL, SOLO, LOOSE])?;
-    let report = "object cell accepted
+fn several_objects_are_told_in_order(rt: HostRuntime) {
+    let source = joined(&rt, rt.alloc(), CELL, SOLO, LOOSE);
+    let report = b"object cell accepted
 pair get put path 1 node 0
 pair get bump path 1 node 0
 pair put put path 1 node 0
@@ -161,8 +149,8 @@ object loose refused 1 Unseparated deposit remove box
 3 objects, 2 refused
 ";
     is_counted(&rt, rt.alloc(), &source, report, 3, 2);
-    let source = joined(rt.alloc(), &[LOOSE, BUFFER, SOLO])?;
-    let report = "object loose refused 1 Unseparated deposit remove box
+    let source = joined(&rt, rt.alloc(), LOOSE, BUFFER, SOLO);
+    let report = b"object loose refused 1 Unseparated deposit remove box
 object buffer accepted
 pair deposit deposit path 2 node 0
 pair deposit remove path 2 node 0
@@ -172,39 +160,27 @@ object solo refused 1 Unseparated put put v
 ";
     is_counted(&rt, rt.alloc(), &source, report, 3, 2);
     // a fault anywhere is told alone
-    let source = joined(rt.alloc(), &[CELL, SOLO, b"object Cell; end;"])?;
+    let source = joined(&rt, rt.alloc(), CELL, SOLO, b"object Cell; end;");
     let line = b"decl 11 DuplicateName at 396\n";
     is_reported(&rt, rt.alloc(), &source, line, CheckEnd::Faulty);
-    Ok(())
-}
-
-// Adds an empty object of this name, and to the report that it is accepted.
-fn add_empty(source: &mut Vec<u8>, report: &mut Vec<u8>, name: u8) -> Result<(), AllocError> {
-    source.extend_from_slice(b"object ")?;
-    source.push(name)?;
-    source.extend_from_slice(b"; end;\n")?;
-    report.extend_from_slice(b"object ")?;
-    report.push(name)?;
-    report.extend_from_slice(b" accepted\n")?;
-    Ok(())
 }
 
 #[test]
-fn sixteen_objects_are_told_and_seventeen_are_too_many(rt: HostRuntime) -> Result<(), Fail> {
-    let mut source = Vec::new(rt.alloc());
-    let mut report = Vec::new(rt.alloc());
-    for name in b"abcdefghijklmnop" {
-        add_empty(&mut source, &mut report, *name)?;
-    }
-    let mut more = source.to_vec(rt.alloc())?;
-    more.extend_from_slice(b"object q; end;\n")?;
-    report.extend_from_slice(b"16 objects, 0 refused\n")?;
-    let end = CheckEnd::Counted {
-        objects: 16,
-        refused: 0,
-    };
-    is_reported(&rt, rt.alloc(), &source, &report, end);
-    let line = b"decl 14 TooMany at 247\n";
-    is_reported(&rt, rt.alloc(), &more, line, CheckEnd::Faulty);
-    Ok(())
+fn sixteen_objects_are_told_and_seventeen_are_too_many(rt: HostRuntime) {
+    let source = text_of(&rt, rt.alloc(), "16*object o#; end;|").bytes;
+    let report = text_of(
+        &rt,
+        rt.alloc(),
+        "16*object o# accepted\n|16 objects, 0 refused\n",
+    )
+    .bytes;
+    is_counted(&rt, rt.alloc(), &source, &report, 16, 0);
+    let more = text_of(&rt, rt.alloc(), "17*object o#; end;|").bytes;
+    is_reported(
+        &rt,
+        rt.alloc(),
+        &more,
+        b"decl 14 TooMany at 263\n",
+        CheckEnd::Faulty,
+    );
 }

@@ -1,28 +1,21 @@
-//! Declarations that are read, and the faults of those that are not.
-//!
-//! The rows of a table are texts. In each, `^` marks the byte of the fault and is no part of the text; lines
-//! that begin with `#` and empty lines are no rows.
+//! Declarations that are read, and the faults of those that are not. How the rows are read is said in `tables`.
 
-use crate::faults::{behind, rows_are_told};
-use crate::rows::contents;
+use crate::rows::has_contents;
+use crate::tables::{rows_are_told, text_of};
 use decl_core::expr::{Expr, IntegerExpr};
-use decl_core::fault::DeclFault;
 use decl_core::read::read_objects;
 use decl_core::stmt::Stmt;
 use std::alloc::Global;
 use std::process::Abort;
-use std::test::Fail;
 
 // What stands before declarations.
-const FRONT: &str = "object o; ";
+const FRONT: &str = "object o; |";
 
 // What stands before parameters.
 const FUNCTION: &str = "object o; entry function op";
 
-const PROCEDURE: &str = "object o; entry procedure op";
-
 #[test]
-fn declarations_are_read(rt: HostRuntime) -> Result<(), Fail> {
+fn declarations_are_read(rt: HostRuntime) {
     for (source, want) in [
         (
             "object o; entry procedure op; begin end; end;",
@@ -55,10 +48,8 @@ t: table of integer
             "object o\nq: queue of text\n0 paths\nop x:text | -\n",
         ),
     ] {
-        let found = contents(&rt, rt.alloc(), source.as_bytes())?;
-        assert_eq!(rt; found.as_slice(), want.as_bytes(), "{source}");
+        has_contents(&rt, rt.alloc(), source.as_bytes(), want.as_bytes());
     }
-    Ok(())
 }
 
 // The number that an array's element becomes.
@@ -69,27 +60,35 @@ fn number_in(rt: &impl Abort, statement: &Stmt) -> u32 {
     }
 }
 
-// The numbers that the elements of an array become, in the order of the statements.
-fn numbers(rt: &impl Abort, alloc: Global, source: &[u8]) -> Result<Vec<u32>, Fail> {
-    let objects = read_objects(alloc, source)?;
-    let mut all = Vec::new(alloc);
+// Asserts that so many elements of an array become numbers, in the order of the statements: these, over and over.
+fn has_numbers(rt: &impl Abort, alloc: Global, row: &str, count: usize, numbers: &[u32]) {
+    let source = text_of(rt, alloc, row).bytes;
+    let objects = read_objects(alloc, &source).expect(rt, "objects");
+    let mut place = 0usize;
     for (_, object) in &objects {
         for operation in &object.operations {
             for statement in &operation.body {
-                all.push(number_in(rt, statement))?;
+                let want = numbers.get(place.checked_rem(numbers.len()).unwrap_or(0));
+                assert!(rt; Some(&number_in(rt, statement)) == want);
+                place = place.saturating_add(1);
             }
         }
     }
-    Ok(all)
+    assert!(rt; place == count);
 }
 
 #[test]
-fn constants_have_values(rt: HostRuntime) -> Result<(), Fail> {
-    let source = b"object o; const a = 1; B = 4294967295; const c = 0; var v : array [1] of integer;
+fn constants_have_values(rt: HostRuntime) {
+    let row = "object o; const a = 1; B = 4294967295; const c = 0; var v : array [1] of integer;
 entry procedure op; begin v[0] := A; v[0] := b; v[0] := c end; end;";
-    let found = numbers(&rt, rt.alloc(), source)?;
-    assert_eq!(rt; found.as_slice(), [1, 4294967295, 0].as_slice());
-    Ok(())
+    has_numbers(&rt, rt.alloc(), row, 3, &[1, 4294967295, 0]);
+    // each of 16
+    let row =
+        "object o; const |16*c#=1;|var v:array[1]of integer;entry procedure op;begin v[0]:=1|16*;v[0]:=c#| end;end;";
+    has_numbers(&rt, rt.alloc(), row, 17, &[1]);
+    let row =
+        "object o; |16*const c#=1;|var v:array[1]of integer;entry procedure op;begin v[0]:=1|16*;v[0]:=c#| end;end;";
+    has_numbers(&rt, rt.alloc(), row, 17, &[1]);
 }
 
 const WRONG_TOKENS: &str = "
@@ -158,118 +157,67 @@ fn wrong_declarations_have_places(rt: HostRuntime) {
     rows_are_told(&rt, alloc, FRONT, unknown, 13, "UnknownName");
 }
 
-// Adds so many times a name with a text before and one behind it.
-fn add_names(source: &mut Vec<u8>, times: u8, before: &str, after: &str) -> Result<(), Fail> {
-    for i in 0..times {
-        source.extend_from_slice(before.as_bytes())?;
-        source.push(b'c')?;
-        source.push(b'a' + i % 20)?;
-        source.extend_from_slice(after.as_bytes())?;
-    }
-    Ok(())
-}
-
-// How many parts and how many parameters of the last operation are declared by a text between a front and a
-// back: the first text, then so many times a name with a text before and one behind it, then the last text. The
-// places of faults are those behind the front.
-fn declared_by_many(
-    alloc: Global,
-    front: &str,
-    first: &str,
-    times: u8,
-    before: &str,
-    after: &str,
-    last: &str,
-    back: &str,
-) -> Result<Result<[usize; 2], DeclFault>, Fail> {
-    let mut source = front.as_bytes().to_vec(alloc)?;
-    source.extend_from_slice(first.as_bytes())?;
-    add_names(&mut source, times, before, after)?;
-    source.extend_from_slice(last.as_bytes())?;
-    source.extend_from_slice(back.as_bytes())?;
-    match read_objects(alloc, &source) {
-        Ok(objects) => {
-            let mut counts = [0, 0];
-            for (_, object) in &objects {
-                counts = [object.parts.len(), 0];
-                for operation in &object.operations {
-                    counts = [object.parts.len(), operation.params.len()];
-                }
-            }
-            Ok(Ok(counts))
+// How many parts the last object of a row has, and how many parameters its last operation.
+fn declared(rt: &impl Abort, alloc: Global, row: &str) -> (usize, usize) {
+    let source = text_of(rt, alloc, row).bytes;
+    let objects = read_objects(alloc, &source).expect(rt, "objects");
+    let mut counts = (0, 0);
+    for (_, object) in &objects {
+        counts = (object.parts.len(), 0);
+        for operation in &object.operations {
+            counts = (object.parts.len(), operation.params.len());
         }
-        Err(fault) => Ok(Err(behind(front.len(), fault))),
     }
+    counts
 }
 
 #[test]
-fn too_many_constants_are_told_at_the_name(rt: HostRuntime) -> Result<(), Fail> {
-    let alloc = rt.alloc();
-    // 16 are read, each with its value
-    for (first, before) in [("const ", ""), ("", "const ")] {
-        let mut source = FRONT.as_bytes().to_vec(alloc)?;
-        source.extend_from_slice(first.as_bytes())?;
-        add_names(&mut source, 16, before, "=1;")?;
-        source.extend_from_slice(b"var v:array[1]of integer;entry procedure op;begin v[0]:=1")?;
-        add_names(&mut source, 16, ";v[0]:=", "")?;
-        source.extend_from_slice(b" end;end;")?;
-        let found = numbers(&rt, alloc, &source)?;
-        assert_eq!(rt; found.as_slice(), [1; 17].as_slice());
-    }
-    for (first, before, last, fault) in [
-        ("const ", "", "a", DeclFault::TooMany(86)),
-        ("const ", "", "ca", DeclFault::DuplicateName(86)),
-        ("", "const ", "const a", DeclFault::TooMany(182)),
-        ("", "const ", "const ca", DeclFault::DuplicateName(182)),
-        ("", "const ", "const 1", DeclFault::Syntax(182)),
+fn sixteen_parts_and_eight_parameters_are_declared(rt: HostRuntime) {
+    for (row, counts) in [
+        ("object o; var |15*c#,|a:queue of text; end;", (16, 0)),
+        ("object o; var |16*c#:queue of text;| end;", (16, 0)),
+        ("object o; |16*var c#:queue of text;| end;", (16, 0)),
+        (
+            "object o; entry procedure op(|7*c#,|a:text); begin end; end;",
+            (0, 8),
+        ),
+        (
+            "object o; entry procedure op(|7*c#:text;|a:text); begin end; end;",
+            (0, 8),
+        ),
     ] {
-        let found = declared_by_many(alloc, FRONT, first, 16, before, "=1;", last, " end;")?;
-        assert_eq!(rt; found, Err(fault), "{first}{before}{last}");
+        assert!(rt; declared(&rt, rt.alloc(), row) == counts);
     }
-    Ok(())
 }
 
-#[test]
-fn too_many_parts_are_told_at_the_name(rt: HostRuntime) -> Result<(), Fail> {
-    let alloc = rt.alloc();
-    for (times, last, told) in [
-        (15, "a:queue of text;", Ok([16, 0])),
-        (16, "a", Err(DeclFault::TooMany(52))),
-        (16, "ca", Err(DeclFault::DuplicateName(52))),
-        (16, ":", Err(DeclFault::Syntax(52))),
-    ] {
-        let found = declared_by_many(alloc, FRONT, "var ", times, "", ",", last, " end;")?;
-        assert_eq!(rt; found, told, "{last} behind {times} names");
-    }
-    let kind = ":queue of text;";
-    for (first, before, last, told) in [
-        ("var ", "", "", Ok([16, 0])),
-        ("var ", "", "a", Err(DeclFault::TooMany(276))),
-        ("", "var ", "", Ok([16, 0])),
-        ("", "var ", "var a", Err(DeclFault::TooMany(340))),
-        ("", "var ", "var ca", Err(DeclFault::DuplicateName(340))),
-        ("", "var ", "var :", Err(DeclFault::Syntax(340))),
-    ] {
-        let found = declared_by_many(alloc, FRONT, first, 16, before, kind, last, " end;")?;
-        assert_eq!(rt; found, told, "{first}{before}{last}");
-    }
-    Ok(())
-}
+const TOO_MANY: &str = "
+const |16*c#=1;|^a end;
+16*const c#=1;|const ^a end;
+var |16*c#,|^a end;
+var |16*c#:queue of text;|^a end;
+16*var c#:queue of text;|var ^a end;
+entry procedure op(|8*c#,|^a; begin end; end;
+entry procedure op(|8*c#:text;|^a; begin end; end;
+";
+
+const DUPLICATE: &str = "
+const |16*c#=1;|^c00 end;
+16*const c#=1;|const ^c00 end;
+var |16*c#,|^c00 end;
+16*var c#:queue of text;|var ^c00 end;
+entry procedure op(|8*c#,|^c00; begin end; end;
+entry procedure op(|8*c#:text;|^op; begin end; end;
+";
+
+const WRONG: &str = "
+16*const c#=1;|const ^1 end;
+var |16*c#,|^: end;
+16*var c#:queue of text;|var ^: end;
+";
 
 #[test]
-fn too_many_parameters_are_told_at_the_name(rt: HostRuntime) -> Result<(), Fail> {
-    let alloc = rt.alloc();
-    let back = "; begin end; end;";
-    for (times, after, last, told) in [
-        (7, ",", "a:text)", Ok([0, 8])),
-        (8, ",", "a", Err(DeclFault::TooMany(25))),
-        (8, ",", "ca", Err(DeclFault::DuplicateName(25))),
-        (7, ":text;", "a:text)", Ok([0, 8])),
-        (8, ":text;", "a", Err(DeclFault::TooMany(65))),
-        (8, ":text;", "op", Err(DeclFault::DuplicateName(65))),
-    ] {
-        let found = declared_by_many(alloc, PROCEDURE, "(", times, "", after, last, back)?;
-        assert_eq!(rt; found, told, "{last} behind {times} names");
-    }
-    Ok(())
+fn too_many_are_told_at_the_name(rt: HostRuntime) {
+    rows_are_told(&rt, rt.alloc(), FRONT, TOO_MANY, 14, "TooMany");
+    rows_are_told(&rt, rt.alloc(), FRONT, DUPLICATE, 11, "DuplicateName");
+    rows_are_told(&rt, rt.alloc(), FRONT, WRONG, 10, "Syntax");
 }

@@ -1,14 +1,12 @@
-//! Expressions that are read, and the faults of those that are not.
+//! Expressions that are read, and the faults of those that are not. How the rows are read is said in `tables`.
 
 use crate::bodies::FRONT;
-use crate::faults::behind;
+use crate::tables::{rows_are_told, text_of};
 use decl_core::expr::{Expr, IntegerExpr};
-use decl_core::fault::DeclFault;
 use decl_core::read::read_objects;
 use decl_core::stmt::{Cond, Stmt};
 use std::alloc::Global;
 use std::process::Abort;
-use std::test::Fail;
 use value_core::kind::Elem;
 
 // What an expression is that stands on both sides of the `=` of this `if`.
@@ -20,67 +18,52 @@ fn compared(rt: &impl Abort, statement: &Stmt) -> Elem {
     }
 }
 
-// What an expression is, which is compared with itself. The places of faults are those in it.
-fn sort_of(
-    rt: &impl Abort,
-    alloc: Global,
-    source: &[u8],
-) -> Result<Result<Option<Elem>, DeclFault>, Fail> {
-    let mut whole = FRONT.as_bytes().to_vec(alloc)?;
-    whole.extend_from_slice(b"if ")?;
-    let front = whole.len();
-    whole.extend_from_slice(source)?;
-    whole.push(b'=')?;
-    whole.extend_from_slice(source)?;
-    whole.extend_from_slice(b" then end; end;")?;
-    match read_objects(alloc, &whole) {
-        Ok(objects) => {
-            let mut sort = None;
-            for (_, object) in &objects {
-                for operation in &object.operations {
-                    for statement in &operation.body {
-                        sort = Some(compared(rt, statement));
-                    }
-                }
-            }
-            Ok(Ok(sort))
-        }
-        Err(fault) => Ok(Err(behind(front, fault))),
+// What an expression is, which is compared with itself.
+fn sort_of(rt: &impl Abort, alloc: Global, source: &str) -> Option<Elem> {
+    let mut whole = text_of(rt, alloc, FRONT).bytes;
+    for part in ["if ", source, "=", source, " then end; end;"] {
+        whole
+            .extend_from_slice(part.as_bytes())
+            .expect(rt, "memory");
     }
+    let objects = read_objects(alloc, &whole).expect(rt, "objects");
+    let mut sort = None;
+    for (_, object) in &objects {
+        for operation in &object.operations {
+            for statement in &operation.body {
+                sort = Some(compared(rt, statement));
+            }
+        }
+    }
+    sort
 }
 
 #[test]
-fn expressions_have_sorts(rt: HostRuntime) -> Result<(), Fail> {
+fn expressions_have_sorts(rt: HostRuntime) {
     for (source, sort) in [
         ("n + x - v[count(q)]", Elem::Integer),
         ("lookup(t, first(q)) + 1", Elem::Integer),
         ("((s))", Elem::Text),
         ("'it''s'", Elem::Text),
     ] {
-        let found = sort_of(&rt, rt.alloc(), source.as_bytes())?;
-        assert_eq!(rt; found, Ok(Some(sort)), "{source}");
+        assert!(rt; sort_of(&rt, rt.alloc(), source) == Some(sort));
     }
-    Ok(())
 }
 
 #[test]
-fn faults_have_places(rt: HostRuntime) -> Result<(), Fail> {
-    for (source, fault) in [
-        ("(1", DeclFault::Syntax(2)),
-        ("if", DeclFault::Syntax(0)),
-        (
-            "((((((((((((((((((((((((((((((((1)))))))))))))))))))))))))))))))) + s",
-            DeclFault::WrongType(68),
-        ),
-        (
-            "(((((((((((((((((((((((((((((((((1)))))))))))))))))))))))))))))))))",
-            DeclFault::TooMany(32),
-        ),
-    ] {
-        let found = sort_of(&rt, rt.alloc(), source.as_bytes())?;
-        assert_eq!(rt; found, Err(fault), "{source}");
-    }
-    Ok(())
+fn faults_have_places(rt: HostRuntime) {
+    rows_are_told(
+        &rt,
+        rt.alloc(),
+        FRONT,
+        "if (1^=(1 then\nif ^if=if then\n",
+        10,
+        "Syntax",
+    );
+    let row = "if |32*(|1|32*)| + ^s=1 then end; end;\n";
+    rows_are_told(&rt, rt.alloc(), FRONT, row, 12, "WrongType");
+    let row = "if |32*(|^(1|33*)|=1 then end; end;\n";
+    rows_are_told(&rt, rt.alloc(), FRONT, row, 14, "TooMany");
 }
 
 // How many terms stand behind the first of a sum that an array's element becomes.
@@ -92,15 +75,11 @@ fn terms_in(rt: &impl Abort, statement: &Stmt) -> usize {
 }
 
 #[test]
-fn a_sum_of_32000_terms_is_read_and_dropped(rt: HostRuntime) -> Result<(), Fail> {
-    let alloc = rt.alloc();
-    let mut source = FRONT.as_bytes().to_vec(alloc)?;
-    source.extend_from_slice(b"v[0]:=1")?;
-    for _ in 0..31999 {
-        source.extend_from_slice(b"+1")?;
-    }
-    source.extend_from_slice(b" end; end;")?;
-    let objects = read_objects(alloc, &source)?;
+fn a_sum_of_32000_terms_is_read_and_dropped(rt: HostRuntime) {
+    let row =
+        "object o; var v : array [3] of integer; entry procedure f; begin v[0]:=1|31999*+1| end; end;";
+    let source = text_of(&rt, rt.alloc(), row).bytes;
+    let objects = read_objects(rt.alloc(), &source).expect(&rt, "objects");
     let mut terms = 0;
     for (_, object) in &objects {
         for operation in &object.operations {
@@ -109,6 +88,5 @@ fn a_sum_of_32000_terms_is_read_and_dropped(rt: HostRuntime) -> Result<(), Fail>
             }
         }
     }
-    assert_eq!(rt; terms, 31999);
-    Ok(())
+    assert!(rt; terms == 31999);
 }

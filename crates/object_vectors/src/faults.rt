@@ -1,14 +1,10 @@
-//! Texts that hold no objects: each way into each fault, and the byte where it is told.
-//!
-//! The rows of a table are texts. In each, `^` marks the byte of the fault and is no part of the text; lines
-//! that begin with `#` and empty lines are no rows.
+//! Texts that hold no objects: each way into each fault, and the byte where it is told. How the rows are read is
+//! said in `tables`.
 
+use crate::tables::rows_are_told;
 use decl_core::fault::DeclFault;
-use decl_core::read::read_objects;
 use path_tree::lex::fault::LexFault;
 use path_tree::path_fault::PathFault;
-use std::alloc::Global;
-use std::process::Abort;
 
 // What stands before the rows that are statements: they are of a function f that replies an integer.
 pub(crate) const BODY: &str = "object o;
@@ -25,74 +21,6 @@ entry procedure p(x : integer); begin ";
 
 // What stands before the rows that are paths.
 const PATHS: &str = "object o; const n = 5; k = 0; big = 65536; ";
-
-// A fault whose place is counted from behind a front of so many bytes.
-pub(crate) fn behind(front: usize, fault: DeclFault) -> DeclFault {
-    match fault {
-        DeclFault::Syntax(at) => DeclFault::Syntax(at.wrapping_sub(front)),
-        DeclFault::DuplicateName(at) => DeclFault::DuplicateName(at.wrapping_sub(front)),
-        DeclFault::WrongType(at) => DeclFault::WrongType(at.wrapping_sub(front)),
-        DeclFault::UnknownName(at) => DeclFault::UnknownName(at.wrapping_sub(front)),
-        DeclFault::TooMany(at) => DeclFault::TooMany(at.wrapping_sub(front)),
-        DeclFault::Lex(_) | DeclFault::Path(_) | DeclFault::Memory => fault,
-    }
-}
-
-// Asserts that a row behind a front is refused by the fault of this number and name, at the row's mark.
-fn row_is_told(
-    rt: &impl Abort,
-    alloc: Global,
-    front: &str,
-    row: &[u8],
-    number: u8,
-    name: &str,
-    line: usize,
-) {
-    let mut source = Vec::new(alloc);
-    source
-        .extend_from_slice(front.as_bytes())
-        .expect(rt, "memory");
-    let mut at = None;
-    for byte in row {
-        if *byte == b'^' {
-            at = Some(source.len());
-        } else {
-            source.push(*byte).expect(rt, "memory");
-        }
-    }
-    match read_objects(alloc, &source) {
-        Ok(_) => assert!(rt; false, "{name}: row {line} is read"),
-        Err(fault) => {
-            assert_eq!(rt; fault.number(), number, "{name}: row {line}");
-            assert_eq!(rt; fault.name(), name, "row {line}");
-            assert_eq!(rt; fault.at(), at, "{name}: row {line}");
-        }
-    }
-}
-
-// Asserts that each row of a table is refused by the fault of this number and name, at its mark.
-pub(crate) fn rows_are_told(
-    rt: &impl Abort,
-    alloc: Global,
-    front: &str,
-    rows: &str,
-    number: u8,
-    name: &str,
-) {
-    let mut line = 1;
-    let mut row = Vec::new(alloc);
-    for byte in rows.as_bytes() {
-        if *byte != b'\n' {
-            row.push(*byte).expect(rt, "memory");
-        } else {
-            if !row.is_empty() && row.first() != Some(&b'#') {
-                row_is_told(rt, alloc, front, &row, number, name, line);
-            }
-            row = Vec::new(alloc);
-            line = line.saturating_add(1);
-        }
-    }
-}
 
 #[test]
 fn faults_have_numbers_names_and_places(rt: HostRuntime) {
@@ -113,20 +41,8 @@ fn faults_have_numbers_names_and_places(rt: HostRuntime) {
         (DeclFault::TooMany(7), 14, "TooMany", Some(7)),
         (DeclFault::Memory, 15, "Memory", None),
     ] {
-        assert_eq!(rt; fault.number(), number);
-        assert_eq!(rt; fault.name(), name);
-        assert_eq!(rt; fault.at(), at);
+        assert!(rt; fault.number() == number && fault.name() == name && fault.at() == at);
     }
-}
-
-#[test]
-fn an_array_has_an_element_at_least(rt: HostRuntime) {
-    let source = b"object a; var v : array [0] of integer; end;";
-    let fault = read_objects(rt.alloc(), source)
-        .err()
-        .expect(&rt, "a fault");
-    assert_eq!(rt; fault, DeclFault::Syntax(25));
-    assert_eq!(rt; fault.number(), 10);
 }
 
 const LEXICAL: &str = "

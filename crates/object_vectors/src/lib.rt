@@ -39,4 +39,6 @@ mod refused;
 #[cfg(test)]
 mod rows;
 #[cfg(test)]
+mod tables;
+#[cfg(test)]
 mod texts;

@@ -1,10 +1,8 @@
-//! Names and kinds that are wrong where they stand, and the byte where it is told.
-//!
-//! The rows of a table are texts. In each, `^` marks the byte of the fault and is no part of the text; lines
-//! that begin with `#` and empty lines are no rows.
+//! Names and kinds that are wrong where they stand, and the byte where it is told. How the rows are read is said
+//! in `tables`.
 
-use crate::faults::{BODY, PROCEDURE, rows_are_told};
-use decl_core::read::read_objects;
+use crate::faults::{BODY, PROCEDURE};
+use crate::tables::{rows_are_read, rows_are_told};
 
 const DUPLICATES: &str = "
 # objects
@@ -55,20 +53,17 @@ fn duplicate_names(rt: HostRuntime) {
     rows_are_told(&rt, rt.alloc(), "", DUPLICATES, 11, "DuplicateName");
 }
 
+const AGREEING: &str = "
+object a; const a = 1; end;
+object a; entry procedure a; begin end; end;
+object a; var v : queue of text; end; object b; const v = 1; end;
+object a; entry procedure p(x : text); begin end; entry procedure q(x : integer); begin end; end;
+object a; end; object b; entry procedure a(b : text); begin end; end;
+";
+
 #[test]
 fn names_may_agree_where_they_cannot_meet(rt: HostRuntime) {
-    for source in [
-        "object a; const a = 1; end;",
-        "object a; entry procedure a; begin end; end;",
-        "object a; var v : queue of text; end; object b; const v = 1; end;",
-        "object a; entry procedure p(x : text); begin end; entry procedure q(x : integer); begin end; end;",
-        "object a; end; object b; entry procedure a(b : text); begin end; end;",
-    ] {
-        assert!(rt;
-            read_objects(rt.alloc(), source.as_bytes()).is_ok(),
-            "{source}"
-        );
-    }
+    rows_are_read(&rt, rt.alloc(), AGREEING);
 }
 
 const WRONG_SIZES: &str = "

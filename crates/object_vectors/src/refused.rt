@@ -19,11 +19,11 @@ use vectors::fakes::Sheet;
 fn read(rt: &impl Abort, alloc: Global, text: &[u8]) -> bool {
     match read_objects(alloc, text) {
         Ok(objects) => {
-            assert_eq!(rt; objects.len(), 1);
+            assert!(rt; objects.len() == 1);
             true
         }
         Err(fault) => {
-            assert_eq!(rt; fault, DeclFault::Memory);
+            assert!(rt; fault == DeclFault::Memory);
             false
         }
     }
@@ -76,13 +76,11 @@ fn check(rt: &impl Abort, alloc: Global, source: &[u8], report: &str, end: Check
     let mut out = Sheet::new();
     match check_report(alloc, source, &mut out) {
         Ok(ended) => {
-            assert_eq!(rt; ended, end);
-            assert_eq!(rt; out.written(), report.as_bytes());
+            assert!(rt; ended == end && out.written() == report.as_bytes());
             true
         }
         Err(fault) => {
-            assert_eq!(rt; fault, CheckFault::Memory);
-            assert!(rt; out.written().is_empty());
+            assert!(rt; fault == CheckFault::Memory && out.written().is_empty());
             false
         }
     }
@@ -116,7 +114,7 @@ fn object(rt: &impl Abort, alloc: Global, text: &[u8]) -> Option<Object> {
     match read_objects(alloc, text) {
         Ok(objects) => objects.into_values().next(),
         Err(fault) => {
-            assert_eq!(rt; fault, DeclFault::Memory);
+            assert!(rt; fault == DeclFault::Memory);
             None
         }
     }
@@ -126,12 +124,12 @@ fn object(rt: &impl Abort, alloc: Global, text: &[u8]) -> Option<Object> {
 fn certify(rt: &impl Abort, alloc: Global, cell: Object) -> Option<Object> {
     match analyse(alloc, cell) {
         Ok(accepted) => {
-            assert_eq!(rt; accepted.certificate().entries.len(), 5);
+            assert!(rt; accepted.certificate().entries.len() == 5);
             None
         }
         Err(refused) => {
-            assert_eq!(rt; refused.why, Refusal::Memory);
-            assert_eq!(rt; refused.object.name.as_bytes(), b"cell".as_slice());
+            let is_cell = refused.object.name.as_bytes() == b"cell".as_slice();
+            assert!(rt; refused.why == Refusal::Memory && is_cell);
             Some(refused.object)
         }
     }

@@ -1,12 +1,12 @@
 //! Objects that are read: the examples, and what stands in each.
 
+use crate::check_footprints::only_object;
 use crate::texts::{ALL, BOOK, BUFFER, CELL, LOOSE, SOLO, TWO};
 use decl_core::object::{Object, Operation, Param, Part};
 use decl_core::read::read_objects;
 use path_count::counters::{Counters, compile};
 use std::alloc::{AllocError, Global};
 use std::process::Abort;
-use std::test::Fail;
 use value_core::kind::{Elem, Kind};
 
 const DIGITS: &[u8; 10] = b"0123456789";
@@ -113,33 +113,38 @@ fn put_object(out: &mut Vec<u8>, object: &Object) -> Result<(), AllocError> {
 }
 
 // What stands in the objects of a source.
-pub fn contents(rt: &impl Abort, alloc: Global, source: &[u8]) -> Result<Vec<u8>, AllocError> {
+fn contents(rt: &impl Abort, alloc: Global, source: &[u8]) -> Vec<u8> {
     let objects = read_objects(alloc, source).expect(rt, "objects");
     let mut out = Vec::new(alloc);
     for (name, object) in &objects {
-        assert_eq!(rt; name.as_bytes(), object.name.as_bytes());
-        put_object(&mut out, object)?;
+        assert!(rt; name.as_bytes() == object.name.as_bytes());
+        put_object(&mut out, object).expect(rt, "memory");
     }
-    Ok(out)
+    out
+}
+
+// Asserts what stands in the objects of a source.
+pub(crate) fn has_contents(rt: &impl Abort, alloc: Global, source: &[u8], want: &[u8]) {
+    let found = contents(rt, alloc, source);
+    assert_eq!(rt; found.as_slice(), want);
 }
 
 #[test]
 fn each_text_is_read(rt: HostRuntime) {
-    for (place, text) in ALL {
-        assert!(rt; read_objects(rt.alloc(), text).is_ok(), "{place}");
+    for (_, text) in ALL {
+        assert!(rt; read_objects(rt.alloc(), text).is_ok());
     }
 }
 
 #[test]
 fn an_empty_source_has_no_objects(rt: HostRuntime) {
     for source in ["", " \n\t\r\n", "{ none }", "(* none *)"] {
-        let objects = read_objects(rt.alloc(), source.as_bytes()).expect(&rt, "objects");
-        assert_eq!(rt; objects.len(), 0, "{source}");
+        has_contents(&rt, rt.alloc(), source.as_bytes(), b"");
     }
 }
 
 #[test]
-fn cell_has_an_array(rt: HostRuntime) -> Result<(), Fail> {
+fn cell_has_an_array(rt: HostRuntime) {
     let want = b"object cell
 v: array 1 of integer
 1 paths
@@ -147,40 +152,29 @@ get replies integer | array 1 of integer
 put x:integer | array 1 of integer
 bump x:integer | array 1 of integer
 ";
-    assert_eq!(rt;
-        contents(&rt, rt.alloc(), CELL)?.as_slice(),
-        want.as_slice()
-    );
-    Ok(())
+    has_contents(&rt, rt.alloc(), CELL, want);
 }
 
 #[test]
-fn buffer_has_a_queue(rt: HostRuntime) -> Result<(), Fail> {
+fn buffer_has_a_queue(rt: HostRuntime) {
     let want = b"object buffer
 box: queue of integer
 2 paths
 deposit x:integer | queue of integer
 remove replies integer | queue of integer
 ";
-    assert_eq!(rt;
-        contents(&rt, rt.alloc(), BUFFER)?.as_slice(),
-        want.as_slice()
-    );
+    has_contents(&rt, rt.alloc(), BUFFER, want);
     let want = b"object loose
 box: queue of integer
 1 paths
 deposit x:integer | queue of integer
 remove replies integer | queue of integer
 ";
-    assert_eq!(rt;
-        contents(&rt, rt.alloc(), LOOSE)?.as_slice(),
-        want.as_slice()
-    );
-    Ok(())
+    has_contents(&rt, rt.alloc(), LOOSE, want);
 }
 
 #[test]
-fn book_has_a_table(rt: HostRuntime) -> Result<(), Fail> {
+fn book_has_a_table(rt: HostRuntime) {
     let want = b"object book
 t: table of text
 1 paths
@@ -189,36 +183,28 @@ find k:text replies text | table of text
 wipe k:text | table of text
 size replies integer | table of text
 ";
-    assert_eq!(rt;
-        contents(&rt, rt.alloc(), BOOK)?.as_slice(),
-        want.as_slice()
-    );
-    Ok(())
+    has_contents(&rt, rt.alloc(), BOOK, want);
 }
 
 #[test]
-fn two_and_solo_have_arrays(rt: HostRuntime) -> Result<(), Fail> {
+fn two_and_solo_have_arrays(rt: HostRuntime) {
     let want = b"object two
 v: array 1 of integer
 1 paths
 a | array 1 of integer
 b | array 1 of integer
 ";
-    assert_eq!(rt; contents(&rt, rt.alloc(), TWO)?.as_slice(), want.as_slice());
+    has_contents(&rt, rt.alloc(), TWO, want);
     let want = b"object solo
 v: array 1 of integer
 1 paths
 put x:integer | array 1 of integer
 ";
-    assert_eq!(rt;
-        contents(&rt, rt.alloc(), SOLO)?.as_slice(),
-        want.as_slice()
-    );
-    Ok(())
+    has_contents(&rt, rt.alloc(), SOLO, want);
 }
 
 #[test]
-fn several_objects_stand_in_their_order(rt: HostRuntime) -> Result<(), Fail> {
+fn several_objects_stand_in_their_order(rt: HostRuntime) {
     let source = b"object zed; end;
 OBJECT Many;
   const most = 007; Least = 4294967295; const n = 1024;
@@ -247,52 +233,42 @@ object able
 0 paths
 f x:text replies text
 ";
-    assert_eq!(rt;
-        contents(&rt, rt.alloc(), source)?.as_slice(),
-        want.as_slice()
-    );
-    Ok(())
+    has_contents(&rt, rt.alloc(), source, want);
 }
 
 // The counters of the paths of a source's only object.
-fn counters(rt: &impl Abort, alloc: Global, source: &[u8]) -> Result<Counters, AllocError> {
-    let objects = read_objects(alloc, source).expect(rt, "objects");
-    let mut first = compile(alloc, &[], 0)?;
-    for (_, object) in &objects {
-        let count = u8::try_from(object.operations.len()).expect(rt, "at most 32");
-        first = compile(alloc, &object.paths, count)?;
-    }
-    Ok(first)
+fn counters(rt: &impl Abort, alloc: Global, source: &[u8]) -> Counters {
+    let object = only_object(rt, alloc, source);
+    let count = u8::try_from(object.operations.len()).expect(rt, "at most 32");
+    compile(alloc, &object.paths, count).expect(rt, "memory")
 }
 
 // A path tells operations by their numbers, which are those of their declarations.
 #[test]
-fn paths_name_the_operations_in_order(rt: HostRuntime) -> Result<(), Fail> {
-    let mut two = counters(&rt, rt.alloc(), TWO)?;
+fn paths_name_the_operations_in_order(rt: HostRuntime) {
+    let mut two = counters(&rt, rt.alloc(), TWO);
     assert!(rt; !two.start(1));
     assert!(rt; two.start(0) && two.finish(0));
     assert!(rt; two.start(1));
 
-    let mut book = counters(&rt, rt.alloc(), BOOK)?;
+    let mut book = counters(&rt, rt.alloc(), BOOK);
     assert!(rt; book.start(1) && book.start(3) && !book.start(0) && !book.start(2));
     assert!(rt; book.finish(1) && book.finish(3));
     assert!(rt; book.start(2) && !book.start(1) && !book.start(3));
 
-    let mut buffer = counters(&rt, rt.alloc(), BUFFER)?;
+    let mut buffer = counters(&rt, rt.alloc(), BUFFER);
     for _ in 0..5 {
         assert!(rt; buffer.start(0) && buffer.finish(0));
     }
     assert!(rt; !buffer.start(0) && buffer.start(1) && buffer.finish(1) && buffer.start(0));
-    Ok(())
 }
 
 #[test]
 fn every_front_of_a_text_is_refused(rt: HostRuntime) {
     let whole = &BUFFER[..BUFFER.len() - 1];
     for (cut, _) in whole.iter().enumerate() {
-        let objects = read_objects(rt.alloc(), &whole[..cut]);
-        assert_eq!(rt; objects.is_ok(), cut == 0, "at {cut}");
+        assert!(rt; read_objects(rt.alloc(), &whole[..cut]).is_ok() == (cut == 0));
     }
     let objects = read_objects(rt.alloc(), whole).expect(&rt, "an object");
-    assert_eq!(rt; objects.len(), 1);
+    assert!(rt; objects.len() == 1);
 }

@@ -1,35 +1,14 @@
 //! The counters beside the definitions, on long runs of drawn calls.
 
+use crate::counters::paths;
 use crate::slow::{Happening, may_start};
-use path_count::counters::{Counters, compile};
-use path_tree::lex::lex;
-use path_tree::name::Name;
-use path_tree::read::parse_path;
+use path_count::counters::compile;
 use path_tree::tree::PathTree;
 use std::alloc::Global;
 use std::process::Abort;
-use std::test::Fail;
 
 // How many operations there are.
 const OPERATIONS: u8 = 5;
-
-// The paths of these sources, over the names a to e.
-fn paths(rt: &impl Abort, alloc: Global, sources: &[&str]) -> Result<Vec<PathTree>, Fail> {
-    let mut names = Vec::new(alloc);
-    for letter in b"abcde" {
-        names.push(Name::read(alloc, &[*letter])?.ok_or("a name")?)?;
-    }
-    assert!(rt; names.len() <= 32);
-    let mut paths = Vec::new(alloc);
-    for source in sources {
-        let tokens = lex(alloc, source.as_bytes())?;
-        let count = tokens.len();
-        assert!(rt; 0 < count && count <= 65537);
-        let (path, _) = parse_path(alloc, &tokens, 0, &[], &names)?;
-        paths.push(path)?;
-    }
-    Ok(paths)
-}
 
 // The next of a fixed row of drawn numbers (Marsaglia, 2003).
 fn draw(seed: &mut u32) -> u32 {
@@ -48,8 +27,7 @@ fn first_of(rt: &impl Abort, running: &mut Vec<(u32, u8)>, op: u8) -> Option<u32
 }
 
 #[test]
-fn counters_agree_with_the_definitions(rt: HostRuntime) -> Result<(), Fail> {
-    let alloc = rt.alloc();
+fn counters_agree_with_the_definitions(rt: HostRuntime) {
     // the time of a question grows with a power of the events, the higher the deeper bursts are nested
     let rows: [(&[&str], u32); 9] = [
         (&["path 2:(a) end"], 2_000),
@@ -74,13 +52,10 @@ fn counters_agree_with_the_definitions(rt: HostRuntime) -> Result<(), Fail> {
     let mut seed = 2_463_534_242;
     let mut events = 0usize;
     for (sources, calls) in rows {
-        let trees = paths(&rt, alloc, sources)?;
-        let mut counters = compile(alloc, &trees, OPERATIONS)?;
-        let added = compare(&rt, alloc, &trees, &mut counters, calls, &mut seed)?;
-        events = events.saturating_add(added);
+        let trees = paths(&rt, rt.alloc(), sources).expect(&rt, "memory");
+        events = events.saturating_add(compare(&rt, rt.alloc(), &trees, calls, &mut seed));
     }
-    assert!(rt; events >= 2_000, "{events} events");
-    Ok(())
+    assert!(rt; events >= 2_000);
 }
 
 // A run of drawn calls, each of which is asked of both, and how many events it makes.
@@ -88,31 +63,35 @@ fn compare(
     rt: &impl Abort,
     alloc: Global,
     trees: &[PathTree],
-    counters: &mut Counters,
     calls: u32,
     seed: &mut u32,
-) -> Result<usize, Fail> {
+) -> usize {
+    let mut counters = compile(alloc, trees, OPERATIONS).expect(rt, "memory");
     let mut events: Vec<Happening> = Vec::new(alloc);
     let mut running: Vec<(u32, u8)> = Vec::new(alloc);
     for number in 0..calls {
         let op = (draw(seed) % OPERATIONS as u32) as u8;
-        let may = may_start(alloc, trees, op, &events)?;
-        assert_eq!(rt; counters.can_start(op), may);
+        let may = may_start(alloc, trees, op, &events).expect(rt, "memory");
+        assert!(rt; counters.can_start(op) == may);
         if draw(seed) % 2 == 0 {
-            assert_eq!(rt; counters.start(op), may);
+            assert!(rt; counters.start(op) == may);
             if may {
-                events.insert(0, Happening::Started(number, op))?;
-                running.push((number, op))?;
+                events
+                    .insert(0, Happening::Started(number, op))
+                    .expect(rt, "memory");
+                running.push((number, op)).expect(rt, "memory");
             }
         } else {
             let call = first_of(rt, &mut running, op);
-            assert_eq!(rt; counters.finish(op), call.is_some());
+            assert!(rt; counters.finish(op) == call.is_some());
             if let Some(call) = call {
-                events.insert(0, Happening::Ended(call, op))?;
+                events
+                    .insert(0, Happening::Ended(call, op))
+                    .expect(rt, "memory");
             }
         }
         let left = running.iter().filter(|call| call.1 == op).count();
-        assert_eq!(rt; counters.running(op) as usize, left);
+        assert!(rt; counters.running(op) as usize == left);
     }
-    Ok(events.len())
+    events.len()
 }

@@ -9,12 +9,11 @@ use path_tree::read::parse_path;
 use path_tree::tree::PathTree;
 use std::alloc::{AllocError, Global};
 use std::process::Abort;
-use std::test::Fail;
 
-// The names a to d, which are the operations 0 to 3.
-fn four_names(alloc: Global) -> Result<Vec<Name>, AllocError> {
+// The names a to e, which are the operations 0 to 4.
+fn five_names(alloc: Global) -> Result<Vec<Name>, AllocError> {
     let mut names = Vec::new(alloc);
-    for letter in b"abcd" {
+    for letter in b"abcde" {
         if let Some(name) = Name::read(alloc, &[*letter])? {
             names.push(name)?;
         }
@@ -44,8 +43,12 @@ fn path(
 }
 
 // The paths of these sources, or no memory.
-fn paths(rt: &impl Abort, alloc: Global, sources: &[&str]) -> Result<Vec<PathTree>, AllocError> {
-    let names = four_names(alloc)?;
+pub(crate) fn paths(
+    rt: &impl Abort,
+    alloc: Global,
+    sources: &[&str],
+) -> Result<Vec<PathTree>, AllocError> {
+    let names = five_names(alloc)?;
     let mut paths = Vec::new(alloc);
     for source in sources {
         paths.push(path(rt, alloc, source, &names)?)?;
@@ -59,30 +62,26 @@ fn call(rt: &impl Abort, counters: &mut Counters, letter: u8, sign: u8) {
     let op = letter.wrapping_sub(b'a');
     let before = counters.running(op);
     let may = counters.can_start(op);
-    match sign {
-        b'+' => {
-            assert!(rt; may && counters.start(op));
-            assert_eq!(rt; counters.running(op), before.wrapping_add(1));
-        }
-        b'!' => {
-            assert!(rt; !may && !counters.start(op));
-            assert_eq!(rt; counters.running(op), before);
-        }
-        b'-' => {
-            assert!(rt; counters.finish(op));
-            assert_eq!(rt; counters.running(op), before.wrapping_sub(1));
-        }
-        _ => {
-            assert!(rt; !counters.finish(op));
-            assert_eq!(rt; counters.running(op), 0);
-        }
+    let (is_right, after) = match sign {
+        b'+' => (may && counters.start(op), before.wrapping_add(1)),
+        b'!' => (!may && !counters.start(op), before),
+        b'-' => (counters.finish(op), before.wrapping_sub(1)),
+        _ => (!counters.finish(op), 0),
+    };
+    assert!(rt; is_right && counters.running(op) == after && !counters.spent());
+}
+
+// Makes the calls of a script under the paths of these sources.
+fn follows(rt: &impl Abort, alloc: Global, sources: &[&str], script: &[u8]) {
+    let trees = paths(rt, alloc, sources).expect(rt, "memory");
+    let mut counters = compile(alloc, &trees, 4).expect(rt, "memory");
+    for pair in script.chunks_exact(2) {
+        call(rt, &mut counters, pair[0], pair[1]);
     }
-    assert!(rt; !counters.spent());
 }
 
 #[test]
-fn paths_admit_what_they_mean(rt: HostRuntime) -> Result<(), Fail> {
-    let alloc = rt.alloc();
+fn paths_admit_what_they_mean(rt: HostRuntime) {
     let rows: [(&[&str], &str); 11] = [
         // no path: anything may start, and only what runs may finish
         (&[], "a+a+b+a-a-a~d+e!e~"),
@@ -102,44 +101,33 @@ fn paths_admit_what_they_mean(rt: HostRuntime) -> Result<(), Fail> {
         (&["path 2:(a) end", "path 1:(a) end"], "a+a!a-a+a!"),
     ];
     for (sources, script) in rows {
-        let trees = paths(&rt, alloc, sources)?;
-        let mut counters = compile(alloc, &trees, 4)?;
-        for pair in script.as_bytes().chunks_exact(2) {
-            call(&rt, &mut counters, pair[0], pair[1]);
-        }
+        follows(&rt, rt.alloc(), sources, script.as_bytes());
     }
-    Ok(())
 }
 
 #[test]
-fn starts_end_at_65536(rt: HostRuntime) -> Result<(), Fail> {
-    let alloc = rt.alloc();
-    let trees = paths(&rt, alloc, &["path 1:([a; b], c) end"])?;
-    let mut counters = compile(alloc, &trees, 3)?;
+fn starts_end_at_65536(rt: HostRuntime) {
+    let trees = paths(&rt, rt.alloc(), &["path 1:([a; b], c) end"]).expect(&rt, "memory");
+    let mut counters = compile(rt.alloc(), &trees, 3).expect(&rt, "memory");
     for _ in 0..MOST_STARTS - 1 {
-        assert!(rt; counters.start(0) && !counters.spent());
-        assert!(rt; counters.finish(0));
+        assert!(rt; counters.start(0) && !counters.spent() && counters.finish(0));
     }
-    assert!(rt; counters.start(1) && counters.spent());
-    assert!(rt; counters.can_start(1) && !counters.start(1));
-    assert_eq!(rt; counters.running(1), 1);
+    assert!(rt; counters.start(1) && counters.spent() && counters.can_start(1));
+    assert!(rt; !counters.start(1) && counters.running(1) == 1);
     assert!(rt; counters.finish(1) && !counters.finish(1) && counters.spent());
-    Ok(())
 }
 
 // Run with each allocation refused in turn: a refused compile is good when made again.
 #[test]
-fn refused_compile(rt: HostRuntime) -> Result<(), Fail> {
-    let alloc = rt.alloc();
+fn refused_compile(rt: HostRuntime) {
     let sources = ["path 1:([a], b) end", "path a; b end"];
-    let trees = match paths(&rt, alloc, &sources) {
+    let trees = match paths(&rt, rt.alloc(), &sources) {
         Ok(trees) => trees,
-        Err(_) => paths(&rt, alloc, &sources)?,
+        Err(_) => paths(&rt, rt.alloc(), &sources).expect(&rt, "memory"),
     };
-    let mut counters = match compile(alloc, &trees, 2) {
+    let mut counters = match compile(rt.alloc(), &trees, 2) {
         Ok(counters) => counters,
-        Err(_) => compile(alloc, &trees, 2)?,
+        Err(_) => compile(rt.alloc(), &trees, 2).expect(&rt, "memory"),
     };
     assert!(rt; !counters.start(1) && counters.start(0) && counters.finish(0) && counters.start(1));
-    Ok(())
 }

@@ -1,28 +1,27 @@
 //! The worked rows of `paths`.
 
-use path_count::paths::{PathsEnd, PathsFault, run_paths};
+use path_count::paths::{PathsEnd, run_paths};
 use std::alloc::Global;
 use std::process::Abort;
 
-/// How a run over a text ends, and what it writes.
-fn run(alloc: Global, text: &[u8]) -> (Result<PathsEnd, PathsFault>, Vec<u8>) {
+/// Asserts which line stops the run over a text (0: none), and what is answered.
+pub fn is_told(rt: &impl Abort, alloc: Global, text: &[u8], stops: u64, answers: &[u8]) {
     let mut reader = text;
     let mut out = Vec::new(alloc);
     let end = run_paths(alloc, &mut reader, &mut out);
-    (end, out)
+    let stopped = match end {
+        Ok(PathsEnd::Whole) => Some(0),
+        Ok(PathsEnd::Stopped(line)) => Some(line),
+        Err(_) => None,
+    };
+    assert_eq!(rt; out.as_slice(), answers);
+    assert_eq!(rt; stopped, Some(stops));
 }
 
 /// Each row: the text, the line that stops the run (0: none), and the answers.
-fn expect(rt: &impl Abort, alloc: Global, rows: &[(&[u8], u64, &[u8])]) {
+fn are_told(rt: &impl Abort, alloc: Global, rows: &[(&[u8], u64, &[u8])]) {
     for (text, stops, answers) in rows {
-        let end = if *stops == 0 {
-            PathsEnd::Whole
-        } else {
-            PathsEnd::Stopped(*stops)
-        };
-        let (got, out) = run(alloc, text);
-        assert_eq!(rt; got, Ok(end), "at {answers:?}");
-        assert_eq!(rt; out.as_slice(), *answers);
+        is_told(rt, alloc, text, *stops, answers);
     }
 }
 
@@ -58,11 +57,7 @@ not running write
 
 #[test]
 fn readers_share_and_writers_exclude(rt: HostRuntime) {
-    expect(
-        &rt,
-        rt.alloc(),
-        &[(READERS_WRITERS, 0, READERS_WRITERS_ANSWERS)],
-    );
+    is_told(&rt, rt.alloc(), READERS_WRITERS, 0, READERS_WRITERS_ANSWERS);
 }
 
 #[test]
@@ -87,12 +82,12 @@ finished a
 started b
 blocked b
 ";
-    expect(&rt, rt.alloc(), &[(text, 0, answers)]);
+    is_told(&rt, rt.alloc(), text, 0, answers);
 }
 
 #[test]
 fn canonical_text_keeps_needed_parentheses(rt: HostRuntime) {
-    expect(
+    are_told(
         &rt,
         rt.alloc(),
         &[
@@ -110,60 +105,57 @@ fn canonical_text_keeps_needed_parentheses(rt: HostRuntime) {
     );
 }
 
-#[test]
-fn faults_have_names_and_places(rt: HostRuntime) {
-    let rows: [(&[u8], &[u8]); 24] = [
-        (b"path 0:(a) end", b"path 4 BadBound at 5"),
-        (b"path 65536:(a) end", b"path 4 BadBound at 5"),
-        (b"path a, a end", b"path 3 RepeatedName at 8"),
-        (b"path a; end", b"path 1 Expected at 8"),
-        (b"path c end", b"path 2 UnknownName at 5"),
-        (b"path a $ end", b"lex 2 BadByte at 7"),
-        (
-            b"path (((((((((((((((((((((((((((((((((a))))))))))))))))))))))))))))))))) end",
-            b"path 5 TooDeep at 37",
-        ),
-        (b"path c:(a) end", b"path 2 UnknownName at 5"),
-        (b"path a:(b) end", b"path 2 UnknownName at 5"),
-        (b"path 0 a end", b"path 4 BadBound at 5"),
-        (b"path 5 a end", b"path 1 Expected at 7"),
-        (b"path a", b"path 1 Expected at 6"),
-        (b"path a end b", b"path 1 Expected at 11"),
-        (b"path a end;;", b"path 1 Expected at 11"),
-        (b"path 'a' end", b"path 1 Expected at 5"),
-        (b"path a { end", b"lex 3 OpenComment at 7"),
-        (b"path a (*) end", b"lex 3 OpenComment at 7"),
-        (b"path a 'end", b"lex 4 OpenString at 7"),
-        (b"path a '\xc3\xa4' end", b"lex 2 BadByte at 8"),
-        (b"path 4294967296:(a) end", b"lex 5 BadNumber at 5"),
-        (b"pathology x", b"path 1 Expected at 0"),
-        (b"  path c end", b"path 2 UnknownName at 7"),
-        (b"path array end", b"path 1 Expected at 5"),
-        (b"path \xff end", b"lex 2 BadByte at 5"),
-    ];
-    for (line, fault) in rows {
-        check_fault(&rt, rt.alloc(), line, fault);
-    }
-}
+// Path lines over the operations a and b, and their faults.
+const FAULTS: [(&[u8], &[u8]); 24] = [
+    (b"path 0:(a) end", b"path 4 BadBound at 5"),
+    (b"path 65536:(a) end", b"path 4 BadBound at 5"),
+    (b"path a, a end", b"path 3 RepeatedName at 8"),
+    (b"path a; end", b"path 1 Expected at 8"),
+    (b"path c end", b"path 2 UnknownName at 5"),
+    (b"path a $ end", b"lex 2 BadByte at 7"),
+    (
+        b"path (((((((((((((((((((((((((((((((((a))))))))))))))))))))))))))))))))) end",
+        b"path 5 TooDeep at 37",
+    ),
+    (b"path c:(a) end", b"path 2 UnknownName at 5"),
+    (b"path a:(b) end", b"path 2 UnknownName at 5"),
+    (b"path 0 a end", b"path 4 BadBound at 5"),
+    (b"path 5 a end", b"path 1 Expected at 7"),
+    (b"path a", b"path 1 Expected at 6"),
+    (b"path a end b", b"path 1 Expected at 11"),
+    (b"path a end;;", b"path 1 Expected at 11"),
+    (b"path 'a' end", b"path 1 Expected at 5"),
+    (b"path a { end", b"lex 3 OpenComment at 7"),
+    (b"path a (*) end", b"lex 3 OpenComment at 7"),
+    (b"path a 'end", b"lex 4 OpenString at 7"),
+    (b"path a '\xc3\xa4' end", b"lex 2 BadByte at 8"),
+    (b"path 4294967296:(a) end", b"lex 5 BadNumber at 5"),
+    (b"pathology x", b"path 1 Expected at 0"),
+    (b"  path c end", b"path 2 UnknownName at 7"),
+    (b"path array end", b"path 1 Expected at 5"),
+    (b"path \xff end", b"lex 2 BadByte at 5"),
+];
 
 // Line 2 with a fault stops the run, and is answered by it.
-fn check_fault(rt: &impl Abort, alloc: Global, line: &[u8], fault: &[u8]) {
-    let mut reader = Vec::new(alloc);
-    let mut want = Vec::new(alloc);
-    let room = reader.extend_from_slice(b"ops a b\n").is_ok()
-        && reader.extend_from_slice(line).is_ok()
-        && want.extend_from_slice(b"ops 2\nline 2: ").is_ok()
-        && want.extend_from_slice(fault).is_ok()
-        && want.push(b'\n').is_ok();
-    assert!(rt; room);
-    let (end, out) = run(alloc, reader.as_slice());
-    assert_eq!(rt; end, Ok(PathsEnd::Stopped(2)), "at {fault:?}");
-    assert_eq!(rt; out.as_slice(), want.as_slice());
+fn is_faulty(rt: &impl Abort, alloc: Global, line: &[u8], fault: &[u8]) {
+    let mut text = Vec::from_slice(alloc, b"ops a b\n").expect(rt, "memory");
+    text.extend_from_slice(line).expect(rt, "memory");
+    let mut answers = Vec::from_slice(alloc, b"ops 2\nline 2: ").expect(rt, "memory");
+    answers.extend_from_slice(fault).expect(rt, "memory");
+    answers.push(b'\n').expect(rt, "memory");
+    is_told(rt, alloc, &text, 2, &answers);
+}
+
+#[test]
+fn faults_have_names_and_places(rt: HostRuntime) {
+    for (line, fault) in FAULTS {
+        is_faulty(&rt, rt.alloc(), line, fault);
+    }
 }
 
 #[test]
 fn bounds_and_depth_at_their_limits(rt: HostRuntime) {
-    expect(
+    are_told(
         &rt,
         rt.alloc(),
         &[
@@ -183,7 +175,7 @@ fn bounds_and_depth_at_their_limits(rt: HostRuntime) {
 
 #[test]
 fn lines_outside_the_format_stop_the_run(rt: HostRuntime) {
-    expect(
+    are_told(
         &rt,
         rt.alloc(),
         &[
@@ -220,7 +212,7 @@ fn lines_outside_the_format_stop_the_run(rt: HostRuntime) {
 
 #[test]
 fn an_operation_must_satisfy_every_path(rt: HostRuntime) {
-    expect(
+    are_told(
         &rt,
         rt.alloc(),
         &[(

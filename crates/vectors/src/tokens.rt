@@ -3,49 +3,60 @@
 use path_tree::lex::fault::LexFault;
 use path_tree::lex::lex;
 use path_tree::token::{Kind, Token};
-use std::alloc::Global;
-use std::test::Fail;
+use std::alloc::{AllocError, Global};
+use std::process::Abort;
 
 // The tokens of a source, each with a `|` before it: `#` marks a number, `@` a name and `$` the end.
-fn shown(alloc: Global, source: &[u8]) -> Result<Vec<u8>, Fail> {
+fn shown(rt: &impl Abort, alloc: Global, source: &[u8]) -> Vec<u8> {
+    let mut out = Vec::new(alloc);
     match lex(alloc, source) {
         Ok(tokens) => {
-            let mut out = Vec::new(alloc);
             for token in &tokens {
-                show_token(alloc, &mut out, token)?;
+                show_token(alloc, &mut out, token).expect(rt, "memory");
             }
-            Ok(out)
         }
         Err(fault) => {
-            let text = format!(in alloc; "{fault}")?;
-            Ok(Vec::from_slice(alloc, text.as_bytes())?)
+            let text = format!(in alloc; "{fault}").expect(rt, "memory");
+            out.extend_from_slice(text.as_bytes()).expect(rt, "memory");
         }
     }
+    out
 }
 
-fn show_token(alloc: Global, out: &mut Vec<u8>, token: &Token) -> Result<(), Fail> {
+fn show_token(alloc: Global, out: &mut Vec<u8>, token: &Token) -> Result<(), AllocError> {
     out.push(b'|')?;
     match &token.kind {
-        Kind::Symbol(symbol) => out.extend_from_slice(symbol.text())?,
+        Kind::Symbol(symbol) => out.extend_from_slice(symbol.text()),
         Kind::Number(value) => {
             let text = format!(in alloc; "#{value}")?;
-            out.extend_from_slice(text.as_bytes())?;
+            out.extend_from_slice(text.as_bytes())
         }
         Kind::Name(name) => {
             out.push(b'@')?;
-            out.extend_from_slice(name.as_bytes())?;
+            out.extend_from_slice(name.as_bytes())
         }
         Kind::Text(content) => {
             out.push(b'\'')?;
-            out.extend_from_slice(content)?;
+            out.extend_from_slice(content)
         }
-        Kind::EndMark => out.push(b'$')?,
+        Kind::EndMark => out.extend_from_slice(b"$"),
     }
-    Ok(())
+}
+
+// Asserts what is shown of a source.
+fn is_shown(rt: &impl Abort, alloc: Global, source: &[u8], tokens: &[u8]) {
+    assert_eq!(rt; shown(rt, alloc, source).as_slice(), tokens);
+}
+
+// Asserts what is shown of each source.
+fn are_shown(rt: &impl Abort, alloc: Global, rows: &[(&[u8], &[u8])]) {
+    for (source, tokens) in rows {
+        is_shown(rt, alloc, source, tokens);
+    }
 }
 
 #[test]
-fn the_longest_token_is_taken(rt: HostRuntime) -> Result<(), Fail> {
+fn the_longest_token_is_taken(rt: HostRuntime) {
     let cases: [(&[u8], &[u8]); 14] = [
         (b"", b"|$"),
         (b":= : =", b"|:=|:|=|$"),
@@ -62,14 +73,11 @@ fn the_longest_token_is_taken(rt: HostRuntime) -> Result<(), Fail> {
         (b"4294967295", b"|#4294967295|$"),
         (b" \t\r\na\t", b"|@a|$"),
     ];
-    for (source, tokens) in cases {
-        assert_eq!(rt; shown(rt.alloc(), source)?.as_slice(), tokens);
-    }
-    Ok(())
+    are_shown(&rt, rt.alloc(), &cases);
 }
 
 #[test]
-fn a_comment_closes_by_its_own_mark(rt: HostRuntime) -> Result<(), Fail> {
+fn a_comment_closes_by_its_own_mark(rt: HostRuntime) {
     let cases: [(&[u8], &[u8]); 12] = [
         (b"{ *) (* }a", b"|@a|$"),
         (b"(* } { *)a", b"|@a|$"),
@@ -84,26 +92,22 @@ fn a_comment_closes_by_its_own_mark(rt: HostRuntime) -> Result<(), Fail> {
         (b"*)", b"BadByte at 0"),
         (b"}", b"BadByte at 0"),
     ];
-    for (source, tokens) in cases {
-        assert_eq!(rt; shown(rt.alloc(), source)?.as_slice(), tokens);
-    }
-    Ok(())
+    are_shown(&rt, rt.alloc(), &cases);
 }
 
 #[test]
-fn reserved_words_ignore_case(rt: HostRuntime) -> Result<(), Fail> {
+fn reserved_words_ignore_case(rt: HostRuntime) {
     let source =
         b"ApPend ARRAY Begin consT COUNT elSE End enTRY ERASE firST Function HAS iF Integer \
 LOOKUP noT Object OF patH Procedure QUEUE reFuse Store taBLE TAKE Text theN VAR Pathe";
     let tokens =
         b"|append|array|begin|const|count|else|end|entry|erase|first|function|has|if|integer\
 |lookup|not|object|of|path|procedure|queue|refuse|store|table|take|text|then|var|@pathe|$";
-    assert_eq!(rt; shown(rt.alloc(), source)?.as_slice(), tokens.as_slice());
-    Ok(())
+    is_shown(&rt, rt.alloc(), source, tokens);
 }
 
 #[test]
-fn strings_stand_on_one_line(rt: HostRuntime) -> Result<(), Fail> {
+fn strings_stand_on_one_line(rt: HostRuntime) {
     let cases: [(&[u8], &[u8]); 10] = [
         (b"'it''s'", b"|'it's|$"),
         (b"''", b"|'|$"),
@@ -116,14 +120,11 @@ fn strings_stand_on_one_line(rt: HostRuntime) -> Result<(), Fail> {
         (b"'b\r\n'", b"BadByte at 2"),
         (b"'b\x7f", b"BadByte at 2"),
     ];
-    for (source, tokens) in cases {
-        assert_eq!(rt; shown(rt.alloc(), source)?.as_slice(), tokens);
-    }
-    Ok(())
+    are_shown(&rt, rt.alloc(), &cases);
 }
 
 #[test]
-fn the_first_fault_is_told(rt: HostRuntime) -> Result<(), Fail> {
+fn the_first_fault_is_told(rt: HostRuntime) {
     let cases: [(&[u8], &[u8]); 8] = [
         (b"a # 'b", b"BadByte at 2"),
         (b"_a", b"BadByte at 0"),
@@ -134,58 +135,47 @@ fn the_first_fault_is_told(rt: HostRuntime) -> Result<(), Fail> {
         (b"00004294967296", b"BadNumber at 0"),
         (b"99999999999999999999999999", b"BadNumber at 0"),
     ];
-    for (source, tokens) in cases {
-        assert_eq!(rt; shown(rt.alloc(), source)?.as_slice(), tokens);
-    }
-    Ok(())
+    are_shown(&rt, rt.alloc(), &cases);
 }
 
-// The fault of this many bytes between a first and a last one.
-fn fault_of(alloc: Global, mark: &[u8], byte: u8, count: usize) -> Result<Option<LexFault>, Fail> {
-    let mut source = Vec::new(alloc);
-    source.extend_from_slice(mark)?;
+// Asserts the fault of a text with so many of a byte in its middle.
+fn is_limited(
+    rt: &impl Abort,
+    alloc: Global,
+    front: &[u8],
+    byte: u8,
+    count: usize,
+    back: &[u8],
+    fault: Option<LexFault>,
+) {
+    let mut source = Vec::from_slice(alloc, front).expect(rt, "memory");
     for _ in 0..count {
-        source.push(byte)?;
+        source.push(byte).expect(rt, "memory");
     }
-    source.extend_from_slice(mark)?;
-    Ok(lex(alloc, &source).err())
+    source.extend_from_slice(back).expect(rt, "memory");
+    assert_eq!(rt; lex(alloc, &source).err(), fault);
 }
 
 #[test]
-fn limits_are_met_exactly(rt: HostRuntime) -> Result<(), Fail> {
-    let cases: [(&[u8], u8, usize, Option<LexFault>); 9] = [
-        (b"", b'a', 64, None),
-        (b"", b'a', 65, Some(LexFault::BadByte(64))),
-        (b" ", b'a', 66, Some(LexFault::BadByte(65))),
-        (b"'", b'a', 255, None),
-        (b"'", b'a', 256, Some(LexFault::OpenString(0))),
-        (b"'", b'\'', 510, None),
-        (b"'", b'\'', 512, Some(LexFault::OpenString(0))),
-        (b"", b' ', 65_536, None),
-        (b"", b' ', 65_537, Some(LexFault::TooLong)),
+fn limits_are_met_exactly(rt: HostRuntime) {
+    let cases: [(&[u8], u8, usize, &[u8], Option<LexFault>); 12] = [
+        (b"", b'a', 64, b"", None),
+        (b"", b'a', 65, b"", Some(LexFault::BadByte(64))),
+        (b" ", b'a', 66, b" ", Some(LexFault::BadByte(65))),
+        (b"'", b'a', 255, b"'", None),
+        (b"'", b'a', 256, b"'", Some(LexFault::OpenString(0))),
+        (b"'", b'\'', 510, b"'", None),
+        (b"'", b'\'', 512, b"'", Some(LexFault::OpenString(0))),
+        (b"", b' ', 65_536, b"", None),
+        (b"", b' ', 65_537, b"", Some(LexFault::TooLong)),
+        // a string of 255 bytes that the line ends, that a byte breaks, and that goes on
+        (b"'", b'a', 255, b"\n", Some(LexFault::OpenString(0))),
+        (b"'", b'a', 255, b"\x07", Some(LexFault::BadByte(256))),
+        (b"'", b'a', 255, b"''", Some(LexFault::OpenString(0))),
     ];
-    for (mark, byte, count, fault) in cases {
-        assert_eq!(rt; fault_of(rt.alloc(), mark, byte, count)?, fault, "{count}");
+    for (front, byte, count, back, fault) in cases {
+        is_limited(&rt, rt.alloc(), front, byte, count, back, fault);
     }
-    let mut source = vec![in rt.alloc(); b'a'; 256]?;
-    source[0] = b'\'';
-    source.push(b'\n')?;
-    assert_eq!(rt;
-        lex(rt.alloc(), &source).err(),
-        Some(LexFault::OpenString(0))
-    );
-    source[256] = 7;
-    assert_eq!(rt;
-        lex(rt.alloc(), &source).err(),
-        Some(LexFault::BadByte(256))
-    );
-    source[256] = b'\'';
-    source.push(b'\'')?;
-    assert_eq!(rt;
-        lex(rt.alloc(), &source).err(),
-        Some(LexFault::OpenString(0))
-    );
-    Ok(())
 }
 
 #[test]

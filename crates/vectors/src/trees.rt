@@ -12,6 +12,7 @@ use path_tree::name::Name;
 use path_tree::path_fault::PathFault;
 use path_tree::print::print_path;
 use path_tree::read::parse_path;
+use path_tree::token::Token;
 use path_tree::tree::PathTree;
 use std::alloc::{AllocError, Global};
 use std::hash::{DefaultHasher, Hash, Hasher};
@@ -29,9 +30,17 @@ fn eight_names(alloc: Global) -> Result<Vec<Name>, AllocError> {
     Ok(names)
 }
 
-fn constant(alloc: Global, name: &str, value: u32) -> Result<Constant, Fail> {
-    let name = Name::read(alloc, name.as_bytes())?.ok_or("the name of a constant")?;
-    Ok(Constant { name, value })
+// The name of an identifier.
+fn name_of(rt: &impl Abort, alloc: Global, bytes: &[u8]) -> Name {
+    match Name::read(alloc, bytes) {
+        Ok(Some(name)) => name,
+        _ => panic!(rt; "no identifier"),
+    }
+}
+
+fn constant(rt: &impl Abort, alloc: Global, name: &[u8], value: u32) -> Constant {
+    let name = name_of(rt, alloc, name);
+    Constant { name, value }
 }
 
 // The path at the front of a source.
@@ -51,13 +60,15 @@ fn parse(
     parse_path(alloc, &tokens, 0, consts, names)
 }
 
+// The fault of the path at the front of a source, with the constants k = 3 and z = 0.
+fn fault_in(rt: &impl Abort, alloc: Global, source: &[u8]) -> Option<PathFault> {
+    let names = eight_names(alloc).expect(rt, "memory");
+    let consts = [constant(rt, alloc, b"k", 3), constant(rt, alloc, b"z", 0)];
+    parse(rt, alloc, source, &consts, &names).err()
+}
+
 #[test]
-fn faults_have_places(rt: HostRuntime) -> Result<(), Fail> {
-    let alloc = rt.alloc();
-    let names = eight_names(alloc)?;
-    let mut consts = Vec::new(alloc);
-    consts.push(constant(alloc, "k", 3)?)?;
-    consts.push(constant(alloc, "z", 0)?)?;
+fn faults_have_places(rt: HostRuntime) {
     for (source, fault) in [
         ("", PathFault::Expected(0)),
         ("a", PathFault::Expected(0)),
@@ -76,20 +87,22 @@ fn faults_have_places(rt: HostRuntime) -> Result<(), Fail> {
         ("path 0 a end", PathFault::BadBound(5)),
         ("path a, z:(b) end", PathFault::BadBound(8)),
     ] {
-        match parse(&rt, alloc, source.as_bytes(), &consts, &names) {
-            Ok(_) => assert!(rt; false, "{source} is read"),
-            Err(told) => assert_eq!(rt; told, fault, "{source}"),
-        }
+        assert_eq!(rt; fault_in(&rt, rt.alloc(), source.as_bytes()), Some(fault));
     }
-    Ok(())
+}
+
+// Asserts the canonical text of the path at the front of a source, and the token behind it.
+fn is_printed(rt: &impl Abort, alloc: Global, source: &[u8], text: &[u8], end: usize) {
+    let names = eight_names(alloc).expect(rt, "memory");
+    let consts = [constant(rt, alloc, b"k", 3)];
+    let (path, to) = parse(rt, alloc, source, &consts, &names).expect(rt, "a path");
+    assert!(rt; to == end);
+    let printed = print_path(alloc, &path, &names).expect(rt, "memory");
+    assert_eq!(rt; printed.as_slice(), text);
 }
 
 #[test]
-fn canonical_texts(rt: HostRuntime) -> Result<(), Fail> {
-    let alloc = rt.alloc();
-    let names = eight_names(alloc)?;
-    let mut consts = Vec::new(alloc);
-    consts.push(constant(alloc, "k", 3)?)?;
+fn canonical_texts(rt: HostRuntime) {
     for (source, text, end) in [
         ("PATH (a; B), (c) end", "path a; b, c end", 11),
         ("path (a, b); c end", "path (a, b); c end", 9),
@@ -102,77 +115,90 @@ fn canonical_texts(rt: HostRuntime) -> Result<(), Fail> {
         ),
         ("path 1:([a], b) end", "path 1:([a], b) end", 11),
     ] {
-        let (path, to) = parse(&rt, alloc, source.as_bytes(), &consts, &names)?;
-        assert_eq!(rt; to, end, "{source}");
-        let printed = print_path(alloc, &path, &names)?;
-        assert_eq!(rt; printed.as_slice(), text.as_bytes(), "{source}");
+        is_printed(&rt, rt.alloc(), source.as_bytes(), text.as_bytes(), end);
     }
-    Ok(())
 }
 
-// So many times one text, a name, and as many times another.
-fn nest(
-    text: &mut Vec<u8>,
-    open: &[u8],
-    name: u8,
-    close: &[u8],
+// Adds so many times one text, a name, and as many times another.
+fn nest(rt: &impl Abort, text: &mut Vec<u8>, open: &[u8], name: u8, close: &[u8], levels: usize) {
+    for _ in 0..levels {
+        text.extend_from_slice(open).expect(rt, "memory");
+    }
+    text.push(name).expect(rt, "memory");
+    for _ in 0..levels {
+        text.extend_from_slice(close).expect(rt, "memory");
+    }
+}
+
+// The fault of a path of one name in so many levels.
+fn fault_of_levels(
+    rt: &impl Abort,
+    alloc: Global,
+    open: &str,
+    close: &str,
     levels: usize,
-) -> Result<(), Fail> {
-    for _ in 0..levels {
-        text.extend_from_slice(open)?;
-    }
-    text.push(name)?;
-    for _ in 0..levels {
-        text.extend_from_slice(close)?;
-    }
-    Ok(())
+) -> Option<PathFault> {
+    let mut source = Vec::from_slice(alloc, b"path ").expect(rt, "memory");
+    nest(
+        rt,
+        &mut source,
+        open.as_bytes(),
+        b'a',
+        close.as_bytes(),
+        levels,
+    );
+    source.extend_from_slice(b" end").expect(rt, "memory");
+    fault_in(rt, alloc, &source)
 }
 
 #[test]
-fn levels_and_nodes_are_limited(rt: HostRuntime) -> Result<(), Fail> {
-    let alloc = rt.alloc();
-    let names = eight_names(alloc)?;
-    for (open, close, at) in [("(", ")", 37), ("[", "]", 37), ("1:(", ")", 103)] {
-        for levels in [32, 33] {
-            let mut source = b"path ".to_vec(alloc)?;
-            nest(&mut source, open.as_bytes(), b'a', close.as_bytes(), levels)?;
-            source.extend_from_slice(b" end")?;
-            match parse(&rt, alloc, &source, &[], &names) {
-                Ok(_) => assert_eq!(rt; levels, 32),
-                Err(told) => {
-                    assert_eq!(rt; levels, 33);
-                    assert_eq!(rt; told, PathFault::TooDeep(at));
-                }
-            }
-        }
+fn levels_are_limited(rt: HostRuntime) {
+    for (open, close, levels, fault) in [
+        ("(", ")", 32, None),
+        ("(", ")", 33, Some(PathFault::TooDeep(37))),
+        ("[", "]", 32, None),
+        ("[", "]", 33, Some(PathFault::TooDeep(37))),
+        ("1:(", ")", 32, None),
+        ("1:(", ")", 33, Some(PathFault::TooDeep(103))),
+    ] {
+        assert_eq!(rt;
+            fault_of_levels(&rt, rt.alloc(), open, close, levels),
+            fault
+        );
     }
-    // Eight members of a list, of 32 nodes each but the last.
-    for (last, end) in [(30, " end"), (31, " end"), (31, "")] {
-        let mut source = b"path ".to_vec(alloc)?;
-        for letter in b"abcdefg" {
-            nest(&mut source, b"[", *letter, b"]", 31)?;
-            source.extend_from_slice(b", ")?;
-        }
-        nest(&mut source, b"[", b'h', b"]", last)?;
-        let length = source.len();
-        source.extend_from_slice(end.as_bytes())?;
-        match parse(&rt, alloc, &source, &[], &names) {
-            Ok(_) => assert_eq!(rt; last, 30),
-            Err(PathFault::TooMany) => assert!(rt; last == 31 && !end.is_empty()),
-            Err(told) => assert_eq!(rt; told, PathFault::Expected(length)),
-        }
+}
+
+// The fault of a path of eight members, of 32 nodes each but the last, with this end.
+fn fault_of_members(rt: &impl Abort, alloc: Global, last: usize, end: &str) -> Option<PathFault> {
+    let mut source = Vec::from_slice(alloc, b"path ").expect(rt, "memory");
+    for letter in b"abcdefg" {
+        nest(rt, &mut source, b"[", *letter, b"]", 31);
+        source.extend_from_slice(b", ").expect(rt, "memory");
     }
-    Ok(())
+    nest(rt, &mut source, b"[", b'h', b"]", last);
+    source
+        .extend_from_slice(end.as_bytes())
+        .expect(rt, "memory");
+    fault_in(rt, alloc, &source)
 }
 
 #[test]
-fn names_are_the_same_by_their_bytes(rt: HostRuntime) -> Result<(), Fail> {
-    let alloc = rt.alloc();
-    let none = "no identifier";
-    let name = Name::read(alloc, b"Ab_1")?.ok_or(none)?;
-    let copy = name.copy(alloc)?;
-    assert_eq!(rt; name, copy);
-    assert_eq!(rt; copy.as_bytes(), b"ab_1".as_slice());
+fn nodes_are_limited(rt: HostRuntime) {
+    for (last, end, fault) in [
+        (30, " end", None),
+        (31, " end", Some(PathFault::TooMany)),
+        // 5 bytes, eight names with 31 brackets on either side, and seven separators
+        (31, "", Some(PathFault::Expected(523))),
+    ] {
+        assert_eq!(rt; fault_of_members(&rt, rt.alloc(), last, end), fault);
+    }
+}
+
+#[test]
+fn names_are_the_same_by_their_bytes(rt: HostRuntime) {
+    let name = name_of(&rt, rt.alloc(), b"Ab_1");
+    let copy = name.copy(rt.alloc()).expect(&rt, "memory");
+    assert!(rt; name == copy && copy.as_bytes() == b"ab_1".as_slice());
     for (text, is_same) in [
         ("ab_1", true),
         ("AB_1", true),
@@ -181,11 +207,9 @@ fn names_are_the_same_by_their_bytes(rt: HostRuntime) -> Result<(), Fail> {
         ("ab_11", false),
         ("a", false),
     ] {
-        let other = Name::read(alloc, text.as_bytes())?.ok_or(none)?;
-        assert_eq!(rt; name == other, is_same, "{text}");
-        assert_eq!(rt; hash_of(&name) == hash_of(&other), is_same, "{text}");
+        let other = name_of(&rt, rt.alloc(), text.as_bytes());
+        assert!(rt; (name == other) == is_same && (hash_of(&name) == hash_of(&other)) == is_same);
     }
-    Ok(())
 }
 
 fn hash_of(name: &Name) -> u64 {
@@ -220,35 +244,55 @@ fn read_back(
     }
 }
 
+const REFUSED: &[u8] = b"path 2:(a; [b]), (c, d); e end";
+
+// Reads a path and prints it, and says whether there was memory for both.
+fn read_and_print(rt: &impl Abort, alloc: Global, tokens: &[Token], names: &[Name]) -> bool {
+    let count = tokens.len();
+    assert!(rt; 0 < count && count <= 65537 && names.len() <= 32);
+    match parse_path(alloc, tokens, 0, &[], names) {
+        Ok((path, to)) => {
+            assert!(rt; to == 19);
+            match print_path(alloc, &path, names) {
+                Ok(text) => {
+                    assert_eq!(rt; text.as_slice(), REFUSED);
+                    true
+                }
+                Err(_) => false,
+            }
+        }
+        Err(fault) => {
+            assert_eq!(rt; fault, PathFault::Memory);
+            false
+        }
+    }
+}
+
+// The tokens of the path, if there is memory for them.
+fn refused_tokens(rt: &impl Abort, alloc: Global) -> Option<Vec<Token>> {
+    match lex(alloc, REFUSED) {
+        Ok(tokens) => Some(tokens),
+        Err(fault) => {
+            assert_eq!(rt; fault, LexFault::Memory);
+            None
+        }
+    }
+}
+
 // Run with each allocation refused in turn: a refused call tells so, and is good when made again.
 #[test]
-fn refused_parse_and_print(rt: HostRuntime) -> Result<(), Fail> {
-    let alloc = rt.alloc();
-    let names = match eight_names(alloc) {
+fn refused_parse_and_print(rt: HostRuntime) {
+    let names = match eight_names(rt.alloc()) {
         Ok(names) => names,
-        Err(_) => eight_names(alloc)?,
+        Err(_) => eight_names(rt.alloc()).expect(&rt, "memory"),
     };
-    let source = b"path 2:(a; [b]), (c, d); e end";
-    let tokens = match lex(alloc, source) {
-        Ok(tokens) => tokens,
-        Err(LexFault::Memory) => lex(alloc, source)?,
-        Err(fault) => return Err(fault.into()),
+    let tokens = match refused_tokens(&rt, rt.alloc()) {
+        Some(tokens) => tokens,
+        None => refused_tokens(&rt, rt.alloc()).expect(&rt, "memory"),
     };
-    let count = tokens.len();
-    assert!(rt; 0 < count && count <= 65537);
-    assert!(rt; names.len() <= 32);
-    let (path, to) = match parse_path(alloc, &tokens, 0, &[], &names) {
-        Ok(read) => read,
-        Err(PathFault::Memory) => parse_path(alloc, &tokens, 0, &[], &names)?,
-        Err(fault) => return Err(fault.into()),
-    };
-    assert_eq!(rt; to, 19);
-    let text = match print_path(alloc, &path, &names) {
-        Ok(text) => text,
-        Err(_) => print_path(alloc, &path, &names)?,
-    };
-    assert_eq!(rt; text.as_slice(), source.as_slice());
-    Ok(())
+    if !read_and_print(&rt, rt.alloc(), &tokens, &names) {
+        assert!(rt; read_and_print(&rt, rt.alloc(), &tokens, &names));
+    }
 }
 
 // Run with each allocation refused in turn: a refused copy is good when made again.

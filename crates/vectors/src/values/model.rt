@@ -1,12 +1,13 @@
 //! A row of random operations beside plain lists.
 
 use super::helpers::{append, element, erase, first, has, lookup, name, opening, set, store, take};
-use std::test::Fail;
+use std::process::Abort;
 use value_core::datum::Datum;
 use value_core::decode::decode;
 use value_core::encode::encode;
 use value_core::kind::{Elem, Kind};
 use value_core::refusal::Refusal;
+use value_core::value::Value;
 
 // The next number of a row that looks like chance.
 fn next(seed: &mut u32) -> u32 {
@@ -15,70 +16,74 @@ fn next(seed: &mut u32) -> u32 {
 }
 
 #[test]
-fn arrays_are_lists(rt: HostRuntime) -> Result<(), Fail> {
-    let alloc = rt.alloc();
+fn arrays_are_lists(rt: HostRuntime) {
     let mut seed = 1;
-    let mut array = opening(alloc, Kind::Array(50, Elem::Integer))?;
-    let mut list = vec![in alloc; 0u32; 50]?;
+    let mut array = opening(rt.alloc(), Kind::Array(50, Elem::Integer)).expect(&rt, "memory");
+    let mut list = [0u32; 50];
     for _turn in 0..2000 {
         let index = next(&mut seed) % 60;
         let number = next(&mut seed);
+        let found = element(&array, index);
+        let answer = set(&mut array, index, Datum::Integer(number));
         match list.get_mut(index as usize) {
             Some(at) => {
-                assert_eq!(rt; element(&array, index), Ok(Datum::Integer(*at)));
+                assert!(rt; found == Ok(Datum::Integer(*at)) && answer.is_ok());
                 *at = number;
-                assert_eq!(rt; set(&mut array, index, Datum::Integer(number)), Ok(()));
             }
-            None => assert_eq!(rt;
-                set(&mut array, index, Datum::Integer(number)),
-                Err(Refusal::Index)
-            ),
+            None => assert!(rt; answer == Err(Refusal::Index)),
         }
     }
     let mut index = 0u32;
     for number in &list {
-        assert_eq!(rt; element(&array, index), Ok(Datum::Integer(*number)));
+        assert!(rt; element(&array, index) == Ok(Datum::Integer(*number)));
         index = index.wrapping_add(1);
     }
-    Ok(())
 }
 
 #[test]
-fn queues_are_lists(rt: HostRuntime) -> Result<(), Fail> {
-    let alloc = rt.alloc();
+fn queues_are_lists(rt: HostRuntime) {
     let mut seed = 2;
-    let mut queue = opening(alloc, Kind::Queue(Elem::Integer))?;
-    let mut list: Vec<u32> = Vec::new(alloc);
+    let mut queue = opening(rt.alloc(), Kind::Queue(Elem::Integer)).expect(&rt, "memory");
+    let mut list: Vec<u32> = Vec::new(rt.alloc());
     let mut oldest = 0usize;
     for _turn in 0..3000 {
         let number = next(&mut seed);
         if number % 2 == 0 {
-            append(&mut queue, Datum::Integer(number))?;
-            list.push(number)?;
+            append(&mut queue, Datum::Integer(number)).expect(&rt, "appended");
+            list.push(number).expect(&rt, "memory");
         } else {
             match list.get(oldest) {
                 Some(at) => {
-                    assert_eq!(rt; first(&queue), Ok(Datum::Integer(*at)));
-                    assert_eq!(rt; take(&mut queue), Ok(()));
+                    assert!(rt;
+                        first(&queue) == Ok(Datum::Integer(*at)) && take(&mut queue).is_ok()
+                    );
                     oldest = oldest.wrapping_add(1);
                 }
-                None => assert_eq!(rt; take(&mut queue), Err(Refusal::Empty)),
+                None => assert!(rt; take(&mut queue) == Err(Refusal::Empty)),
             }
         }
-        assert_eq!(rt; queue.count() as usize, list.len().wrapping_sub(oldest));
+        assert!(rt; queue.count() as usize == list.len().wrapping_sub(oldest));
     }
-    Ok(())
+}
+
+// A table has these keys, each with this element.
+fn is_map(rt: &impl Abort, table: &Value, list: &[Option<u32>]) {
+    let mut key = 0u32;
+    let mut count = 0u32;
+    for at in list {
+        let found = at.map(Datum::Integer).ok_or(Refusal::Missing);
+        assert!(rt; has(table, &name(key)) == at.is_some() && lookup(table, &name(key)) == found);
+        key = key.wrapping_add(1);
+        count = count.wrapping_add(at.is_some() as u32);
+    }
+    assert!(rt; table.count() == count);
 }
 
 #[test]
-fn tables_are_maps(rt: HostRuntime) -> Result<(), Fail> {
-    let alloc = rt.alloc();
+fn tables_are_maps(rt: HostRuntime) {
     let mut seed = 3;
-    let mut table = opening(alloc, Kind::Table(Elem::Integer))?;
-    let mut list: Vec<Option<u32>> = Vec::new(alloc);
-    for _key in 0..40 {
-        list.push(None)?;
-    }
+    let mut table = opening(rt.alloc(), Kind::Table(Elem::Integer)).expect(&rt, "memory");
+    let mut list: [Option<u32>; 40] = [None; 40];
     for _turn in 0..3000 {
         let key = next(&mut seed) % 40;
         let number = next(&mut seed);
@@ -86,25 +91,18 @@ fn tables_are_maps(rt: HostRuntime) -> Result<(), Fail> {
         let Some(at) = list.get_mut(key as usize) else {
             break;
         };
-        assert_eq!(rt; has(&table, &text), at.is_some());
         let found = at.map(Datum::Integer).ok_or(Refusal::Missing);
-        assert_eq!(rt; lookup(&table, &text), found);
+        assert!(rt; has(&table, &text) == at.is_some() && lookup(&table, &text) == found);
         if number % 3 == 0 {
-            assert_eq!(rt; erase(&mut table, &text).is_ok(), at.is_some());
+            assert!(rt; erase(&mut table, &text).is_ok() == at.is_some());
             *at = None;
         } else {
-            store(&mut table, text, Datum::Integer(number))?;
+            store(&mut table, text, Datum::Integer(number)).expect(&rt, "stored");
             *at = Some(number);
         }
     }
-    let count = list.iter().filter(|at| at.is_some()).count();
-    assert_eq!(rt; table.count() as usize, count);
-    let spelled = encode(alloc, &table)?;
-    let back = decode(alloc, Kind::Table(Elem::Integer), &spelled)?;
-    let mut key = 0u32;
-    for at in &list {
-        assert_eq!(rt; has(&back, &name(key)), at.is_some());
-        key = key.wrapping_add(1);
-    }
-    Ok(())
+    is_map(&rt, &table, &list);
+    let spelled = encode(rt.alloc(), &table).expect(&rt, "memory");
+    let back = decode(rt.alloc(), Kind::Table(Elem::Integer), &spelled).expect(&rt, "a table");
+    is_map(&rt, &back, &list);
 }
