@@ -1,0 +1,47 @@
+-- What was judged of the bytes read holds of the bytes under the pins.
+use Rattle.std.proofs.Common.{◌≡◌, ℕ, ◌+◌, ◌⊎◌, inl, inr, List, [], ◌∷◌, Option, Some, slice_get, refl, sym, ap, ◌∙◌, subst}
+use Rattle.value_core.specs.declared.datum.Datum.{Datum}
+use Rattle.value_core.specs.Contents.{Contents}
+use Rattle.decl_core.specs.declared.object.Operation.{Operation}
+use Rattle.decl_core.specs.Form.{Statements}
+use Rattle.decl_core.specs.Touched.{Writes}
+use Rattle.shelf_core.specs.Device.{Assignment}
+use Rattle.body_core.specs.declared.judge.Change.{Change}
+use Rattle.body_core.specs.Calls.{Call, IsNamed}
+use Rattle.body_core.specs.Truths.{PinHolds, AreSpelled, IsDone, IsRefused, AreChanges}
+use Rattle.body_core.specs.Verdicts.{ReadAs, Rising}
+use Rattle.body_core.specs.Phases.{AreRead, ChangesPart, HasPart}
+
+some_same : {X : Type 0} {x y : X} → Some x ≡ Some y → x ≡ y
+some_same e = cc
+
+-- the bytes that were read of a part are those under its pin
+read_holds : (a : Assignment) (call : Call) (read : List (List ℕ)) (p : ℕ) (bytes : List ℕ) → ReadAs read p bytes → (known : List ℕ) × (slice_get read p ≡ Some known) × PinHolds a call.pins p known → PinHolds a call.pins p bytes
+read_holds a call read p bytes is known = subst (λ (b : List ℕ). PinHolds a call.pins p b) (some_same (sym known.1 ∙ is)) known.2
+
+spelled_under : (a : Assignment) (call : Call) (read : List (List ℕ)) (parts : List Contents) → AreRead a call read → AreSpelled (ReadAs read) call.operation parts → AreSpelled (PinHolds a call.pins) call.operation parts
+spelled_under a call read parts known spelled = λ p kind named.
+    let s = spelled p kind named in
+    (s.0, read_holds a call read p s.0 s.1 (known p named.named), s.2)
+
+pub done_under : (a : Assignment) (call : Call) (read : List (List ℕ)) (operation : Operation) (arguments : List Datum) (reply : Option Datum) (left : List Contents → List Contents → Type 0) → operation ≡ call.operation → arguments ≡ call.arguments
+    → AreRead a call read → IsDone (ReadAs read) operation arguments reply left → IsDone (PinHolds a call.pins) call.operation call.arguments reply left
+done_under a call read operation arguments reply left same given known is =
+    let done : IsDone (ReadAs read) call.operation call.arguments reply left = subst (λ ds. IsDone (ReadAs read) call.operation ds reply left) given (subst (λ o. IsDone (ReadAs read) o arguments reply left) same is) in
+    record { parts = done.parts; spelled = spelled_under a call read done.parts known done.spelled; gives = done.gives; leaves = done.leaves }
+
+pub refused_under : (a : Assignment) (call : Call) (read : List (List ℕ)) (operation : Operation) (arguments : List Datum) (word : List ℕ) → operation ≡ call.operation → arguments ≡ call.arguments
+    → AreRead a call read → IsRefused (ReadAs read) operation arguments word → IsRefused (PinHolds a call.pins) call.operation call.arguments word
+refused_under a call read operation arguments word same given known is =
+    let refused : IsRefused (ReadAs read) call.operation call.arguments word = subst (λ ds. IsRefused (ReadAs read) call.operation ds word) given (subst (λ o. IsRefused (ReadAs read) o arguments word) same is) in
+    record { parts = refused.parts; spelled = spelled_under a call read refused.parts known refused.spelled; gives = refused.gives }
+
+-- changes of the writes alone are of parts of them
+pub change_writes : (statements : Statements) (low : ℕ) (changes : List Change) (p : ℕ) → Rising statements low changes → ChangesPart changes p → Writes statements p
+change_writes statements low [] p rising touched = absurd touched
+change_writes statements low (change ∷ changes) p rising (inl e) = subst (λ q. Writes statements q) e rising.1
+change_writes statements low (change ∷ changes) p rising (inr h) = change_writes statements (change.part + 1) changes p rising.2 h
+
+pub no_part : (changes : Type 0) (p : ℕ) → changes ⊎ HasPart [] p → changes
+no_part changes p (inl h) = h
+no_part changes p (inr h) = absurd h

@@ -1,0 +1,16 @@
+pub mod Bits
+pub mod Blocks
+pub mod Changes
+pub mod DecodedParts
+pub mod Fronts
+pub mod HeldReads
+pub mod Judged
+pub mod Judging
+pub mod KindsKept
+pub mod NewPinRows
+pub mod Sealing
+pub mod Spreading
+pub mod Stepping
+pub mod Totals
+pub mod Touching
+pub mod TypedFits

@@ -1,0 +1,24 @@
+use Rattle.std.proofs.Common.{◌≡◌, ◌⊎◌, ◌≤◌, Some}
+use Rattle.shelf_core.specs.Device.{Assignment, Failed as DeviceFailed}
+use Rattle.body_core.specs.declared.reply.Failure.TheVariants as failures
+use Rattle.body_core.specs.declared.reply.Reply.TheVariants as replies
+use Rattle.body_core.specs.Runs.{run_call, run_ending, run_work, PenHolds, SoFar}
+use Rattle.body_core.proofs.perform.perform.Given as goal
+
+-- the steps so far are as one step
+abbrev pub invariant-loop-outcome : goal.invariant-loop-outcome
+invariant-loop-outcome g l =
+    let agrees = g.H.Hand.agrees in
+    let failed = g.H.Hand.failed in
+    let pending = g.H.Hand.pending in
+    record {
+      call : run_call l.run ≡ run_call l.fn.run;
+      kept : (a : Assignment) → agrees l.hand a → agrees l.fn.hand a;
+      pen : PenHolds (pending l.fn.hand) l.fn.run → PenHolds (pending l.hand) l.run;
+      found : PenHolds (pending l.fn.hand) l.fn.run → (a : Assignment) → agrees l.hand a → SoFar a l.fn.run → SoFar a l.run;
+      counted : failed l.fn.hand ≤ failed l.hand;
+      cause : run_ending l.run ≡ Some (replies.Failed failures.Device) → (run_ending l.fn.run ≡ Some (replies.Failed failures.Device)) ⊎ DeviceFailed (failed l.fn.hand) (failed l.hand);
+    }
+
+abbrev pub decreases-loop-outcome : goal.decreases-loop-outcome
+decreases-loop-outcome g l = run_work l.run

@@ -1,0 +1,14 @@
+pub mod Calls
+pub mod Fitting
+pub mod NewPins
+pub mod Outcomes
+pub mod Phases
+pub mod Runs
+pub mod Spread
+pub mod Steps
+pub mod Stops
+pub mod Sums
+pub mod Tasks
+pub mod Tickets
+pub mod Truths
+pub mod Verdicts

@@ -1,0 +1,64 @@
+//! One step of a run, by where it stands.
+
+ghost use Rattle.std.specs.Prelude.{◌≡◌, ◌≢◌, ◌<◌, ◌≤◌, ◌⊎◌, ℕ, List, Some, None};
+ghost use Rattle.std.specs.Arc.{arc_value};
+ghost use Rattle.decl_core.specs.Bodies.{body_of};
+ghost use Rattle.shelf_core.specs.Device.{Assignment, Failed as DeviceFailed};
+ghost use Rattle.body_core.specs.declared.reply.Failure.TheVariants as failures;
+ghost use Rattle.body_core.specs.declared.reply.Reply.TheVariants as replies;
+ghost use Rattle.body_core.specs.Tasks.{task_call};
+ghost use Rattle.body_core.specs.Steps.{Follows, place_in};
+ghost use Rattle.body_core.specs.Phases.{ending_of, answer_to, step_answer, PenHoldsIn, pen_in, FoundBy, TouchesWrites, work_in};
+
+use crate::phase::Phase;
+use crate::read::read_step;
+use crate::reply::{Failure, Reply};
+use crate::step::StepAnswer;
+use crate::task::Task;
+use crate::write::{append_step, create_step, seal_step};
+use shelf_core::hand::{Hand, HandFault};
+use std::alloc::Global;
+
+// What a step answers that left a run here that had not ended.
+fn answer(phase: &Phase) -> StepAnswer
+    ensures { result ≡ answer_to (ending_of phase.now) }
+{
+    match phase {
+        Phase::Ended(Reply::Failed(Failure::Device), _) => StepAnswer::Failed(HandFault::Device),
+        Phase::Ended(Reply::Failed(Failure::Memory), _) => StepAnswer::Failed(HandFault::Memory),
+        _ => StepAnswer::Went,
+    }
+}
+
+// Makes one device call, where the run has not ended.
+pub(crate) fn advance<H: Hand>(
+    alloc: Global,
+    hand: &mut H,
+    task: &Task,
+    phase: Phase,
+) -> (Phase, StepAnswer)
+    requires { TouchesWrites (body_of (arc_value task.now.operation)).statements phase }
+    ensures kept { (a : Assignment) → H.agrees hand.new a → H.agrees hand.old a }
+    ensures found { PenHoldsIn (H.pending hand.old) phase → (a : Assignment) → H.agrees hand.new a → FoundBy a (task_call task.now) phase → FoundBy a (task_call task.now) result.0 }
+    ensures steps { Follows (task_call task.now) (place_in phase) (place_in result.0) }
+    ensures pen { PenHoldsIn (H.pending hand.old) phase → PenHoldsIn (H.pending hand.new) result.0 }
+    ensures others { (n : ℕ) (b : List ℕ) → pen_in phase ≢ Some n → H.pending hand.old n b → H.pending hand.new n b }
+    ensures touches { TouchesWrites (body_of (arc_value task.now.operation)).statements result.0 }
+    ensures counted { H.failed hand.old ≤ H.failed hand.new }
+    ensures cause { ending_of result.0 ≡ Some (replies.Failed failures.Device) → (ending_of phase ≡ Some (replies.Failed failures.Device)) ⊎ DeviceFailed (H.failed hand.old) (H.failed hand.new) }
+    ensures answer { result.1 ≡ step_answer (ending_of phase) (ending_of result.0) }
+    ensures falls { (ending_of phase ≡ None) → work_in result.0 < work_in phase }
+    ensures ended { ending_of phase ≢ None → result.0 ≡ phase }
+{
+    let next = match phase {
+        Phase::Reading(r) => read_step(alloc, hand, task, r),
+        Phase::Creating(plan) => create_step(hand, plan),
+        Phase::Appending(plan, pen, done) => append_step(hand, plan, pen, done),
+        Phase::Sealing(plan, pen) => seal_step(hand, plan, pen),
+        Phase::Ended(reply, news) => {
+            return (Phase::Ended(reply, news), StepAnswer::AlreadyDone);
+        }
+    };
+    let told = answer(&next);
+    (next, told)
+}

@@ -1,0 +1,87 @@
+//! Whether a call may have these arguments, these pins or these values.
+
+ghost use Rattle.std.specs.Prelude.{◌≡◌, ◌↔◌, ◌<◌, IsTrue, Some, map};
+ghost use Rattle.std.specs.Int.{bit_at};
+ghost use Rattle.value_core.specs.Datum.{elem_of};
+ghost use Rattle.value_core.specs.Contents.{kind_of};
+ghost use Rattle.body_core.specs.Calls.{ArgumentsFit, HasPins};
+ghost use Rattle.body_core.specs.Spread.{FitReads, gather};
+
+use decl_core::footprint::reads;
+use decl_core::object::{Operation, Param};
+use shelf_core::pins::Pins;
+use value_core::datum::Datum;
+use value_core::kind::Kind;
+use value_core::value::Value;
+
+// An object has at most so many parts.
+const MOST_PARTS: usize = 16;
+
+/// Whether the arguments are as many as the operation's parameters, each an integer or a text as its parameter
+/// is. It takes no memory.
+pub fn arguments_fit(operation: &Operation, args: &[Datum]) -> bool
+    ensures { IsTrue result ↔ ArgumentsFit operation.now args.now }
+{
+    are_of(args, &operation.params)
+}
+
+// Whether these data are as many as the parameters, each of its parameter's sort.
+fn are_of(args: &[Datum], params: &[Param]) -> bool
+    ensures { IsTrue result ↔ (map elem_of args.now ≡ map (λ p. p.kind) params.now) }
+{
+    match (args, params) {
+        ([], []) => true,
+        ([arg, args @ ..], [param, params @ ..]) => arg.elem() == param.kind
+            && are_of(args, params),
+        _ => false,
+    }
+}
+
+/// Whether the values are as many as the parts that the operation reads, in their order, each of its part's kind.
+/// It takes no memory.
+pub fn values_fit(operation: &Operation, values: &[Value]) -> bool
+    ensures { IsTrue result ↔ FitReads operation.now values.now }
+{
+    are_of_kinds(values, reads(operation), &operation.kinds)
+}
+
+// Whether the values are as many as the parts whose bits are set, each of its part's kind.
+fn are_of_kinds(values: &[Value], bits: u16, kinds: &[Option<Kind>]) -> bool
+    ensures { IsTrue result ↔ (map (λ value. Some (kind_of value)) values.now ≡ gather bits kinds.now) }
+{
+    match kinds {
+        [] => values.is_empty(),
+        [kind, kinds @ ..] => {
+            if bits % 2 == 0 {
+                return are_of_kinds(values, bits / 2, kinds);
+            }
+            match values {
+                [] => false,
+                [value, values @ ..] => {
+                    Some(value.kind()) == *kind && are_of_kinds(values, bits / 2, kinds)
+                }
+            }
+        }
+    }
+}
+
+// Whether a set has this part.
+fn has(parts: u16, part: usize) -> bool
+    requires { part < 16 }
+    ensures { IsTrue result ↔ (bit_at parts part ≡ 1) }
+{
+    (parts >> part) & 1 == 1
+}
+
+/// Whether each part that the operation reads has a pin. It takes no memory.
+pub fn pins_fit(operation: &Operation, pins: &Pins) -> bool
+    ensures { IsTrue result ↔ HasPins operation.now pins.now }
+{
+    let parts = reads(operation);
+    for part in pins.len()..MOST_PARTS {
+        if has(parts, part) {
+            return false;
+        }
+    }
+    true
+}

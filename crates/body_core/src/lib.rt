@@ -1,0 +1,27 @@
+//! Bodies of operations as steps of a device.
+//!
+//! A `Ticket` says which operation was called, with which arguments, over which pins. A `Run` of it reads the
+//! pinned files, evaluates the body, and writes each part that it changed into a new file, one device call a
+//! step. An `Outcome` tells how the run ended. `specs/Truths.antt` says when an outcome is true.
+#![tactic(auto)]
+
+mod act;
+mod advance;
+pub mod apply;
+mod conclude;
+mod eval;
+mod evaluate;
+mod file_bytes;
+pub mod fits;
+mod judge;
+mod new_pins;
+pub mod outcome;
+pub mod perform;
+mod phase;
+mod read;
+pub mod reply;
+pub mod run;
+pub mod step;
+mod task;
+pub mod ticket;
+mod write;

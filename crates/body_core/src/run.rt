@@ -1,0 +1,167 @@
+//! Runs of calls.
+
+ghost use Rattle.std.specs.Prelude.{◌≡◌, ◌≢◌, ◌<◌, ◌≤◌, ◌⊎◌, ◌↔◌, [], ℕ, List, Some, None, IfOk, IfErr};
+ghost use Rattle.std.specs.Arc.{arc_value};
+ghost use Rattle.decl_core.specs.Bodies.{body_of};
+ghost use Rattle.decl_core.specs.Touched.{Reads, Writes};
+ghost use Rattle.shelf_core.specs.Device.{Assignment, Failed as DeviceFailed};
+ghost use Rattle.body_core.specs.declared.reply.Failure.TheVariants as failures;
+ghost use Rattle.body_core.specs.declared.reply.Reply.TheVariants as replies;
+ghost use Rattle.body_core.specs.Truths.{IsTrueOf};
+ghost use Rattle.body_core.specs.Tasks.{task_call};
+ghost use Rattle.body_core.specs.Steps.{Starts, Follows, place_in, need_at};
+ghost use Rattle.body_core.specs.Phases.{ending_of, sealed_in, pen_in, FoundBy, HasPart, IsSettled, TouchesWrites, step_answer};
+
+use crate::advance::advance;
+use crate::conclude::conclude;
+use crate::new_pins::NewPins;
+use crate::outcome::Outcome;
+use crate::phase::{Phase, Read, let_go};
+use crate::reply::{Failure, Reply};
+use crate::step::{Need, StepAnswer};
+use crate::task::Task;
+use crate::ticket::Ticket;
+use shelf_core::hand::Hand;
+use std::alloc::Global;
+use std::mem;
+
+/// A run of a call: it reads the parts that its operation reads, evaluates the body, and writes each part that
+/// the body changed into a new file. It has to be spent, by [`Run::outcome`].
+pub struct Run {
+    alloc: Global,
+    task: Task,
+    phase: Phase,
+    // it writes parts of its operation's writes alone
+    ghost inside: { TouchesWrites (body_of (arc_value task.operation)).statements phase },
+}
+
+// Where a new run stands.
+fn first_phase(alloc: Global, task: &Task) -> Phase
+    ensures found { (a : Assignment) → FoundBy a (task_call task.now) result }
+    ensures settled { ((p : ℕ) → Reads (body_of (arc_value task.now.operation)).statements p → ⊥) → IsSettled (ending_of result) }
+    ensures begun { (p : ℕ) → Reads (body_of (arc_value task.now.operation)).statements p → ending_of result ≡ None }
+    ensures starts { Starts (task_call task.now) (place_in result) }
+    ensures pen { pen_in result ≡ None }
+    ensures sealed { sealed_in result ≡ [] }
+    ensures touches { TouchesWrites (body_of (arc_value task.now.operation)).statements result }
+{
+    match task.next_pin(0) {
+        Some((part, pin)) => Phase::Reading(Read {
+            part,
+            pin,
+            read: Vec::new(alloc),
+            got: Vec::new(alloc),
+        }),
+        None => conclude(alloc, task, &[]),
+    }
+}
+
+impl Run {
+    ghost use Rattle.body_core.specs.Tickets.{ticket_call};
+    ghost use Rattle.body_core.specs.Outcomes.{outcome_call, outcome_reply, outcome_news};
+    ghost use Rattle.body_core.specs.declared.step.Need.TheVariants as needs;
+    ghost use Rattle.body_core.specs.Runs.{run_call, run_ending, run_sealed, run_pen, run_place, run_work, PenHolds, SoFar};
+
+    /// A run that has made no call. It takes no memory. Where the operation reads no part, its body is
+    /// evaluated here, and the run has ended.
+    pub fn new(alloc: Global, ticket: Ticket) -> Run
+        ensures call { run_call result ≡ ticket_call ticket }
+        // What it has found is true of each assignment.
+        ensures fresh { (a : Assignment) → SoFar a result }
+        // An operation that reads no part is done or refused at once.
+        ensures settled { ((p : ℕ) → Reads (body_of (ticket_call ticket).operation).statements p → ⊥) → IsSettled (run_ending result) }
+        ensures begun { (p : ℕ) → Reads (body_of (ticket_call ticket).operation).statements p → run_ending result ≡ None }
+        // It stands at the first part that the operation reads.
+        ensures starts { Starts (run_call result) (run_place result) }
+        ensures pen { run_pen result ≡ None }
+        ensures sealed { run_sealed result ≡ [] }
+    {
+        let task = Task::new(ticket);
+        let phase = first_phase(alloc, &task);
+        Run { alloc, task, phase }
+    }
+
+    /// The device call that the next step makes. It is none exactly where the run has ended.
+    pub fn next(&self) -> Need
+        ensures need { result ≡ need_at (run_place self.now) }
+        ensures done { (result ≡ needs.Done) ↔ (run_ending self.now ≢ None) }
+    {
+        match &self.phase {
+            Phase::Reading(_) => Need::Read,
+            Phase::Creating(_) => Need::Create,
+            Phase::Appending(_, _, _) => Need::Append,
+            Phase::Sealing(_, _) => Need::Seal,
+            Phase::Ended(_, _) => Need::Done,
+        }
+    }
+
+    /// Makes one device call, and gives up the file that is written where the call failed. Where memory for the
+    /// call is refused it makes none. A run that has ended stays as it is.
+    pub fn step<H: Hand>(&mut self, hand: &mut H) -> StepAnswer
+        ensures call { run_call self.new ≡ run_call self.old }
+        // An assignment that agrees after the call agreed before it.
+        ensures kept { (a : Assignment) → H.agrees hand.new a → H.agrees hand.old a }
+        // What the run has found stays true of each assignment that agrees with the call.
+        ensures found { PenHolds (H.pending hand.old) self.old → (a : Assignment) → H.agrees hand.new a → SoFar a self.old → SoFar a self.new }
+        ensures pen { PenHolds (H.pending hand.old) self.old → PenHolds (H.pending hand.new) self.new }
+        // Where it stands after the step, by the rule of steps.
+        ensures steps { Follows (run_call self.old) (run_place self.old) (run_place self.new) }
+        // What was appended to other files stays.
+        ensures others { (n : ℕ) (b : List ℕ) → run_pen self.old ≢ Some n → H.pending hand.old n b → H.pending hand.new n b }
+        // A run fails for the device only where the device failed in this very call.
+        ensures counted { H.failed hand.old ≤ H.failed hand.new }
+        ensures cause { run_ending self.new ≡ Some (replies.Failed failures.Device) → (run_ending self.old ≡ Some (replies.Failed failures.Device)) ⊎ DeviceFailed (H.failed hand.old) (H.failed hand.new) }
+        // It answers that the run failed exactly where it failed in this step.
+        ensures answer { result ≡ step_answer (run_ending self.old) (run_ending self.new) }
+        ensures falls { run_ending self.old ≡ None → run_work self.new < run_work self.old }
+        ensures ended { run_ending self.old ≢ None → self.new ≡ self.old }
+    {
+        let phase = mem::replace(
+            &mut self.phase,
+            Phase::Ended(Reply::Failed(Failure::Memory), NewPins::none()),
+        );
+        let (phase, answer) = advance(self.alloc, hand, &self.task, phase);
+        let old = mem::replace(&mut self.phase, phase);
+        let_go(old);
+        answer
+    }
+
+    /// How the run ended, or the run itself, where it has not ended.
+    pub fn outcome(self) -> Result<Outcome, Run>
+        // The outcome is true of each assignment of which all that the run found is true.
+        ensures told { IfOk result (λ o. (a : Assignment) → SoFar a self → IsTrueOf a (outcome_call o) (outcome_reply o) (outcome_news o)) }
+        ensures call { IfOk result (λ o. outcome_call o ≡ run_call self) }
+        ensures reply { IfOk result (λ o. run_ending self ≡ Some (outcome_reply o)) }
+        ensures news { IfOk result (λ o. outcome_news o ≡ run_sealed self) }
+        // Its files are of parts that the operation writes.
+        ensures writes { IfOk result (λ o. (p : ℕ) → HasPart (outcome_news o) p → Writes (body_of (outcome_call o).operation).statements p) }
+        ensures back { IfErr result (λ run. run ≡ self) }
+        ensures begun { IfErr result (λ run. run_ending run ≡ None) }
+    {
+        let (reply, news) = match &self.phase {
+            Phase::Ended(reply, news) => (*reply, *news),
+            _ => return Err(self),
+        };
+        let Run {
+            alloc: _,
+            task,
+            phase,
+        } = self;
+        let_go(phase);
+        let Task {
+            number,
+            operation,
+            args,
+            pins,
+            reads: _,
+        } = task;
+        Ok(Outcome {
+            number,
+            operation,
+            args,
+            pins,
+            reply,
+            news,
+        })
+    }
+}

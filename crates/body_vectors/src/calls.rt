@@ -1,0 +1,130 @@
+//! Calls of operations, as the tests make them.
+
+use body_core::fits::{arguments_fit, pins_fit};
+use body_core::outcome::Outcome;
+use body_core::perform::perform;
+use body_core::run::Run;
+use body_core::step::Need;
+use body_core::ticket::Ticket;
+use decl_core::object::{Object, Operation};
+use decl_core::read::read_objects;
+use shelf_core::hand::{Hand, Stamp};
+use shelf_core::pins::Pins;
+use shelf_core::whole::put;
+use std::alloc::Global;
+use std::process::Abort;
+use std::sync::Arc;
+use value_core::datum::Datum;
+use value_core::text::Text;
+
+/// An object with one part.
+pub const CELL: &[u8] = b"object cell;
+  path 1:([get], put, bump) end;
+  var v : array [1] of integer;
+  entry function get : integer; begin get := v[0] end;
+  entry procedure put(x : integer); begin v[0] := x end;
+  entry procedure bump(x : integer); begin v[0] := v[0] + x end;
+end;
+";
+
+/// The arrays `[0]` and `[7]`.
+pub const ZERO: &[u8] = b"\x01\x01\x00\x01\x00\x00\x00\x00";
+
+pub const SEVEN: &[u8] = b"\x01\x01\x00\x01\x00\x00\x00\x07";
+
+/// The one object of a text.
+pub fn object(rt: &impl Abort, alloc: Global, text: &[u8]) -> Object {
+    let objects = read_objects(alloc, text).expect(rt, "objects");
+    let mut found = None;
+    for (_, object) in objects {
+        found = Some(object);
+    }
+    found.expect(rt, "an object")
+}
+
+/// The operation of this name.
+pub fn operation(rt: &impl Abort, object: &Object, name: &str) -> Arc<Operation> {
+    for operation in &object.operations {
+        if operation.name.as_bytes() == name.as_bytes() {
+            return Arc::try_clone(operation).expect(rt, "a share");
+        }
+    }
+    panic!(rt; "no operation {name}")
+}
+
+/// The text of these bytes.
+pub fn text(rt: &impl Abort, bytes: &[u8]) -> Text {
+    Text::from_bytes(bytes).expect(rt, "a text")
+}
+
+/// A file for each part, with these bytes.
+pub fn pinned<H: Hand>(rt: &impl Abort, hand: &mut H, files: &[&[u8]]) -> Pins {
+    let mut stamps = [Stamp { number: 0, len: 0 }; 16];
+    assert!(rt; files.len() <= stamps.len());
+    for (place, bytes) in files.iter().enumerate() {
+        stamps[place] = put(hand, bytes).expect(rt, "a file");
+    }
+    Pins::new(&stamps[..files.len()])
+}
+
+/// Call 1 of this operation, ready to run.
+pub fn run_of(
+    rt: &impl Abort,
+    alloc: Global,
+    object: &Object,
+    name: &str,
+    args: &[Datum],
+    pins: Pins,
+) -> Run {
+    let operation = operation(rt, object, name);
+    let args = args.to_vec(alloc).expect(rt, "memory");
+    if !arguments_fit(&operation, &args) || !pins_fit(&operation, &pins) {
+        panic!(rt; "{name}: no such call");
+    }
+    Run::new(alloc, Ticket::new(1, operation, args, pins))
+}
+
+// So many steps are kept.
+const MOST_STEPS: usize = 64;
+
+/// What the steps of a run were to do, in order, by their first letters.
+#[derive(Drop)]
+pub struct Steps {
+    letters: [u8; MOST_STEPS],
+    count: usize,
+}
+
+impl Steps {
+    /// Whether they are these.
+    pub fn are(&self, letters: &str) -> bool {
+        self.letters.get(..self.count) == Some(letters.as_bytes())
+    }
+}
+
+// The first letter of a need.
+fn letter(need: Need) -> u8 {
+    match need {
+        Need::Read => b'r',
+        Need::Create => b'c',
+        Need::Append => b'a',
+        Need::Seal => b's',
+        Need::Done => b'd',
+    }
+}
+
+/// Steps a run until it is done, at most 64 times, and gives what the steps were to do.
+pub fn stepped<H: Hand>(run: Run, hand: &mut H) -> (Steps, Outcome) {
+    let mut run = run;
+    let mut letters = [0; MOST_STEPS];
+    let mut count = 0;
+    for place in 0..MOST_STEPS {
+        let need = run.next();
+        if need == Need::Done {
+            break;
+        }
+        letters[place] = letter(need);
+        count = place + 1;
+        run.step(hand);
+    }
+    (Steps { letters, count }, perform(run, hand))
+}
