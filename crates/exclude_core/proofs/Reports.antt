@@ -4,11 +4,12 @@ use Rattle.std.proofs.lemmas.List.{append-nil, map-append, length-map}
 use Rattle.path_tree.specs.Tokens.{IsFirstFault}
 use Rattle.path_tree.specs.declared.lex.fault.LexFault.{LexFault}
 use Rattle.path_tree.specs.declared.lex.fault.LexFault.TheVariants.{TooLong}
-use Rattle.decl_core.specs.declared.fault.DeclFault.{DeclFault}
-use Rattle.decl_core.specs.declared.fault.DeclFault.TheVariants.{Lex, Memory}
+use Rattle.decl_read.specs.declared.fault.DeclFault.{DeclFault}
+use Rattle.decl_read.specs.declared.fault.DeclFault.TheVariants.{Lex, Memory}
 use Rattle.decl_core.specs.declared.object.Object.{Object}
 use Rattle.decl_core.specs.ObjectForm.{ObjectForm}
-use Rattle.decl_core.specs.ObjectMap.{AreObjectsOf, lex_fault_told, object_of, objects_of}
+use Rattle.decl_read.specs.Sources.{AreObjectsOf, lex_fault_told}
+use Rattle.decl_core.specs.ObjectMap.{object_of, objects_of}
 use Rattle.exclude_core.specs.declared.report.CheckEnd.{CheckEnd}
 use Rattle.exclude_core.specs.declared.report.CheckEnd.TheVariants.{Counted, Faulty}
 use Rattle.exclude_core.specs.Report.{IsReported, AreReported, IsToldFault, IsCheck, accepted, refused, no_object, and_object, counted, faulty, count_line, fault_line}

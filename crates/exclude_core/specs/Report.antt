@@ -5,11 +5,11 @@ use Rattle.path_tree.specs.declared.lex.fault.LexFault.{LexFault}
 use Rattle.path_tree.specs.declared.lex.fault.LexFault.TheVariants as lex_faults
 use Rattle.path_tree.specs.Tokens.{IsFirstFault}
 use Rattle.line_core.specs.Reply.{fault_text}
-use Rattle.decl_core.specs.declared.fault.DeclFault.{DeclFault}
-use Rattle.decl_core.specs.declared.fault.DeclFault.TheVariants as faults
-use Rattle.decl_core.specs.DeclFaults.{fault_number, fault_name, fault_place}
+use Rattle.decl_read.specs.declared.fault.DeclFault.{DeclFault}
+use Rattle.decl_read.specs.declared.fault.DeclFault.TheVariants as faults
+use Rattle.decl_read.specs.DeclFaults.{fault_number, fault_name, fault_place}
 use Rattle.decl_core.specs.ObjectForm.{OperationForm, ObjectForm}
-use Rattle.decl_core.specs.ObjectMap.{AreObjectsOf, lex_fault_told}
+use Rattle.decl_read.specs.Sources.{AreObjectsOf, lex_fault_told}
 use Rattle.exclude_core.specs.declared.certificate.Entry.{Entry}
 use Rattle.exclude_core.specs.declared.report.CheckEnd.{CheckEnd}
 use Rattle.exclude_core.specs.declared.report.CheckEnd.TheVariants as ends

@@ -4,7 +4,8 @@ ghost use Rattle.std.specs.Prelude.{◌≡◌, ◌≢◌, ◌++◌, ⊤, ℕ, Li
 ghost use Rattle.std.specs.Io.KnownBytes.{Appends, Keeps};
 ghost use Rattle.std.specs.Map.{values_of};
 ghost use Rattle.decl_core.specs.ObjectForm.{ObjectForm};
-ghost use Rattle.decl_core.specs.ObjectMap.{AreObjectsOf, object_of, objects_of};
+ghost use Rattle.decl_read.specs.Sources.{AreObjectsOf};
+ghost use Rattle.decl_core.specs.ObjectMap.{object_of, objects_of};
 ghost use Rattle.exclude_core.specs.Certificate.{IsFirstCertificate};
 ghost use Rattle.exclude_core.specs.CheckFaults.{fault_number, fault_name};
 ghost use Rattle.exclude_core.specs.Exclusive.{IsExclusive};
@@ -16,9 +17,9 @@ ghost use Rattle.exclude_core.specs.declared.report.CheckFault.TheVariants.{Writ
 
 use crate::analyse::{Accepted, Refusal, Refused, analyse};
 use crate::text::{fault_word, part_name, push_entries, push_pair, push_said};
-use decl_core::fault::DeclFault;
 use decl_core::object::Object;
-use decl_core::read::read_objects;
+use decl_read::fault::DeclFault;
+use decl_read::read::read_objects;
 use indexmap::IndexMap;
 use line_core::reply::{push_fault, push_number};
 use line_core::write_whole;

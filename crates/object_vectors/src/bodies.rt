@@ -2,7 +2,7 @@
 
 use crate::faults::BODY;
 use crate::tables::{rows_are_told, rows_between_are_told, text_of};
-use decl_core::read::read_objects;
+use decl_read::read::read_objects;
 use decl_core::stmt::Stmt;
 use std::alloc::Global;
 use std::process::Abort;

@@ -3,7 +3,7 @@
 use crate::tables::text_of;
 use crate::texts::BOOK;
 use decl_core::object::Object;
-use decl_core::read::read_objects;
+use decl_read::read::read_objects;
 use exclude_core::footprint::{Footprint, footprint};
 use std::alloc::Global;
 use std::process::Abort;

@@ -3,7 +3,7 @@
 use crate::rows::has_contents;
 use crate::tables::{rows_are_told, text_of};
 use decl_core::expr::{Expr, IntegerExpr};
-use decl_core::read::read_objects;
+use decl_read::read::read_objects;
 use decl_core::stmt::Stmt;
 use std::alloc::Global;
 use std::process::Abort;

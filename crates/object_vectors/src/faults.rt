@@ -2,7 +2,7 @@
 //! said in `tables`.
 
 use crate::tables::rows_are_told;
-use decl_core::fault::DeclFault;
+use decl_read::fault::DeclFault;
 use path_tree::lex::fault::LexFault;
 use path_tree::path_fault::PathFault;
 

@@ -3,7 +3,7 @@
 use crate::tables::{
     rows_are_limited, rows_are_read, rows_are_told, rows_between_are_told, text_of,
 };
-use decl_core::read::read_objects;
+use decl_read::read::read_objects;
 
 #[test]
 fn sources_have_16_objects(rt: HostRuntime) {

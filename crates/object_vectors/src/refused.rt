@@ -6,9 +6,9 @@
 
 use crate::check_rows::{CELL_REPORT, LOOSE_REPORT};
 use crate::texts::{BOOK, BUFFER, CELL, LOOSE, SOLO, TWO};
-use decl_core::fault::DeclFault;
+use decl_read::fault::DeclFault;
 use decl_core::object::Object;
-use decl_core::read::read_objects;
+use decl_read::read::read_objects;
 use exclude_core::analyse::{Refusal, analyse};
 use exclude_core::report::{CheckEnd, CheckFault, check_report};
 use std::alloc::Global;

@@ -3,7 +3,7 @@
 use crate::check_footprints::only_object;
 use crate::texts::{ALL, BOOK, BUFFER, CELL, LOOSE, SOLO, TWO};
 use decl_core::object::{Object, Operation, Param, Part};
-use decl_core::read::read_objects;
+use decl_read::read::read_objects;
 use path_count::counters::{Counters, compile};
 use std::alloc::{AllocError, Global};
 use std::process::Abort;

@@ -5,7 +5,7 @@
 //! there N times, and one behind `N+*` N times and, where one too many is asked for, once more. In a piece, `#`
 //! stands for two digits that count it.
 
-use decl_core::read::read_objects;
+use decl_read::read::read_objects;
 use std::alloc::Global;
 use std::process::Abort;
 
