@@ -306,14 +306,17 @@ def files(chosen):
 
 
 class Placed:
-    """A case as a command: its words, its standard input, and where its standard output goes. What is written for it lies in a folder."""
+    """A case as a command: its words, its standard input (a text, or a file), and where its standard output goes. What is
+    written for it lies in a folder."""
 
     def __init__(self, case, program, folder):
-        words, self.input, self.output = [str(program)], b"", None
+        words, self.input, self.file, self.output = [str(program)], b"", None, None
         rest = iter(case.words)
         for word in rest:
             if word == "<":
-                self.input = case.inputs[next(rest)]
+                name = next(rest)
+                self.input = case.inputs.get(name, b"")
+                self.file = None if name in case.inputs else TOP / name
             elif word == ">":
                 self.output = next(rest)
             elif word in case.inputs:
