@@ -212,7 +212,7 @@ def with_each(block):
             continue
         sources = named_by(each)
         if not sources:
-            raise BadCase(f"line {section[0]}: there is none of {each!r}")
+            raise BadCase(f"line {section[0]}: `each {each}` names nothing")
         rest = {it: text for it, text in block.sections.items() if it != name}
         return [Block(f"{block.title}, {it}", block.line, {f"{head}: {it}": section, **rest}) for it in sources]
     return [block]
