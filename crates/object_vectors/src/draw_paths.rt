@@ -1,6 +1,6 @@
 //! Paths that are drawn, with a table of their nodes that is kept while their text is written.
 
-use crate::check_pen::Pen;
+use crate::pen::Pen;
 use std::alloc::{AllocError, Global};
 
 /// The operations that a path may name, with their bits.
@@ -17,7 +17,7 @@ pub(crate) const OPERATIONS: [(u8, u8); 6] = [
 const LEVELS: u32 = 6;
 
 /// What a node is, as far as it matters here.
-#[derive(Clone, Copy, Debug, PartialEq, Eq)]
+#[derive(Clone, Copy, PartialEq, Eq)]
 pub(crate) enum Form {
     /// A bound of this number.
     Bound(u8),

@@ -2,10 +2,10 @@
 //! pair, part by part and node by node, over what was noted while the text was drawn: it knows neither the
 //! trees of the reader nor the walks of the analyser.
 
-use crate::check_bodies::{PARTS, Touched, draw_operation};
-use crate::check_footprints::only_object;
-use crate::check_paths::{DrawnNode, Form, OPERATIONS, draw_path};
-use crate::check_pen::Pen;
+use crate::draw_bodies::{PARTS, Touched, draw_operation};
+use crate::draw_paths::{DrawnNode, Form, OPERATIONS, draw_path};
+use crate::pen::Pen;
+use crate::texts::only_object;
 use decl_core::object::Object;
 use exclude_core::analyse::{Accepted, Refusal, analyse};
 use exclude_core::certificate::{Certificate, Entry, check_certificate};
@@ -28,29 +28,55 @@ struct DrawnObject {
     paths: Vec<Vec<DrawnNode>>,
 }
 
-// Draws an object.
-fn draw_object(alloc: Global, pen: &mut Pen) -> Result<DrawnObject, AllocError> {
-    let count = pen.up_to(6) as usize;
-    let parts = pen.up_to(3);
+// Draws one to three paths over the first operations, so many of them.
+fn draw_paths(
+    alloc: Global,
+    pen: &mut Pen,
+    count: usize,
+) -> Result<Vec<Vec<DrawnNode>>, AllocError> {
     let mut all = 0;
     for (_, bit) in OPERATIONS.iter().take(count) {
         all |= *bit;
     }
-    pen.put("object o; ");
     let mut paths = Vec::new(alloc);
     for _ in 0..pen.up_to(3) {
         paths.push(draw_path(alloc, pen, all)?)?;
     }
-    pen.put("var ");
-    for (name, _) in PARTS.iter().take(parts as usize) {
-        pen.put(name);
-        pen.put(" : array [2] of integer; ");
-    }
+    Ok(paths)
+}
+
+// Draws so many operations, of an object of so many parts.
+fn draw_operations(
+    alloc: Global,
+    pen: &mut Pen,
+    count: usize,
+    parts: u32,
+) -> Result<Vec<DrawnOperation>, AllocError> {
     let mut operations = Vec::new(alloc);
     for (name, bit) in OPERATIONS.iter().take(count) {
         let touched = draw_operation(pen, *name, parts);
         operations.push(DrawnOperation { bit: *bit, touched })?;
     }
+    Ok(operations)
+}
+
+// Writes the parts of an object, so many of them.
+fn put_parts(pen: &mut Pen, parts: u32) {
+    pen.put("var ");
+    for (name, _) in PARTS.iter().take(parts as usize) {
+        pen.put(name);
+        pen.put(" : array [2] of integer; ");
+    }
+}
+
+// Draws an object.
+fn draw_object(alloc: Global, pen: &mut Pen) -> Result<DrawnObject, AllocError> {
+    let count = pen.up_to(6) as usize;
+    let parts = pen.up_to(3);
+    pen.put("object o; ");
+    let paths = draw_paths(alloc, pen, count)?;
+    put_parts(pen, parts);
+    let operations = draw_operations(alloc, pen, count, parts)?;
     pen.put("end;");
     Ok(DrawnObject {
         text: pen.take_text(alloc),
@@ -166,6 +192,33 @@ fn count(number: &mut u32, is_so: bool) {
     }
 }
 
+// Puts a place into the entry of this number of a certificate, compares whether it is a certificate with it, and
+// gives whether it is one.
+fn ask_place(
+    rt: &impl Abort,
+    drawn: &DrawnObject,
+    object: &Object,
+    certificate: &mut Certificate,
+    number: usize,
+    place: (usize, usize),
+    both: u8,
+) -> bool {
+    if let Some(entry) = certificate.entries.get_mut(number) {
+        entry.path = place.0;
+        entry.node = place.1;
+    }
+    let is_fit = is_separated_at(drawn, place.0, place.1, both);
+    assert!(rt; check_certificate(object, certificate) == is_fit);
+    is_fit
+}
+
+// The bits of the operations of an entry.
+fn bits_of(rt: &impl Abort, drawn: &DrawnObject, entry: Entry) -> u8 {
+    let a = drawn.operations.get(entry.first).expect(rt, "the first");
+    let b = drawn.operations.get(entry.second).expect(rt, "the second");
+    a.bit | b.bit
+}
+
 // Puts places into the entry of this number of a certificate, each that separates and some that are drawn,
 // and compares whether it is a certificate with them.
 fn ask_places(
@@ -177,31 +230,22 @@ fn ask_places(
     number: usize,
     tally: &mut Tally,
 ) -> Result<(), AllocError> {
-    let entries = accepted.certificate().entries.to_vec(alloc)?;
-    let mut certificate = Certificate { entries };
     let Some(told) = accepted.certificate().entries.get(number) else {
         return Ok(());
     };
-    let a = drawn.operations.get(told.first).expect(rt, "the first");
-    let b = drawn.operations.get(told.second).expect(rt, "the second");
-    let both = a.bit | b.bit;
+    let told = *told;
+    let both = bits_of(rt, drawn, told);
     let mut places = separations(alloc, drawn, both)?;
     for _ in 0..4 {
         places.push((pen.below(5) as usize, pen.below(12) as usize))?;
     }
-    for (path, node) in places {
-        if let Some(entry) = certificate.entries.get_mut(number) {
-            entry.path = path;
-            entry.node = node;
-        }
-        let is_fit = is_separated_at(drawn, path, node, both);
-        let is_one = check_certificate(accepted.object(), &certificate);
-        assert!(rt; is_one == is_fit);
+    let entries = accepted.certificate().entries.to_vec(alloc)?;
+    let mut certificate = Certificate { entries };
+    for place in places {
+        let object = accepted.object();
+        let is_fit = ask_place(rt, drawn, object, &mut certificate, number, place, both);
         count(&mut tally.unfit, !is_fit);
-        count(
-            &mut tally.other,
-            is_fit && (path, node) != (told.path, told.node),
-        );
+        count(&mut tally.other, is_fit && place != (told.path, told.node));
     }
     Ok(())
 }
@@ -237,7 +281,42 @@ fn compare_accepted(
     ask_places(rt, alloc, pen, drawn, accepted, number, tally)
 }
 
-// Draws an object, and compares what the two analysers say of it.
+// Compares why an object is refused with what the slow one says.
+fn compare_refused(
+    rt: &impl Abort,
+    why: Refusal,
+    slow: Result<Vec<Entry>, Refusal>,
+    tally: &mut Tally,
+) {
+    let is_same = slow.err() == Some(why);
+    assert!(rt; is_same, "refused by the slow one too");
+    count(&mut tally.refused, true);
+    count(&mut tally.late, why != Refusal::Unseparated(0, 0, 0));
+}
+
+// Compares what the two analysers say of a drawn object.
+fn compare_said(
+    rt: &impl Abort,
+    alloc: Global,
+    pen: &mut Pen,
+    drawn: &DrawnObject,
+    object: Object,
+    tally: &mut Tally,
+) -> Result<(), AllocError> {
+    let slow = slow_analyse(alloc, drawn)?;
+    match analyse(alloc, object) {
+        Ok(accepted) => {
+            let entries = slow.ok().expect(rt, "accepted by the slow one too");
+            compare_accepted(rt, alloc, pen, drawn, &accepted, &entries, tally)
+        }
+        Err(refused) => {
+            compare_refused(rt, refused.why, slow, tally);
+            Ok(())
+        }
+    }
+}
+
+// Draws an object, and compares what is said of it.
 fn compare(
     rt: &impl Abort,
     alloc: Global,
@@ -247,20 +326,7 @@ fn compare(
     let drawn = draw_object(alloc, pen)?;
     let object = only_object(rt, alloc, &drawn.text);
     compare_touched(rt, &object, &drawn);
-    let slow = slow_analyse(alloc, &drawn)?;
-    match analyse(alloc, object) {
-        Ok(accepted) => {
-            let entries = slow.ok().expect(rt, "accepted by the slow one too");
-            compare_accepted(rt, alloc, pen, &drawn, &accepted, &entries, tally)
-        }
-        Err(refused) => {
-            let why = slow.err().expect(rt, "refused by the slow one too");
-            assert_eq!(rt; refused.why, why);
-            count(&mut tally.refused, true);
-            count(&mut tally.late, why != Refusal::Unseparated(0, 0, 0));
-            Ok(())
-        }
-    }
+    compare_said(rt, alloc, pen, &drawn, object, tally)
 }
 
 #[test]

@@ -1,13 +1,13 @@
 //! Operations that are drawn, with the parts that their texts name and those that they change, which are
 //! noted while the texts are written.
 
-use crate::check_pen::Pen;
+use crate::pen::Pen;
 
 /// The parts of an object, by their names, with their bits.
 pub(crate) const PARTS: [(&str, u16); 3] = [("u", 1), ("v", 2), ("w", 4)];
 
 /// The parts that a text names, and those that it changes, as bits.
-#[derive(Clone, Copy, Debug, PartialEq, Eq)]
+#[derive(Clone, Copy)]
 pub(crate) struct Touched {
     pub names: u16,
     pub changes: u16,
