@@ -6,6 +6,7 @@ import re
 TOP = pathlib.Path(__file__).resolve().parent.parent
 ESCAPES = {"n": b"\n", "r": b"\r", "t": b"\t", "\\": b"\\", "^": b"^", "|": b"|", "#": b"#", "*": b"*"}
 PIECE = re.compile(r"(\d+)(\+?)\*")
+BLOCK = re.compile(r"(\w+) block (\d+) of (\S+)")
 REPORT = re.compile(rb"(?:.*\n)*\d+ objects, (\d+) refused\n\Z")
 FAULT = re.compile(rb"(?:lex|path|decl) \d+ [A-Za-z]+(?: at \d+)?\n\Z")
 
@@ -179,6 +180,44 @@ def lines_of(section):
     return lines
 
 
+def fenced(word, page):
+    """The blocks of a page that are fenced by this word."""
+    return re.findall(rb"(?m)^```%s\n((?:(?!```).*\n)*)```$" % word.encode(), (TOP / page).read_bytes())
+
+
+def stored(source):
+    """The text that a source names: a file, or a block of a page."""
+    block = BLOCK.fullmatch(source)
+    if not block:
+        return (TOP / source).read_bytes()
+    found = fenced(block[1], block[3])
+    if not 1 <= int(block[2]) <= len(found):
+        raise BadCase(f"no {source}")
+    return found[int(block[2]) - 1]
+
+
+def named_by(each):
+    """The sources that stand behind the word `each`: the blocks of a page, or the files of a pattern."""
+    word, _, page = each.partition(" block of ")
+    if page:
+        return [f"{word} block {number} of {page}" for number, _ in enumerate(fenced(word, page), 1)]
+    return sorted(str(it.relative_to(TOP)) for it in TOP.glob(each.removeprefix("of ")))
+
+
+def with_each(block):
+    """The block, or where an input is `each` of several, a block for each of them."""
+    for name, section in block.sections.items():
+        head, _, each = name.partition(": each ")
+        if not each:
+            continue
+        sources = named_by(each)
+        if not sources:
+            raise BadCase(f"line {section[0]}: `each {each}` names nothing")
+        rest = {it: text for it, text in block.sections.items() if it != name}
+        return [Block(f"{block.title}, {it}", block.line, {f"{head}: {it}": section, **rest}) for it in sources]
+    return [block]
+
+
 class Reader:
     """Makes the cases of one block."""
 
@@ -236,7 +275,7 @@ class Reader:
         found, place = {}, None
         for name in {*self.files} | {it for it in self.sections if it.isupper()}:
             if name in self.files:
-                text = Text((TOP / self.files[name]).read_bytes(), None)
+                text = Text(stored(self.files[name]), None)
             else:
                 text = read_text(self.lines(name, puts), None, more)
             found[name] = text.bytes
@@ -294,7 +333,8 @@ def cases_of(path):
     file = str(path.relative_to(TOP))
     header, found = blocks(path)
     for block in found:
-        yield from Reader(file, header, block).cases()
+        for one in with_each(block):
+            yield from Reader(file, header, one).cases()
 
 
 def files(chosen):

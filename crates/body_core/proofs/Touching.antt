@@ -5,7 +5,7 @@ use Rattle.decl_core.specs.Form.{From, argument, element, oldest, under, Integer
 use Rattle.decl_core.specs.Touched.{FromNames, IntegersName, TextsName, FormNames, ConditionNames, StatementNames, Reads, StatementChanges, Writes}
 
 -- it holds, or it does not
-abbrev OrNot : Type 0 → Type 0
+abbrev pub OrNot : Type 0 → Type 0
 OrNot A = A ⊎ (A → ⊥)
 
 never : OrNot ⊥
@@ -16,7 +16,7 @@ either (inl a) other = inl (inl a)
 either (inr not) (inl b) = inl (inr b)
 either {A} {B} (inr not) (inr none) = inr (λ h. elim h [ inl a ↦ not a | inr b ↦ none b ])
 
-surely : {A : Type 0} → OrNot A → ((A → ⊥) → ⊥) → A
+pub surely : {A : Type 0} → OrNot A → ((A → ⊥) → ⊥) → A
 surely (inl a) h = a
 surely (inr not) h = absurd (h not)
 
@@ -77,7 +77,7 @@ mutual
   changed_or_not (choose c s t) p = either (changed_or_not s p) (changed_or_not t p)
   changed_or_not (refuse w) p = never
 
-  written_or_not : (all : Statements) (p : ℕ) → OrNot (Writes all p)
+  pub written_or_not : (all : Statements) (p : ℕ) → OrNot (Writes all p)
   written_or_not nothing p = never
   written_or_not (first_and s rest) p = either (changed_or_not s p) (written_or_not rest p)
 

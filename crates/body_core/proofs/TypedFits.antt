@@ -10,7 +10,7 @@ use Rattle.value_core.specs.Kinds.{sort_of, IsArray, IsQueue, IsTable}
 use Rattle.decl_core.specs.declared.object.Operation.{Operation}
 use Rattle.decl_core.specs.Bodies.{body_of}
 use Rattle.decl_core.specs.Form.{From, argument, element, oldest, under, Integers, number, integer_from, count, add, subtract, Texts, literal, text_from, Form, an_integer, a_text, Condition, compare, same_texts, other_texts, has, is_not, Statement, block, set_element, set_result, append, take, store, erase, choose, refuse, Statements, nothing, first_and}
-use Rattle.decl_core.specs.Reading.{array_sort, queue_sort, table_sort}
+use Rattle.decl_core.specs.Sorts.{array_sort, queue_sort, table_sort}
 use Rattle.decl_core.specs.Touched.{FromNames, IntegersName, TextsName, FormNames, ConditionNames, StatementNames, Reads}
 use Rattle.decl_core.specs.Typed.{Types, HoldsSort, FromTyped, IntegersTyped, TextsTyped, FormTyped, ConditionTyped, StatementTyped, StatementsTyped}
 use Rattle.body_core.specs.Calls.{HoldsReads}

@@ -8,7 +8,7 @@ use Rattle.value_core.specs.Kinds.{sort_of, IsArray, IsQueue, IsTable}
 use Rattle.decl_core.specs.declared.expr.Signed.{Signed}
 use Rattle.decl_core.specs.declared.expr.Signed.TheVariants as signs
 use Rattle.decl_core.specs.Form.{From, argument, element, oldest, under, Integers, number, integer_from, count, add, subtract, Texts, literal, text_from, Form, an_integer, a_text, Condition, compare, same_texts, other_texts, has, is_not, Statement, block, set_element, set_result, append, take, store, erase, choose, refuse, Statements, nothing, first_and}
-use Rattle.decl_core.specs.Statements.{sort_of_form}
+use Rattle.decl_core.specs.Sorts.{sort_of_form}
 use Rattle.decl_core.specs.View.{integers_of}
 
 -- the kind of a part

@@ -4,7 +4,7 @@ ghost use Rattle.std.specs.Prelude.{◌≡◌, ◌<◌, length, map, IfOk};
 ghost use Rattle.value_core.specs.Contents.{kind_of};
 ghost use Rattle.value_core.specs.Datum.{elem_of};
 ghost use Rattle.decl_core.specs.View.{from_of, integers_of, texts_of, form_of, condition_of};
-ghost use Rattle.decl_core.specs.Statements.{sort_of_form};
+ghost use Rattle.decl_core.specs.Sorts.{sort_of_form};
 ghost use Rattle.decl_core.specs.Meaning.{by_word, part_at, argument_at, integer_in as in_integer, text_in as in_text, datum_from, integer_value, text_value, datum_value, compares as related, holds as is_true};
 ghost use Rattle.body_core.specs.Fitting.{kind_at, FromFits, IntegersFit, TextsFit, SignedFits, TermsFit, FormFits, ConditionFits};
 ghost use Rattle.body_core.specs.Sums.{seeing, with_signed, with_terms};

@@ -7,7 +7,7 @@ use body_core::run::Run;
 use body_core::step::Need;
 use body_core::ticket::Ticket;
 use decl_core::object::{Object, Operation};
-use decl_core::read::read_objects;
+use decl_read::read::read_objects;
 use shelf_core::hand::{Hand, Stamp};
 use shelf_core::pins::Pins;
 use shelf_core::whole::put;

@@ -1,17 +1,27 @@
--- The objects of a source, under their names.
-use Rattle.std.specs.Prelude.{⊤, ◌≡◌, ℕ, ◌≤◌, List, [], ◌∷◌, length, map}
-use Rattle.std.specs.Borrow.{Bor}
-use Rattle.path_tree.specs.Lexeme.{lexemes, Lexeme}
-use Rattle.path_tree.specs.Tokens.{Placed, AreTokens}
-use Rattle.path_tree.specs.declared.token.Token.{Token}
-use Rattle.path_tree.specs.declared.lex.fault.LexFault.{LexFault}
-use Rattle.path_tree.specs.declared.lex.fault.LexFault.TheVariants as lex_faults
-use Rattle.decl_core.specs.declared.fault.DeclFault.{DeclFault}
-use Rattle.decl_core.specs.declared.fault.DeclFault.TheVariants as faults
+-- Objects without where they lie in memory, and objects under their names.
+use Rattle.std.specs.Prelude.{⊤, ◌≡◌, ℕ, List, [], ◌∷◌, map}
+use Rattle.std.specs.declared.sync.Arc.{Arc}
+use Rattle.std.specs.Arc.{arc_value}
+use Rattle.value_core.specs.declared.kind.Elem.{Elem}
+use Rattle.value_core.specs.declared.kind.Kind.{Kind}
+use Rattle.decl_core.specs.declared.object.Param.{Param}
+use Rattle.decl_core.specs.declared.object.Part.{Part}
+use Rattle.decl_core.specs.declared.object.Operation.{Operation}
 use Rattle.decl_core.specs.declared.object.Object.{Object}
-use Rattle.decl_core.specs.ObjectForm.{ObjectForm}
-use Rattle.decl_core.specs.Declarations.{IsFile}
-use Rattle.decl_core.specs.Scopes.{parts_of, operations_of}
+use Rattle.decl_core.specs.ObjectForm.{OperationForm, ObjectForm}
+use Rattle.decl_core.specs.View.{all_of}
+
+abbrev pub params_of : List Param → List (List ℕ × Elem)
+params_of params = map (λ p. (p.name, p.kind)) params
+
+abbrev pub parts_of : List Part → List (List ℕ × Kind)
+parts_of parts = map (λ p. (p.name, p.kind)) parts
+
+abbrev pub operation_of : Operation → OperationForm
+operation_of o = record { name = o.name; params = params_of o.params.items; result = o.result; statements = all_of o.body.items; kinds = o.kinds.items }
+
+abbrev pub operations_of : {Z : Type 0} → List (Arc Operation Z) → List OperationForm
+operations_of operations = map (λ o. operation_of (arc_value o)) operations
 
 abbrev pub object_of : Object → ObjectForm
 object_of o = record { name = o.name; parts = parts_of o.parts.items; paths = o.paths.items; operations = operations_of o.operations.items }
@@ -27,26 +37,3 @@ AreNamed (e ∷ entries) = (e.0 ≡ e.1.name) × AreNamed entries
 -- the names of objects
 abbrev pub object_names : List Object → List (List ℕ)
 object_names objects = map (λ o. o.name) objects
-
--- what was read, and what stands behind
-abbrev pub object_read : Object × Bor (List Token) → ObjectForm × List Lexeme
-object_read x = (object_of x.0, lexemes x.1.now)
-
-abbrev pub objects_read : List Object × Bor (List Token) → List ObjectForm × List Lexeme
-objects_read x = (objects_of x.0, lexemes x.1.now)
-
--- what is told where a source has no tokens
-abbrev pub lex_fault_told : LexFault → DeclFault
-lex_fault_told lex_faults.Memory = faults.Memory
-lex_fault_told lex_faults.TooLong = faults.Lex lex_faults.TooLong
-lex_fault_told (lex_faults.BadByte at) = faults.Lex (lex_faults.BadByte at)
-lex_fault_told (lex_faults.OpenComment at) = faults.Lex (lex_faults.OpenComment at)
-lex_fault_told (lex_faults.OpenString at) = faults.Lex (lex_faults.OpenString at)
-lex_fault_told (lex_faults.BadNumber at) = faults.Lex (lex_faults.BadNumber at)
-
--- These are the objects of a source: it has at most 65,536 bytes and tokens, and these are a file of the grammar.
-pub record AreObjectsOf (source : List ℕ) (objects : List ObjectForm) : Type 0 where
-  pub tokens : List Placed
-  pub short : length source ≤ 65536
-  pub lexed : AreTokens source tokens
-  pub is : IsFile (map (λ t. t.lexeme) tokens) objects

@@ -1,14 +1,13 @@
 -- Which bodies are well typed: each part that they use is known and holds what they ask of it, and each expression is of the sort that is due.
-use Rattle.std.specs.Prelude.{◌≡◌, ℕ, List, map, slice_get, Option, Some, None}
+use Rattle.std.specs.Prelude.{◌≡◌, ℕ, List, slice_get, Option, Some}
 use Rattle.value_core.specs.declared.kind.Elem.{Elem}
 use Rattle.value_core.specs.declared.kind.Elem.TheVariants as elem
 use Rattle.value_core.specs.declared.kind.Kind.{Kind}
 use Rattle.value_core.specs.Plain.{IsText}
 use Rattle.decl_core.specs.RefusalWord.{IsRefusalWord}
 use Rattle.decl_core.specs.Form.{From, argument, element, oldest, under, Integers, number, integer_from, count, add, subtract, Texts, literal, text_from, Form, an_integer, a_text, Condition, compare, same_texts, other_texts, has, is_not, Statement, block, set_element, set_result, append, take, store, erase, choose, refuse, Statements, nothing, first_and}
-use Rattle.decl_core.specs.ObjectForm.{kinds_from}
-use Rattle.decl_core.specs.Reading.{Names, array_sort, queue_sort, table_sort}
-use Rattle.decl_core.specs.Statements.{sort_of_form}
+use Rattle.decl_core.specs.Sorts.{array_sort, queue_sort, table_sort}
+use Rattle.decl_core.specs.Sorts.{sort_of_form}
 
 -- what a body is given: of each part its kind, where it is known; the sorts of its arguments; and which sort it replies, if any
 pub record Types : Type 0 where
@@ -82,18 +81,6 @@ abbrev mutual
   pub StatementsTyped : Types → Statements → Type 0
   StatementsTyped t nothing = Unit {0}
   StatementsTyped t (first_and s rest) = StatementTyped t s × StatementsTyped t rest
-
--- which sort is replied, where this is the function
-abbrev pub reply_sort : Option (List ℕ × Elem) → Option Elem
-reply_sort None = None
-reply_sort (Some f) = Some f.1
-
--- what the names stand for, where the kind of each part is known, and where it is known for these
-abbrev pub all_known : Names → Types
-all_known names = record { kinds = map (λ p. Some p.1) names.parts; params = map (λ p. p.1) names.params; result = reply_sort names.function }
-
-abbrev pub known_of : ℕ → Names → Types
-known_of reads names = record { kinds = kinds_from reads 0 names.parts; params = map (λ p. p.1) names.params; result = reply_sort names.function }
 
 -- these statements are well typed with these kinds of parts, sorts of parameters and sort of the reply
 abbrev pub IsWellTyped : List (Option Kind) → List Elem → Option Elem → Statements → Type 0

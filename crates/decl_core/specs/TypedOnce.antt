@@ -10,8 +10,8 @@ use Rattle.value_core.specs.declared.kind.Kind.{Kind}
 use Rattle.value_core.specs.Plain.{IsText}
 use Rattle.decl_core.specs.RefusalWord.{IsRefusalWord}
 use Rattle.decl_core.specs.Form.{From, argument, element, oldest, under, Integers, number, integer_from, count, add, subtract, Texts, literal, text_from, Form, an_integer, a_text, Condition, compare, same_texts, other_texts, has, is_not, Statement, block, set_element, set_result, append, take, store, erase, choose, refuse, Statements, nothing, first_and}
-use Rattle.decl_core.specs.Reading.{array_sort, queue_sort, table_sort}
-use Rattle.decl_core.specs.Statements.{sort_of_form}
+use Rattle.decl_core.specs.Sorts.{array_sort, queue_sort, table_sort}
+use Rattle.decl_core.specs.Sorts.{sort_of_form}
 use Rattle.decl_core.specs.Typed.{Types, IsHeld, HoldsSort, IsTableAt, IsQueueAt, FromTyped, IntegersTyped, TextsTyped, FormTyped, ConditionTyped, StatementTyped, StatementsTyped, IsWellTyped}
 
 elem_set : IsSet Elem

@@ -1,9 +1,9 @@
 //! Which parts an operation names, and which it changes.
 //!
-//! Each function takes the parts so far and gives them with those that it finds, as bits: bit p stands for
-//! part p.
+//! Parts are bits: bit p stands for part p. Each private function takes the parts so far and gives them with
+//! those that it finds.
 
-ghost use Rattle.std.specs.Prelude.{◌≡◌, ◌↔◌, ℕ};
+ghost use Rattle.std.specs.Prelude.{◌≡◌, ◌↔◌, ◌<◌, ◌==◌, ℕ};
 ghost use Rattle.std.specs.Int.{bit_at};
 ghost use Rattle.decl_core.specs.View.{from_of, integers_of, texts_of, form_of, condition_of, statement_of, all_of};
 ghost use Rattle.decl_core.specs.Bodies.{body_of};
@@ -30,6 +30,14 @@ pub fn writes(operation: &Operation) -> u16
     ensures changed { (p : ℕ) → (bit_at result p ≡ 1) ↔ Writes (body_of operation.now).statements p }
 {
     changed_by_block(&operation.body, 0)
+}
+
+/// Whether a part is among these.
+pub fn is_in(part: u8, parts: u16) -> bool
+    requires { part < 16 }
+    ensures { result ≡ (bit_at parts part == 1) }
+{
+    (parts >> part) & 1 == 1
 }
 
 // A part, besides those so far.

@@ -1,111 +1,75 @@
-//! Expressions where a kind is due.
+//! What an operation knows of the parts of its object.
 
-ghost use Rattle.std.specs.Prelude.{◌≡◌, Some};
-ghost use Rattle.decl_core.specs.View.{from_of, integers_of, texts_of, form_of, with_term};
-ghost use Rattle.decl_core.specs.Reader.{Gives};
-ghost use Rattle.decl_core.specs.Reading.{integer_form, text_form, of_sort, array_sort, queue_sort, table_sort, literal_of, level_of, combined};
-ghost use Rattle.decl_core.specs.Form.{Integers};
+ghost use Rattle.std.specs.Prelude.{◌≡◌, ◌≤◌, ◌++◌, ◌<◌, ◌+◌, ◌==◌, if◌then◌else◌, IfOk, Some, None, length, map};
+ghost use Rattle.std.specs.Int.{bit_at};
+ghost use Rattle.decl_core.specs.View.{all_of};
+ghost use Rattle.decl_core.specs.Footprint.{named_in_all};
+ghost use Rattle.decl_core.specs.ObjectForm.{kinds_from, operation_with};
+ghost use Rattle.decl_core.specs.ObjectMap.{operation_of, params_of, parts_of};
+ghost use Rattle.decl_core.specs.Typed.{IsWellTyped};
 
-use crate::expr::{Expr, IntegerExpr, Signed, Source, TextExpr};
-use crate::fault::DeclFault;
-use std::alloc::Global;
+use crate::footprint::{is_in, named_by_block};
+use crate::object::{Operation, Param, Part};
+use crate::stmt::Stmt;
+use path_tree::name::Name;
+use std::alloc::{AllocError, Global};
 use value_core::kind::{Elem, Kind};
-use value_core::text::Text;
 
-/// An expression that has to be an integer.
-pub(crate) fn integer(e: Expr, at: usize) -> Result<IntegerExpr, DeclFault>
-    ensures { Gives integers_of result (integer_form (form_of e)) }
+/// What a part holds, where its bit is set.
+fn kind_of(named: u16, place: u8, part: &Part) -> Option<Kind>
+    requires { place < 16 }
+    ensures { result ≡ (if bit_at named place == 1 then Some part.now.kind else None) }
 {
-    match e {
-        Expr::Integer(e) => Ok(e),
-        Expr::Text(_) => Err(DeclFault::WrongType(at)),
-    }
-}
-
-/// An expression that has to be a text.
-pub(crate) fn text(e: Expr, at: usize) -> Result<TextExpr, DeclFault>
-    ensures { Gives texts_of result (text_form (form_of e)) }
-{
-    match e {
-        Expr::Integer(_) => Err(DeclFault::WrongType(at)),
-        Expr::Text(e) => Ok(e),
-    }
-}
-
-/// What is taken from somewhere, as an expression of its kind.
-pub(crate) fn taken(alloc: Global, sort: Elem, source: Source) -> Result<Expr, DeclFault>
-    ensures { Gives form_of result (Some (of_sort sort (from_of source))) }
-{
-    let source = Box::new(alloc, source)?;
-    match sort {
-        Elem::Integer => Ok(Expr::Integer(IntegerExpr::From(source))),
-        Elem::Text => Ok(Expr::Text(TextExpr::From(source))),
-    }
-}
-
-/// What the elements are of a part that has to be an array.
-pub(crate) fn array(kind: Kind, at: usize) -> Result<Elem, DeclFault>
-    ensures { Gives (λ e. e) result (array_sort kind) }
-{
-    match kind {
-        Kind::Array(_, sort) => Ok(sort),
-        Kind::Queue(_) => Err(DeclFault::WrongType(at)),
-        Kind::Table(_) => Err(DeclFault::WrongType(at)),
-    }
-}
-
-/// What the elements are of a part that has to be a queue.
-pub(crate) fn queue(kind: Kind, at: usize) -> Result<Elem, DeclFault>
-    ensures { Gives (λ e. e) result (queue_sort kind) }
-{
-    match kind {
-        Kind::Array(_, _) => Err(DeclFault::WrongType(at)),
-        Kind::Queue(sort) => Ok(sort),
-        Kind::Table(_) => Err(DeclFault::WrongType(at)),
-    }
-}
-
-/// What the elements are of a part that has to be a table.
-pub(crate) fn table(kind: Kind, at: usize) -> Result<Elem, DeclFault>
-    ensures { Gives (λ e. e) result (table_sort kind) }
-{
-    match kind {
-        Kind::Array(_, _) => Err(DeclFault::WrongType(at)),
-        Kind::Queue(_) => Err(DeclFault::WrongType(at)),
-        Kind::Table(sort) => Ok(sort),
-    }
-}
-
-/// The content of a string as an expression.
-#[tactic(auto, using(crate::proofs::Literals::literal_some, crate::proofs::Literals::literal_none))]
-pub(crate) fn literal(alloc: Global, bytes: &[u8], at: usize) -> Result<Expr, DeclFault>
-    ensures { Gives form_of result (literal_of bytes.now) }
-{
-    match Text::from_bytes(bytes) {
-        None => Err(DeclFault::Syntax(at)),
-        Some(text) => Ok(Expr::Text(TextExpr::Literal(Box::new(alloc, text)?))),
-    }
-}
-
-/// The levels left behind a token that opens one.
-#[tactic(auto, using(crate::proofs::Literals::level_some, crate::proofs::Literals::level_none))]
-pub(crate) fn level(depth: u8, at: usize) -> Result<u8, DeclFault>
-    ensures { Gives (λ d. d) result (level_of depth) }
-{
-    if depth == 0 {
-        Err(DeclFault::TooMany(at))
+    if is_in(place, named) {
+        Some(part.kind)
     } else {
-        Ok(depth - 1)
+        None
     }
 }
 
-/// A term behind its sign.
-pub(crate) fn signed(is_plus: bool, e: IntegerExpr) -> Signed
-    ensures { (f : Integers) → with_term f result ≡ combined is_plus f (integers_of e) }
+/// Of each part what it holds, where its bit is set, behind those before; the first has this number.
+#[tactic(auto, using(crate::proofs::KnownKinds::kinds_pushed))]
+fn kinds(
+    so_far: Vec<Option<Kind>>,
+    named: u16,
+    place: u8,
+    parts: &[Part],
+) -> Result<Vec<Option<Kind>>, AllocError>
+    requires { place + length parts.now ≤ 16 }
+    ensures { IfOk result (λ v. v.items ≡ so_far.items ++ kinds_from named place (parts_of parts.now)) }
 {
-    if is_plus {
-        Signed::Plus(e)
-    } else {
-        Signed::Minus(e)
+    match parts {
+        [] => Ok(so_far),
+        [part, rest @ ..] => {
+            let mut all = so_far;
+            all.push(kind_of(named, place, part))?;
+            kinds(all, named, place + 1, rest)
+        }
+    }
+}
+
+impl Operation {
+    /// The operation of an object with these parts whose text says this. It knows the kind of each part
+    /// that its text names.
+    pub fn new(
+        alloc: Global,
+        name: Name,
+        params: Vec<Param>,
+        reply: Option<Elem>,
+        body: Vec<Stmt>,
+        parts: &[Part],
+    ) -> Result<Operation, AllocError>
+        requires few { length parts.now ≤ 16 }
+        requires typed { IsWellTyped (kinds_from (named_in_all (all_of body.items) 0) 0 (parts_of parts.now)) (map (λ p. p.kind) params.items) reply (all_of body.items) }
+        ensures { IfOk result (λ o. operation_of o ≡ operation_with (parts_of parts.now) name (params_of params.items) reply (all_of body.items)) }
+    {
+        let kinds = kinds(Vec::new(alloc), named_by_block(&body, 0), 0, parts)?;
+        Ok(Operation {
+            name,
+            params,
+            result: reply,
+            body,
+            kinds,
+        })
     }
 }

@@ -6,7 +6,7 @@ use Rattle.std.proofs.lemmas.Bool.{cases_lt, eqb-true}
 use Rattle.std.proofs.lemmas.List.{length-map}
 use Rattle.decl_core.specs.ObjectForm.{ObjectForm}
 use Rattle.decl_core.specs.declared.object.Object.{Object}
-use Rattle.decl_core.specs.Scopes.{operation_of}
+use Rattle.decl_core.specs.ObjectMap.{operation_of}
 use Rattle.decl_core.specs.ObjectMap.{object_of}
 use Rattle.exclude_core.specs.declared.certificate.Entry.{Entry}
 use Rattle.exclude_core.specs.Exclusive.{Conflicts, AreSeparated, IsExclusive, PairBefore}

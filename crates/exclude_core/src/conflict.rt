@@ -5,7 +5,7 @@ ghost use Rattle.std.specs.Option.{option_map};
 ghost use Rattle.std.specs.Int.{bit_at};
 ghost use Rattle.decl_core.specs.Bodies.{body_of};
 ghost use Rattle.decl_core.specs.Touched.{ConflictAt};
-ghost use Rattle.decl_core.specs.Scopes.{operation_of};
+ghost use Rattle.decl_core.specs.ObjectMap.{operation_of};
 ghost use Rattle.decl_core.specs.ObjectMap.{object_of};
 ghost use Rattle.exclude_core.specs.Exclusive.{ConflictsAt};
 

@@ -5,8 +5,8 @@ ghost use Rattle.decl_core.specs.ObjectMap.{object_of};
 ghost use Rattle.exclude_core.specs.Report.{fault_word, operation_name, pair_line, pair_lines, pair_text, part_name};
 
 use crate::certificate::Entry;
-use decl_core::fault::DeclFault;
 use decl_core::object::Object;
+use decl_read::fault::DeclFault;
 use line_core::reply::push_number;
 use std::alloc::AllocError;
 

@@ -1,6 +1,8 @@
 pub mod Device
 pub mod Faults
 pub mod Files
+pub mod Made
+pub mod MadeFiles
 pub mod MemShelf
 pub mod Opened
 pub mod Papers

@@ -6,6 +6,7 @@
 
 pub mod dir;
 pub mod dir_shelf;
+pub mod failing;
 pub mod file;
 mod folder;
 pub mod fuse;

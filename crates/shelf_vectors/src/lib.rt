@@ -9,6 +9,8 @@ mod folder;
 #[cfg(test)]
 mod folder_shelf;
 #[cfg(test)]
+mod given_up;
+#[cfg(test)]
 mod hand_calls;
 #[cfg(test)]
 mod hands;

@@ -4,7 +4,7 @@ use crate::fake_shelf::FakeShelf;
 use crate::scratch::Scratch;
 use crate::shelves::assert_holds;
 use decl_core::object::Object;
-use decl_core::read::read_objects;
+use decl_read::read::read_objects;
 use shelf_core::dir::DirHand;
 use shelf_core::dir_shelf::DirShelf;
 use shelf_core::hand::Hand;

@@ -5,9 +5,9 @@
 //! .. growth refused. With no growth refused they are happy paths.
 
 use crate::parts::{ROWS, THREE};
-use decl_core::fault::DeclFault;
+use decl_read::fault::DeclFault;
 use decl_core::object::Object;
-use decl_core::read::read_objects;
+use decl_read::read::read_objects;
 use shelf_core::hand::{Hand, HandFault, Stamp};
 use shelf_core::mem_shelf::MemShelf;
 use shelf_core::memory::MemHand;

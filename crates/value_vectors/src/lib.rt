@@ -4,6 +4,8 @@
 #[cfg(test)]
 mod bytes;
 #[cfg(test)]
+mod copies;
+#[cfg(test)]
 mod helpers;
 #[cfg(test)]
 mod limits;

@@ -1,5 +1,0 @@
-use Rattle.std.proofs.Common.{length}
-use Rattle.decl_core.proofs.entry.+is_param.Given as goal
-
-abbrev pub decreases-is_param : goal.decreases-is_param
-decreases-is_param l = length l.params.now

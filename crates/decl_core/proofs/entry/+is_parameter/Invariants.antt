@@ -1,5 +1,0 @@
-use Rattle.std.proofs.Common.{length}
-use Rattle.decl_core.proofs.entry.+is_parameter.Given as goal
-
-abbrev pub decreases-is_parameter : goal.decreases-is_parameter
-decreases-is_parameter l = length l.operations.now

@@ -1,5 +1,0 @@
-use Rattle.std.proofs.Common.{length}
-use Rattle.decl_core.proofs.entry.+kinds.Given as goal
-
-abbrev pub decreases-kinds : goal.decreases-kinds
-decreases-kinds l = length l.parts.now

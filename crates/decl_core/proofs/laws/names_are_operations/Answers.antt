@@ -1,5 +1,0 @@
-use Rattle.decl_core.proofs.OperationNames.{names_are_operations}
-use Rattle.decl_core.proofs.laws.names_are_operations.Goals as goal
-
-pub returns : goal.returns
-returns c = names_are_operations

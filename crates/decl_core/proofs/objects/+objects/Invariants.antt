@@ -1,4 +1,0 @@
-use Rattle.decl_core.proofs.objects.+objects.Given as goal
-
-abbrev pub decreases-objects : goal.decreases-objects
-decreases-objects l = l.left

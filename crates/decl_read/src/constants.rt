@@ -1,0 +1,128 @@
+//! Declarations of constants.
+
+ghost use Rattle.std.specs.Prelude.{◌≡◌};
+ghost use Rattle.path_tree.specs.declared.token.Symbol.TheVariants.{Const};
+ghost use Rattle.path_tree.specs.Known.{constants_of};
+ghost use Rattle.path_tree.specs.Lexeme.{lexemes};
+ghost use Rattle.decl_read.specs.Declarations.{begins as begins_with, begins_name as a_name_begins};
+ghost use Rattle.decl_read.specs.DeclarationReading.{constant_in, consts_in, number_at};
+ghost use Rattle.decl_read.specs.Reader.{Gives};
+ghost use Rattle.decl_read.specs.Scopes.{constants_read};
+ghost use Rattle.decl_read.specs.Series.{series_at};
+
+use crate::fault::DeclFault;
+use crate::front::{after, behind, name, start_of};
+use crate::group::{begins, begins_name};
+use crate::lookup::constant_of;
+use crate::terms::Read;
+use path_tree::lookup::Constant;
+use path_tree::token::{Kind, Symbol, Token};
+use std::alloc::Global;
+
+/// The most constants of an object.
+const MOST_CONSTANTS: usize = 16;
+
+/// A number that has to stand here, and the tokens behind it.
+fn number<'t>(tokens: &'t [Token]) -> Read<'t, u32>
+    ensures { Gives (λ x. (x.0, lexemes x.1.now)) result (number_at (lexemes tokens.now)) }
+{
+    match tokens {
+        [] => Err(DeclFault::Syntax(0)),
+        [token, rest @ ..] => match &token.kind {
+            Kind::Number(n) => Ok((*n, rest)),
+            Kind::Name(_) => Err(DeclFault::Syntax(token.start)),
+            Kind::Symbol(_) => Err(DeclFault::Syntax(token.start)),
+            Kind::Text(_) => Err(DeclFault::Syntax(token.start)),
+            Kind::EndMark => Err(DeclFault::Syntax(token.start)),
+        },
+    }
+}
+
+/// A constant behind those before: a new name, one of at most 16.
+#[tactic(auto, unfolding(crate::specs::DeclarationReading::constant_in))]
+fn constant<'t>(
+    alloc: Global,
+    before: Vec<Constant>,
+    tokens: &'t [Token],
+) -> Read<'t, Vec<Constant>>
+    ensures { Gives constants_read result (constant_in (constants_of before.items) (lexemes tokens.now)) }
+{
+    let mut all = before;
+    let (name, rest) = name(tokens)?;
+    if constant_of(&all, name.as_bytes()).is_some() {
+        return Err(DeclFault::DuplicateName(start_of(tokens)));
+    }
+    if all.len() >= MOST_CONSTANTS {
+        return Err(DeclFault::TooMany(start_of(tokens)));
+    }
+    let opened = behind(rest, Symbol::Equal)?;
+    let (value, rest) = number(opened)?;
+    let rest = behind(rest, Symbol::Semicolon)?;
+    let name = name.copy(alloc)?;
+    all.push(Constant { name, value })?;
+    Ok((all, rest))
+}
+
+/// Constants one after the other, behind those before.
+fn more_constants<'t>(
+    alloc: Global,
+    so_far: Vec<Constant>,
+    left: u8,
+    tokens: &'t [Token],
+) -> Read<'t, Vec<Constant>>
+    ensures { Gives constants_read result (series_at constant_in a_name_begins left (constants_of so_far.items) (lexemes tokens.now)) }
+{
+    if !begins_name(tokens) {
+        return Ok((so_far, tokens));
+    }
+    if left == 0 {
+        return Err(DeclFault::TooMany(start_of(tokens)));
+    }
+    let (one, rest) = constant(alloc, so_far, tokens)?;
+    more_constants(alloc, one, left - 1, rest)
+}
+
+/// Constants behind `const`.
+#[tactic(auto, unfolding(crate::specs::DeclarationReading::consts_in))]
+fn consts<'t>(alloc: Global, before: Vec<Constant>, tokens: &'t [Token]) -> Read<'t, Vec<Constant>>
+    ensures { Gives constants_read result (consts_in (constants_of before.items) (lexemes tokens.now)) }
+{
+    let opened = behind(tokens, Symbol::Const)?;
+    let (one, rest) = constant(alloc, before, opened)?;
+    let (all, rest) = more_constants(alloc, one, 16, rest)?;
+    Ok((all, rest))
+}
+
+/// The fault where no constant has room: at what stands behind the word.
+fn no_room(before: &[Constant], tokens: &[Token]) -> DeclFault {
+    let Some(opened) = after(tokens, Symbol::Const) else {
+        return DeclFault::Syntax(start_of(tokens));
+    };
+    match name(opened) {
+        Err(fault) => fault,
+        Ok((name, _)) => if constant_of(before, name.as_bytes()).is_some() {
+            DeclFault::DuplicateName(start_of(opened))
+        } else {
+            DeclFault::TooMany(start_of(opened))
+        },
+    }
+}
+
+/// The declarations of constants of an object, of which so many may begin; these were before.
+pub(crate) fn constants<'t>(
+    alloc: Global,
+    so_far: Vec<Constant>,
+    left: u8,
+    tokens: &'t [Token],
+) -> Read<'t, Vec<Constant>>
+    ensures { Gives constants_read result (series_at consts_in (begins_with Const) left (constants_of so_far.items) (lexemes tokens.now)) }
+{
+    if !begins(tokens, Symbol::Const) {
+        return Ok((so_far, tokens));
+    }
+    if left == 0 {
+        return Err(no_room(&so_far, tokens));
+    }
+    let (one, rest) = consts(alloc, so_far, tokens)?;
+    constants(alloc, one, left - 1, rest)
+}

@@ -1,0 +1,173 @@
+//! What parts and parameters hold, read from the front of some tokens.
+
+ghost use Rattle.std.specs.Prelude.{◌≡◌};
+ghost use Rattle.path_tree.specs.Known.{constants_of};
+ghost use Rattle.path_tree.specs.Lexeme.{lexemes};
+ghost use Rattle.decl_read.specs.DeclarationReading.{allowed as allowed_of, size_in, elem_of, elem_at, of_elem_in, array_in, queue_in, table_in, worded_kind, kind_in};
+ghost use Rattle.decl_read.specs.Reader.{Gives};
+
+use crate::fault::DeclFault;
+use crate::front::{behind, start_of};
+use crate::group::is_among;
+use crate::lookup::{constant_of, is_known};
+use crate::scope::Scope;
+use crate::terms::Read;
+use path_tree::name::Name;
+use path_tree::token::{Kind, Symbol, Token, is_same_symbol};
+use value_core::kind::{Elem, Kind as PartKind};
+
+/// The most elements of an array.
+const MOST_ELEMENTS: u32 = 1024;
+
+/// A size, which is 1 to 1024.
+fn allowed(n: u32, at: usize) -> Result<u16, DeclFault>
+    ensures { Gives (λ size. size) result (allowed_of n) }
+{
+    if n >= 1 && n <= MOST_ELEMENTS {
+        Ok(n as u16)
+    } else {
+        Err(DeclFault::Syntax(at))
+    }
+}
+
+/// A number from 1 to 1024, or the name of a constant of such a value. The names of the group that is
+/// declared are known, and no constants.
+#[tactic(auto, unfolding(crate::specs::DeclarationReading::size_in))]
+fn size<'t>(scope: &Scope, group: &[Name], tokens: &'t [Token]) -> Read<'t, u16>
+    ensures { Gives (λ x. (x.0, lexemes x.1.now)) result (size_in (constants_of scope.now.constants.now) (lexemes tokens.now)) }
+{
+    match tokens {
+        [] => Err(DeclFault::Syntax(0)),
+        [token, rest @ ..] => match &token.kind {
+            Kind::Number(n) => {
+                let size = allowed(*n, token.start)?;
+                Ok((size, rest))
+            }
+            Kind::Name(name) => match constant_of(scope.constants, name.as_bytes()) {
+                None => if is_known(scope, name.as_bytes()) || is_among(group, name.as_bytes()) {
+                    Err(DeclFault::WrongType(token.start))
+                } else {
+                    Err(DeclFault::UnknownName(token.start))
+                },
+                Some(n) => {
+                    let size = allowed(n, token.start)?;
+                    Ok((size, rest))
+                }
+            },
+            Kind::Symbol(_) => Err(DeclFault::Syntax(token.start)),
+            Kind::Text(_) => Err(DeclFault::Syntax(token.start)),
+            Kind::EndMark => Err(DeclFault::Syntax(token.start)),
+        },
+    }
+}
+
+/// What the elements are that this word says.
+fn worded_elem(symbol: Symbol, at: usize) -> Result<Elem, DeclFault>
+    ensures { Gives (λ e. e) result (elem_of symbol) }
+{
+    if is_same_symbol(symbol, Symbol::Integer) {
+        Ok(Elem::Integer)
+    } else if is_same_symbol(symbol, Symbol::Text) {
+        Ok(Elem::Text)
+    } else {
+        Err(DeclFault::Syntax(at))
+    }
+}
+
+/// What elements are, and the tokens behind.
+pub(crate) fn elem<'t>(tokens: &'t [Token]) -> Read<'t, Elem>
+    ensures { Gives (λ x. (x.0, lexemes x.1.now)) result (elem_at (lexemes tokens.now)) }
+{
+    match tokens {
+        [] => Err(DeclFault::Syntax(0)),
+        [token, rest @ ..] => match &token.kind {
+            Kind::Symbol(s) => {
+                let e = worded_elem(*s, token.start)?;
+                Ok((e, rest))
+            }
+            Kind::Number(_) => Err(DeclFault::Syntax(token.start)),
+            Kind::Name(_) => Err(DeclFault::Syntax(token.start)),
+            Kind::Text(_) => Err(DeclFault::Syntax(token.start)),
+            Kind::EndMark => Err(DeclFault::Syntax(token.start)),
+        },
+    }
+}
+
+/// `of` and what the elements are.
+#[tactic(auto, unfolding(crate::specs::DeclarationReading::of_elem_in))]
+fn of_elem<'t>(tokens: &'t [Token]) -> Read<'t, Elem>
+    ensures { Gives (λ x. (x.0, lexemes x.1.now)) result (of_elem_in (lexemes tokens.now)) }
+{
+    let rest = behind(tokens, Symbol::Of)?;
+    let (e, rest) = elem(rest)?;
+    Ok((e, rest))
+}
+
+/// What stands behind `array`.
+#[tactic(auto, unfolding(crate::specs::DeclarationReading::array_in))]
+fn array<'t>(scope: &Scope, group: &[Name], tokens: &'t [Token]) -> Read<'t, PartKind>
+    ensures { Gives (λ x. (x.0, lexemes x.1.now)) result (array_in (constants_of scope.now.constants.now) (lexemes tokens.now)) }
+{
+    let opened = behind(tokens, Symbol::OpenBracket)?;
+    let (size, rest) = size(scope, group, opened)?;
+    let rest = behind(rest, Symbol::CloseBracket)?;
+    let (e, rest) = of_elem(rest)?;
+    Ok((PartKind::Array(size, e), rest))
+}
+
+/// What stands behind `queue`.
+#[tactic(auto, unfolding(crate::specs::DeclarationReading::queue_in))]
+fn queue<'t>(tokens: &'t [Token]) -> Read<'t, PartKind>
+    ensures { Gives (λ x. (x.0, lexemes x.1.now)) result (queue_in (lexemes tokens.now)) }
+{
+    let (e, rest) = of_elem(tokens)?;
+    Ok((PartKind::Queue(e), rest))
+}
+
+/// What stands behind `table`.
+#[tactic(auto, unfolding(crate::specs::DeclarationReading::table_in))]
+fn table<'t>(tokens: &'t [Token]) -> Read<'t, PartKind>
+    ensures { Gives (λ x. (x.0, lexemes x.1.now)) result (table_in (lexemes tokens.now)) }
+{
+    let (e, rest) = of_elem(tokens)?;
+    Ok((PartKind::Table(e), rest))
+}
+
+/// What begins with a symbol.
+#[tactic(auto, unfolding(crate::specs::DeclarationReading::worded_kind))]
+fn worded<'t>(
+    scope: &Scope,
+    group: &[Name],
+    symbol: Symbol,
+    at: usize,
+    tokens: &'t [Token],
+) -> Read<'t, PartKind>
+    ensures { Gives (λ x. (x.0, lexemes x.1.now)) result (worded_kind (constants_of scope.now.constants.now) symbol (lexemes tokens.now)) }
+{
+    if is_same_symbol(symbol, Symbol::Array) {
+        array(scope, group, tokens)
+    } else if is_same_symbol(symbol, Symbol::Queue) {
+        queue(tokens)
+    } else if is_same_symbol(symbol, Symbol::Table) {
+        table(tokens)
+    } else {
+        Err(DeclFault::Syntax(at))
+    }
+}
+
+/// What a part holds, and the tokens behind; `group` are the names before the colon.
+#[tactic(auto, unfolding(crate::specs::DeclarationReading::kind_in))]
+pub(crate) fn kind<'t>(scope: &Scope, group: &[Name], tokens: &'t [Token]) -> Read<'t, PartKind>
+    ensures { Gives (λ x. (x.0, lexemes x.1.now)) result (kind_in (constants_of scope.now.constants.now) (lexemes tokens.now)) }
+{
+    match tokens {
+        [] => Err(DeclFault::Syntax(0)),
+        [token, rest @ ..] => match &token.kind {
+            Kind::Symbol(s) => worded(scope, group, *s, token.start, rest),
+            Kind::Number(_) => Err(DeclFault::Syntax(token.start)),
+            Kind::Name(_) => Err(DeclFault::Syntax(token.start)),
+            Kind::Text(_) => Err(DeclFault::Syntax(token.start)),
+            Kind::EndMark => Err(DeclFault::Syntax(token.start)),
+        },
+    }
+}
