@@ -3,7 +3,7 @@
 //! `tools/refuse_memory` runs each test whose name begins with `refused_` with the first, the second, .. growth
 //! refused. With no growth refused they are happy paths.
 
-use super::helpers::{first, has, name, opening, text};
+use super::helpers::{datum, element, first, has, lookup, name, opening, text};
 use super::rows::add;
 use std::alloc::{AllocError, Global};
 use std::process::Abort;
@@ -15,6 +15,15 @@ use value_core::refusal::GrowFault;
 use value_core::text::Text;
 use value_core::value::Value;
 
+// Whether a value has the element of this number.
+fn is_there(value: &Value, number: u32) -> bool {
+    match value.kind() {
+        Kind::Array(_, elem) => element(value, number) == Ok(datum(elem, number)),
+        Kind::Queue(_) => value.count() > number,
+        Kind::Table(elem) => lookup(value, &name(number)) == Ok(datum(elem, number)),
+    }
+}
+
 // Puts an element into a value, once more where a growth was refused.
 fn adds(rt: &impl Abort, value: &mut Value, number: u32) {
     let oldest = first(value);
@@ -24,6 +33,7 @@ fn adds(rt: &impl Abort, value: &mut Value, number: u32) {
         assert!(rt; fault == GrowFault::Memory && is_whole && !has(value, &name(number)));
         assert!(rt; add(value, number).is_ok());
     }
+    assert!(rt; is_there(value, number));
 }
 
 // A value of 60 elements.
@@ -80,10 +90,6 @@ fn refused_bytes(rt: HostRuntime) {
     is_read(&rt, rt.alloc(), Kind::Table(Elem::Integer));
 }
 
-const QUEUE: &[u8] = b"\x01\x03\0\x02\0\0\0\x01\0\0\0\x02";
-
-const TABLE: &[u8] = b"\x01\x05\0\x02\0\0\0\0\x03\x01a\0\0\0\x01";
-
 // The value of these bytes.
 fn value_of(rt: &impl Abort, alloc: Global, kind: Kind, bytes: &[u8]) -> Value {
     match decode(alloc, kind, bytes) {
@@ -92,36 +98,60 @@ fn value_of(rt: &impl Abort, alloc: Global, kind: Kind, bytes: &[u8]) -> Value {
     }
 }
 
-// Whether the elements of the queue are listed in order.
-fn elements_are_listed(alloc: Global, queue: &Value) -> Result<bool, AllocError> {
-    let elements = queue.elements(alloc)?;
-    Ok(elements.as_slice() == [Datum::Integer(1), Datum::Integer(2)].as_slice())
+// Whether these elements are listed.
+fn elements_are(alloc: Global, value: &Value, wanted: &[Datum]) -> Result<bool, AllocError> {
+    let elements = value.elements(alloc)?;
+    Ok(elements.as_slice() == wanted)
 }
 
-// Whether the rows of the table are listed in the order of keys.
-fn rows_are_listed(alloc: Global, table: &Value) -> Result<bool, AllocError> {
-    let rows = table.rows(alloc)?;
-    let first = (Text::empty(), Datum::Integer(3));
-    let second = (text(b"a"), Datum::Integer(1));
-    Ok(rows.as_slice() == [first, second].as_slice())
+// Whether these rows are listed.
+fn rows_are(alloc: Global, value: &Value, wanted: &[(Text, Datum)]) -> Result<bool, AllocError> {
+    let rows = value.rows(alloc)?;
+    Ok(rows.as_slice() == wanted)
 }
+
+// The value of these bytes lists these elements and rows, once more where a growth was refused.
+fn lists(
+    rt: &impl Abort,
+    alloc: Global,
+    kind: Kind,
+    bytes: &[u8],
+    elements: &[Datum],
+    rows: &[(Text, Datum)],
+) {
+    let value = value_of(rt, alloc, kind, bytes);
+    let listed = elements_are(alloc, &value, elements);
+    assert!(rt; listed == Ok(true) || elements_are(alloc, &value, elements) == Ok(true));
+    let listed = rows_are(alloc, &value, rows);
+    assert!(rt; listed == Ok(true) || rows_are(alloc, &value, rows) == Ok(true));
+}
+
+const ARRAY: &[u8] = b"\x01\x01\0\x02\0\0\0\x02\0\0\0\x01";
+
+const QUEUE: &[u8] = b"\x01\x03\0\x02\0\0\0\x01\0\0\0\x02";
+
+const TABLE: &[u8] = b"\x01\x05\0\x02\0\0\0\0\x03\x01a\0\0\0\x01";
 
 #[test]
 fn refused_elements(rt: HostRuntime) {
-    let queue = value_of(&rt, rt.alloc(), Kind::Queue(Elem::Integer), QUEUE);
-    let listed = elements_are_listed(rt.alloc(), &queue);
-    assert!(rt;
-        listed == Ok(true)
-            || listed == Err(AllocError) && elements_are_listed(rt.alloc(), &queue) == Ok(true)
-    );
+    let kind = Kind::Array(2, Elem::Integer);
+    let elements = [Datum::Integer(2), Datum::Integer(1)];
+    lists(&rt, rt.alloc(), kind, ARRAY, &elements, &[]);
+    let kind = Kind::Queue(Elem::Integer);
+    let elements = [Datum::Integer(1), Datum::Integer(2)];
+    lists(&rt, rt.alloc(), kind, QUEUE, &elements, &[]);
 }
 
 #[test]
 fn refused_rows(rt: HostRuntime) {
-    let table = value_of(&rt, rt.alloc(), Kind::Table(Elem::Integer), TABLE);
-    let listed = rows_are_listed(rt.alloc(), &table);
-    assert!(rt;
-        listed == Ok(true)
-            || listed == Err(AllocError) && rows_are_listed(rt.alloc(), &table) == Ok(true)
+    let empty = (Text::empty(), Datum::Integer(3));
+    let rows = [empty, (text(b"a"), Datum::Integer(1))];
+    lists(
+        &rt,
+        rt.alloc(),
+        Kind::Table(Elem::Integer),
+        TABLE,
+        &[],
+        &rows,
     );
 }
