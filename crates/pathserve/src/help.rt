@@ -15,7 +15,7 @@ failed, 4 out of memory.";
 
 /// What `paths` does.
 pub const PATHS: &str =
-    "Say which operations may start: reads paths, starts and finishes, and answers line by line";
+    "Says which operations may start: reads paths, starts and finishes, and answers line by line";
 
 /// What `paths` reads and writes.
 pub const PATHS_MORE: &str =
@@ -35,7 +35,7 @@ Exit status: 0 each line was answered, 1 a line was refused and ended the run.";
 
 /// What `check` does.
 pub const CHECK: &str =
-    "Check the objects of a file: do their paths keep apart the operations that conflict?";
+    "Checks the objects of a file: do their paths keep apart the operations that conflict?";
 
 /// What the argument of `check` is.
 pub const CHECK_FILE: &str = "The file with the objects, one after the other, at most 65536 bytes";
@@ -45,19 +45,19 @@ pub const CHECK_MORE: &str =
     "Reads FILE, and writes a report to standard output: of each object whether it is accepted, and of each
 two operations that conflict the path and its node that keep them apart, or the first two that none does.
 
-Example: `cell.pp` holds one object, in which a write excludes each other call.
+Example: `box.pp` holds one object, in which a write excludes each other call.
 
-  $ cat cell.pp
-  object cell;
+  $ cat box.pp
+  object box;
     path 1:(set, [get]) end;
     var v : array [1] of integer;
     entry procedure set(x : integer); begin v[0] := x end;
     entry function get : integer; begin get := v[0] end;
   end;
-  $ pathserve check cell.pp
-  object cell accepted
-  pair set set path 0 node 0
-  pair set get path 0 node 0
+  $ pathserve check box.pp
+  object box accepted
+  pair set set path 1 node 0
+  pair set get path 1 node 0
   1 objects, 0 refused
 
 Exit status: 0 no object is refused, 1 one is, or the file is no file of objects.";
