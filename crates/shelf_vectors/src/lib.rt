@@ -7,7 +7,7 @@ mod fake_shelf;
 #[cfg(test)]
 mod folder;
 #[cfg(test)]
-mod folder_shelf;
+mod folder_calls;
 #[cfg(test)]
 mod given_up;
 #[cfg(test)]
@@ -17,6 +17,8 @@ mod hands;
 #[cfg(test)]
 mod numbers;
 #[cfg(test)]
+mod part_calls;
+#[cfg(test)]
 mod parts;
 #[cfg(test)]
 mod refused;
@@ -24,6 +26,8 @@ mod refused;
 mod saving;
 #[cfg(test)]
 mod scratch;
+#[cfg(test)]
+mod shelf_calls;
 #[cfg(test)]
 mod shelves;
 #[cfg(test)]
