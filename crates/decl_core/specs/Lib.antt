@@ -14,3 +14,4 @@ pub mod TypedOnce
 pub mod KindOnce
 pub mod Touched
 pub mod FootprintLaws
+pub mod KindLaws
