@@ -3,3 +3,4 @@ pub mod KnownKinds
 pub mod Examples
 pub mod Touched
 pub mod Footprints
+pub mod KindsStay

@@ -12,5 +12,7 @@ pub mod ObjectMap
 pub mod Typed
 pub mod TypedOnce
 pub mod KindOnce
+pub mod PartKinds
 pub mod Touched
 pub mod FootprintLaws
+pub mod KindLaws

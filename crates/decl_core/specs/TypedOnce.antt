@@ -3,22 +3,16 @@ use Rattle.std.specs.Prelude.{◌≡◌, ℕ, List, slice_get, Option, Some}
 use Rattle.std.specs.Coded.{×_prop, Unit-prop}
 use Rattle.std.proofs.Common.{sym, ap, subst, ◌∙◌}
 use denote.Struct.Props.{props}
-use mathlib.Core.Sum.{⊎_set}
 use Rattle.value_core.specs.declared.kind.Elem.{Elem}
 use Rattle.value_core.specs.declared.kind.Elem.TheVariants as elem
 use Rattle.value_core.specs.declared.kind.Kind.{Kind}
 use Rattle.value_core.specs.Plain.{IsText}
+use Rattle.decl_core.specs.KindOnce.{elem_set, kind_set}
 use Rattle.decl_core.specs.RefusalWord.{IsRefusalWord}
 use Rattle.decl_core.specs.Form.{From, argument, element, oldest, under, Integers, number, integer_from, count, add, subtract, Texts, literal, text_from, Form, an_integer, a_text, Condition, compare, same_texts, other_texts, has, is_not, Statement, block, set_element, set_result, append, take, store, erase, choose, refuse, Statements, nothing, first_and}
 use Rattle.decl_core.specs.Sorts.{array_sort, queue_sort, table_sort}
 use Rattle.decl_core.specs.Sorts.{sort_of_form}
 use Rattle.decl_core.specs.Typed.{Types, IsHeld, HoldsSort, IsTableAt, IsQueueAt, FromTyped, IntegersTyped, TextsTyped, FormTyped, ConditionTyped, StatementTyped, StatementsTyped, IsWellTyped}
-
-elem_set : IsSet Elem
-elem_set = hlevel (props, ⊎_set)
-
-kind_set : IsSet Kind
-kind_set = hlevel (props, ⊎_set, elem_set)
 
 sorts_once : (a b : Option Elem) → IsProp (a ≡ b)
 sorts_once a b = hlevel (props, elem_set)

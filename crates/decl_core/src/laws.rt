@@ -1,6 +1,7 @@
 //! Laws of operations, over the definitions alone.
 
 ghost use Rattle.decl_core.specs.FootprintLaws.{ApplyIsLocal, OthersStay, WritesAreReads};
+ghost use Rattle.decl_core.specs.KindLaws.{KindsStay};
 
 /// Where the contents of two objects agree at the parts that an operation reads, it replies the same on
 /// both, and what it leaves agrees at those parts.
@@ -16,4 +17,9 @@ pub fn others_stay()
 /// The parts that an operation writes are among those that it reads.
 pub fn writes_are_reads()
     ensures { WritesAreReads }
+{}
+
+/// An operation leaves each part of the kind that it was of.
+pub fn kinds_stay()
+    ensures { KindsStay }
 {}

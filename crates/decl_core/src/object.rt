@@ -6,6 +6,8 @@ ghost use Rattle.decl_core.specs.View.{all_of};
 ghost use Rattle.decl_core.specs.Typed.{IsWellTyped};
 ghost use Rattle.decl_core.specs.TypedOnce.{well_typed_once};
 ghost use Rattle.decl_core.specs.KindOnce.{is_kind_once};
+ghost use Rattle.decl_core.specs.PartKinds.{EachKindsOf, each_kinds_once};
+ghost use Rattle.std.specs.Arc.{arc_value};
 
 use crate::stmt::Stmt;
 use path_tree::name::Name;
@@ -65,4 +67,6 @@ pub struct Object {
     ghost few: { length parts.items ≤ 16 },
     ghost few_paths: { length paths.items ≤ 16 },
     ghost few_operations: { length operations.items ≤ 32 },
+    // what an operation knows of a part's kind is that part's kind: so one pin a part serves each operation
+    ghost of_parts: { EachKindsOf (map (λ p. p.kind) parts.items) (map (λ o. o.kinds.items) (map arc_value operations.items)) } by { each_kinds_once (map (λ p. p.kind) parts.items) (map (λ o. o.kinds.items) (map arc_value operations.items)) },
 }

@@ -10,7 +10,7 @@ use Rattle.path_tree.specs.Known.{value_of}
 use Rattle.path_tree.proofs.Found.{symbol_found}
 use Rattle.path_tree.proofs.SymbolNumbers.{symbols_same}
 use Rattle.value_core.specs.declared.kind.Kind.{Kind}
-use Rattle.decl_read.specs.declared.fault.DeclFault.{DeclFault}
+use Rattle.decl_read.specs.declared.text_fault.TextFault.{TextFault}
 use Rattle.decl_core.specs.Form.{element, oldest, under, Integers, number, count, Texts, Form, an_integer, a_text}
 use Rattle.decl_read.specs.Reader.{◌>>=◌, Reader, Gives}
 use Rattle.decl_read.specs.Reading.{Names, found_in, of_sort, integer_form, text_form, value_named, combined, name_at, sign_at, literal_of, level_of, part_in, first_in, count_in, lookup_in, group_in, worded_in, named_in, term_in, with_more, more_at, summed, expr_in, nested_at}
@@ -288,7 +288,7 @@ nested_found names most (suc depth) ws x rest h =
     let same : suc depth - 1 ≡ depth = omega arith in
     record { spelt = f.text; stands = f.stands; deep = omega arith; is = subst (λ d. IsExpr names d f.text x) (sym same) f.is }
 
-pub is_found : {X : Type 0} (names : Names) (most depth : ℕ) (ws : List Lexeme) (view : X → Form × List Lexeme) (r : Result X DeclFault) → Gives view r (expr_in (term_in names (nested_at names most depth) depth) most ws) →
+pub is_found : {X : Type 0} (names : Names) (most depth : ℕ) (ws : List Lexeme) (view : X → Form × List Lexeme) (r : Result X TextFault) → Gives view r (expr_in (term_in names (nested_at names most depth) depth) most ws) →
     IfOk r (λ x. IsExprBefore names depth ws (view x).0 (view x).1)
 is_found names most depth ws view (Ok x) given =
     expr_found names depth most (term_in names (nested_at names most depth) depth) (term_found names depth (nested_at names most depth) (nested_found names most depth)) ws (view x).0 (view x).1 given

@@ -21,6 +21,7 @@ pub mod StatementsRead
 pub mod StatementsFound
 pub mod Refusals
 pub mod Limits
+pub mod KnownParts
 pub mod Files
 pub mod Sources
 pub mod SkippedTexts

@@ -28,13 +28,13 @@ kind_keeps constants ws k rest (a_table is) = tt
 pub kind_sized : (constants : List (List ℕ × ℕ)) (ws : List Lexeme) (k : Kind) (rest : List Lexeme) → kind_in constants ws ≡ Some (k, rest) → KeepsLimit k
 kind_sized constants ws k rest h = kind_keeps constants ws k rest ((kind_exact constants 131072).found ws k rest h)
 
--- what each item of a series gives, the whole series gives
-series_keeps : {S : Type 0} (P : S → Type 0) (IsItem : S → List Lexeme → S → List Lexeme → Type 0) (begins : List Lexeme → Bool) →
-    ((s : S) (ws : List Lexeme) (t : S) (rest : List Lexeme) → IsItem s ws t rest → P t) →
+-- what each item of a series keeps, the whole series keeps
+pub series_keeps : {S : Type 0} (P : S → Type 0) (IsItem : S → List Lexeme → S → List Lexeme → Type 0) (begins : List Lexeme → Bool) →
+    ((s : S) (ws : List Lexeme) (t : S) (rest : List Lexeme) → P s → IsItem s ws t rest → P t) →
     (left : ℕ) (s : S) (ws : List Lexeme) (t : S) (rest : List Lexeme) → P s → IsSeries IsItem begins left s ws t rest → P t
 series_keeps P IsItem begins keeps left s ws t rest given (no_more is) = given
 series_keeps P IsItem begins keeps (suc left) s ws t rest given (and_another {t = u} {vs = vs} is one others) =
-    series_keeps P IsItem begins keeps left u vs t rest (keeps s ws u vs one) others
+    series_keeps P IsItem begins keeps left u vs t rest (keeps s ws u vs given one) others
 
 item_few : (constants : List (List ℕ × ℕ)) (names : List (List ℕ)) (before : List Path) (ws : List Lexeme) (after : List Path) (rest : List Lexeme) → IsPathItem constants names before ws after rest → length after ≤ 16
 item_few constants names before ws after rest (a_path {tree = tree} room is ends) = omega (arith, length-append before (tree ∷ []))
@@ -43,7 +43,7 @@ item_few constants names before ws after rest (a_path {tree = tree} room is ends
 pub paths_few : (constants : List (List ℕ × ℕ)) (names : List (List ℕ)) (before all : List Path) (ws rest : List Lexeme) → before ≡ [] →
     series_at (path_item_in constants names) (begins symbols.Path) 16 before ws ≡ Some (all, rest) → length all ≤ 16
 paths_few constants names before all ws rest none h =
-    series_keeps (λ xs. length xs ≤ 16) (IsPathItem constants names) (begins symbols.Path) (item_few constants names) 16 before ws all rest (omega (arith, ap length none)) ((paths_exact constants names 131072 16 before).found ws all rest h)
+    series_keeps (λ xs. length xs ≤ 16) (IsPathItem constants names) (begins symbols.Path) (λ s ws t rest few one. item_few constants names s ws t rest one) 16 before ws all rest (omega (arith, ap length none)) ((paths_exact constants names 131072 16 before).found ws all rest h)
 
 entry_few : (constants : List (List ℕ × ℕ)) (parts : List (List ℕ × Kind)) (before : List OperationForm) (ws : List Lexeme) (after : List OperationForm) (rest : List Lexeme) → IsEntry constants parts before ws after rest → length after ≤ 32
 entry_few constants parts before ws after rest (a_procedure {own = own} {params = given} {all = all} new free room params body) = omega (arith, length-append before (operation_with parts own given None all ∷ []))
@@ -58,5 +58,5 @@ pub operations_few : {Z : Type 0} (constants : List (List ℕ × ℕ)) (parts : 
 operations_few constants parts before all ws rest none h =
     let few : length (operations_of before) ≤ 32 = omega (arith, ap length none, forms_many before) in
     let found = (entries_exact 131072 constants parts 32 (operations_of before)).found ws (operations_of all) rest h in
-    let kept = series_keeps (λ xs. length xs ≤ 32) (IsEntry constants parts) (begins symbols.Entry) (entry_few constants parts) 32 (operations_of before) ws (operations_of all) rest few found in
+    let kept = series_keeps (λ xs. length xs ≤ 32) (IsEntry constants parts) (begins symbols.Entry) (λ s ws t rest few one. entry_few constants parts s ws t rest one) 32 (operations_of before) ws (operations_of all) rest few found in
     omega (arith, kept, forms_many all)

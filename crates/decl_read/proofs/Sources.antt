@@ -9,10 +9,12 @@ use Rattle.path_tree.specs.Lexeme.{lexemes, lexeme_of}
 use Rattle.path_tree.specs.Tokens.{Placed, placed_tokens, AreTokens}
 use Rattle.decl_read.specs.declared.fault.DeclFault.{DeclFault}
 use Rattle.decl_read.specs.declared.fault.DeclFault.TheVariants as faults
+use Rattle.decl_read.specs.declared.text_fault.TextFault.{TextFault}
+use Rattle.decl_read.specs.declared.text_fault.TextFault.TheVariants as text_faults
 use Rattle.std.specs.Prelude.{Result, Ok, Err}
 use Rattle.decl_read.specs.Reader.{Fails}
 use Rattle.decl_core.specs.ObjectForm.{ObjectForm}
-use Rattle.decl_read.specs.Sources.{AreObjectsOf, lex_fault_told}
+use Rattle.decl_read.specs.Sources.{AreObjectsOf, lex_fault_told, text_fault_told}
 use Rattle.decl_read.specs.Declarations.{IsFile}
 use Rattle.decl_read.specs.DeclarationReading.{file_in}
 use Rattle.decl_read.proofs.Files.{file_found, file_read}
@@ -34,15 +36,14 @@ source_read source tokens objects short p same =
     file_read 131072 (lexemes tokens) objects (omega arith) (subst (λ ws. IsFile ws objects) (sym ws) p.is)
 
 -- where objects stand, nothing is told but that memory ran out
-pub only_memory : (fault : DeclFault) (objects : List ObjectForm) (read : Option (List ObjectForm)) → read ≡ Some objects → Fails fault read → fault ≡ faults.Memory
-only_memory faults.Memory objects read is fails = refl
-only_memory (faults.Lex f) objects read is fails = absurd cc
-only_memory (faults.Path f) objects read is fails = absurd cc
-only_memory (faults.Syntax at) objects read is fails = absurd cc
-only_memory (faults.DuplicateName at) objects read is fails = absurd cc
-only_memory (faults.WrongType at) objects read is fails = absurd cc
-only_memory (faults.UnknownName at) objects read is fails = absurd cc
-only_memory (faults.TooMany at) objects read is fails = absurd cc
+pub only_memory : (fault : TextFault) (objects : List ObjectForm) (read : Option (List ObjectForm)) → read ≡ Some objects → Fails fault read → text_fault_told fault ≡ faults.Memory
+only_memory text_faults.Memory objects read is fails = refl
+only_memory (text_faults.Path f) objects read is fails = absurd cc
+only_memory (text_faults.Syntax at) objects read is fails = absurd cc
+only_memory (text_faults.DuplicateName at) objects read is fails = absurd cc
+only_memory (text_faults.WrongType at) objects read is fails = absurd cc
+only_memory (text_faults.UnknownName at) objects read is fails = absurd cc
+only_memory (text_faults.TooMany at) objects read is fails = absurd cc
 
 pub told_memory : (fault : LexFault) → fault ≡ lex_faults.Memory → lex_fault_told fault ≡ faults.Memory
 told_memory fault is = ap lex_fault_told is

@@ -3,7 +3,7 @@ use Rattle.std.proofs.Common.{◌≡◌, ℕ, zero, suc, ◌-◌, ◌+◌, ◌�
 use Rattle.path_tree.specs.Lexeme.{Lexeme}
 use Rattle.path_tree.specs.declared.token.Symbol.TheVariants as symbols
 use Rattle.path_tree.specs.Reading.{symbol_at}
-use Rattle.decl_read.specs.declared.fault.DeclFault.{DeclFault}
+use Rattle.decl_read.specs.declared.text_fault.TextFault.{TextFault}
 use Rattle.decl_core.specs.declared.stmt.Stmt.{Stmt}
 use Rattle.decl_core.specs.Form.{Statement, Statements, first_and}
 use Rattle.decl_core.specs.View.{statement_of, all_of}
@@ -56,7 +56,7 @@ pub statements_go_on : (inner : Reader Statement) (most i : ℕ) (done : Stateme
 unfolding statements_by
 statements_go_on inner most i done s ws after behind total lt read on so_far = sym (step inner most i done s ws after lt read ∙ rw on refl) ∙ so_far
 
-pub statement_fails : (e : DeclFault) (inner : Reader Statement) (most i : ℕ) (done : Statements) (ws : List Lexeme) (total : Option (Statements × List Lexeme)) → i < most →
+pub statement_fails : (e : TextFault) (inner : Reader Statement) (most i : ℕ) (done : Statements) (ws : List Lexeme) (total : Option (Statements × List Lexeme)) → i < most →
     Fails e (inner ws) → AreRead inner (most - i) done ws total → Fails e total
 unfolding statements_at
 statement_fails e inner most i done ws total lt fails so_far =
@@ -64,7 +64,7 @@ statement_fails e inner most i done ws total lt fails so_far =
     let f : (inner ws ≡ None) → (total ≡ None) = λ none. sym so_far ∙ rw (n, none) refl in
     by_fault e (inner ws) total fails f
 
-pub end_fails : (e : DeclFault) (inner : Reader Statement) (most i : ℕ) (done : Statements) (s : Statement) (ws after : List Lexeme) (total : Option (Statements × List Lexeme)) → i < most → inner ws ≡ Some (s, after) →
+pub end_fails : (e : TextFault) (inner : Reader Statement) (most i : ℕ) (done : Statements) (s : Statement) (ws after : List Lexeme) (total : Option (Statements × List Lexeme)) → i < most → inner ws ≡ Some (s, after) →
     symbol_at symbols.Semicolon after ≡ None → Fails e (symbol_at symbols.End after) → AreRead inner (most - i) done ws total → Fails e total
 unfolding statements_by
 end_fails e inner most i done s ws after total lt read none fails so_far =

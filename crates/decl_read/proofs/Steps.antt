@@ -2,16 +2,15 @@
 use Rattle.std.proofs.Common.{◌≡◌, ℕ, zero, suc, ◌-◌, ◌<◌, Bool, true, false, List, Option, Some, None, refl, sym, subst, ◌∙◌, arith}
 use Rattle.std.specs.Prelude.{Result}
 use Rattle.path_tree.specs.Lexeme.{Lexeme}
-use Rattle.decl_read.specs.declared.fault.DeclFault.{DeclFault}
-use Rattle.decl_read.specs.declared.fault.DeclFault.TheVariants as faults
+use Rattle.decl_read.specs.declared.text_fault.TextFault.{TextFault}
+use Rattle.decl_read.specs.declared.text_fault.TextFault.TheVariants as faults
 use Rattle.decl_read.specs.Reader.{◌>>=◌, Reader, Fails, Gives}
 use Rattle.decl_read.specs.Series.{series_by, series_at}
 use Rattle.decl_read.proofs.Sums.{by_fault}
 
 -- a fault says that nothing is read, where nothing is
-pub fails_none : {Y : Type 0} (e : DeclFault) (read : Option Y) → read ≡ None → Fails e read
+pub fails_none : {Y : Type 0} (e : TextFault) (read : Option Y) → read ≡ None → Fails e read
 fails_none faults.Memory read h = tt
-fails_none (faults.Lex f) read h = h
 fails_none (faults.Path f) read h = h
 fails_none (faults.Syntax at) read h = h
 fails_none (faults.DuplicateName at) read h = h
@@ -38,15 +37,15 @@ module _ {S : Type 0} (item : S → Reader S) (begins : List Lexeme → Bool) wh
   series_goes_on (suc left) s ws is some = let e : suc left - 1 ≡ left = omega arith in rw (is, e) refl
 
   -- the exits of a function that reads a series: none is left, an item is not read, and an item is read
-  pub none_left : (e : DeclFault) (left : ℕ) (s : S) (ws : List Lexeme) → begins ws ≡ true → left ≡ 0 → Fails e (series_at item begins left s ws)
+  pub none_left : (e : TextFault) (left : ℕ) (s : S) (ws : List Lexeme) → begins ws ≡ true → left ≡ 0 → Fails e (series_at item begins left s ws)
   none_left e left s ws is none = fails_none e _ (series_over left s ws is none)
 
-  pub item_fails : (e : DeclFault) (left : ℕ) (s : S) (ws : List Lexeme) → begins ws ≡ true → 0 < left → Fails e (item s ws) → Fails e (series_at item begins left s ws)
+  pub item_fails : (e : TextFault) (left : ℕ) (s : S) (ws : List Lexeme) → begins ws ≡ true → 0 < left → Fails e (item s ws) → Fails e (series_at item begins left s ws)
   item_fails e left s ws is some fails =
       let f : item s ws ≡ None → series_at item begins left s ws ≡ None = λ none. series_goes_on left s ws is some ∙ rw none refl in
       by_fault e (item s ws) (series_at item begins left s ws) fails f
 
-  pub item_read : {X : Type 0} (view : X → S × List Lexeme) (r : Result X DeclFault) (left : ℕ) (s t : S) (ws vs : List Lexeme) → begins ws ≡ true → 0 < left → item s ws ≡ Some (t, vs) →
+  pub item_read : {X : Type 0} (view : X → S × List Lexeme) (r : Result X TextFault) (left : ℕ) (s t : S) (ws vs : List Lexeme) → begins ws ≡ true → 0 < left → item s ws ≡ Some (t, vs) →
       Gives view r (series_at item begins (left - 1) t vs) → Gives view r (series_at item begins left s ws)
   item_read view r left s t ws vs is some read given =
       let e : series_at item begins left s ws ≡ series_at item begins (left - 1) t vs = series_goes_on left s ws is some ∙ rw read refl in

@@ -1,8 +1,8 @@
 -- One step of reading a sum.
 use Rattle.std.proofs.Common.{◌≡◌, ℕ, zero, suc, ◌-◌, ◌+◌, ◌≤◌, ◌<◌, Bool, List, [], ◌∷◌, ◌++◌, Option, Some, None, refl, sym, ◌∙◌, arith}
 use Rattle.path_tree.specs.Lexeme.{Lexeme}
-use Rattle.decl_read.specs.declared.fault.DeclFault.{DeclFault}
-use Rattle.decl_read.specs.declared.fault.DeclFault.TheVariants as faults
+use Rattle.decl_read.specs.declared.text_fault.TextFault.{TextFault}
+use Rattle.decl_read.specs.declared.text_fault.TextFault.TheVariants as faults
 use Rattle.decl_core.specs.declared.expr.Signed.{Signed}
 use Rattle.decl_core.specs.Form.{Form, Integers}
 use Rattle.decl_core.specs.View.{with_term, total_of_list}
@@ -43,9 +43,8 @@ unfolding with_more
 sum_goes_on term most i sum f x plus ws behind after total lt op read is so_far = sym (step term most i sum ws lt ∙ rw (op, read, is) refl) ∙ so_far
 
 -- a fault of a step is one of the whole
-pub by_fault : {A B : Type 0} (e : DeclFault) (step : Option A) (total : Option B) → Fails e step → (step ≡ None → total ≡ None) → Fails e total
+pub by_fault : {A B : Type 0} (e : TextFault) (step : Option A) (total : Option B) → Fails e step → (step ≡ None → total ≡ None) → Fails e total
 by_fault faults.Memory step total fails h = tt
-by_fault (faults.Lex f) step total fails h = h fails
 by_fault (faults.Path f) step total fails h = h fails
 by_fault (faults.Syntax at) step total fails h = h fails
 by_fault (faults.DuplicateName at) step total fails h = h fails
@@ -53,14 +52,14 @@ by_fault (faults.WrongType at) step total fails h = h fails
 by_fault (faults.UnknownName at) step total fails h = h fails
 by_fault (faults.TooMany at) step total fails h = h fails
 
-pub term_fails : (e : DeclFault) (term : Reader Form) (most i : ℕ) (sum : Integers) (plus : Bool) (ws behind : List Lexeme) (total : Option (Integers × List Lexeme)) → i < most → sign_at ws ≡ Some (plus, behind) →
+pub term_fails : (e : TextFault) (term : Reader Form) (most i : ℕ) (sum : Integers) (plus : Bool) (ws behind : List Lexeme) (total : Option (Integers × List Lexeme)) → i < most → sign_at ws ≡ Some (plus, behind) →
     Fails e (term behind) → IsSum term (most - i) sum ws total → Fails e total
 unfolding with_more
 term_fails e term most i sum plus ws behind total lt op fails so_far =
     let f : (term behind ≡ None) → (total ≡ None) = λ none. sym so_far ∙ step term most i sum ws lt ∙ rw (op, none) refl in
     by_fault e (term behind) total fails f
 
-pub kind_fails : (e : DeclFault) (term : Reader Form) (most i : ℕ) (sum : Integers) (x : Form) (plus : Bool) (ws behind after : List Lexeme) (total : Option (Integers × List Lexeme)) → i < most → sign_at ws ≡ Some (plus, behind) →
+pub kind_fails : (e : TextFault) (term : Reader Form) (most i : ℕ) (sum : Integers) (x : Form) (plus : Bool) (ws behind after : List Lexeme) (total : Option (Integers × List Lexeme)) → i < most → sign_at ws ≡ Some (plus, behind) →
     term behind ≡ Some (x, after) → Fails e (integer_form x) → IsSum term (most - i) sum ws total → Fails e total
 unfolding with_more
 kind_fails e term most i sum x plus ws behind after total lt op read fails so_far =

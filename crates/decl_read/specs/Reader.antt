@@ -1,13 +1,12 @@
 -- Reading from left to right, for the functions that read.
 use Rattle.std.specs.Prelude.{◌≡◌, List, Option, Some, None, Result, Ok, Err}
 use Rattle.path_tree.specs.Lexeme.{Lexeme}
-use Rattle.decl_read.specs.declared.fault.DeclFault.{DeclFault}
-use Rattle.decl_read.specs.declared.fault.DeclFault.TheVariants as faults
+use Rattle.decl_read.specs.declared.text_fault.TextFault.{TextFault}
+use Rattle.decl_read.specs.declared.text_fault.TextFault.TheVariants as faults
 
 -- a fault says that nothing can be read; where memory ran out, nothing is said.
-abbrev pub Fails : {Y : Type 0} → DeclFault → Option Y → Type 0
+abbrev pub Fails : {Y : Type 0} → TextFault → Option Y → Type 0
 Fails faults.Memory read = Unit {0}
-Fails (faults.Lex f) read = read ≡ None
 Fails (faults.Path f) read = read ≡ None
 Fails (faults.Syntax at) read = read ≡ None
 Fails (faults.DuplicateName at) read = read ≡ None
@@ -16,7 +15,7 @@ Fails (faults.UnknownName at) read = read ≡ None
 Fails (faults.TooMany at) read = read ≡ None
 
 -- what a function returned, seen by view, is what reading gives, unless memory ran out.
-abbrev pub Gives : {X Y : Type 0} → (X → Y) → Result X DeclFault → Option Y → Type 0
+abbrev pub Gives : {X Y : Type 0} → (X → Y) → Result X TextFault → Option Y → Type 0
 Gives view (Ok x) read = read ≡ Some (view x)
 Gives view (Err e) read = Fails e read
 

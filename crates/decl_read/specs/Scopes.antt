@@ -9,8 +9,8 @@ use Rattle.path_tree.specs.Path.{Path}
 use Rattle.path_tree.specs.declared.lookup.Constant.{Constant}
 use Rattle.path_tree.specs.declared.path_fault.PathFault.{PathFault}
 use Rattle.path_tree.specs.declared.path_fault.PathFault.TheVariants as path_faults
-use Rattle.decl_read.specs.declared.fault.DeclFault.{DeclFault}
-use Rattle.decl_read.specs.declared.fault.DeclFault.TheVariants as faults
+use Rattle.decl_read.specs.declared.text_fault.TextFault.{TextFault}
+use Rattle.decl_read.specs.declared.text_fault.TextFault.TheVariants as faults
 use Rattle.path_tree.specs.declared.token.Token.{Token}
 use Rattle.value_core.specs.declared.kind.Elem.{Elem}
 use Rattle.value_core.specs.declared.kind.Kind.{Kind}
@@ -64,7 +64,7 @@ abbrev pub part_read : ℕ × Kind × Bor (List Token) → ℕ × Kind × List L
 part_read x = (x.0, x.1, lexemes x.2.now)
 
 -- what is told where a path cannot be read
-abbrev pub path_fault_told : PathFault → DeclFault
+abbrev pub path_fault_told : PathFault → TextFault
 path_fault_told path_faults.Memory = faults.Memory
 path_fault_told path_faults.TooMany = faults.Path path_faults.TooMany
 path_fault_told (path_faults.Expected at) = faults.Path (path_faults.Expected at)

@@ -11,6 +11,8 @@ use Rattle.decl_core.specs.ObjectForm.{ObjectForm}
 use Rattle.decl_core.specs.ObjectMap.{object_of, objects_of}
 use Rattle.decl_read.specs.declared.fault.DeclFault.{DeclFault}
 use Rattle.decl_read.specs.declared.fault.DeclFault.TheVariants as faults
+use Rattle.decl_read.specs.declared.text_fault.TextFault.{TextFault}
+use Rattle.decl_read.specs.declared.text_fault.TextFault.TheVariants as text_faults
 use Rattle.decl_read.specs.Declarations.{IsFile}
 
 -- what was read, and what stands behind
@@ -28,6 +30,16 @@ lex_fault_told (lex_faults.BadByte at) = faults.Lex (lex_faults.BadByte at)
 lex_fault_told (lex_faults.OpenComment at) = faults.Lex (lex_faults.OpenComment at)
 lex_fault_told (lex_faults.OpenString at) = faults.Lex (lex_faults.OpenString at)
 lex_fault_told (lex_faults.BadNumber at) = faults.Lex (lex_faults.BadNumber at)
+
+-- what is told where the tokens are no objects
+abbrev pub text_fault_told : TextFault → DeclFault
+text_fault_told (text_faults.Path fault) = faults.Path fault
+text_fault_told (text_faults.Syntax at) = faults.Syntax at
+text_fault_told (text_faults.DuplicateName at) = faults.DuplicateName at
+text_fault_told (text_faults.WrongType at) = faults.WrongType at
+text_fault_told (text_faults.UnknownName at) = faults.UnknownName at
+text_fault_told (text_faults.TooMany at) = faults.TooMany at
+text_fault_told text_faults.Memory = faults.Memory
 
 -- These are the objects of a source: it has at most 65,536 bytes and tokens, and these are a file of the grammar.
 pub record AreObjectsOf (source : List ℕ) (objects : List ObjectForm) : Type 0 where

@@ -14,12 +14,12 @@ ghost use Rattle.decl_read.specs.StatementReading.{sorted as sorted_form, result
 ghost use Rattle.decl_read.specs.Scopes.{names_of, function_of, inner_in, statement_by, string_read, statement_read, statements_read};
 
 use crate::condition::condition;
-use crate::fault::DeclFault;
 use crate::front::{after, behind, start_of, start_of_second};
 use crate::kinds::{array, integer, level, queue, table, text};
 use crate::lookup::{is_known, part_of};
 use crate::scope::Scope;
 use crate::terms::{Read, expr, nested, part};
+use crate::text_fault::TextFault;
 use decl_core::expr::Expr;
 use decl_core::id::PartId;
 use decl_core::stmt::{Cond, Stmt};
@@ -36,16 +36,16 @@ const EXPRESSIONS: u8 = 32;
 const STATEMENTS: u8 = 32;
 
 /// An expression that has to be of a sort.
-fn sorted(sort: Elem, e: Expr, at: usize) -> Result<Expr, DeclFault>
+fn sorted(sort: Elem, e: Expr, at: usize) -> Result<Expr, TextFault>
     ensures { Gives form_of result (sorted_form sort (form_of e)) }
 {
     match e {
         Expr::Integer(e) => match sort {
             Elem::Integer => Ok(Expr::Integer(e)),
-            Elem::Text => Err(DeclFault::WrongType(at)),
+            Elem::Text => Err(TextFault::WrongType(at)),
         },
         Expr::Text(e) => match sort {
-            Elem::Integer => Err(DeclFault::WrongType(at)),
+            Elem::Integer => Err(TextFault::WrongType(at)),
             Elem::Text => Ok(Expr::Text(e)),
         },
     }
@@ -98,9 +98,9 @@ fn element<'t>(
 {
     match part_of(scope.parts, bytes) {
         None => if is_known(scope, bytes) {
-            Err(DeclFault::WrongType(at))
+            Err(TextFault::WrongType(at))
         } else {
-            Err(DeclFault::UnknownName(at))
+            Err(TextFault::UnknownName(at))
         },
         Some((part, kind)) => {
             let sort = array(kind, at)?;
@@ -128,15 +128,15 @@ fn replied<'t>(
 {
     match after(tokens, Symbol::Assign) {
         None => if is_known(scope, bytes) {
-            Err(DeclFault::Syntax(start_of(tokens)))
+            Err(TextFault::Syntax(start_of(tokens)))
         } else {
-            Err(DeclFault::UnknownName(at))
+            Err(TextFault::UnknownName(at))
         },
         Some(opened) => match result_sort(scope.own, scope.result, bytes) {
             None => if is_known(scope, bytes) {
-                Err(DeclFault::WrongType(at))
+                Err(TextFault::WrongType(at))
             } else {
-                Err(DeclFault::UnknownName(at))
+                Err(TextFault::UnknownName(at))
             },
             Some(sort) => {
                 let (e, rest) = expr(alloc, scope, opened, EXPRESSIONS)?;
@@ -227,28 +227,28 @@ fn erase<'t>(alloc: Global, scope: &Scope, tokens: &'t [Token]) -> Read<'t, Stmt
 }
 
 /// A string that has to stand here, and the tokens behind it.
-fn string<'t>(tokens: &'t [Token]) -> Result<(&'t [u8], &'t [Token]), DeclFault>
+fn string<'t>(tokens: &'t [Token]) -> Result<(&'t [u8], &'t [Token]), TextFault>
     ensures { Gives string_read result (string_at (lexemes tokens.now)) }
 {
     match tokens {
-        [] => Err(DeclFault::Syntax(0)),
+        [] => Err(TextFault::Syntax(0)),
         [token, rest @ ..] => match &token.kind {
             Kind::Text(content) => Ok((content, rest)),
-            Kind::Symbol(_) => Err(DeclFault::Syntax(token.start)),
-            Kind::Number(_) => Err(DeclFault::Syntax(token.start)),
-            Kind::Name(_) => Err(DeclFault::Syntax(token.start)),
-            Kind::EndMark => Err(DeclFault::Syntax(token.start)),
+            Kind::Symbol(_) => Err(TextFault::Syntax(token.start)),
+            Kind::Number(_) => Err(TextFault::Syntax(token.start)),
+            Kind::Name(_) => Err(TextFault::Syntax(token.start)),
+            Kind::EndMark => Err(TextFault::Syntax(token.start)),
         },
     }
 }
 
 /// The content of a string as a word by which a body refuses.
 #[tactic(auto, using(crate::proofs::Refusals::word_some, crate::proofs::Refusals::word_none))]
-fn word(alloc: Global, bytes: &[u8], at: usize) -> Result<Word, DeclFault>
+fn word(alloc: Global, bytes: &[u8], at: usize) -> Result<Word, TextFault>
     ensures { Gives (λ w. w) result (word_of_refusal bytes.now) }
 {
     match Word::read(alloc, bytes)? {
-        None => Err(DeclFault::Syntax(at)),
+        None => Err(TextFault::Syntax(at)),
         Some(word) => Ok(word),
     }
 }
@@ -278,7 +278,7 @@ fn inner<'t>(
     ensures { Gives statement_read result (inner_in scope.now depth (lexemes tokens.now)) }
 {
     if depth == 0 {
-        return Err(DeclFault::TooMany(at));
+        return Err(TextFault::TooMany(at));
     }
     statement(alloc, scope, tokens, depth - 1)
 }
@@ -305,7 +305,7 @@ fn other<'t>(
 }
 
 /// One statement or the other, by a condition.
-fn choice_of(alloc: Global, c: Cond, s: Stmt, t: Stmt) -> Result<Stmt, DeclFault>
+fn choice_of(alloc: Global, c: Cond, s: Stmt, t: Stmt) -> Result<Stmt, TextFault>
     ensures { Gives statement_of result (Some (choose (condition_of c) (statement_of s) (statement_of t))) }
 {
     let s = Box::new(alloc, s)?;
@@ -360,7 +360,7 @@ fn statements<'t>(
             }
         }
     }
-    Err(DeclFault::Syntax(start_of(rest)))
+    Err(TextFault::Syntax(start_of(rest)))
 }
 
 /// What stands behind `begin`.

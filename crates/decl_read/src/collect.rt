@@ -6,7 +6,7 @@ ghost use Rattle.decl_read.specs.Reader.{Gives};
 ghost use Rattle.decl_read.specs.Declarations.{entry_names, is_entry, is_object_word, met_after, name_behind};
 ghost use Rattle.decl_read.specs.declared.collect.Met.TheVariants.{Nothing};
 
-use crate::fault::DeclFault;
+use crate::text_fault::TextFault;
 use path_tree::name::Name;
 use path_tree::token::{Kind, Symbol, Token, is_same_symbol};
 use std::alloc::Global;
@@ -68,7 +68,7 @@ fn met_behind(met: Met, kind: &Kind) -> Met
 }
 
 /// The names so far, with a name that stands directly behind the two words.
-fn noted(alloc: Global, so_far: Vec<Name>, met: Met, kind: &Kind) -> Result<Vec<Name>, DeclFault>
+fn noted(alloc: Global, so_far: Vec<Name>, met: Met, kind: &Kind) -> Result<Vec<Name>, TextFault>
     ensures { Gives (λ v. v.items) result (Some (so_far.items ++ name_behind met (lexeme_of kind.now))) }
 {
     let mut all = so_far;
@@ -90,7 +90,7 @@ fn noted(alloc: Global, so_far: Vec<Name>, met: Met, kind: &Kind) -> Result<Vec<
 }
 
 /// The names that directly follow `entry procedure` or `entry function`, up to the next word `object`.
-pub(crate) fn operation_names(alloc: Global, tokens: &[Token]) -> Result<Vec<Name>, DeclFault>
+pub(crate) fn operation_names(alloc: Global, tokens: &[Token]) -> Result<Vec<Name>, TextFault>
     ensures { Gives (λ v. v.items) result (Some (entry_names Nothing (lexemes tokens.now))) }
 {
     let mut all = Vec::new(alloc);

@@ -11,11 +11,11 @@ ghost use Rattle.path_tree.specs.Reading.{symbol_at};
 ghost use Rattle.path_tree.specs.declared.token.Symbol.TheVariants.{Has};
 ghost use Rattle.decl_read.specs.Scopes.{names_of, nested_in, deeper_in, conditions_in, relation_read, condition_read};
 
-use crate::fault::DeclFault;
 use crate::front::{after, behind, start_of, start_of_second};
 use crate::kinds::{integer, table, text};
 use crate::scope::Scope;
 use crate::terms::{Read, expr, nested, part};
+use crate::text_fault::TextFault;
 use decl_core::expr::Expr;
 use decl_core::id::PartId;
 use decl_core::stmt::{Cond, Relation};
@@ -48,22 +48,22 @@ fn relation<'t>(tokens: &'t [Token]) -> Read<'t, Relation>
     ensures { Gives relation_read result (relation_at (lexemes tokens.now)) }
 {
     match tokens {
-        [] => Err(DeclFault::Syntax(0)),
+        [] => Err(TextFault::Syntax(0)),
         [token, rest @ ..] => match &token.kind {
             Kind::Symbol(s) => match relation_by(*s) {
-                None => Err(DeclFault::Syntax(token.start)),
+                None => Err(TextFault::Syntax(token.start)),
                 Some(relation) => Ok((relation, rest)),
             },
-            Kind::Number(_) => Err(DeclFault::Syntax(token.start)),
-            Kind::Name(_) => Err(DeclFault::Syntax(token.start)),
-            Kind::Text(_) => Err(DeclFault::Syntax(token.start)),
-            Kind::EndMark => Err(DeclFault::Syntax(token.start)),
+            Kind::Number(_) => Err(TextFault::Syntax(token.start)),
+            Kind::Name(_) => Err(TextFault::Syntax(token.start)),
+            Kind::Text(_) => Err(TextFault::Syntax(token.start)),
+            Kind::EndMark => Err(TextFault::Syntax(token.start)),
         },
     }
 }
 
 /// What may stand left of a relation.
-fn left(relation: Relation, e: Expr, at: usize) -> Result<Expr, DeclFault>
+fn left(relation: Relation, e: Expr, at: usize) -> Result<Expr, TextFault>
     ensures { Gives form_of result (left_of relation (form_of e)) }
 {
     match e {
@@ -71,32 +71,32 @@ fn left(relation: Relation, e: Expr, at: usize) -> Result<Expr, DeclFault>
         Expr::Text(e) => match relation {
             Relation::Equal => Ok(Expr::Text(e)),
             Relation::Differ => Ok(Expr::Text(e)),
-            Relation::Less => Err(DeclFault::WrongType(at)),
-            Relation::LessEqual => Err(DeclFault::WrongType(at)),
-            Relation::Greater => Err(DeclFault::WrongType(at)),
-            Relation::GreaterEqual => Err(DeclFault::WrongType(at)),
+            Relation::Less => Err(TextFault::WrongType(at)),
+            Relation::LessEqual => Err(TextFault::WrongType(at)),
+            Relation::Greater => Err(TextFault::WrongType(at)),
+            Relation::GreaterEqual => Err(TextFault::WrongType(at)),
         },
     }
 }
 
 /// Two expressions that are compared; the fault is at the right one.
-fn compared(relation: Relation, left: Expr, right: Expr, at: usize) -> Result<Cond, DeclFault>
+fn compared(relation: Relation, left: Expr, right: Expr, at: usize) -> Result<Cond, TextFault>
     ensures { Gives condition_of result (compared_forms relation (form_of left) (form_of right)) }
 {
     match left {
         Expr::Integer(left) => match right {
             Expr::Integer(right) => Ok(Cond::Integers(relation, left, right)),
-            Expr::Text(_) => Err(DeclFault::WrongType(at)),
+            Expr::Text(_) => Err(TextFault::WrongType(at)),
         },
         Expr::Text(left) => match right {
-            Expr::Integer(_) => Err(DeclFault::WrongType(at)),
+            Expr::Integer(_) => Err(TextFault::WrongType(at)),
             Expr::Text(right) => match relation {
                 Relation::Equal => Ok(Cond::SameTexts(left, right)),
                 Relation::Differ => Ok(Cond::OtherTexts(left, right)),
-                Relation::Less => Err(DeclFault::WrongType(at)),
-                Relation::LessEqual => Err(DeclFault::WrongType(at)),
-                Relation::Greater => Err(DeclFault::WrongType(at)),
-                Relation::GreaterEqual => Err(DeclFault::WrongType(at)),
+                Relation::Less => Err(TextFault::WrongType(at)),
+                Relation::LessEqual => Err(TextFault::WrongType(at)),
+                Relation::Greater => Err(TextFault::WrongType(at)),
+                Relation::GreaterEqual => Err(TextFault::WrongType(at)),
             },
         },
     }
@@ -159,7 +159,7 @@ fn deeper<'t>(
     ensures { Gives condition_read result (deeper_in scope.now depth (lexemes tokens.now)) }
 {
     if depth == 0 {
-        return Err(DeclFault::TooMany(at));
+        return Err(TextFault::TooMany(at));
     }
     condition(alloc, scope, tokens, depth - 1)
 }

@@ -10,11 +10,11 @@ ghost use Rattle.decl_read.specs.Reader.{Gives};
 ghost use Rattle.decl_read.specs.Scopes.{constants_read};
 ghost use Rattle.decl_read.specs.Series.{series_at};
 
-use crate::fault::DeclFault;
 use crate::front::{after, behind, name, start_of};
 use crate::group::{begins, begins_name};
 use crate::lookup::constant_of;
 use crate::terms::Read;
+use crate::text_fault::TextFault;
 use path_tree::lookup::Constant;
 use path_tree::token::{Kind, Symbol, Token};
 use std::alloc::Global;
@@ -27,13 +27,13 @@ fn number<'t>(tokens: &'t [Token]) -> Read<'t, u32>
     ensures { Gives (λ x. (x.0, lexemes x.1.now)) result (number_at (lexemes tokens.now)) }
 {
     match tokens {
-        [] => Err(DeclFault::Syntax(0)),
+        [] => Err(TextFault::Syntax(0)),
         [token, rest @ ..] => match &token.kind {
             Kind::Number(n) => Ok((*n, rest)),
-            Kind::Name(_) => Err(DeclFault::Syntax(token.start)),
-            Kind::Symbol(_) => Err(DeclFault::Syntax(token.start)),
-            Kind::Text(_) => Err(DeclFault::Syntax(token.start)),
-            Kind::EndMark => Err(DeclFault::Syntax(token.start)),
+            Kind::Name(_) => Err(TextFault::Syntax(token.start)),
+            Kind::Symbol(_) => Err(TextFault::Syntax(token.start)),
+            Kind::Text(_) => Err(TextFault::Syntax(token.start)),
+            Kind::EndMark => Err(TextFault::Syntax(token.start)),
         },
     }
 }
@@ -50,10 +50,10 @@ fn constant<'t>(
     let mut all = before;
     let (name, rest) = name(tokens)?;
     if constant_of(&all, name.as_bytes()).is_some() {
-        return Err(DeclFault::DuplicateName(start_of(tokens)));
+        return Err(TextFault::DuplicateName(start_of(tokens)));
     }
     if all.len() >= MOST_CONSTANTS {
-        return Err(DeclFault::TooMany(start_of(tokens)));
+        return Err(TextFault::TooMany(start_of(tokens)));
     }
     let opened = behind(rest, Symbol::Equal)?;
     let (value, rest) = number(opened)?;
@@ -76,7 +76,7 @@ fn more_constants<'t>(
         return Ok((so_far, tokens));
     }
     if left == 0 {
-        return Err(DeclFault::TooMany(start_of(tokens)));
+        return Err(TextFault::TooMany(start_of(tokens)));
     }
     let (one, rest) = constant(alloc, so_far, tokens)?;
     more_constants(alloc, one, left - 1, rest)
@@ -94,16 +94,16 @@ fn consts<'t>(alloc: Global, before: Vec<Constant>, tokens: &'t [Token]) -> Read
 }
 
 /// The fault where no constant has room: at what stands behind the word.
-fn no_room(before: &[Constant], tokens: &[Token]) -> DeclFault {
+fn no_room(before: &[Constant], tokens: &[Token]) -> TextFault {
     let Some(opened) = after(tokens, Symbol::Const) else {
-        return DeclFault::Syntax(start_of(tokens));
+        return TextFault::Syntax(start_of(tokens));
     };
     match name(opened) {
         Err(fault) => fault,
         Ok((name, _)) => if constant_of(before, name.as_bytes()).is_some() {
-            DeclFault::DuplicateName(start_of(opened))
+            TextFault::DuplicateName(start_of(opened))
         } else {
-            DeclFault::TooMany(start_of(opened))
+            TextFault::TooMany(start_of(opened))
         },
     }
 }

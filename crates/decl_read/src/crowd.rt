@@ -6,10 +6,10 @@
 use crate::constants::constants;
 use crate::crowd_path::behind_path;
 use crate::entry::entries;
-use crate::fault::DeclFault;
 use crate::front::{after, behind, start_of};
 use crate::parts::parts;
 use crate::paths::MOST_PATHS;
+use crate::text_fault::TextFault;
 use indexmap::IndexSet;
 use path_tree::lookup::Constant;
 use path_tree::name::Name;
@@ -23,12 +23,12 @@ fn behind_paths<'t>(
     names: &IndexSet<Name>,
     left: usize,
     tokens: &'t [Token],
-) -> Result<&'t [Token], DeclFault> {
+) -> Result<&'t [Token], TextFault> {
     if after(tokens, Symbol::Path).is_none() {
         return Ok(tokens);
     }
     if left == 0 {
-        return Err(DeclFault::TooMany(start_of(tokens)));
+        return Err(TextFault::TooMany(start_of(tokens)));
     }
     let rest = behind_path(alloc, constants, names, tokens)?;
     let rest = behind(rest, Symbol::Semicolon)?;
@@ -36,7 +36,7 @@ fn behind_paths<'t>(
 }
 
 /// The names, to look for one among them.
-fn set_of(alloc: Global, names: &[Name]) -> Result<IndexSet<Name>, DeclFault> {
+fn set_of(alloc: Global, names: &[Name]) -> Result<IndexSet<Name>, TextFault> {
     let mut known = IndexSet::new(alloc);
     for name in names {
         let name = name.copy(alloc)?;
@@ -50,7 +50,7 @@ fn behind_parts<'t>(
     alloc: Global,
     constants: &[Constant],
     tokens: &'t [Token],
-) -> Result<&'t [Token], DeclFault> {
+) -> Result<&'t [Token], TextFault> {
     let (parts, rest) = parts(alloc, constants, Vec::new(alloc), 16, tokens)?;
     let (_operations, rest) = entries(alloc, constants, &parts, Vec::new(alloc), 32, rest)?;
     let rest = behind(rest, Symbol::End)?;
@@ -63,7 +63,7 @@ fn behind_object<'t>(
     alloc: Global,
     names: &[Name],
     tokens: &'t [Token],
-) -> Result<&'t [Token], DeclFault> {
+) -> Result<&'t [Token], TextFault> {
     let known = set_of(alloc, names)?;
     let (constants, rest) = constants(alloc, Vec::new(alloc), 16, tokens)?;
     let rest = behind_paths(alloc, &constants, &known, MOST_PATHS, rest)?;
@@ -71,9 +71,9 @@ fn behind_object<'t>(
 }
 
 /// The first fault of an object with so many names.
-pub(crate) fn fault_of_crowd(alloc: Global, names: &[Name], tokens: &[Token]) -> DeclFault {
+pub(crate) fn fault_of_crowd(alloc: Global, names: &[Name], tokens: &[Token]) -> TextFault {
     match behind_object(alloc, names, tokens) {
         Err(fault) => fault,
-        Ok(rest) => DeclFault::Syntax(start_of(rest)),
+        Ok(rest) => TextFault::Syntax(start_of(rest)),
     }
 }

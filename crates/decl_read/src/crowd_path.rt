@@ -1,8 +1,8 @@
 //! Paths that may name more than 32 operations: where they end, or their first fault.
 
-use crate::fault::DeclFault;
 use crate::front::{after, behind, start_of};
 use crate::lookup::constant_of;
+use crate::text_fault::TextFault;
 use indexmap::IndexSet;
 use path_tree::lookup::Constant;
 use path_tree::name::Name;
@@ -48,9 +48,9 @@ impl Walk {
     }
 
     /// One list more, which the token at this byte opens.
-    fn open(&mut self, close: Symbol, at: usize) -> Result<(), DeclFault> {
+    fn open(&mut self, close: Symbol, at: usize) -> Result<(), TextFault> {
         if self.open.len() > MOST_LEVELS {
-            return Err(DeclFault::Path(PathFault::TooDeep(at)));
+            return Err(TextFault::Path(PathFault::TooDeep(at)));
         }
         self.open.push(Level {
             close,
@@ -67,12 +67,12 @@ impl Walk {
         names: &IndexSet<Name>,
         name: &Name,
         at: usize,
-    ) -> Result<(), DeclFault> {
+    ) -> Result<(), TextFault> {
         if !names.contains(name) {
-            return Err(DeclFault::Path(PathFault::UnknownName(at)));
+            return Err(TextFault::Path(PathFault::UnknownName(at)));
         }
         if self.seen.contains(name) {
-            return Err(DeclFault::Path(PathFault::RepeatedName(at)));
+            return Err(TextFault::Path(PathFault::RepeatedName(at)));
         }
         let name = name.copy(alloc)?;
         self.seen.insert(name)?;
@@ -86,9 +86,9 @@ impl Walk {
         n: u32,
         at: usize,
         tokens: &'t [Token],
-    ) -> Result<&'t [Token], DeclFault> {
+    ) -> Result<&'t [Token], TextFault> {
         if n < 1 || n > 65535 {
-            return Err(DeclFault::Path(PathFault::BadBound(at)));
+            return Err(TextFault::Path(PathFault::BadBound(at)));
         }
         let paren = sign(tokens, Symbol::Colon)?;
         let rest = sign(paren, Symbol::OpenParen)?;
@@ -99,10 +99,10 @@ impl Walk {
 }
 
 /// The tokens behind a sign that has to stand here.
-fn sign<'t>(tokens: &'t [Token], symbol: Symbol) -> Result<&'t [Token], DeclFault> {
+fn sign<'t>(tokens: &'t [Token], symbol: Symbol) -> Result<&'t [Token], TextFault> {
     match after(tokens, symbol) {
         Some(rest) => Ok(rest),
-        None => Err(DeclFault::Path(PathFault::Expected(start_of(tokens)))),
+        None => Err(TextFault::Path(PathFault::Expected(start_of(tokens)))),
     }
 }
 
@@ -113,9 +113,9 @@ fn item<'t>(
     constants: &[Constant],
     names: &IndexSet<Name>,
     tokens: &'t [Token],
-) -> Result<(bool, &'t [Token]), DeclFault> {
+) -> Result<(bool, &'t [Token]), TextFault> {
     match tokens {
-        [] => Err(DeclFault::Path(PathFault::Expected(0))),
+        [] => Err(TextFault::Path(PathFault::Expected(0))),
         [token, rest @ ..] => {
             let at = token.start;
             match &token.kind {
@@ -125,7 +125,7 @@ fn item<'t>(
                     Ok((true, rest))
                 } else {
                     match constant_of(constants, name.as_bytes()) {
-                        None => Err(DeclFault::Path(PathFault::UnknownName(at))),
+                        None => Err(TextFault::Path(PathFault::UnknownName(at))),
                         Some(n) => Ok((false, walk.bound(n, at, rest)?)),
                     }
                 },
@@ -137,17 +137,17 @@ fn item<'t>(
                     walk.open(Symbol::CloseBracket, at)?;
                     Ok((false, rest))
                 } else {
-                    Err(DeclFault::Path(PathFault::Expected(at)))
+                    Err(TextFault::Path(PathFault::Expected(at)))
                 },
-                Kind::Text(_) => Err(DeclFault::Path(PathFault::Expected(at))),
-                Kind::EndMark => Err(DeclFault::Path(PathFault::Expected(at))),
+                Kind::Text(_) => Err(TextFault::Path(PathFault::Expected(at))),
+                Kind::EndMark => Err(TextFault::Path(PathFault::Expected(at))),
             }
         }
     }
 }
 
 /// What stands behind an item: the tokens behind it, and whether another item has to follow.
-fn behind_item<'t>(walk: &mut Walk, tokens: &'t [Token]) -> Result<(bool, &'t [Token]), DeclFault> {
+fn behind_item<'t>(walk: &mut Walk, tokens: &'t [Token]) -> Result<(bool, &'t [Token]), TextFault> {
     let mut rest = tokens;
     'lists: while let Some(level) = walk.open.pop() {
         if let Some(others) = after(rest, Symbol::Comma) {
@@ -184,7 +184,7 @@ fn step<'t>(
     constants: &[Constant],
     names: &IndexSet<Name>,
     tokens: &'t [Token],
-) -> Result<(bool, &'t [Token]), DeclFault> {
+) -> Result<(bool, &'t [Token]), TextFault> {
     let (is_whole, rest) = item(alloc, walk, constants, names, tokens)?;
     if is_whole {
         behind_item(walk, rest)
@@ -199,7 +199,7 @@ pub(crate) fn behind_path<'t>(
     constants: &[Constant],
     names: &IndexSet<Name>,
     tokens: &'t [Token],
-) -> Result<&'t [Token], DeclFault> {
+) -> Result<&'t [Token], TextFault> {
     let mut walk = Walk {
         seen: IndexSet::new(alloc),
         open: Vec::new(alloc),
@@ -212,11 +212,11 @@ pub(crate) fn behind_path<'t>(
         rest = behind_it;
         if !is_more {
             return if walk.nodes > MOST_NODES {
-                Err(DeclFault::Path(PathFault::TooMany))
+                Err(TextFault::Path(PathFault::TooMany))
             } else {
                 Ok(rest)
             };
         }
     }
-    Err(DeclFault::Syntax(start_of(rest)))
+    Err(TextFault::Syntax(start_of(rest)))
 }

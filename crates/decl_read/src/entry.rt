@@ -18,7 +18,6 @@ ghost use Rattle.decl_core.specs.ObjectMap.{operations_of, params_of, parts_of, 
 ghost use Rattle.decl_read.specs.Scopes.{operations_read};
 
 use crate::block::body;
-use crate::fault::DeclFault;
 use crate::front::{after, behind, name, start_of};
 use crate::group::begins;
 use crate::kind_text::elem;
@@ -26,6 +25,7 @@ use crate::lookup::{constant_of, is_operation, param_of, place_of};
 use crate::params::params;
 use crate::scope::Scope;
 use crate::terms::Read;
+use crate::text_fault::TextFault;
 use decl_core::object::{Operation, Param, Part};
 use decl_core::stmt::Stmt;
 use path_tree::lookup::Constant;
@@ -79,16 +79,16 @@ fn new_operation<'t>(
     parts: &[Part],
     before: &[Arc<Operation>],
     tokens: &'t [Token],
-) -> Result<(&'t Name, &'t [Token]), DeclFault>
+) -> Result<(&'t Name, &'t [Token]), TextFault>
     requires { length parts.now ≤ 16 }
     ensures { Gives (λ x. (x.0.now, lexemes x.1.now)) result (new_operation_in (constants_of constants.now) (parts_of parts.now) (operations_of before.now) (lexemes tokens.now)) }
 {
     let (name, rest) = name(tokens)?;
     if is_taken(constants, parts, before, name.as_bytes()) {
-        return Err(DeclFault::DuplicateName(start_of(tokens)));
+        return Err(TextFault::DuplicateName(start_of(tokens)));
     }
     if before.len() >= MOST_OPERATIONS {
-        return Err(DeclFault::TooMany(start_of(tokens)));
+        return Err(TextFault::TooMany(start_of(tokens)));
     }
     Ok((name, rest))
 }
@@ -102,7 +102,7 @@ fn with_operation(
     params: Vec<Param>,
     reply: Option<Elem>,
     body: Vec<Stmt>,
-) -> Result<Vec<Arc<Operation>>, DeclFault>
+) -> Result<Vec<Arc<Operation>>, TextFault>
     requires few { length parts.now ≤ 16 }
     requires typed { IsWellTyped (kinds_from (named_in_all (all_of body.items) 0) 0 (parts_of parts.now)) (map (λ p. p.kind) params.items) reply (all_of body.items) }
     ensures { Gives (λ v. operations_of v.items) result (Some (operations_of before.items ++ operation_with (parts_of parts.now) own.now (params_of params.items) reply (all_of body.items) ∷ [])) }
@@ -246,21 +246,21 @@ fn no_room(
     parts: &[Part],
     before: &[Arc<Operation>],
     tokens: &[Token],
-) -> DeclFault
+) -> TextFault
     requires { length parts.now ≤ 16 }
 {
     let Some(opened) = after(tokens, Symbol::Entry) else {
-        return DeclFault::Syntax(start_of(tokens));
+        return TextFault::Syntax(start_of(tokens));
     };
     let named = match after(opened, Symbol::Procedure) {
         Some(rest) => rest,
         None => match after(opened, Symbol::Function) {
             Some(rest) => rest,
-            None => return DeclFault::Syntax(start_of(opened)),
+            None => return TextFault::Syntax(start_of(opened)),
         },
     };
     match new_operation(constants, parts, before, named) {
         Err(fault) => fault,
-        Ok(_) => DeclFault::TooMany(start_of(named)),
+        Ok(_) => TextFault::TooMany(start_of(named)),
     }
 }

@@ -1,12 +1,10 @@
 //! Why a source holds no objects.
 
 ghost use Rattle.std.specs.Prelude.{◌≡◌};
-ghost use Rattle.decl_read.specs.declared.fault.DeclFault.TheVariants.{Memory};
 ghost use Rattle.decl_read.specs.DeclFaults.{fault_number, fault_name, fault_place};
 
 use path_tree::lex::fault::LexFault;
 use path_tree::path_fault::PathFault;
-use std::alloc::{AllocError, AllocFailed};
 use thiserror::Error;
 
 /// Why a source holds no objects: the first fault that a single pass meets, with the byte of the source
@@ -86,21 +84,5 @@ impl DeclFault {
             | DeclFault::UnknownName(at)
             | DeclFault::TooMany(at) => Some(*at),
         }
-    }
-}
-
-impl From<AllocError> for DeclFault {
-    ghost from_gives = { λ _ e. e ≡ Memory };
-
-    fn from(_e: AllocError) -> DeclFault {
-        DeclFault::Memory
-    }
-}
-
-impl<T: Drop> From<AllocFailed<T>> for DeclFault {
-    ghost from_gives = { λ _ e. e ≡ Memory };
-
-    fn from(_e: AllocFailed<T>) -> DeclFault {
-        DeclFault::Memory
     }
 }

@@ -6,7 +6,7 @@ ghost use Rattle.path_tree.specs.Reading.{symbol_at};
 ghost use Rattle.decl_read.specs.Reader.{Gives};
 ghost use Rattle.decl_read.specs.Reading.{sign_at, name_at};
 
-use crate::fault::DeclFault;
+use crate::text_fault::TextFault;
 use path_tree::name::Name;
 use path_tree::token::{Kind, Symbol, Token, is_same_symbol};
 
@@ -47,27 +47,27 @@ pub(crate) fn after<'t>(tokens: &'t [Token], symbol: Symbol) -> Option<&'t [Toke
 }
 
 /// The tokens behind a symbol that has to stand here.
-pub(crate) fn behind<'t>(tokens: &'t [Token], symbol: Symbol) -> Result<&'t [Token], DeclFault>
+pub(crate) fn behind<'t>(tokens: &'t [Token], symbol: Symbol) -> Result<&'t [Token], TextFault>
     ensures { Gives (λ rest. lexemes rest.now) result (symbol_at symbol (lexemes tokens.now)) }
 {
     match after(tokens, symbol) {
         Some(rest) => Ok(rest),
-        None => Err(DeclFault::Syntax(start_of(tokens))),
+        None => Err(TextFault::Syntax(start_of(tokens))),
     }
 }
 
 /// A name that has to stand here, and the tokens behind it.
-pub(crate) fn name<'t>(tokens: &'t [Token]) -> Result<(&'t Name, &'t [Token]), DeclFault>
+pub(crate) fn name<'t>(tokens: &'t [Token]) -> Result<(&'t Name, &'t [Token]), TextFault>
     ensures { Gives (λ x. (x.0.now, lexemes x.1.now)) result (name_at (lexemes tokens.now)) }
 {
     match tokens {
-        [] => Err(DeclFault::Syntax(0)),
+        [] => Err(TextFault::Syntax(0)),
         [token, rest @ ..] => match &token.kind {
             Kind::Name(name) => Ok((name, rest)),
-            Kind::Symbol(_) => Err(DeclFault::Syntax(token.start)),
-            Kind::Number(_) => Err(DeclFault::Syntax(token.start)),
-            Kind::Text(_) => Err(DeclFault::Syntax(token.start)),
-            Kind::EndMark => Err(DeclFault::Syntax(token.start)),
+            Kind::Symbol(_) => Err(TextFault::Syntax(token.start)),
+            Kind::Number(_) => Err(TextFault::Syntax(token.start)),
+            Kind::Text(_) => Err(TextFault::Syntax(token.start)),
+            Kind::EndMark => Err(TextFault::Syntax(token.start)),
         },
     }
 }

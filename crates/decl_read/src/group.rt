@@ -8,11 +8,11 @@ ghost use Rattle.decl_read.specs.Reader.{Gives};
 ghost use Rattle.decl_read.specs.Reading.{is_among as is_one_of};
 ghost use Rattle.decl_read.specs.Scopes.{names_of, names_read};
 
-use crate::fault::DeclFault;
 use crate::front::{after, behind, name, start_of};
 use crate::lookup::is_known;
 use crate::scope::Scope;
 use crate::terms::Read;
+use crate::text_fault::TextFault;
 use path_tree::name::Name;
 use path_tree::token::{Kind, Symbol, Token};
 use std::alloc::Global;
@@ -54,13 +54,13 @@ pub(crate) fn is_among(names: &[Name], text: &[u8]) -> bool
 }
 
 /// The fault where no name has room.
-fn no_room(scope: &Scope, so_far: &[Name], tokens: &[Token]) -> DeclFault {
+fn no_room(scope: &Scope, so_far: &[Name], tokens: &[Token]) -> TextFault {
     match name(tokens) {
         Err(fault) => fault,
         Ok((name, _)) => if is_known(scope, name.as_bytes()) || is_among(so_far, name.as_bytes()) {
-            DeclFault::DuplicateName(start_of(tokens))
+            TextFault::DuplicateName(start_of(tokens))
         } else {
-            DeclFault::TooMany(start_of(tokens))
+            TextFault::TooMany(start_of(tokens))
         },
     }
 }
@@ -81,7 +81,7 @@ fn some_names<'t>(
     let mut all = so_far;
     let (name, rest) = name(tokens)?;
     if is_known(scope, name.as_bytes()) || is_among(&all, name.as_bytes()) {
-        return Err(DeclFault::DuplicateName(start_of(tokens)));
+        return Err(TextFault::DuplicateName(start_of(tokens)));
     }
     let copy = name.copy(alloc)?;
     all.push(copy)?;

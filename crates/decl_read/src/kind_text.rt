@@ -6,12 +6,12 @@ ghost use Rattle.path_tree.specs.Lexeme.{lexemes};
 ghost use Rattle.decl_read.specs.DeclarationReading.{allowed as allowed_of, size_in, elem_of, elem_at, of_elem_in, array_in, queue_in, table_in, worded_kind, kind_in};
 ghost use Rattle.decl_read.specs.Reader.{Gives};
 
-use crate::fault::DeclFault;
 use crate::front::{behind, start_of};
 use crate::group::is_among;
 use crate::lookup::{constant_of, is_known};
 use crate::scope::Scope;
 use crate::terms::Read;
+use crate::text_fault::TextFault;
 use path_tree::name::Name;
 use path_tree::token::{Kind, Symbol, Token, is_same_symbol};
 use value_core::kind::{Elem, Kind as PartKind};
@@ -20,13 +20,13 @@ use value_core::kind::{Elem, Kind as PartKind};
 const MOST_ELEMENTS: u32 = 1024;
 
 /// A size, which is 1 to 1024.
-fn allowed(n: u32, at: usize) -> Result<u16, DeclFault>
+fn allowed(n: u32, at: usize) -> Result<u16, TextFault>
     ensures { Gives (λ size. size) result (allowed_of n) }
 {
     if n >= 1 && n <= MOST_ELEMENTS {
         Ok(n as u16)
     } else {
-        Err(DeclFault::Syntax(at))
+        Err(TextFault::Syntax(at))
     }
 }
 
@@ -37,7 +37,7 @@ fn size<'t>(scope: &Scope, group: &[Name], tokens: &'t [Token]) -> Read<'t, u16>
     ensures { Gives (λ x. (x.0, lexemes x.1.now)) result (size_in (constants_of scope.now.constants.now) (lexemes tokens.now)) }
 {
     match tokens {
-        [] => Err(DeclFault::Syntax(0)),
+        [] => Err(TextFault::Syntax(0)),
         [token, rest @ ..] => match &token.kind {
             Kind::Number(n) => {
                 let size = allowed(*n, token.start)?;
@@ -45,24 +45,24 @@ fn size<'t>(scope: &Scope, group: &[Name], tokens: &'t [Token]) -> Read<'t, u16>
             }
             Kind::Name(name) => match constant_of(scope.constants, name.as_bytes()) {
                 None => if is_known(scope, name.as_bytes()) || is_among(group, name.as_bytes()) {
-                    Err(DeclFault::WrongType(token.start))
+                    Err(TextFault::WrongType(token.start))
                 } else {
-                    Err(DeclFault::UnknownName(token.start))
+                    Err(TextFault::UnknownName(token.start))
                 },
                 Some(n) => {
                     let size = allowed(n, token.start)?;
                     Ok((size, rest))
                 }
             },
-            Kind::Symbol(_) => Err(DeclFault::Syntax(token.start)),
-            Kind::Text(_) => Err(DeclFault::Syntax(token.start)),
-            Kind::EndMark => Err(DeclFault::Syntax(token.start)),
+            Kind::Symbol(_) => Err(TextFault::Syntax(token.start)),
+            Kind::Text(_) => Err(TextFault::Syntax(token.start)),
+            Kind::EndMark => Err(TextFault::Syntax(token.start)),
         },
     }
 }
 
 /// What the elements are that this word says.
-fn worded_elem(symbol: Symbol, at: usize) -> Result<Elem, DeclFault>
+fn worded_elem(symbol: Symbol, at: usize) -> Result<Elem, TextFault>
     ensures { Gives (λ e. e) result (elem_of symbol) }
 {
     if is_same_symbol(symbol, Symbol::Integer) {
@@ -70,7 +70,7 @@ fn worded_elem(symbol: Symbol, at: usize) -> Result<Elem, DeclFault>
     } else if is_same_symbol(symbol, Symbol::Text) {
         Ok(Elem::Text)
     } else {
-        Err(DeclFault::Syntax(at))
+        Err(TextFault::Syntax(at))
     }
 }
 
@@ -79,16 +79,16 @@ pub(crate) fn elem<'t>(tokens: &'t [Token]) -> Read<'t, Elem>
     ensures { Gives (λ x. (x.0, lexemes x.1.now)) result (elem_at (lexemes tokens.now)) }
 {
     match tokens {
-        [] => Err(DeclFault::Syntax(0)),
+        [] => Err(TextFault::Syntax(0)),
         [token, rest @ ..] => match &token.kind {
             Kind::Symbol(s) => {
                 let e = worded_elem(*s, token.start)?;
                 Ok((e, rest))
             }
-            Kind::Number(_) => Err(DeclFault::Syntax(token.start)),
-            Kind::Name(_) => Err(DeclFault::Syntax(token.start)),
-            Kind::Text(_) => Err(DeclFault::Syntax(token.start)),
-            Kind::EndMark => Err(DeclFault::Syntax(token.start)),
+            Kind::Number(_) => Err(TextFault::Syntax(token.start)),
+            Kind::Name(_) => Err(TextFault::Syntax(token.start)),
+            Kind::Text(_) => Err(TextFault::Syntax(token.start)),
+            Kind::EndMark => Err(TextFault::Syntax(token.start)),
         },
     }
 }
@@ -151,7 +151,7 @@ fn worded<'t>(
     } else if is_same_symbol(symbol, Symbol::Table) {
         table(tokens)
     } else {
-        Err(DeclFault::Syntax(at))
+        Err(TextFault::Syntax(at))
     }
 }
 
@@ -161,13 +161,13 @@ pub(crate) fn kind<'t>(scope: &Scope, group: &[Name], tokens: &'t [Token]) -> Re
     ensures { Gives (λ x. (x.0, lexemes x.1.now)) result (kind_in (constants_of scope.now.constants.now) (lexemes tokens.now)) }
 {
     match tokens {
-        [] => Err(DeclFault::Syntax(0)),
+        [] => Err(TextFault::Syntax(0)),
         [token, rest @ ..] => match &token.kind {
             Kind::Symbol(s) => worded(scope, group, *s, token.start, rest),
-            Kind::Number(_) => Err(DeclFault::Syntax(token.start)),
-            Kind::Name(_) => Err(DeclFault::Syntax(token.start)),
-            Kind::Text(_) => Err(DeclFault::Syntax(token.start)),
-            Kind::EndMark => Err(DeclFault::Syntax(token.start)),
+            Kind::Number(_) => Err(TextFault::Syntax(token.start)),
+            Kind::Name(_) => Err(TextFault::Syntax(token.start)),
+            Kind::Text(_) => Err(TextFault::Syntax(token.start)),
+            Kind::EndMark => Err(TextFault::Syntax(token.start)),
         },
     }
 }

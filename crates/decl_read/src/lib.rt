@@ -23,3 +23,4 @@ mod paths;
 pub mod read;
 mod scope;
 mod terms;
+mod text_fault;

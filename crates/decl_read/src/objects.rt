@@ -15,12 +15,12 @@ use crate::collect::operation_names;
 use crate::constants::constants;
 use crate::crowd::fault_of_crowd;
 use crate::entry::{MOST_OPERATIONS, entries};
-use crate::fault::DeclFault;
 use crate::front::{after, behind, name, start_of};
 use crate::group::begins;
 use crate::parts::parts;
 use crate::paths::paths;
 use crate::terms::Read;
+use crate::text_fault::TextFault;
 use decl_core::object::Object;
 use path_tree::name::Name;
 use path_tree::token::{Kind, Symbol, Token};
@@ -64,7 +64,7 @@ fn next_object<'t>(alloc: Global, before: Catalog, tokens: &'t [Token]) -> Read<
     let opened = behind(tokens, Symbol::Object)?;
     let (own, rest) = name(opened)?;
     if before.has(own) {
-        return Err(DeclFault::DuplicateName(start_of(opened)));
+        return Err(TextFault::DuplicateName(start_of(opened)));
     }
     let rest = behind(rest, Symbol::Semicolon)?;
     let (object, rest) = contents(alloc, own, rest)?;
@@ -73,15 +73,15 @@ fn next_object<'t>(alloc: Global, before: Catalog, tokens: &'t [Token]) -> Read<
 }
 
 /// The fault where an object has no room: at what stands behind the word `object`.
-fn no_room(before: &Catalog, tokens: &[Token]) -> DeclFault {
+fn no_room(before: &Catalog, tokens: &[Token]) -> TextFault {
     match after(tokens, Symbol::Object) {
-        None => DeclFault::Syntax(start_of(tokens)),
+        None => TextFault::Syntax(start_of(tokens)),
         Some(opened) => match name(opened) {
             Err(fault) => fault,
             Ok((own, _)) => if before.has(own) {
-                DeclFault::DuplicateName(start_of(opened))
+                TextFault::DuplicateName(start_of(opened))
             } else {
-                DeclFault::TooMany(start_of(opened))
+                TextFault::TooMany(start_of(opened))
             },
         },
     }
@@ -120,7 +120,7 @@ fn is_at_end(tokens: &[Token]) -> bool
 
 /// The objects of a whole source.
 #[tactic(auto, unfolding(crate::specs::DeclarationReading::file_in))]
-pub(crate) fn file(alloc: Global, tokens: &[Token]) -> Result<Catalog, DeclFault>
+pub(crate) fn file(alloc: Global, tokens: &[Token]) -> Result<Catalog, TextFault>
     requires { length tokens.now ≤ 65537 }
     ensures { Gives objects_of result (file_in 131072 (lexemes tokens.now)) }
 {
@@ -128,6 +128,6 @@ pub(crate) fn file(alloc: Global, tokens: &[Token]) -> Result<Catalog, DeclFault
     if is_at_end(rest) {
         Ok(all)
     } else {
-        Err(DeclFault::Syntax(start_of(rest)))
+        Err(TextFault::Syntax(start_of(rest)))
     }
 }

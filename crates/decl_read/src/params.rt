@@ -11,12 +11,12 @@ ghost use Rattle.decl_read.specs.Scopes.{names_of, params_read};
 ghost use Rattle.decl_core.specs.ObjectMap.{params_of};
 ghost use Rattle.decl_read.specs.Series.{series_at};
 
-use crate::fault::DeclFault;
 use crate::front::{after, behind, start_of};
 use crate::group::{begins, names};
 use crate::kind_text::elem;
 use crate::scope::Scope;
 use crate::terms::Read;
+use crate::text_fault::TextFault;
 use decl_core::object::Param;
 use path_tree::name::Name;
 use path_tree::token::{Symbol, Token};
@@ -104,7 +104,7 @@ fn more_groups<'t>(
         return Ok((so_far, tokens));
     }
     if left == 0 {
-        return Err(DeclFault::TooMany(start_of(tokens)));
+        return Err(TextFault::TooMany(start_of(tokens)));
     }
     let (one, rest) = next_group(alloc, scope, so_far, tokens)?;
     more_groups(alloc, scope, one, left - 1, rest)

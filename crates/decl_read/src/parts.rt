@@ -12,13 +12,13 @@ ghost use Rattle.decl_read.specs.Scopes.{names_of, parts_read};
 ghost use Rattle.decl_core.specs.ObjectMap.{parts_of};
 ghost use Rattle.decl_read.specs.Series.{series_at};
 
-use crate::fault::DeclFault;
 use crate::front::{after, behind, name, start_of};
 use crate::group::{begins, begins_name, names};
 use crate::kind_text::kind;
 use crate::lookup::is_known;
 use crate::scope::Scope;
 use crate::terms::Read;
+use crate::text_fault::TextFault;
 use decl_core::object::Part;
 use path_tree::lookup::Constant;
 use path_tree::name::Name;
@@ -104,7 +104,7 @@ fn more_parts<'t>(
         return Ok((so_far, tokens));
     }
     if left == 0 {
-        return Err(DeclFault::TooMany(start_of(tokens)));
+        return Err(TextFault::TooMany(start_of(tokens)));
     }
     let (one, rest) = part_group(alloc, constants, so_far, tokens)?;
     more_parts(alloc, constants, one, left - 1, rest)
@@ -129,18 +129,18 @@ fn var<'t>(
 }
 
 /// The fault where no part has room: at what stands behind the word.
-fn no_room(constants: &[Constant], before: &[Part], tokens: &[Token]) -> DeclFault
+fn no_room(constants: &[Constant], before: &[Part], tokens: &[Token]) -> TextFault
     requires { length before.now ≤ 16 }
 {
     let Some(opened) = after(tokens, Symbol::Var) else {
-        return DeclFault::Syntax(start_of(tokens));
+        return TextFault::Syntax(start_of(tokens));
     };
     match name(opened) {
         Err(fault) => fault,
         Ok((name, _)) => if is_known(&scope_of(constants, before), name.as_bytes()) {
-            DeclFault::DuplicateName(start_of(opened))
+            TextFault::DuplicateName(start_of(opened))
         } else {
-            DeclFault::TooMany(start_of(opened))
+            TextFault::TooMany(start_of(opened))
         },
     }
 }

@@ -11,10 +11,10 @@ ghost use Rattle.decl_read.specs.Declarations.{begins as begins_with};
 ghost use Rattle.decl_read.specs.DeclarationReading.{path_item_in};
 ghost use Rattle.decl_read.specs.Scopes.{path_fault_told, path_read, paths_read};
 
-use crate::fault::DeclFault;
 use crate::front::{behind, start_of};
 use crate::group::begins;
 use crate::terms::Read;
+use crate::text_fault::TextFault;
 use path_tree::lookup::Constant;
 use path_tree::name::Name;
 use path_tree::path_fault::PathFault;
@@ -27,17 +27,17 @@ use std::alloc::Global;
 pub const MOST_PATHS: usize = 16;
 
 /// What the reader of objects tells where a path cannot be read.
-fn told(fault: PathFault) -> DeclFault
+fn told(fault: PathFault) -> TextFault
     ensures { result ≡ path_fault_told fault }
 {
     match fault {
-        PathFault::Memory => DeclFault::Memory,
-        PathFault::Expected(at) => DeclFault::Path(PathFault::Expected(at)),
-        PathFault::UnknownName(at) => DeclFault::Path(PathFault::UnknownName(at)),
-        PathFault::RepeatedName(at) => DeclFault::Path(PathFault::RepeatedName(at)),
-        PathFault::BadBound(at) => DeclFault::Path(PathFault::BadBound(at)),
-        PathFault::TooDeep(at) => DeclFault::Path(PathFault::TooDeep(at)),
-        PathFault::TooMany => DeclFault::Path(PathFault::TooMany),
+        PathFault::Memory => TextFault::Memory,
+        PathFault::Expected(at) => TextFault::Path(PathFault::Expected(at)),
+        PathFault::UnknownName(at) => TextFault::Path(PathFault::UnknownName(at)),
+        PathFault::RepeatedName(at) => TextFault::Path(PathFault::RepeatedName(at)),
+        PathFault::BadBound(at) => TextFault::Path(PathFault::BadBound(at)),
+        PathFault::TooDeep(at) => TextFault::Path(PathFault::TooDeep(at)),
+        PathFault::TooMany => TextFault::Path(PathFault::TooMany),
     }
 }
 
@@ -53,7 +53,7 @@ pub(crate) fn path<'t>(
     ensures { Gives path_read result (read_path (known_with constants.now names.now) (length tokens.now + 1) (lexemes tokens.now)) }
 {
     if tokens.is_empty() {
-        return Err(DeclFault::Syntax(0));
+        return Err(TextFault::Syntax(0));
     }
     match parse_path(alloc, tokens, 0, constants, names) {
         Ok((tree, to)) => {
@@ -79,7 +79,7 @@ fn path_item<'t>(
 {
     let mut paths = so_far;
     if paths.len() >= MOST_PATHS {
-        return Err(DeclFault::TooMany(start_of(tokens)));
+        return Err(TextFault::TooMany(start_of(tokens)));
     }
     let (tree, rest) = path(alloc, constants, names, tokens)?;
     let rest = behind(rest, Symbol::Semicolon)?;
@@ -104,7 +104,7 @@ pub(crate) fn paths<'t>(
         return Ok((so_far, tokens));
     }
     if left == 0 {
-        return Err(DeclFault::TooMany(start_of(tokens)));
+        return Err(TextFault::TooMany(start_of(tokens)));
     }
     let (so_far, rest) = path_item(alloc, constants, names, so_far, tokens)?;
     paths(alloc, constants, names, so_far, left - 1, rest)

@@ -1,6 +1,6 @@
 //! The reader of objects.
 
-ghost use Rattle.std.specs.Prelude.{◌≡◌, ◌≤◌, ◌<◌, ◌⊎◌, IfOk, IsErrOf, MatchResult, List, length};
+ghost use Rattle.std.specs.Prelude.{◌≡◌, ◌≤◌, ◌<◌, ◌⊎◌, IfOk, IfErr, IsErrOf, MatchResult, List, length};
 ghost use Rattle.std.specs.Map.{values_of};
 ghost use Rattle.path_tree.specs.Tokens.{IsFirstFault};
 ghost use Rattle.path_tree.specs.declared.lex.fault.LexFault.{LexFault};
@@ -8,10 +8,11 @@ ghost use Rattle.path_tree.specs.declared.lex.fault.LexFault.TheVariants.{TooLon
 ghost use Rattle.decl_read.specs.declared.fault.DeclFault.TheVariants.{Lex, Memory};
 ghost use Rattle.decl_core.specs.ObjectForm.{ObjectForm};
 ghost use Rattle.decl_core.specs.ObjectMap.{AreNamed, objects_of};
-ghost use Rattle.decl_read.specs.Sources.{AreObjectsOf, lex_fault_told};
+ghost use Rattle.decl_read.specs.Sources.{AreObjectsOf, lex_fault_told, text_fault_told};
 
 use crate::fault::DeclFault;
 use crate::objects::file;
+use crate::text_fault::TextFault;
 use decl_core::object::Object;
 use indexmap::IndexMap;
 use path_tree::lex::fault::LexFault;
@@ -30,6 +31,21 @@ fn told(fault: LexFault) -> DeclFault
         LexFault::OpenComment(at) => DeclFault::Lex(LexFault::OpenComment(at)),
         LexFault::OpenString(at) => DeclFault::Lex(LexFault::OpenString(at)),
         LexFault::BadNumber(at) => DeclFault::Lex(LexFault::BadNumber(at)),
+    }
+}
+
+/// What the reader of objects tells where the tokens are no objects.
+fn told_behind(fault: TextFault) -> DeclFault
+    ensures { result ≡ text_fault_told fault }
+{
+    match fault {
+        TextFault::Path(fault) => DeclFault::Path(fault),
+        TextFault::Syntax(at) => DeclFault::Syntax(at),
+        TextFault::DuplicateName(at) => DeclFault::DuplicateName(at),
+        TextFault::WrongType(at) => DeclFault::WrongType(at),
+        TextFault::UnknownName(at) => DeclFault::UnknownName(at),
+        TextFault::TooMany(at) => DeclFault::TooMany(at),
+        TextFault::Memory => DeclFault::Memory,
     }
 }
 
@@ -57,12 +73,15 @@ pub fn read_objects(alloc: Global, source: &[u8]) -> Result<IndexMap<Name, Objec
     ensures too_long { 65536 < length source.now → IsErrOf result (Lex TooLong) }
     ensures lexical { (fault : LexFault) → IsFirstFault source.now fault → length source.now ≤ 65536 →
         MatchResult result (λ _. ⊥) (λ told. (told ≡ lex_fault_told fault) ⊎ (told ≡ Memory)) }
+    // A fault of the tokens is told only where the source is too long, or has no tokens.
+    ensures no_tokens { IfErr result (λ told. (fault : LexFault) → told ≡ Lex fault →
+        ((fault ≡ TooLong) × (65536 < length source.now)) ⊎ IsFirstFault source.now fault) }
 {
     match lex(alloc, source) {
         Err(fault) => Err(told(fault)),
-        Ok(tokens) => {
-            let all = file(alloc, &tokens)?;
-            Ok(all.into_map())
-        }
+        Ok(tokens) => match file(alloc, &tokens) {
+            Err(fault) => Err(told_behind(fault)),
+            Ok(all) => Ok(all.into_map()),
+        },
     }
 }

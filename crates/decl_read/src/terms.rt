@@ -12,11 +12,11 @@ ghost use Rattle.decl_read.specs.Reading.{value_named, part_in, first_in, count_
 ghost use Rattle.path_tree.specs.Known.{value_of};
 ghost use Rattle.decl_read.specs.Scopes.{names_of, nested_in, terms_in, form_read, integers_read, part_read};
 
-use crate::fault::DeclFault;
 use crate::front::{after, behind, name, operator, start_of, start_of_second};
 use crate::kinds::{array, integer, level, literal, queue, signed, table, taken, text};
 use crate::lookup::{constant_of, is_known, param_of, part_of, place_of};
 use crate::scope::Scope;
+use crate::text_fault::TextFault;
 use decl_core::expr::{Expr, IntegerExpr, Source};
 use decl_core::id::PartId;
 use path_tree::token::{Kind, Symbol, Token, is_same_symbol};
@@ -24,20 +24,20 @@ use std::alloc::Global;
 use value_core::kind::Kind as PartKind;
 
 /// What was read, and the tokens behind.
-pub(crate) type Read<'t, T> = Result<(T, &'t [Token]), DeclFault>;
+pub(crate) type Read<'t, T> = Result<(T, &'t [Token]), TextFault>;
 
 /// A constant's value or a parameter.
 #[tactic(auto, unfolding(crate::specs::Reading::value_named, crate::specs::Reading::param_named))]
-fn value(alloc: Global, scope: &Scope, bytes: &[u8], at: usize) -> Result<Expr, DeclFault>
+fn value(alloc: Global, scope: &Scope, bytes: &[u8], at: usize) -> Result<Expr, TextFault>
     ensures { Gives form_of result (value_named (names_of scope.now) bytes.now (value_of (names_of scope.now).constants bytes.now)) }
 {
     match constant_of(scope.constants, bytes) {
         Some(n) => Ok(Expr::Integer(IntegerExpr::Number(n))),
         None => match param_of(scope.params, bytes) {
             None => if is_known(scope, bytes) {
-                Err(DeclFault::WrongType(at))
+                Err(TextFault::WrongType(at))
             } else {
-                Err(DeclFault::UnknownName(at))
+                Err(TextFault::UnknownName(at))
             },
             Some((param, sort)) => {
                 let e = taken(alloc, sort, Source::Parameter(param))?;
@@ -53,7 +53,7 @@ pub(crate) fn part<'t>(
     scope: &Scope,
     tokens: &'t [Token],
     depth: u8,
-) -> Result<(u8, PartKind, &'t [Token]), DeclFault>
+) -> Result<(u8, PartKind, &'t [Token]), TextFault>
     ensures within { IfOk result (λ x. x.0 < 16) }
     ensures read { Gives part_read result (part_in (names_of scope.now) depth (lexemes tokens.now)) }
 {
@@ -62,9 +62,9 @@ pub(crate) fn part<'t>(
     let (name, rest) = name(opened)?;
     match place_of(scope.parts, name.as_bytes()) {
         None => if is_known(scope, name.as_bytes()) {
-            Err(DeclFault::WrongType(start_of(opened)))
+            Err(TextFault::WrongType(start_of(opened)))
         } else {
-            Err(DeclFault::UnknownName(start_of(opened)))
+            Err(TextFault::UnknownName(start_of(opened)))
         },
         Some((place, kind)) => Ok((place, kind, rest)),
     }
@@ -105,7 +105,7 @@ pub(crate) fn nested<'t>(
     ensures { Gives form_read result (nested_in scope.now depth (lexemes tokens.now)) }
 {
     if depth == 0 {
-        return Err(DeclFault::TooMany(at));
+        return Err(TextFault::TooMany(at));
     }
     expr(alloc, scope, tokens, depth - 1)
 }
@@ -163,9 +163,9 @@ fn named<'t>(
         }
         Some(opened) => match part_of(scope.parts, bytes) {
             None => if is_known(scope, bytes) {
-                Err(DeclFault::WrongType(at))
+                Err(TextFault::WrongType(at))
             } else {
-                Err(DeclFault::UnknownName(at))
+                Err(TextFault::UnknownName(at))
             },
             Some((part, kind)) => {
                 let sort = array(kind, at)?;
@@ -201,7 +201,7 @@ fn worded<'t>(
     } else if is_same_symbol(symbol, Symbol::Lookup) {
         lookup(alloc, scope, tokens, depth)
     } else {
-        Err(DeclFault::Syntax(at))
+        Err(TextFault::Syntax(at))
     }
 }
 
@@ -212,7 +212,7 @@ fn term<'t>(alloc: Global, scope: &Scope, tokens: &'t [Token], depth: u8) -> Rea
     ensures { Gives form_read result (terms_in scope.now depth (lexemes tokens.now)) }
 {
     match tokens {
-        [] => Err(DeclFault::Syntax(0)),
+        [] => Err(TextFault::Syntax(0)),
         [token, rest @ ..] => {
             let at = token.start;
             match &token.kind {
@@ -223,7 +223,7 @@ fn term<'t>(alloc: Global, scope: &Scope, tokens: &'t [Token], depth: u8) -> Rea
                 }
                 Kind::Name(name) => named(alloc, scope, name.as_bytes(), at, rest, depth),
                 Kind::Symbol(s) => worded(alloc, scope, *s, at, rest, depth),
-                Kind::EndMark => Err(DeclFault::Syntax(at)),
+                Kind::EndMark => Err(TextFault::Syntax(at)),
             }
         }
     }
@@ -275,5 +275,5 @@ fn more<'t>(
             }
         }
     }
-    Err(DeclFault::Syntax(start_of(rest)))
+    Err(TextFault::Syntax(start_of(rest)))
 }
