@@ -1,19 +1,14 @@
 -- What was judged of the bytes read holds of the bytes under the pins.
-use Rattle.std.proofs.Common.{◌≡◌, ℕ, ◌+◌, ◌⊎◌, inl, inr, List, [], ◌∷◌, Option, Some, slice_get, refl, sym, ap, ◌∙◌, subst}
+use Rattle.std.proofs.Common.{◌≡◌, ℕ, List, Option, Some, slice_get, sym, ◌∙◌, subst}
 use Rattle.value_core.specs.declared.datum.Datum.{Datum}
 use Rattle.value_core.specs.Contents.{Contents}
 use Rattle.decl_core.specs.declared.object.Operation.{Operation}
-use Rattle.decl_core.specs.Form.{Statements}
-use Rattle.decl_core.specs.Touched.{Writes}
 use Rattle.shelf_core.specs.Device.{Assignment}
-use Rattle.body_core.specs.declared.judge.Change.{Change}
-use Rattle.body_core.specs.Calls.{Call, IsNamed}
-use Rattle.body_core.specs.Truths.{PinHolds, AreSpelled, IsDone, IsRefused, AreChanges}
-use Rattle.body_core.specs.Verdicts.{ReadAs, Rising}
+use Rattle.body_core.specs.Calls.{Call}
+use Rattle.body_core.specs.Truths.{PinHolds, AreSpelled, IsDone, IsRefused}
+use Rattle.body_core.specs.Verdicts.{ReadAs}
 use Rattle.body_core.specs.Phases.{AreRead}
-
-some_same : {X : Type 0} {x y : X} → Some x ≡ Some y → x ≡ y
-some_same e = cc
+use Rattle.body_core.proofs.Stepping.{some_same}
 
 -- the bytes that were read of a part are those under its pin
 read_holds : (a : Assignment) (call : Call) (read : List (List ℕ)) (p : ℕ) (bytes : List ℕ) → ReadAs read p bytes → (known : List ℕ) × (slice_get read p ≡ Some known) × PinHolds a call.pins p known → PinHolds a call.pins p bytes

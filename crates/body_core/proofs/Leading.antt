@@ -1,5 +1,5 @@
 -- Where steps lead.
-use Rattle.std.proofs.Common.{◌≡◌, Option, Some, List, sym, ap, ◌∙◌, subst}
+use Rattle.std.proofs.Common.{◌≡◌, Some, List, sym, ap, ◌∙◌, subst}
 use Rattle.body_core.specs.declared.new_pins.NewPin.{NewPin}
 use Rattle.body_core.specs.declared.phase.Phase.{Phase}
 use Rattle.body_core.specs.declared.phase.Phase.TheVariants.{Reading, Creating, Appending, Sealing, Ended}
@@ -9,9 +9,7 @@ use Rattle.body_core.specs.Calls.{Call}
 use Rattle.body_core.specs.Phases.{ending_of, sealed_in}
 use Rattle.body_core.specs.Runs.{run_ending, run_place, run_sealed}
 use Rattle.body_core.specs.Steps.{Place, place_in, at_end, Follows, Leads, there, onward}
-
-some_same : {X : Type 0} {x y : X} → Some x ≡ Some y → x ≡ y
-some_same e = cc
+use Rattle.body_core.proofs.Stepping.{some_same}
 
 ended_in : (phase : Phase) (reply : Reply) → ending_of phase ≡ Some reply → place_in phase ≡ at_end reply (sealed_in phase)
 ended_in (Reading r) reply is = absurd cc

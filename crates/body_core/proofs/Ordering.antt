@@ -1,5 +1,5 @@
 -- The files of a run are of parts that its operation writes, in their order.
-use Rattle.std.proofs.Common.{◌≡◌, ℕ, ◌+◌, ◌≤◌, ◌⊎◌, inl, inr, List, [], ◌∷◌, ◌++◌, length, drop, Some, slice_get, sym, ap, ◌∙◌, subst, arith}
+use Rattle.std.proofs.Common.{◌≡◌, ℕ, ◌+◌, ◌≤◌, inl, inr, List, [], ◌∷◌, ◌++◌, length, Some, slice_get, sym, ap, ◌∙◌, subst, arith}
 use Rattle.std.proofs.lemmas.Bool.{cases_lt}
 use Rattle.decl_core.specs.Form.{Statements}
 use Rattle.decl_core.specs.Touched.{Writes}
@@ -12,9 +12,7 @@ use Rattle.body_core.specs.Phases.{HasPart}
 use Rattle.body_core.specs.Steps.{Place, place_in, parts_at, sealed_at, at_read, at_create, at_append, at_seal, at_end, Starts, with_part, with_none, IsJudged, changed, not_changed, Follows, reads_on, reads_next, reads_last, creates, appends_on, appends_last, seals_on, seals_last, fails, stays}
 use Rattle.body_core.specs.Written.{WritesInOrder, parts_of, parts_changed, parts_written}
 use Rattle.body_core.proofs.Touching.{OrNot, written_or_not, surely}
-
-some_same : {X : Type 0} {x y : X} → Some x ≡ Some y → x ≡ y
-some_same e = cc
+use Rattle.body_core.proofs.Stepping.{some_same}
 
 -- the front of such parts is in order
 front : (all : Statements) (from : ℕ) (parts rest : List ℕ) → WritesInOrder all from (parts ++ rest) → WritesInOrder all from parts

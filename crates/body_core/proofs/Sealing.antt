@@ -1,5 +1,5 @@
 -- What a run has sealed, when all of it is sealed, and with one file more.
-use Rattle.std.proofs.Common.{◌≡◌, ◌≢◌, ◌==◌, ℕ, zero, suc, ◌≤◌, ◌⊎◌, inl, inr, List, [], ◌∷◌, ◌++◌, length, Option, Some, None, slice_get, if◌then◌else◌, Bool, true, false, refl, sym, ap, ◌∙◌, subst, arith}
+use Rattle.std.proofs.Common.{◌≡◌, ◌==◌, ℕ, ◌≤◌, List, [], ◌∷◌, ◌++◌, length, Option, Some, slice_get, if◌then◌else◌, Bool, true, false, sym, ap, ◌∙◌, subst, arith}
 use Rattle.value_core.specs.declared.datum.Datum.{Datum}
 use Rattle.value_core.specs.Contents.{Contents}
 use Rattle.decl_core.specs.declared.object.Operation.{Operation}
@@ -9,9 +9,7 @@ use Rattle.body_core.specs.declared.judge.Change.{Change}
 use Rattle.body_core.specs.declared.new_pins.NewPin.{NewPin}
 use Rattle.body_core.specs.Truths.{IsDone, IsChanged, IsLeft, AreChanges, AreLeft, bytes_for, pin_for}
 use Rattle.body_core.specs.Phases.{AreSealed}
-
-some_same : {X : Type 0} {x y : X} → Some x ≡ Some y → x ≡ y
-some_same e = cc
+use Rattle.body_core.proofs.Stepping.{some_same}
 
 -- where the part of a change was asked for, its file holds its bytes
 first_or_rest : (a : Assignment) (change : Change) (new : NewPin) (changes : List Change) (news : List NewPin) (p : ℕ) (before after : Option Contents) (b : Bool) → Holds a new.stamp change.bytes

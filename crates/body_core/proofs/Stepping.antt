@@ -1,5 +1,5 @@
 -- The steps of a run go by the rule of steps.
-use Rattle.std.proofs.Common.{◌≡◌, ◌≢◌, ℕ, ◌+◌, ◌-◌, ◌<◌, ◌≤◌, inl, inr, List, [], ◌∷◌, ◌++◌, length-append, refl, length, take, drop, Option, Some, slice_get, sym, ap, ◌∙◌, subst, arith}
+use Rattle.std.proofs.Common.{◌≡◌, ◌≢◌, ℕ, ◌+◌, ◌-◌, ◌<◌, ◌≤◌, inl, inr, List, [], ◌∷◌, ◌++◌, length-append, length, take, drop, Option, Some, sym, ap, ◌∙◌, subst, arith}
 use Rattle.std.proofs.Math.Seq.{take-add}
 use Rattle.std.proofs.lemmas.Bool.{cases_lt}
 use Rattle.value_core.specs.declared.datum.Datum.{Datum}
@@ -17,7 +17,7 @@ use Rattle.body_core.specs.declared.step.Need.TheVariants as needs
 use Rattle.body_core.specs.Calls.{Call}
 use Rattle.body_core.specs.Written.{WritesInOrder, parts_changed}
 use Rattle.body_core.specs.Phases.{failure_of, ending_of, sealed_in, IsSettled}
-use Rattle.body_core.specs.Steps.{Place, at_read, at_create, at_append, at_seal, at_end, place_in, need_at, sealed_at, IsNextChange, chunk, Follows, reads_on, reads_next, appends_on, appends_last, seals_on, seals_last, fails, IsNext, ReadsNone, Starts, with_part, with_none, IsJudged, changed, not_changed}
+use Rattle.body_core.specs.Steps.{Place, at_read, at_create, at_append, at_seal, at_end, place_in, need_at, sealed_at, IsNextChange, chunk, Follows, reads_on, reads_next, appends_on, seals_on, seals_last, fails, IsNext, ReadsNone, Starts, with_part, with_none, IsJudged, changed, not_changed}
 
 pub some_same : {X : Type 0} {x y : X} → Some x ≡ Some y → x ≡ y
 some_same e = cc

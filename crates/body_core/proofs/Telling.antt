@@ -1,16 +1,12 @@
 -- What a run tells.
-use Rattle.std.proofs.Common.{◌≡◌, ◌⊎◌, inl, inr, List, Option, Some, refl, ap, ◌∙◌}
-use Rattle.std.specs.Prelude.{Err}
+use Rattle.std.proofs.Common.{List, refl}
 use Rattle.shelf_core.specs.Device.{Assignment}
-use Rattle.shelf_core.specs.declared.hand.HandFault.{HandFault}
-use Rattle.shelf_core.specs.declared.hand.HandFault.TheVariants as faults
 use Rattle.body_core.specs.declared.new_pins.NewPin.{NewPin}
 use Rattle.body_core.specs.declared.reply.Failure.TheVariants as failures
 use Rattle.body_core.specs.declared.reply.Reply.{Reply}
 use Rattle.body_core.specs.declared.reply.Reply.TheVariants.{Done, Refused, Failed}
 use Rattle.body_core.specs.Calls.{Call}
 use Rattle.body_core.specs.Outcomes.{new_if_done}
-use Rattle.body_core.specs.Phases.{failure_of}
 use Rattle.body_core.specs.Truths.{IsTrueAt}
 
 -- what is true of the files that a run sealed is true of its new pins

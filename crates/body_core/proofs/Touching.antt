@@ -1,5 +1,5 @@
 -- Whether an operation reads a part is decided, and so is whether it writes one.
-use Rattle.std.proofs.Common.{◌≡◌, ℕ, ◌⊎◌, inl, inr}
+use Rattle.std.proofs.Common.{ℕ, ◌⊎◌, inl, inr}
 use Rattle.std.proofs.lemmas.Bool.{cases_eq}
 use Rattle.decl_core.specs.Form.{From, argument, element, oldest, under, Integers, number, integer_from, count, add, subtract, Texts, literal, text_from, Form, an_integer, a_text, Condition, compare, same_texts, other_texts, has, is_not, Statement, block, set_element, set_result, append, take, store, erase, choose, refuse, Statements, nothing, first_and}
 use Rattle.decl_core.specs.Touched.{FromNames, IntegersName, TextsName, FormNames, ConditionNames, StatementNames, Reads, StatementChanges, Writes}
@@ -84,7 +84,3 @@ mutual
 -- what cannot but be read is read
 pub read : (all : Statements) (p : ℕ) → ((Reads all p → ⊥) → ⊥) → Reads all p
 read all p h = surely (read_or_not all p) h
-
--- what cannot but be written is written
-pub written : (all : Statements) (p : ℕ) → ((Writes all p → ⊥) → ⊥) → Writes all p
-written all p h = surely (written_or_not all p) h

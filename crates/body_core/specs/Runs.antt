@@ -1,5 +1,5 @@
 -- What a run is, to its callers: its call, how it ended, what it has sealed, and what it has found, by an assignment.
-use Rattle.std.specs.Prelude.{◌≡◌, ◌≢◌, ℕ, List, Option, Some, None}
+use Rattle.std.specs.Prelude.{◌≡◌, ℕ, List, Option, None}
 use Rattle.std.proofs.Common.{refl}
 use Rattle.shelf_core.specs.Device.{Assignment}
 use Rattle.shelf_core.specs.Made.{Made}

@@ -64,7 +64,7 @@ abbrev pub pin_for : List NewPin → ℕ → Option Stamp
 pin_for [] p = None
 pin_for (new ∷ rest) p = if new.part == p then Some new.stamp else pin_for rest p
 
--- a part without a new pin is as it was; another one holds another value, and the bytes sealed under its new pin spell that
+-- a part without a new pin is as it was; another one holds another value, its new pin is whole, and the bytes under it spell that value
 abbrev pub IsLeft : Assignment → Option Contents → Option Contents → Option Stamp → Type 0
 IsLeft a before after None = after ≡ before
 IsLeft a before after (Some stamp) = (value : Contents) × (after ≡ Some value) × (before ≢ Some value) × ((bytes : List ℕ) × Spells bytes (kind_of value) value × IsWhole a stamp × (bytes_of a stamp ≡ Some bytes))

@@ -6,6 +6,6 @@ pub mod MadeFiles
 pub mod MemShelf
 pub mod Opened
 pub mod Papers
-pub mod Wrapped
 pub mod Pins
 pub mod Saved
+pub mod Wrapped

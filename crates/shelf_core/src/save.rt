@@ -165,7 +165,8 @@ fn save_part<S: Shelf, H: Hand>(
 /// The first fault on the way is told: `Damaged` where the bytes under a part's pin spell no value of its
 /// kind, `Device` where the shelf or the hand failed at a part, `Memory` where memory was refused. The parts
 /// before it are saved then, and nothing after it. Of the part itself nothing is stored where it is damaged;
-/// where a device failed or memory was refused, nothing of it or all.
+/// where a device failed or memory was refused, nothing of it or all. No file is retired: each pin can be read
+/// as before.
 pub fn save_parts<S: Shelf, H: Hand>(
     alloc: Global,
     object: &Object,

@@ -1,4 +1,4 @@
-use Rattle.std.proofs.Common.{◌≡◌, sym, ap, ◌∙◌, subst, refl, length}
+use Rattle.std.proofs.Common.{sym, ap, ◌∙◌, subst, refl}
 use Rattle.body_core.specs.Phases.{ending_of, AreSealed}
 use Rattle.body_core.proofs.Sealing.{sealed_more}
 use Rattle.body_core.proofs.Stepping.{failed_there, seals_first, seal_on}
