@@ -54,9 +54,8 @@ const THERE: &[Line] = &[
 ];
 
 #[test]
-fn no_file_is_overwritten(rt: HostRuntime) -> Result<(), Fail> {
-    play(rt, process::id(rt.process()), "there", ".", 40, THERE)?;
-    Ok(())
+fn no_file_is_overwritten(rt: HostRuntime) {
+    play(rt, process::id(rt.process()), "there", ".", 40, THERE).expect(&rt, "a folder");
 }
 
 // Which file a file of the hand is, and when it is there.
@@ -78,9 +77,8 @@ const COMING: &[Line] = &[
 ];
 
 #[test]
-fn files_come_and_go(rt: HostRuntime) -> Result<(), Fail> {
-    play(rt, process::id(rt.process()), "come", ".", 1, COMING)?;
-    Ok(())
+fn files_come_and_go(rt: HostRuntime) {
+    play(rt, process::id(rt.process()), "come", ".", 1, COMING).expect(&rt, "a folder");
 }
 
 // Files that others shortened or removed.
@@ -102,9 +100,8 @@ const LOST: &[Line] = &[
 ];
 
 #[test]
-fn lost_bytes_are_told(rt: HostRuntime) -> Result<(), Fail> {
-    play(rt, process::id(rt.process()), "lost", ".", 1, LOST)?;
-    Ok(())
+fn lost_bytes_are_told(rt: HostRuntime) {
+    play(rt, process::id(rt.process()), "lost", ".", 1, LOST).expect(&rt, "a folder");
 }
 
 // Two hands in one folder, with the same numbers.
@@ -124,9 +121,8 @@ const TWO: &[Line] = &[
 ];
 
 #[test]
-fn two_hands_share_numbers(rt: HostRuntime) -> Result<(), Fail> {
-    play(rt, process::id(rt.process()), "two", ".", 7, TWO)?;
-    Ok(())
+fn two_hands_share_numbers(rt: HostRuntime) {
+    play(rt, process::id(rt.process()), "two", ".", 7, TWO).expect(&rt, "a folder");
 }
 
 // The one file that a name has, and that nothing else is left.
@@ -151,9 +147,8 @@ const NAMES: &[Line] = &[
 ];
 
 #[test]
-fn a_name_is_one_file(rt: HostRuntime) -> Result<(), Fail> {
-    play(rt, process::id(rt.process()), "name", ".", 1, NAMES)?;
-    Ok(())
+fn a_name_is_one_file(rt: HostRuntime) {
+    play(rt, process::id(rt.process()), "name", ".", 1, NAMES).expect(&rt, "a folder");
 }
 
 // Names that no file may have: nothing is stored or loaded under them, and no file is touched.
@@ -216,9 +211,8 @@ const BAD_NAMES: &[Line] = &[
 ];
 
 #[test]
-fn bad_names_touch_nothing(rt: HostRuntime) -> Result<(), Fail> {
-    play(rt, process::id(rt.process()), "bad", ".", 1, BAD_NAMES)?;
-    Ok(())
+fn bad_names_touch_nothing(rt: HostRuntime) {
+    play(rt, process::id(rt.process()), "bad", ".", 1, BAD_NAMES).expect(&rt, "a folder");
 }
 
 // A folder stands where a file has to be: the system refuses to read it, to write it and to replace it.
@@ -237,9 +231,8 @@ const IN_PLACE: &[Line] = &[
 ];
 
 #[test]
-fn a_folder_in_the_place_of_a_file(rt: HostRuntime) -> Result<(), Fail> {
-    play(rt, process::id(rt.process()), "place", ".", 1, IN_PLACE)?;
-    Ok(())
+fn a_folder_in_the_place_of_a_file(rt: HostRuntime) {
+    play(rt, process::id(rt.process()), "place", ".", 1, IN_PLACE).expect(&rt, "a folder");
 }
 
 // The folder of the devices is not there. Once it is, files are made in it.
@@ -261,10 +254,9 @@ const MISSING: &[Line] = &[
 ];
 
 #[test]
-fn devices_with_no_folder(rt: HostRuntime) -> Result<(), Fail> {
+fn devices_with_no_folder(rt: HostRuntime) {
     let process = process::id(rt.process());
-    play(rt, process, "none", "missing", 1, MISSING)?;
-    Ok(())
+    play(rt, process, "none", "missing", 1, MISSING).expect(&rt, "a folder");
 }
 
 // What is there before a folder can be read and not written,

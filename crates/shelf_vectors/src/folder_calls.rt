@@ -99,7 +99,7 @@ fn is_there<R: Files + AllocGlobal + Copy + Drop>(scratch: &Scratch<R>, line: Li
     match line {
         Line::Has(name, bytes) => scratch.has(name, bytes),
         Line::Lacks(name) => scratch.lacks(name),
-        Line::Count(count) => scratch.count().is_ok_and(|found| found == count),
+        Line::Count(count) => scratch.count().ok() == Some(count),
         Line::Write(name, bytes) => scratch.write(name, bytes).is_ok(),
         Line::Remove(name) => scratch.remove_file(name).is_ok(),
         Line::MakeFolder(name) => scratch.make_folder(name).is_ok(),

@@ -187,7 +187,12 @@ impl FileRow {
 
     // Whether no file has this number.
     fn is_new(&self, number: u64) -> bool {
-        self.stamps.iter().all(|stamp| stamp.number != number)
+        for stamp in &self.stamps {
+            if stamp.number == number {
+                return false;
+            }
+        }
+        true
     }
 
     fn creates<H: Hand>(&mut self, hand: &mut H, place: usize) -> bool {

@@ -15,7 +15,6 @@ use shelf_core::open::OpenFault;
 use std::alloc::Global;
 use std::process;
 use std::process::Abort;
-use std::test::Fail;
 
 const BEGINNING: &[Line] = &[
     Opens(&[ZERO]),
@@ -107,10 +106,9 @@ fn three_parts_in_memory(rt: HostRuntime) {
 }
 
 #[test]
-fn three_parts_in_a_folder(rt: HostRuntime) -> Result<(), Fail> {
+fn three_parts_in_a_folder(rt: HostRuntime) {
     let process = process::id(rt.process());
-    play_in_folder(rt, process, "three", THREE, OPENING)?;
-    Ok(())
+    play_in_folder(rt, process, "three", THREE, OPENING).expect(&rt, "a folder");
 }
 
 const ONE_STORED: &[Line] = &[Shelf(&[Store(b"three.q", NEW_Q)])];

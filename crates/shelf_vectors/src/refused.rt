@@ -61,7 +61,10 @@ fn assert_file(rt: &impl Abort, alloc: Global, hand: &mut MemHand, stamp: &Stamp
 fn refused_put_and_fetch(rt: HostRuntime) {
     let mut hand = MemHand::new(rt.alloc());
     let rows = [b"first".as_slice(), b"the second", b""];
-    let stamps = rows.map(|bytes| put_twice(&rt, &mut hand, bytes));
+    let mut stamps = [Stamp { number: 0, len: 0 }; 3];
+    for (stamp, bytes) in stamps.iter_mut().zip(rows) {
+        *stamp = put_twice(&rt, &mut hand, bytes);
+    }
     for (stamp, want) in stamps.iter().zip(rows) {
         assert_file(&rt, rt.alloc(), &mut hand, stamp, want);
     }
@@ -205,7 +208,10 @@ fn refused_save_parts(rt: HostRuntime) {
     let alloc = rt.alloc();
     let mut shelf = MemShelf::new(alloc);
     let mut hand = MemHand::new(alloc);
-    let stamps = ROWS.map(|(_, _, bytes)| put_twice(&rt, &mut hand, bytes));
+    let mut stamps = [Stamp { number: 0, len: 0 }; 3];
+    for (stamp, (_, _, bytes)) in stamps.iter_mut().zip(ROWS) {
+        *stamp = put_twice(&rt, &mut hand, bytes);
+    }
     save_twice(&rt, alloc, &Pins::new(&stamps), &mut shelf, &mut hand);
     for (name, _, bytes) in ROWS {
         assert_holds(&rt, alloc, &mut shelf, name, bytes);

@@ -18,7 +18,6 @@ use shelf_core::save::SaveFault;
 use std::alloc::Global;
 use std::process;
 use std::process::Abort;
-use std::test::Fail;
 
 // Stores the first values of three parts.
 const STORE_OLD: &[Entry] = &[
@@ -148,10 +147,9 @@ fn three_parts_are_saved_in_memory(rt: HostRuntime) {
 }
 
 #[test]
-fn three_parts_are_saved_in_a_folder(rt: HostRuntime) -> Result<(), Fail> {
+fn three_parts_are_saved_in_a_folder(rt: HostRuntime) {
     let process = process::id(rt.process());
-    play_in_folder(rt, process, "saving", THREE, SAVING)?;
-    Ok(())
+    play_in_folder(rt, process, "saving", THREE, SAVING).expect(&rt, "a folder");
 }
 
 // What the shelf and the hand have before a save.
