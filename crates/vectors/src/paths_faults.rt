@@ -4,7 +4,7 @@ use crate::fakes::{Brim, Choppy, Endless};
 use crate::paths_rows::{READERS_WRITERS, READERS_WRITERS_ANSWERS};
 use path_count::paths::{PathsEnd, PathsFault, run_paths};
 use std::alloc::Global;
-use std::io::ErrorKind;
+use std::io::{self, ErrorKind, Write};
 use std::process::Abort;
 
 #[test]
@@ -67,4 +67,114 @@ fn an_endless_text_is_a_read_fault(rt: HostRuntime) {
     let mut out = Vec::new(rt.alloc());
     let end = run_paths(rt.alloc(), &mut reader, &mut out);
     assert!(rt; end == Err(PathsFault::ReadFault) && reader.reads == 16_777_216 && out.is_empty());
+}
+
+// What a `Shy` does with a write.
+#[derive(Clone, Copy)]
+enum Mood {
+    TakesNone,
+    Broken,
+    BrokenEachSecond,
+}
+
+// A writer that counts the writes, and takes none of them, or each second one.
+#[derive(Drop)]
+struct Shy {
+    mood: Mood,
+    writes: u64,
+    taken: Vec<u8>,
+}
+
+impl Write for Shy {
+    fn write(&mut self, buf: &[u8]) -> io::Result<usize> {
+        let write = self.writes;
+        self.writes = write.saturating_add(1);
+        match self.mood {
+            Mood::TakesNone => return Ok(0),
+            Mood::Broken => return Err(io::Error::from(ErrorKind::Interrupted)),
+            Mood::BrokenEachSecond => {}
+        }
+        if write % 2 == 0 {
+            return Err(io::Error::from(ErrorKind::Interrupted));
+        }
+        self.taken.extend_from_slice(buf)?;
+        Ok(buf.len())
+    }
+
+    fn flush(&mut self) -> io::Result<()> {
+        Ok(())
+    }
+}
+
+// Asserts that the row ends so at such a writer, after so many writes, with so much written.
+fn ends_at(
+    rt: &impl Abort,
+    alloc: Global,
+    mood: Mood,
+    end: Result<PathsEnd, PathsFault>,
+    writes: u64,
+) {
+    let taken = Vec::new(alloc);
+    let mut writer = Shy {
+        mood,
+        writes: 0,
+        taken,
+    };
+    let mut reader = Choppy::new(READERS_WRITERS, 65_536);
+    let ended = run_paths(alloc, &mut reader, &mut writer);
+    let wanted = if end.is_ok() {
+        READERS_WRITERS_ANSWERS
+    } else {
+        b""
+    };
+    assert!(rt; ended == end && writer.writes == writes && writer.taken.as_slice() == wanted);
+}
+
+#[test]
+fn a_writer_that_takes_no_byte_is_asked_once(rt: HostRuntime) {
+    ends_at(
+        &rt,
+        rt.alloc(),
+        Mood::TakesNone,
+        Err(PathsFault::WriteFault),
+        1,
+    );
+}
+
+#[test]
+fn a_writer_that_signals_break_for_ever_is_a_write_fault(rt: HostRuntime) {
+    ends_at(
+        &rt,
+        rt.alloc(),
+        Mood::Broken,
+        Err(PathsFault::WriteFault),
+        16_777_216,
+    );
+}
+
+#[test]
+fn a_write_that_a_signal_broke_is_made_again(rt: HostRuntime) {
+    ends_at(
+        &rt,
+        rt.alloc(),
+        Mood::BrokenEachSecond,
+        Ok(PathsEnd::Whole),
+        2,
+    );
+}
+
+// How many lines end in a text.
+fn line_ends(text: &[u8]) -> usize {
+    text.iter().filter(|byte| **byte == b'\n').count()
+}
+
+#[test]
+fn each_line_that_came_is_answered_before_a_read_that_fails(rt: HostRuntime) {
+    for fails_at in 0..=READERS_WRITERS.len() {
+        let mut reader = Choppy::failing(READERS_WRITERS, 1, fails_at as u64, ErrorKind::Other);
+        let mut out = Vec::new(rt.alloc());
+        let end = run_paths(rt.alloc(), &mut reader, &mut out);
+        let came = line_ends(&READERS_WRITERS[..fails_at]);
+        assert!(rt; end == Err(PathsFault::ReadFault) && line_ends(out.as_slice()) == came);
+    }
 }
