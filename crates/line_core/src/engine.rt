@@ -19,7 +19,7 @@ pub const MOST_READS: u32 = 16_777_216;
 const PIECE: usize = 65_536;
 
 // What stands before the first LF, and what stands after it.
-fn split_line(bytes: &[u8]) -> Option<(&[u8], &[u8])>
+pub(crate) fn split_line(bytes: &[u8]) -> Option<(&[u8], &[u8])>
     ensures { MatchOption result (NoLineFeed bytes.now) (λ parts. NoLineFeed parts.0.now
         × (bytes.now ≡ parts.0.now ++ 10 ∷ parts.1.now)) }
 {
@@ -28,7 +28,7 @@ fn split_line(bytes: &[u8]) -> Option<(&[u8], &[u8])>
 }
 
 // The line without the CR before its LF.
-fn without_cr(line: &[u8]) -> &[u8]
+pub(crate) fn without_cr(line: &[u8]) -> &[u8]
     ensures { result.now ≡ strip_carriage_return line.now }
 {
     let len = line.len();

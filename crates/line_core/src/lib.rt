@@ -4,15 +4,20 @@
 //! writes the answers, all those of a piece before the next read. A line ends with LF; the last one
 //! may lack it; a CR before LF is dropped. Bytes that are no text are harmless: a line is bytes.
 //!
+//! `next_line` cuts a text that is whole into the same lines, and `words` parts a line at its spaces.
+//!
 //! `reply` has the texts that answers are made of: a word and a name or a number, and the number, the name
 //! and the place of a fault.
 #![tactic(auto)]
 
 mod engine;
 mod machine;
+mod next;
 pub mod reply;
 mod send;
+pub mod words;
 
 pub use engine::{MOST_READS, run_lines};
 pub use machine::{LinesEnd, LinesFault, Machine};
+pub use next::next_line;
 pub use send::write_whole;

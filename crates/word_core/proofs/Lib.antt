@@ -7,3 +7,4 @@ pub mod Lines
 pub mod Shown
 pub mod Clear
 pub mod Endings
+pub mod Telling

@@ -1,8 +1,8 @@
 -- Values as they are shown.
-use Rattle.std.proofs.Common.{◌≡◌, ℕ, ◌+◌, ◌<◌, List, [], ◌∷◌, ◌++◌, length, take, get_or, map, refl, sym, ap, ◌∙◌, append_assoc}
+use Rattle.std.proofs.Common.{◌≡◌, ℕ, ◌+◌, ◌<◌, List, [], ◌∷◌, ◌++◌, length, take, get_or, map, refl, sym, ap, ◌∙◌, append_assoc, arith}
 use Rattle.std.proofs.lemmas.List.{take_more, map-append}
 use Rattle.value_core.specs.declared.datum.Datum.{Datum}
-use Rattle.word_core.specs.Words.{Word, behind_word, word_text}
+use Rattle.word_core.specs.Words.{Word, behind_word, words_text, word_text}
 use Rattle.word_core.specs.Show.{row_text, behind_row}
 
 pub behind-append : (xs ys : List Word) → behind_word (xs ++ ys) ≡ behind_word xs ++ behind_word ys
@@ -24,6 +24,17 @@ words_more word first before after all i x inside is was more =
     joined first before after (behind_word (word x ∷ [])) (behind_word (map word (take i all))) was more
     ∙ ap (λ xs. first ++ xs) (sym (behind-append (map word (take i all)) (word x ∷ [])) ∙ ap behind_word (sym (map-append word (take i all) (x ∷ [])))
     ∙ ap (λ xs. behind_word (map word xs)) (ap (λ y. take i all ++ y ∷ []) is ∙ sym (take_more all i x inside)))
+
+text-append : (ws ys : List Word) → 0 < length ws → words_text ws ++ behind_word ys ≡ words_text (ws ++ ys)
+text-append [] ys some = absurd (omega arith)
+text-append (w ∷ ws) ys some = append_assoc (word_text w) (behind_word ws) (behind_word ys) ∙ ap (λ zs. word_text w ++ zs) (sym (behind-append ws ys))
+
+-- other words were written behind some
+pub words_then : {X : Type 0} (word : X → Word) (first before after : List ℕ) (all : List X) (others : List Word) → (length all ≡ 0 → ⊥) → before ≡ first ++ words_text (map word all) → after ≡ before ++ behind_word others
+    → after ≡ first ++ words_text (map word all ++ others)
+words_then word first before after [] others some was more = absurd (some refl)
+words_then word first before after (x ∷ all) others some was more =
+    joined first before after (behind_word others) (words_text (map word (x ∷ all))) was more ∙ ap (λ zs. first ++ zs) (text-append (map word (x ∷ all)) others (omega arith))
 
 pub rows_more : (first before after : List ℕ) (all : List (List ℕ × Datum)) (i : ℕ) (d : List ℕ × Datum) → i < length all → d ≡ get_or all i d → before ≡ first ++ behind_row (take i all) → after ≡ before ++ behind_row (d ∷ [])
     → after ≡ first ++ behind_row (take (i + 1) all)

@@ -2,10 +2,12 @@
 use Rattle.std.specs.Prelude.{◌≡◌, ◌≢◌, ◌↔◌, ◌<◌, ◌^◌, ℕ, List, Option, Some, All, map, decimal}
 use Rattle.value_core.specs.declared.datum.Datum.{Datum}
 use Rattle.value_core.specs.Datum.{IsDatum}
+use Rattle.value_core.specs.Contents.{Contents, IsContents, kind_of}
 use Rattle.word_core.specs.Words.{Word, bare, IsWord, AreWords, EachWord, EachClear, words_text}
 use Rattle.word_core.specs.Data.{integer_of, session_of, session_bytes, data_of, datum_word, session_word}
 use Rattle.word_core.specs.Ending.{Ending, IsEnding, ending_words, finish_words, ending_of, TellEnding}
 use Rattle.word_core.specs.Says.{Says}
+use Rattle.word_core.specs.Show.{value_text}
 
 -- a line has its words in one way
 abbrev pub WordsUnique : Type 0
@@ -47,3 +49,7 @@ WrittenEnding = (ending : Ending) → IsEnding ending → EachWord (ending_words
 -- a line that tells how a call ended has these words
 abbrev pub WrittenFinish : Type 0
 WrittenFinish = (n : ℕ) (ending : Ending) → n < 2 ^ 64 → IsEnding ending → AreWords (words_text (finish_words n ending)) (finish_words n ending)
+
+-- what is shown of a value tells it, among the values of its kind
+abbrev pub ShownApart : Type 0
+ShownApart = (first second : Contents) → IsContents first → IsContents second → kind_of first ≡ kind_of second → value_text first ≡ value_text second → first ≡ second

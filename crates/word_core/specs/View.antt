@@ -10,6 +10,7 @@ use Rattle.word_core.specs.declared.word.Written.{Written}
 use Rattle.word_core.specs.declared.word.Written.TheVariants as written
 use Rattle.word_core.specs.declared.ending.Ending as declared
 use Rattle.word_core.specs.declared.ending.Ending.TheVariants as endings
+use Rattle.line_core.specs.Words.{drop_spaces}
 use Rattle.word_core.specs.Words as words
 use Rattle.word_core.specs.Data.{datum_word, session_word}
 use Rattle.word_core.specs.Ending as ending
@@ -20,7 +21,7 @@ word_of (Quoted text) = words.quoted text
 
 -- what stands first in a line
 abbrev pub IsNext : List ℕ → Next → Type 0
-IsNext line next.Nothing = words.drop_spaces line ≡ []
+IsNext line next.Nothing = drop_spaces line ≡ []
 IsNext line (next.Found word rest) = words.IsFirst line (word_of word) rest.now
 IsNext line next.Bad = (all : List words.Word) → words.AreWords line all → ⊥
 

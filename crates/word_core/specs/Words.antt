@@ -1,5 +1,6 @@
 -- The words of a line.
 use Rattle.std.specs.Prelude.{◌≡◌, ◌≢◌, ℕ, ◌==◌, List, [], ◌∷◌, ◌++◌, All, if◌then◌else◌}
+use Rattle.line_core.specs.Words.{drop_spaces, NoSpace, EndsWord}
 use Rattle.value_core.specs.Plain.{IsText}
 
 -- a word is bytes as they stand, or a text
@@ -17,25 +18,11 @@ abbrev pub word_text : Word → List ℕ
 word_text (bare bytes) = bytes
 word_text (quoted text) = 39 ∷ doubled text ++ 39 ∷ []
 
--- no byte is a space
-abbrev pub NoSpace : List ℕ → Type 0
-NoSpace bytes = All (λ b. b ≢ 32) bytes
-
 -- bare bytes are some, none is a space, and the first is no apostrophe
 abbrev pub IsWord : Word → Type 0
 IsWord (bare []) = ⊥
 IsWord (bare (b ∷ bytes)) = (b ≢ 39) × NoSpace (b ∷ bytes)
 IsWord (quoted text) = IsText text
-
--- behind a word stands a space or nothing
-abbrev pub EndsWord : List ℕ → Type 0
-EndsWord [] = Unit {0}
-EndsWord (b ∷ rest) = b ≡ 32
-
--- a line without the spaces before its first word
-abbrev pub drop_spaces : List ℕ → List ℕ
-drop_spaces [] = []
-drop_spaces (b ∷ line) = if b == 32 then drop_spaces line else b ∷ line
 
 -- this is the first word of a line, and behind it stands this rest
 pub record IsFirst (line : List ℕ) (word : Word) (rest : List ℕ) : Type 0 where

@@ -8,7 +8,8 @@ ghost use Rattle.word_core.specs.View.{words_of as words_in, ending_view};
 use crate::line::{push_line, push_more};
 use crate::number::datum_of;
 use crate::word::{Word, Written};
-use crate::words::{bare_of, is_same_word, only_bare};
+use crate::words::{bare_of, only_bare};
+use line_core::words::is_same_word;
 use std::alloc::AllocError;
 use value_core::datum::Datum;
 

@@ -1,6 +1,6 @@
 //! Laws of words, over the definitions alone.
 
-ghost use Rattle.word_core.specs.Laws.{WordsUnique, SaidOnce, WrittenWords, WrittenClear, WrittenInteger, WrittenSession, WrittenData, EndingExact, WrittenEnding, WrittenFinish};
+ghost use Rattle.word_core.specs.Laws.{WordsUnique, SaidOnce, WrittenWords, WrittenClear, WrittenInteger, WrittenSession, WrittenData, EndingExact, WrittenEnding, WrittenFinish, ShownApart};
 
 /// A line has its words in one way.
 pub fn words_unique()
@@ -50,4 +50,9 @@ pub fn written_ending()
 /// A line that tells how a call ended has these words.
 pub fn written_finish()
     ensures { WrittenFinish }
+{}
+
+/// What is shown of a value tells it, among the values of its kind.
+pub fn shown_apart()
+    ensures { ShownApart }
 {}

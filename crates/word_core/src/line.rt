@@ -71,3 +71,28 @@ pub fn push_more_data(out: &mut Vec<u8>, elements: &[Datum]) -> Result<(), Alloc
     }
     Ok(())
 }
+
+/// Adds words, integers and texts behind them, and the end of the line.
+pub fn push_data_line(
+    out: &mut Vec<u8>,
+    words: &[Written],
+    elements: &[Datum],
+) -> Result<(), AllocError>
+    ensures { OnOk result (out.new.items ≡ out.old.items ++ line_of (map written_word words.now ++ map datum_word elements.now)) }
+{
+    push_both(out, words, elements)?;
+    out.push(b'\n')?;
+    Ok(())
+}
+
+// Adds words, and integers and texts behind them.
+fn push_both(out: &mut Vec<u8>, words: &[Written], elements: &[Datum]) -> Result<(), AllocError>
+    ensures { OnOk result (out.new.items ≡ out.old.items ++ words_text (map written_word words.now ++ map datum_word elements.now)) }
+{
+    if words.is_empty() {
+        return push_data(out, elements);
+    }
+    push_words(out, words)?;
+    push_more_data(out, elements)?;
+    Ok(())
+}

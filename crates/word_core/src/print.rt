@@ -6,7 +6,7 @@ ghost use Rattle.word_core.specs.Data.{datum_word, session_word};
 ghost use Rattle.word_core.specs.View.{word_of, written_word};
 
 use crate::word::{Word, Written};
-use itoa::Buffer;
+use line_core::reply::push_number;
 use std::alloc::AllocError;
 use value_core::datum::Datum;
 use value_core::text::Text;
@@ -46,8 +46,7 @@ pub fn push_text(out: &mut Vec<u8>, text: &Text) -> Result<(), AllocError>
 pub fn push_integer(out: &mut Vec<u8>, number: u64) -> Result<(), AllocError>
     ensures { OnOk result (out.new.items ≡ out.old.items ++ decimal number) }
 {
-    let mut buffer = Buffer::new();
-    out.extend_from_slice(buffer.format(number).as_bytes())
+    push_number(out, b"", number)
 }
 
 /// Adds an integer or a text.

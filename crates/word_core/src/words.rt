@@ -1,7 +1,6 @@
 //! All words of a line, and what stands at their front.
 
 ghost use Rattle.std.specs.Prelude.{◌≡◌, IfOk, option_map};
-ghost use Rattle.std.specs.Str.{bytes_eq};
 ghost use Rattle.word_core.specs.Data.{data_of as data_in, bare_of as bare_in, only_bare as only_bare_in, only_integer as only_integer_in};
 ghost use Rattle.word_core.specs.View.{AreWordsOf, words_of as words_in, bare_view};
 
@@ -57,13 +56,6 @@ pub fn only_integer(words: &[Word]) -> Option<u32>
 {
     let bytes = only_bare(words)?;
     integer_of(bytes)
-}
-
-/// Whether two bare words are the same, byte by byte.
-pub fn is_same_word(first: &[u8], second: &[u8]) -> bool
-    ensures { result ≡ bytes_eq first.now second.now }
-{
-    first == second
 }
 
 /// The integers and texts of words, or `None` where one is neither.

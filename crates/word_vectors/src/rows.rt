@@ -5,10 +5,11 @@ use std::process::Abort;
 use value_core::decode::decode;
 use value_core::kind::{Elem, Kind};
 use word_core::ending::{ending_of, push_ending, push_finish};
-use word_core::line::push_data;
+use word_core::line::push_data_line;
 use word_core::number::session_of;
 use word_core::print::push_word;
 use word_core::show::push_value;
+use word_core::word::Written;
 use word_core::words::{data_of, only_integer, words_of};
 
 // A line, and what is written of it.
@@ -25,14 +26,14 @@ const LINES: &[Row] = &[
     (b"a '\t'", b"bad"),
 ];
 
-// The integers and texts of a line.
+// The integers and texts of a line, behind other words.
 const DATA: &[Row] = &[
-    (b" 3  007 'x y' ", b"3 7 'x y'"),
-    (b"4294967295 00000000000", b"4294967295 0"),
+    (b" 3  007 'x y' ", b"start 7 s1 3 7 'x y'\n"),
+    (b"4294967295 00000000000", b"start 7 s1 4294967295 0\n"),
     (b"4294967296", b"bad"),
     (b"3 s1", b"bad"),
     (b"+3", b"bad"),
-    (b"", b""),
+    (b"", b"start 7 s1\n"),
 ];
 
 // How a call ended: of call 7, and behind other words.
@@ -94,7 +95,15 @@ fn elements(alloc: Global, line: &[u8]) -> Result<Vec<u8>, AllocError> {
     let mut out = Vec::new(alloc);
     if let Some(words) = words_of(alloc, line)? {
         match data_of(alloc, &words)? {
-            Some(elements) => push_data(&mut out, &elements)?,
+            Some(elements) => push_data_line(
+                &mut out,
+                &[
+                    Written::Bare(b"start"),
+                    Written::Integer(7),
+                    Written::Session(1),
+                ],
+                &elements,
+            )?,
             None => out.extend_from_slice(b"bad")?,
         }
     }

@@ -6,7 +6,8 @@ ghost use Rattle.path_count.specs.Asked.{asked_of, asked_of_words, asked_of_name
 ghost use Rattle.path_count.specs.Command.{asked_of_command};
 ghost use Rattle.path_count.specs.Words.{words};
 
-use crate::paths::words::{is_same_word, next_word, skip_spaces};
+use crate::paths::words::next_word;
+use line_core::words::{is_same_word, skip_spaces};
 
 /// What a line asks for.
 #[derive(Clone, Copy)]
