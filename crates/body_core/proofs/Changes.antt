@@ -1,8 +1,8 @@
 -- The parts that a body changed, found one after the other.
-use Rattle.std.proofs.Common.{◌≡◌, ◌≢◌, ℕ, ◌+◌, ◌<◌, ◌≤◌, inl, inr, ⊎_elim, Bool, true, false, List, [], ◌∷◌, ◌++◌, Option, Some, None, length, refl, sym, ap, subst, ◌∙◌, arith, length-append}
+use Rattle.std.proofs.Common.{◌≡◌, ◌≢◌, ℕ, ◌+◌, ◌<◌, ◌≤◌, inl, ⊎_elim, List, [], ◌∷◌, ◌++◌, Option, Some, None, length, refl, sym, ap, subst, ◌∙◌, arith, length-append}
 use Rattle.std.specs.Prelude.{◌==◌, slice_get, if◌then◌else◌}
 use Rattle.std.specs.Option.{option_to_list}
-use Rattle.std.proofs.lemmas.Bool.{cases_lt, cases_eq, eq-eqb, ne_eqb}
+use Rattle.std.proofs.lemmas.Bool.{cases_lt, eq-eqb, ne_eqb}
 use Rattle.std.proofs.lemmas.List.{append-nil, nil_from_length}
 use Rattle.std.proofs.lemmas.Option.{slice_get_past}
 use Rattle.value_core.specs.Contents.{Contents, kind_of}
@@ -12,11 +12,9 @@ use Rattle.decl_core.specs.declared.object.Operation.{Operation}
 use Rattle.decl_core.specs.Bodies.{body_of}
 use Rattle.decl_core.specs.Form.{Statements}
 use Rattle.decl_core.specs.Touched.{Reads, Writes}
-use Rattle.decl_core.specs.Typed.{IsHeld}
 use Rattle.decl_core.proofs.Footprints.{writes_are_reads}
 use Rattle.body_core.specs.declared.judge.Change.{Change}
-use Rattle.body_core.specs.Calls.{IsNamed}
-use Rattle.body_core.specs.Truths.{AreSpelled, IsChanged, AreChanges, bytes_for}
+use Rattle.body_core.specs.Truths.{IsChanged, AreChanges, bytes_for}
 use Rattle.body_core.specs.Verdicts.{ReadAs, Rising, IsChangeOf, IsRewritten, IsStep, MayLeave}
 use Rattle.body_core.proofs.HeldReads.{reads_held}
 

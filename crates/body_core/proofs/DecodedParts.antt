@@ -4,10 +4,9 @@ use Rattle.std.specs.Prelude.{slice_get}
 use Rattle.std.proofs.Math.Logic.{⊎_map}
 use Rattle.std.proofs.lemmas.Option.{slice_get-get_or, slice_get_within}
 use Rattle.value_core.specs.declared.kind.Elem.TheVariants as elem
-use Rattle.value_core.specs.declared.kind.Kind.{Kind}
-use Rattle.value_core.specs.Contents.{Contents, array, kind_of}
+use Rattle.value_core.specs.Contents.{Contents, array}
 use Rattle.decl_core.specs.declared.object.Operation.{Operation}
-use Rattle.body_core.specs.Calls.{IsNamed, HoldsReads}
+use Rattle.body_core.specs.Calls.{HoldsReads}
 use Rattle.body_core.specs.Truths.{AreSpelled}
 use Rattle.body_core.specs.Verdicts.{ReadAs, IsPart}
 

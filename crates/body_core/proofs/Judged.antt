@@ -1,11 +1,10 @@
 -- What becomes of a body, from what it gives.
-use Rattle.std.proofs.Common.{◌≡◌, ℕ, List, Option, ap, sym, subst, ◌∙◌}
-use Rattle.std.specs.Prelude.{length, slice_get}
+use Rattle.std.proofs.Common.{◌≡◌, ℕ, List, Option, ap, sym, subst}
 use Rattle.value_core.specs.declared.datum.Datum.{Datum}
 use Rattle.value_core.specs.Contents.{Contents}
 use Rattle.decl_core.specs.declared.object.Operation.{Operation}
 use Rattle.decl_core.specs.Bodies.{body_of}
-use Rattle.decl_core.specs.Meaning.{Reply, apply_body, done}
+use Rattle.decl_core.specs.Meaning.{apply_body, done}
 use Rattle.decl_core.proofs.Footprints.{others_stay}
 use Rattle.body_core.specs.declared.judge.Change.{Change}
 use Rattle.body_core.specs.Truths.{AreSpelled, IsDone, AreChanges}

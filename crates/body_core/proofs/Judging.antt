@@ -1,19 +1,14 @@
 -- What was judged of the bytes read holds of the bytes under the pins.
-use Rattle.std.proofs.Common.{◌≡◌, ℕ, ◌+◌, ◌⊎◌, inl, inr, List, [], ◌∷◌, Option, Some, slice_get, refl, sym, ap, ◌∙◌, subst}
+use Rattle.std.proofs.Common.{◌≡◌, ℕ, List, Option, Some, slice_get, sym, ◌∙◌, subst}
 use Rattle.value_core.specs.declared.datum.Datum.{Datum}
 use Rattle.value_core.specs.Contents.{Contents}
 use Rattle.decl_core.specs.declared.object.Operation.{Operation}
-use Rattle.decl_core.specs.Form.{Statements}
-use Rattle.decl_core.specs.Touched.{Writes}
 use Rattle.shelf_core.specs.Device.{Assignment}
-use Rattle.body_core.specs.declared.judge.Change.{Change}
-use Rattle.body_core.specs.Calls.{Call, IsNamed}
-use Rattle.body_core.specs.Truths.{PinHolds, AreSpelled, IsDone, IsRefused, AreChanges}
-use Rattle.body_core.specs.Verdicts.{ReadAs, Rising}
-use Rattle.body_core.specs.Phases.{AreRead, ChangesPart, HasPart}
-
-some_same : {X : Type 0} {x y : X} → Some x ≡ Some y → x ≡ y
-some_same e = cc
+use Rattle.body_core.specs.Calls.{Call}
+use Rattle.body_core.specs.Truths.{PinHolds, AreSpelled, IsDone, IsRefused}
+use Rattle.body_core.specs.Verdicts.{ReadAs}
+use Rattle.body_core.specs.Phases.{AreRead}
+use Rattle.body_core.proofs.Stepping.{some_same}
 
 -- the bytes that were read of a part are those under its pin
 read_holds : (a : Assignment) (call : Call) (read : List (List ℕ)) (p : ℕ) (bytes : List ℕ) → ReadAs read p bytes → (known : List ℕ) × (slice_get read p ≡ Some known) × PinHolds a call.pins p known → PinHolds a call.pins p bytes
@@ -35,13 +30,3 @@ pub refused_under : (a : Assignment) (call : Call) (read : List (List ℕ)) (ope
 refused_under a call read operation arguments word same given known is =
     let refused : IsRefused (ReadAs read) call.operation call.arguments word = subst (λ ds. IsRefused (ReadAs read) call.operation ds word) given (subst (λ o. IsRefused (ReadAs read) o arguments word) same is) in
     record { parts = refused.parts; spelled = spelled_under a call read refused.parts known refused.spelled; gives = refused.gives }
-
--- changes of the writes alone are of parts of them
-pub change_writes : (statements : Statements) (low : ℕ) (changes : List Change) (p : ℕ) → Rising statements low changes → ChangesPart changes p → Writes statements p
-change_writes statements low [] p rising touched = absurd touched
-change_writes statements low (change ∷ changes) p rising (inl e) = subst (λ q. Writes statements q) e rising.1
-change_writes statements low (change ∷ changes) p rising (inr h) = change_writes statements (change.part + 1) changes p rising.2 h
-
-pub no_part : (changes : Type 0) (p : ℕ) → changes ⊎ HasPart [] p → changes
-no_part changes p (inl h) = h
-no_part changes p (inr h) = absurd h

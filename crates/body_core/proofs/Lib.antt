@@ -7,10 +7,15 @@ pub mod HeldReads
 pub mod Judged
 pub mod Judging
 pub mod KindsKept
+pub mod Leading
 pub mod NewPinRows
+pub mod Ordering
+pub mod SameRuns
 pub mod Sealing
+pub mod Serving
 pub mod Spreading
 pub mod Stepping
+pub mod Telling
 pub mod Totals
 pub mod Touching
 pub mod TypedFits

@@ -1,22 +1,24 @@
 -- What a run has sealed, when all of it is sealed, and with one file more.
-use Rattle.std.proofs.Common.{◌≡◌, ◌≢◌, ◌==◌, ℕ, zero, suc, ◌≤◌, ◌⊎◌, inl, inr, List, [], ◌∷◌, ◌++◌, length, Option, Some, None, slice_get, if◌then◌else◌, Bool, true, false, refl, sym, ap, ◌∙◌, subst, arith}
+use Rattle.std.proofs.Common.{◌≡◌, ◌==◌, ℕ, ◌≤◌, List, [], ◌∷◌, ◌++◌, length, Option, Some, slice_get, if◌then◌else◌, Bool, true, false, sym, ap, ◌∙◌, subst, arith}
 use Rattle.value_core.specs.declared.datum.Datum.{Datum}
 use Rattle.value_core.specs.Contents.{Contents}
 use Rattle.decl_core.specs.declared.object.Operation.{Operation}
-use Rattle.shelf_core.specs.Device.{Assignment, Holds}
+use Rattle.shelf_core.specs.Device.{Assignment, Holds, IsWhole, bytes_of, front_of}
+use Rattle.std.proofs.lemmas.List.{take_all}
 use Rattle.body_core.specs.declared.judge.Change.{Change}
 use Rattle.body_core.specs.declared.new_pins.NewPin.{NewPin}
 use Rattle.body_core.specs.Truths.{IsDone, IsChanged, IsLeft, AreChanges, AreLeft, bytes_for, pin_for}
-use Rattle.body_core.specs.Phases.{AreSealed, HasPart, ChangesPart}
-
-some_same : {X : Type 0} {x y : X} → Some x ≡ Some y → x ≡ y
-some_same e = cc
+use Rattle.body_core.specs.Phases.{AreSealed}
+use Rattle.body_core.proofs.Stepping.{some_same}
 
 -- where the part of a change was asked for, its file holds its bytes
 first_or_rest : (a : Assignment) (change : Change) (new : NewPin) (changes : List Change) (news : List NewPin) (p : ℕ) (before after : Option Contents) (b : Bool) → Holds a new.stamp change.bytes
     → (IsChanged before after (bytes_for changes p) → IsLeft a before after (pin_for news p))
     → IsChanged before after (if b then Some change.bytes else bytes_for changes p) → IsLeft a before after (if b then Some new.stamp else pin_for news p)
-first_or_rest a change new changes news p before after true holds rest h = (h.0, h.1, h.2, (change.bytes, h.3, holds))
+first_or_rest a change new changes news p before after true holds rest h =
+    let whole : IsWhole a new.stamp = record { file = change.bytes; assigned = holds.assigned; long = omega (arith, holds.len) } in
+    let there : bytes_of a new.stamp ≡ Some change.bytes = ap (front_of new.stamp.len) holds.assigned ∙ ap Some (take_all new.stamp.len change.bytes (omega (arith, holds.len))) in
+    (h.0, h.1, h.2, (change.bytes, h.3, whole, there))
 first_or_rest a change new changes news p before after false holds rest h = rest h
 
 left_at : (a : Assignment) (changes : List Change) (news : List NewPin) (p : ℕ) (before after : Option Contents) → AreSealed a changes news → length changes ≤ length news
@@ -47,20 +49,3 @@ sealed_more a (c ∷ changes) [] change new is part holds sealed =
     let same : change ≡ c = sym (some_same is) in
     (part ∙ ap (λ (d : Change). d.part) same, subst (λ (d : Change). Holds a new.stamp d.bytes) same holds, tt)
 sealed_more a (c ∷ changes) (n ∷ news) change new is part holds sealed = (sealed.0, sealed.1, sealed_more a changes news change new is part holds sealed.2)
-
-part_of_more : (news : List NewPin) (new : NewPin) (p : ℕ) → HasPart (news ++ new ∷ []) p → HasPart news p ⊎ (new.part ≡ p)
-part_of_more [] new p (inl e) = inr e
-part_of_more [] new p (inr h) = absurd h
-part_of_more (n ∷ news) new p (inl e) = inl (inl e)
-part_of_more (n ∷ news) new p (inr h) = elim (part_of_more news new p h) [ inl there ↦ inl (inr there) | inr e ↦ inr e ]
-
-part_of_change : (changes : List Change) (i : ℕ) (change : Change) (p : ℕ) → slice_get changes i ≡ Some change → change.part ≡ p → ChangesPart changes p
-part_of_change [] i change p is e = absurd cc
-part_of_change (c ∷ changes) zero change p is e = inl (ap (λ (d : Change). d.part) (some_same is) ∙ e)
-part_of_change (c ∷ changes) (suc i) change p is e = inr (part_of_change changes i change p is e)
-
--- the file of a change is of its part
-pub parts_more : (changes : List Change) (news : List NewPin) (i : ℕ) (change : Change) (new : NewPin) (p : ℕ) → slice_get changes i ≡ Some change → new.part ≡ change.part
-    → ChangesPart changes p ⊎ HasPart (news ++ new ∷ []) p → ChangesPart changes p ⊎ HasPart news p
-parts_more changes news i change new p is part (inl h) = inl h
-parts_more changes news i change new p is part (inr h) = elim (part_of_more news new p h) [ inl there ↦ inr there | inr e ↦ inl (part_of_change changes i change p is (sym part ∙ e)) ]

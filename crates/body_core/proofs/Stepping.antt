@@ -1,8 +1,10 @@
 -- The steps of a run go by the rule of steps.
-use Rattle.std.proofs.Common.{◌≡◌, ◌≢◌, ℕ, ◌+◌, ◌-◌, ◌<◌, ◌≤◌, inl, inr, List, [], ◌∷◌, ◌++◌, length-append, refl, length, take, drop, Option, Some, slice_get, sym, ap, ◌∙◌, subst, arith}
+use Rattle.std.proofs.Common.{◌≡◌, ◌≢◌, ℕ, ◌+◌, ◌-◌, ◌<◌, ◌≤◌, inl, inr, List, [], ◌∷◌, ◌++◌, length-append, length, take, drop, Option, Some, sym, ap, ◌∙◌, subst, arith}
 use Rattle.std.proofs.Math.Seq.{take-add}
 use Rattle.std.proofs.lemmas.Bool.{cases_lt}
 use Rattle.value_core.specs.declared.datum.Datum.{Datum}
+use Rattle.decl_core.specs.declared.object.Operation.{Operation}
+use Rattle.decl_core.specs.Bodies.{body_of}
 use Rattle.shelf_core.specs.declared.hand.HandFault.{HandFault}
 use Rattle.shelf_core.specs.declared.hand.Stamp.{Stamp}
 use Rattle.body_core.specs.declared.judge.Change.{Change}
@@ -13,8 +15,9 @@ use Rattle.body_core.specs.declared.reply.Reply.{Reply}
 use Rattle.body_core.specs.declared.reply.Reply.TheVariants as replies
 use Rattle.body_core.specs.declared.step.Need.TheVariants as needs
 use Rattle.body_core.specs.Calls.{Call}
+use Rattle.body_core.specs.Written.{WritesInOrder, parts_changed}
 use Rattle.body_core.specs.Phases.{failure_of, ending_of, sealed_in, IsSettled}
-use Rattle.body_core.specs.Steps.{Place, at_read, at_create, at_append, at_seal, at_end, place_in, need_at, sealed_at, IsNextChange, chunk, Follows, reads_on, reads_next, appends_on, appends_last, seals_on, seals_last, fails, IsNext, ReadsNone, Starts, with_part, with_none, IsJudged, changed, not_changed}
+use Rattle.body_core.specs.Steps.{Place, at_read, at_create, at_append, at_seal, at_end, place_in, need_at, sealed_at, IsNextChange, chunk, Follows, reads_on, reads_next, appends_on, seals_on, seals_last, fails, IsNext, ReadsNone, Starts, with_part, with_none, IsJudged, changed, not_changed}
 
 pub some_same : {X : Type 0} {x y : X} → Some x ≡ Some y → x ≡ y
 some_same e = cc
@@ -64,15 +67,15 @@ pub append_on : (call : Call) (changes : List Change) (sealed : List NewPin) (n 
 append_on call changes sealed n after change here is short = subst (λ k. Follows call (at_append changes sealed n) (at_append changes sealed k)) (sym is) (appends_on here (omega (arith, is, short)))
 
 -- after a body is judged the first change is written, if there is one
-pub judged_there : (changes : List Change) (news : List NewPin) (reply : Option Datum) (place : Place) → news ≡ []
-    → (length news < length changes → place ≡ at_create changes news) → (length changes ≤ length news → place ≡ at_end (replies.Done reply) news) → IsJudged place
-judged_there changes news reply place none more done = elim (cases_lt (length news) (length changes)) [
-  | inl lt ↦ subst IsJudged (sym (more lt ∙ ap (at_create changes) none)) (changed (omega (arith, lt)))
-  | inr ge ↦ subst IsJudged (sym (done ge ∙ ap (at_end (replies.Done reply)) none)) not_changed
+pub judged_there : (call : Call) (operation : Operation) (changes : List Change) (news : List NewPin) (reply : Option Datum) (place : Place) → operation ≡ call.operation → WritesInOrder (body_of operation).statements 0 (parts_changed changes) → news ≡ []
+    → (length news < length changes → place ≡ at_create changes news) → (length changes ≤ length news → place ≡ at_end (replies.Done reply) news) → IsJudged call place
+judged_there call operation changes news reply place same order none more done = elim (cases_lt (length news) (length changes)) [
+  | inl lt ↦ subst (IsJudged call) (sym (more lt ∙ ap (at_create changes) none)) (changed (omega (arith, lt)) (subst (λ o. WritesInOrder (body_of o).statements 0 (parts_changed changes)) same order))
+  | inr ge ↦ subst (IsJudged call) (sym (done ge ∙ ap (at_end (replies.Done reply)) none)) not_changed
 ]
 
-pub ended_there : (reply : Reply) (news : List NewPin) → news ≡ [] → IsJudged (at_end reply news)
-ended_there reply news none = subst (λ (s : List NewPin). IsJudged (at_end reply s)) (sym none) not_changed
+pub ended_there : (call : Call) (reply : Reply) (news : List NewPin) → news ≡ [] → IsJudged call (at_end reply news)
+ended_there call reply news none = subst (λ (s : List NewPin). IsJudged call (at_end reply s)) (sym none) not_changed
 
 -- after a seal the next change is written, or all are
 pub seal_on : (call : Call) (changes : List Change) (sealed news : List NewPin) (change : Change) (new : NewPin) (reply : Option Datum) (place : Place) → IsNextChange changes sealed change → new.part ≡ change.part → news ≡ sealed ++ new ∷ []

@@ -1,11 +1,11 @@
 -- Whether an operation reads a part is decided, and so is whether it writes one.
-use Rattle.std.proofs.Common.{◌≡◌, ℕ, ◌⊎◌, inl, inr}
+use Rattle.std.proofs.Common.{ℕ, ◌⊎◌, inl, inr}
 use Rattle.std.proofs.lemmas.Bool.{cases_eq}
 use Rattle.decl_core.specs.Form.{From, argument, element, oldest, under, Integers, number, integer_from, count, add, subtract, Texts, literal, text_from, Form, an_integer, a_text, Condition, compare, same_texts, other_texts, has, is_not, Statement, block, set_element, set_result, append, take, store, erase, choose, refuse, Statements, nothing, first_and}
 use Rattle.decl_core.specs.Touched.{FromNames, IntegersName, TextsName, FormNames, ConditionNames, StatementNames, Reads, StatementChanges, Writes}
 
 -- it holds, or it does not
-abbrev OrNot : Type 0 → Type 0
+abbrev pub OrNot : Type 0 → Type 0
 OrNot A = A ⊎ (A → ⊥)
 
 never : OrNot ⊥
@@ -16,7 +16,7 @@ either (inl a) other = inl (inl a)
 either (inr not) (inl b) = inl (inr b)
 either {A} {B} (inr not) (inr none) = inr (λ h. elim h [ inl a ↦ not a | inr b ↦ none b ])
 
-surely : {A : Type 0} → OrNot A → ((A → ⊥) → ⊥) → A
+pub surely : {A : Type 0} → OrNot A → ((A → ⊥) → ⊥) → A
 surely (inl a) h = a
 surely (inr not) h = absurd (h not)
 
@@ -77,14 +77,10 @@ mutual
   changed_or_not (choose c s t) p = either (changed_or_not s p) (changed_or_not t p)
   changed_or_not (refuse w) p = never
 
-  written_or_not : (all : Statements) (p : ℕ) → OrNot (Writes all p)
+  pub written_or_not : (all : Statements) (p : ℕ) → OrNot (Writes all p)
   written_or_not nothing p = never
   written_or_not (first_and s rest) p = either (changed_or_not s p) (written_or_not rest p)
 
 -- what cannot but be read is read
 pub read : (all : Statements) (p : ℕ) → ((Reads all p → ⊥) → ⊥) → Reads all p
 read all p h = surely (read_or_not all p) h
-
--- what cannot but be written is written
-pub written : (all : Statements) (p : ℕ) → ((Writes all p → ⊥) → ⊥) → Writes all p
-written all p h = surely (written_or_not all p) h

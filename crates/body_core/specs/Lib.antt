@@ -1,3 +1,4 @@
+pub mod Calling
 pub mod Calls
 pub mod Fitting
 pub mod NewPins
@@ -12,3 +13,4 @@ pub mod Tasks
 pub mod Tickets
 pub mod Truths
 pub mod Verdicts
+pub mod Written

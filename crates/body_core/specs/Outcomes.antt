@@ -17,14 +17,22 @@ outcome_reply o = o.reply
 abbrev pub outcome_news : Outcome → List NewPin
 outcome_news o = o.news
 
--- they are the new pins where the body was done
+-- the new pins of a call: they are these files where the body was done
 abbrev pub new_if_done : Reply → List NewPin → List NewPin
 new_if_done (Done reply) news = news
 new_if_done (Refused word) news = []
 new_if_done (Failed failure) news = []
 
--- they are left over where the call failed
+-- the files that a call leaves to nobody: they are these where the call failed
 abbrev pub left_if_failed : Reply → List NewPin → List NewPin
 left_if_failed (Done reply) news = []
 left_if_failed (Refused word) news = []
 left_if_failed (Failed failure) news = news
+
+-- the new pins of the parts that the body changed
+abbrev pub outcome_pins : Outcome → List NewPin
+outcome_pins o = new_if_done (outcome_reply o) (outcome_news o)
+
+-- the files that a failed call left to nobody
+abbrev pub outcome_files : Outcome → List NewPin
+outcome_files o = left_if_failed (outcome_reply o) (outcome_news o)

@@ -1,8 +1,7 @@
 -- Where a run stands, and what it has found, by an assignment.
 use Rattle.std.specs.Prelude.{◌≡◌, ℕ, ◌+◌, ◌-◌, ◌*◌, ◌^◌, ◌<◌, ◌≤◌, ◌⊎◌, List, [], ◌∷◌, length, take, Option, Some, None, slice_get}
-use Rattle.decl_core.specs.Form.{Statements}
 use Rattle.decl_core.specs.Bodies.{body_of}
-use Rattle.decl_core.specs.Touched.{Reads, Writes}
+use Rattle.decl_core.specs.Touched.{Reads}
 use Rattle.shelf_core.specs.declared.hand.HandFault.{HandFault}
 use Rattle.shelf_core.specs.declared.hand.HandFault.TheVariants as faults
 use Rattle.shelf_core.specs.declared.hand.Stamp.{Stamp}
@@ -126,27 +125,6 @@ FoundBy a call (Ended reply news) = IsTrueAt a call reply news
 abbrev pub HasPart : List NewPin → ℕ → Type 0
 HasPart [] p = ⊥
 HasPart (new ∷ news) p = (new.part ≡ p) ⊎ HasPart news p
-
--- one of these changes is of this part
-abbrev pub ChangesPart : List Change → ℕ → Type 0
-ChangesPart [] p = ⊥
-ChangesPart (change ∷ changes) p = (change.part ≡ p) ⊎ ChangesPart changes p
-
--- it changes a part, or has sealed a file of it
-abbrev pub PlanTouches : Plan → ℕ → Type 0
-PlanTouches plan p = ChangesPart plan.changes.items p ⊎ HasPart plan.sealed p
-
--- a run writes or has sealed a file of this part
-abbrev pub Touches : Phase → ℕ → Type 0
-Touches (Reading r) p = ⊥
-Touches (Creating plan) p = PlanTouches plan p
-Touches (Appending plan pen k) p = PlanTouches plan p
-Touches (Sealing plan pen) p = PlanTouches plan p
-Touches (Ended reply news) p = HasPart news p
-
--- a run writes parts of these writes alone
-abbrev pub TouchesWrites : Statements → Phase → Type 0
-TouchesWrites statements phase = (p : ℕ) → Touches phase p → (Writes statements p → ⊥) → ⊥
 
 -- it has ended, done or refused
 abbrev pub IsSettled : Option Reply → Type 0

@@ -1,12 +1,14 @@
 -- What a run is, to its callers: its call, how it ended, what it has sealed, and what it has found, by an assignment.
-use Rattle.std.specs.Prelude.{◌≡◌, ◌≢◌, ℕ, List, Option, Some, None}
+use Rattle.std.specs.Prelude.{◌≡◌, ℕ, List, Option, None}
 use Rattle.std.proofs.Common.{refl}
 use Rattle.shelf_core.specs.Device.{Assignment}
+use Rattle.shelf_core.specs.Made.{Made}
 use Rattle.body_core.specs.declared.new_pins.NewPin.{NewPin}
 use Rattle.body_core.specs.declared.phase.Phase.{Phase}
 use Rattle.body_core.specs.declared.phase.Phase.TheVariants.{Reading, Creating, Appending, Sealing, Ended}
 use Rattle.body_core.specs.declared.reply.Reply.{Reply}
 use Rattle.body_core.specs.declared.run.Run.{Run}
+use Rattle.body_core.specs.Calling.{StepMakes}
 use Rattle.body_core.specs.Calls.{Call}
 use Rattle.body_core.specs.Steps.{Place, place_in, ending_at, sealed_at}
 use Rattle.body_core.specs.Tasks.{task_call}
@@ -34,6 +36,10 @@ run_work run = work_in run.phase
 -- where a run stands
 abbrev pub run_place : Run → Place
 run_place run = place_in run.phase
+
+-- what a step of this run did to a hand
+abbrev pub RunMakes : {H : Type 0} → (H → Made → H → Type 0) → Run → Option Reply → H → H → Type 0
+RunMakes makes run ending old new = StepMakes makes run.phase ending old new
 
 -- what was appended to the run's pen, if it has one, is what the run appended
 abbrev pub PenHolds : (ℕ → List ℕ → Type 0) → Run → Type 0

@@ -8,7 +8,7 @@ use Rattle.decl_core.specs.declared.object.Operation.{Operation}
 use Rattle.decl_core.specs.Bodies.{body_of}
 use Rattle.decl_core.specs.Meaning.{apply_body, done, refused}
 use Rattle.shelf_core.specs.declared.hand.Stamp.{Stamp}
-use Rattle.shelf_core.specs.Device.{Assignment, Holds, IsWhole, bytes_of}
+use Rattle.shelf_core.specs.Device.{Assignment, IsWhole, bytes_of}
 use Rattle.body_core.specs.declared.reply.Failure.TheVariants as failures
 use Rattle.body_core.specs.declared.reply.Reply.{Reply}
 use Rattle.body_core.specs.declared.reply.Reply.TheVariants.{Done, Refused, Failed}
@@ -64,10 +64,10 @@ abbrev pub pin_for : List NewPin → ℕ → Option Stamp
 pin_for [] p = None
 pin_for (new ∷ rest) p = if new.part == p then Some new.stamp else pin_for rest p
 
--- a part without a new pin is as it was; another one holds another value, and the bytes sealed under its new pin spell that
+-- a part without a new pin is as it was; another one holds another value, its new pin is whole, and the bytes under it spell that value
 abbrev pub IsLeft : Assignment → Option Contents → Option Contents → Option Stamp → Type 0
 IsLeft a before after None = after ≡ before
-IsLeft a before after (Some stamp) = (value : Contents) × (after ≡ Some value) × (before ≢ Some value) × ((bytes : List ℕ) × Spells bytes (kind_of value) value × Holds a stamp bytes)
+IsLeft a before after (Some stamp) = (value : Contents) × (after ≡ Some value) × (before ≢ Some value) × ((bytes : List ℕ) × Spells bytes (kind_of value) value × IsWhole a stamp × (bytes_of a stamp ≡ Some bytes))
 
 abbrev pub AreLeft : Assignment → List NewPin → List Contents → List Contents → Type 0
 AreLeft a news before after = (p : ℕ) → IsLeft a (slice_get before p) (slice_get after p) (pin_for news p)

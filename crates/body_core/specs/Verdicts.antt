@@ -1,5 +1,5 @@
 -- What becomes of a body on the bytes read of its parts.
-use Rattle.std.specs.Prelude.{◌≡◌, ◌≢◌, ℕ, ◌+◌, ◌<◌, ◌≤◌, ◌⊎◌, ◌↔◌, List, [], ◌∷◌, Option, Some, None, slice_get, length}
+use Rattle.std.specs.Prelude.{◌≡◌, ◌≢◌, ℕ, ◌<◌, ◌≤◌, ◌⊎◌, ◌↔◌, List, [], Option, Some, None, slice_get, length}
 use Rattle.std.specs.Int.{bit_at}
 use Rattle.value_core.specs.declared.datum.Datum.{Datum}
 use Rattle.value_core.specs.declared.kind.Kind.{Kind}
@@ -16,6 +16,7 @@ use Rattle.body_core.specs.declared.judge.Verdict.{Verdict}
 use Rattle.body_core.specs.declared.judge.Verdict.TheVariants.{Done, Refused, Damaged, Memory}
 use Rattle.body_core.specs.Calls.{IsNamed}
 use Rattle.body_core.specs.Truths.{AreSpelled, IsDone, IsRefused, IsDamaged, AreChanges}
+use Rattle.body_core.specs.Written.{WritesInOrder, parts_changed}
 
 -- the bytes read of part p stand at place p
 abbrev pub ReadAs : List (List ℕ) → ℕ → List ℕ → Type 0
@@ -30,8 +31,7 @@ Judged operation arguments read Memory = Unit {0}
 
 -- the changed parts are of the writes, and their numbers rise from this one on
 abbrev pub Rising : Statements → ℕ → List Change → Type 0
-Rising statements from [] = Unit {0}
-Rising statements from (change ∷ rest) = (from ≤ change.part) × Writes statements change.part × Rising statements (change.part + 1) rest
+Rising statements from changes = WritesInOrder statements from (parts_changed changes)
 
 -- only parts of its writes are changed, each once, in order
 abbrev pub OnlyWrites : Operation → Verdict → Type 0

@@ -1,14 +1,14 @@
 //! One step of a run, by where it stands.
 
-ghost use Rattle.std.specs.Prelude.{◌≡◌, ◌≢◌, ◌<◌, ◌≤◌, ◌⊎◌, ℕ, List, Some, None};
-ghost use Rattle.std.specs.Arc.{arc_value};
-ghost use Rattle.decl_core.specs.Bodies.{body_of};
-ghost use Rattle.shelf_core.specs.Device.{Assignment, Failed as DeviceFailed};
+ghost use Rattle.std.specs.Prelude.{◌≡◌, ◌≢◌, ◌+◌, ◌<◌, ◌≤◌, ◌⊎◌, ℕ, List, Some, None};
+ghost use Rattle.shelf_core.specs.declared.hand.Stamp.{Stamp};
+ghost use Rattle.shelf_core.specs.Device.{Assignment, IsFree, Failed as DeviceFailed};
 ghost use Rattle.body_core.specs.declared.reply.Failure.TheVariants as failures;
 ghost use Rattle.body_core.specs.declared.reply.Reply.TheVariants as replies;
+ghost use Rattle.body_core.specs.Calling.{StepMakes};
 ghost use Rattle.body_core.specs.Tasks.{task_call};
-ghost use Rattle.body_core.specs.Steps.{Follows, place_in};
-ghost use Rattle.body_core.specs.Phases.{ending_of, answer_to, step_answer, PenHoldsIn, pen_in, FoundBy, TouchesWrites, work_in};
+ghost use Rattle.body_core.specs.Steps.{Follows, FailsWith, ReadIsServed, place_in};
+ghost use Rattle.body_core.specs.Phases.{ending_of, answer_to, step_answer, PenHoldsIn, pen_in, FoundBy, work_in};
 
 use crate::phase::Phase;
 use crate::read::read_step;
@@ -37,13 +37,19 @@ pub(crate) fn advance<H: Hand>(
     task: &Task,
     phase: Phase,
 ) -> (Phase, StepAnswer)
-    requires { TouchesWrites (body_of (arc_value task.now.operation)).statements phase }
     ensures kept { (a : Assignment) → H.agrees hand.new a → H.agrees hand.old a }
     ensures found { PenHoldsIn (H.pending hand.old) phase → (a : Assignment) → H.agrees hand.new a → FoundBy a (task_call task.now) phase → FoundBy a (task_call task.now) result.0 }
     ensures steps { Follows (task_call task.now) (place_in phase) (place_in result.0) }
     ensures pen { PenHoldsIn (H.pending hand.old) phase → PenHoldsIn (H.pending hand.new) result.0 }
     ensures others { (n : ℕ) (b : List ℕ) → pen_in phase ≢ Some n → H.pending hand.old n b → H.pending hand.new n b }
-    ensures touches { TouchesWrites (body_of (arc_value task.now.operation)).statements result.0 }
+    ensures unused { (n : ℕ) → pen_in result.0 ≡ Some n → (pen_in phase ≡ Some n) ⊎ IsFree (H.agrees hand.new) (H.pending hand.old) n }
+    ensures serves { (s : Stamp) → H.serves hand.old s → H.serves hand.new s }
+    ensures works { (n : ℕ) → H.works_for hand.old n → H.works_for hand.old (n + 1) → H.works_for hand.new n }
+    ensures in_order { H.works_for hand.old 1 → PenHoldsIn (H.pending hand.old) phase → ending_of phase ≡ None → ReadIsServed (H.serves hand.old) (place_in phase) → ending_of result.0 ≡ Some (replies.Failed failures.Device) → ⊥ }
+    ensures fails { H.fails hand.old → FailsWith (place_in phase) (ending_of result.0) }
+    ensures rises { H.failed hand.old < H.failed hand.new → ending_of result.0 ≡ Some (replies.Failed failures.Device) }
+    ensures released { (n : ℕ) → pen_in phase ≡ Some n → pen_in result.0 ≢ Some n → IsFree (H.agrees hand.new) (H.pending hand.new) n }
+    ensures makes { StepMakes H.makes phase (ending_of result.0) hand.old hand.new }
     ensures counted { H.failed hand.old ≤ H.failed hand.new }
     ensures cause { ending_of result.0 ≡ Some (replies.Failed failures.Device) → (ending_of phase ≡ Some (replies.Failed failures.Device)) ⊎ DeviceFailed (H.failed hand.old) (H.failed hand.new) }
     ensures answer { result.1 ≡ step_answer (ending_of phase) (ending_of result.0) }

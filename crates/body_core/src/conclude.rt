@@ -3,13 +3,13 @@
 ghost use Rattle.std.specs.Prelude.{◌≡◌, ◌≢◌, ◌^◌, ◌<◌, [], ℕ, length, Some};
 ghost use Rattle.std.specs.Arc.{arc_value};
 ghost use Rattle.decl_core.specs.Bodies.{body_of};
-ghost use Rattle.decl_core.specs.Touched.{Reads, Writes};
+ghost use Rattle.decl_core.specs.Touched.{Reads};
 ghost use Rattle.shelf_core.specs.Device.{Assignment};
 ghost use Rattle.body_core.specs.declared.reply.Failure.TheVariants as failures;
 ghost use Rattle.body_core.specs.declared.reply.Reply.TheVariants as replies;
 ghost use Rattle.body_core.specs.Tasks.{task_call};
 ghost use Rattle.body_core.specs.Steps.{IsJudged, place_in};
-ghost use Rattle.body_core.specs.Phases.{ending_of, sealed_in, HasNoPen, AreRead, FoundBy, TouchesWrites, IsSettled, work_in};
+ghost use Rattle.body_core.specs.Phases.{ending_of, sealed_in, HasNoPen, AreRead, FoundBy, IsSettled, work_in};
 
 use crate::file_bytes::FileBytes;
 use crate::judge::{Verdict, judge};
@@ -25,10 +25,9 @@ pub(crate) fn conclude(alloc: Global, task: &Task, read: &[FileBytes]) -> Phase
     requires read { (p : ℕ) → Reads (body_of (arc_value task.now.operation)).statements p → p < length read.now }
     ensures found { (a : Assignment) → AreRead a (task_call task.now) read.now → FoundBy a (task_call task.now) result }
     ensures settled { ((p : ℕ) → Reads (body_of (arc_value task.now.operation)).statements p → ⊥) → IsSettled (ending_of result) }
-    ensures steps { IsJudged (place_in result) }
+    ensures steps { IsJudged (task_call task.now) (place_in result) }
     ensures pen { HasNoPen result }
     ensures sealed { sealed_in result ≡ [] }
-    ensures touches { TouchesWrites (body_of (arc_value task.now.operation)).statements result }
     ensures cause { ending_of result ≢ Some (replies.Failed failures.Device) }
     ensures less { work_in result < 2 ^ 72 }
 {

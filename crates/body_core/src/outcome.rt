@@ -1,7 +1,11 @@
 //! How a run ended.
 
-ghost use Rattle.std.specs.Prelude.{◌≡◌, IfOk};
+ghost use Rattle.std.specs.Prelude.{◌≡◌, ℕ, IfOk};
 ghost use Rattle.std.specs.Arc.{arc_value};
+ghost use Rattle.decl_core.specs.Bodies.{body_of};
+ghost use Rattle.decl_core.specs.Touched.{Writes};
+ghost use Rattle.body_core.specs.Phases.{HasPart};
+ghost use Rattle.body_core.specs.Written.{WritesInOrder, parts_of};
 
 pub use crate::new_pins::NewPin;
 use crate::new_pins::NewPins;
@@ -21,10 +25,12 @@ pub struct Outcome {
     pub(crate) pins: Pins,
     pub(crate) reply: Reply,
     pub(crate) news: NewPins,
+    // its files are of parts that the operation writes, in the order of the parts
+    ghost inside: { (WritesInOrder (body_of (arc_value operation)).statements 0 (parts_of news) → ⊥) → ⊥ },
 }
 
 impl Outcome {
-    ghost use Rattle.body_core.specs.Outcomes.{outcome_call, outcome_reply, outcome_news, new_if_done, left_if_failed};
+    ghost use Rattle.body_core.specs.Outcomes.{outcome_call, outcome_reply, outcome_news, outcome_pins, outcome_files};
 
     /// The number of the call.
     pub fn number(&self) -> u32
@@ -61,10 +67,12 @@ impl Outcome {
         self.reply
     }
 
-    /// The files of the parts that the body changed, in the order of the parts. Only a call that was done has
-    /// some.
+    /// The new pins of the parts that the body changed, in the order of the parts, one for each at most. Only
+    /// a call that was done has some.
     pub fn new_pins(&self) -> &[NewPin]
-        ensures { result.now ≡ new_if_done (outcome_reply self.now) (outcome_news self.now) }
+        ensures pins { result.now ≡ outcome_pins self.now }
+        ensures rising { WritesInOrder (body_of (outcome_call self.now).operation).statements 0 (parts_of result.now) }
+        ensures inside { (p : ℕ) → HasPart result.now p → Writes (body_of (outcome_call self.now).operation).statements p }
     {
         match self.reply {
             Reply::Done(_) => self.news.as_slice(),
@@ -73,9 +81,9 @@ impl Outcome {
         }
     }
 
-    /// The files that the run sealed before the call failed, in order. They belong to nobody.
+    /// The files that the run sealed before the call failed, in order. They belong to nobody, and are no pins.
     pub fn sealed(&self) -> &[NewPin]
-        ensures { result.now ≡ left_if_failed (outcome_reply self.now) (outcome_news self.now) }
+        ensures { result.now ≡ outcome_files self.now }
     {
         match self.reply {
             Reply::Done(_) => &[],

@@ -1,15 +1,18 @@
 //! Whole runs.
 
-ghost use Rattle.std.specs.Prelude.{◌≡◌, ◌⊎◌, ◌≤◌, ℕ, Some};
+ghost use Rattle.std.specs.Prelude.{◌≡◌, ◌≢◌, ◌⊎◌, ◌<◌, ◌≤◌, ℕ, Some, None};
 ghost use Rattle.decl_core.specs.Bodies.{body_of};
 ghost use Rattle.decl_core.specs.Touched.{Writes};
-ghost use Rattle.shelf_core.specs.Device.{Assignment, Failed as DeviceFailed};
+ghost use Rattle.shelf_core.specs.declared.hand.Stamp.{Stamp};
+ghost use Rattle.shelf_core.specs.Device.{Assignment, Always, Failed as DeviceFailed};
 ghost use Rattle.body_core.specs.declared.reply.Failure.TheVariants as failures;
 ghost use Rattle.body_core.specs.declared.reply.Reply.TheVariants as replies;
 ghost use Rattle.body_core.specs.Truths.{IsTrueOf};
 ghost use Rattle.body_core.specs.Phases.{HasPart};
-ghost use Rattle.body_core.specs.Runs.{run_call, run_ending, PenHolds, SoFar};
-ghost use Rattle.body_core.specs.Outcomes.{outcome_call, outcome_reply, outcome_news};
+ghost use Rattle.body_core.specs.Runs.{run_call, run_ending, run_place, PenHolds, SoFar};
+ghost use Rattle.body_core.specs.Steps.{Leads, PinsServed, at_end};
+ghost use Rattle.body_core.specs.Outcomes.{outcome_call, outcome_reply, outcome_news, outcome_pins};
+ghost use Rattle.body_core.specs.Written.{WritesInOrder, parts_of};
 
 use crate::outcome::Outcome;
 use crate::run::Run;
@@ -18,11 +21,21 @@ use shelf_core::hand::Hand;
 /// Steps until the run has ended.
 pub fn perform<H: Hand>(run: Run, hand: &mut H) -> Outcome
     ensures call { outcome_call result ≡ run_call run }
+    // It ends where steps from the run's place lead.
+    ensures steps { Leads (run_call run) (run_place run) (at_end (outcome_reply result) (outcome_news result)) }
     ensures kept { (a : Assignment) → H.agrees hand.new a → H.agrees hand.old a }
     // The outcome is true of each assignment that agrees with all calls, and of which what the run had found is true.
-    ensures told { PenHolds (H.pending hand.old) run → (a : Assignment) → H.agrees hand.new a → SoFar a run → IsTrueOf a (outcome_call result) (outcome_reply result) (outcome_news result) }
-    // Its files are of parts that the operation writes.
+    ensures told { PenHolds (H.pending hand.old) run → (a : Assignment) → H.agrees hand.new a → SoFar a run → IsTrueOf a (outcome_call result) (outcome_reply result) (outcome_pins result) }
+    // Its files are of parts that the operation writes, in the order of the parts, one for each part at most.
     ensures writes { (p : ℕ) → HasPart (outcome_news result) p → Writes (body_of (outcome_call result).operation).statements p }
+    ensures rising { WritesInOrder (body_of (outcome_call result).operation).statements 0 (parts_of (outcome_news result)) }
+    // What could be read can be read, and the device stays in order.
+    ensures serves { (s : Stamp) → H.serves hand.old s → H.serves hand.new s }
+    ensures works { Always (H.works_for hand.old) → Always (H.works_for hand.new) }
+    // On a device that is in order and can read the pins of the call, it does not fail for the device.
+    ensures in_order { Always (H.works_for hand.old) → PenHolds (H.pending hand.old) run → PinsServed (H.serves hand.old) (run_call run) → run_ending run ≡ None → outcome_reply result ≢ replies.Failed failures.Device }
+    // Where the device failed in these calls, so did the run.
+    ensures rises { H.failed hand.old < H.failed hand.new → outcome_reply result ≡ replies.Failed failures.Device }
     // A run that had not failed for the device does so only where the device failed in these calls.
     ensures counted { H.failed hand.old ≤ H.failed hand.new }
     ensures cause { outcome_reply result ≡ replies.Failed failures.Device → (run_ending run ≡ Some (replies.Failed failures.Device)) ⊎ DeviceFailed (H.failed hand.old) (H.failed hand.new) }

@@ -1,15 +1,16 @@
 //! The steps of a run that reads its parts.
 
-ghost use Rattle.std.specs.Prelude.{◌≡◌, ◌≢◌, ◌+◌, ◌*◌, ◌-◌, ◌^◌, ◌<◌, ◌≤◌, min, ◌++◌, [], ◌∷◌, ℕ, List, length, take, drop, replicate, Some, OnOk, IfErr, slice_get};
-ghost use Rattle.std.specs.Arc.{arc_value};
-ghost use Rattle.decl_core.specs.Bodies.{body_of};
+ghost use Rattle.std.specs.Prelude.{◌≡◌, ◌≢◌, ◌+◌, ◌*◌, ◌-◌, ◌^◌, ◌<◌, ◌≤◌, ◌⊎◌, min, ◌++◌, [], ◌∷◌, ℕ, List, Result, length, take, drop, replicate, Some, OnOk, IfErr, slice_get};
+ghost use Rattle.std.specs.Result.{IsErr, IsErrOf};
 ghost use Rattle.shelf_core.specs.Device.{Assignment, FaultCause, Shows, Failed as DeviceFailed};
+ghost use Rattle.shelf_core.specs.Made.{reads, IsDeviceErr};
 ghost use Rattle.body_core.specs.declared.reply.Failure.TheVariants as failures;
 ghost use Rattle.body_core.specs.declared.reply.Reply.TheVariants as replies;
+ghost use Rattle.body_core.specs.Calling.{MakesRead};
 ghost use Rattle.body_core.specs.Truths.{PinHolds};
 ghost use Rattle.body_core.specs.Tasks.{task_call};
-ghost use Rattle.body_core.specs.Steps.{Follows, place_in, at_read};
-ghost use Rattle.body_core.specs.Phases.{ending_of, HasNoPen, IsFront, IsRead, IsReadSoFar, EarlierAreRead, FoundBy, TouchesWrites, work_in};
+ghost use Rattle.body_core.specs.Steps.{Follows, FailsWith, place_in, at_read};
+ghost use Rattle.body_core.specs.Phases.{ending_of, HasNoPen, IsFront, IsRead, IsReadSoFar, EarlierAreRead, FoundBy, work_in};
 
 use crate::conclude::conclude;
 use crate::file_bytes::FileBytes;
@@ -29,6 +30,12 @@ fn read_end<H: Hand>(hand: &mut H, pin: Stamp, at: usize, bytes: &mut [u8]) -> R
     ensures front { take at bytes.new ≡ take at bytes.old }
     ensures len { length bytes.new ≡ length bytes.old }
     ensures others { (n : ℕ) (b : List ℕ) → H.pending hand.old n b → H.pending hand.new n b }
+    ensures serves { (s : Stamp) → H.serves hand.old s → H.serves hand.new s }
+    ensures works { (n : ℕ) → H.works_for hand.old (n + 1) → H.works_for hand.new n }
+    ensures in_order { H.works_for hand.old 1 → H.serves hand.old pin → IsDeviceErr result → ⊥ }
+    ensures fails { H.fails hand.old → IsDeviceErr result }
+    ensures makes { (b : List ℕ) × (answer : Result (Unit {0}) HandFault) × H.makes hand.old (reads pin at b answer) hand.new }
+    ensures rises { H.failed hand.old < H.failed hand.new → IsDeviceErr result }
     ensures counted { H.failed hand.old ≤ H.failed hand.new }
     ensures cause { IfErr result (λ e. FaultCause (H.failed hand.old) (H.failed hand.new) e) }
 {
@@ -46,6 +53,12 @@ fn read_chunk<H: Hand>(hand: &mut H, pin: Stamp, got: &mut Vec<u8>) -> Result<()
     ensures within { length got.new.items ≤ pin.len }
     ensures grows { OnOk result (length got.new.items ≡ length got.old.items + min 4096 (pin.len - length got.old.items)) }
     ensures others { (n : ℕ) (b : List ℕ) → H.pending hand.old n b → H.pending hand.new n b }
+    ensures serves { (s : Stamp) → H.serves hand.old s → H.serves hand.new s }
+    ensures works { (n : ℕ) → H.works_for hand.old n → H.works_for hand.old (n + 1) → H.works_for hand.new n }
+    ensures in_order { H.works_for hand.old 1 → H.serves hand.old pin → IsDeviceErr result → ⊥ }
+    ensures fails { H.fails hand.old → IsErr result }
+    ensures makes { (IsErrOf result HandFault.Memory × (hand.new ≡ hand.old)) ⊎ ((b : List ℕ) × (answer : Result (Unit {0}) HandFault) × H.makes hand.old (reads pin (length got.old.items) b answer) hand.new) }
+    ensures rises { H.failed hand.old < H.failed hand.new → IsDeviceErr result }
     ensures counted { H.failed hand.old ≤ H.failed hand.new }
     ensures cause { IfErr result (λ e. FaultCause (H.failed hand.old) (H.failed hand.new) e) }
 {
@@ -88,7 +101,6 @@ fn next_part(alloc: Global, task: &Task, part: usize, read: Vec<FileBytes>, got:
     ensures found { (a : Assignment) → EarlierAreRead a (task_call task.now) part read.items → length read.items ≤ part → PinHolds a task.now.pins part got.items → FoundBy a (task_call task.now) result }
     ensures steps { (pin : Stamp) (n : ℕ) → pin.len ≤ n + 4096 → Follows (task_call task.now) (at_read part pin n) (place_in result) }
     ensures pen { HasNoPen result }
-    ensures touches { TouchesWrites (body_of (arc_value task.now.operation)).statements result }
     ensures cause { ending_of result ≢ Some (replies.Failed failures.Device) }
     ensures less { work_in result < 2 ^ 72 + (16 - part) * 2 ^ 66 }
 {
@@ -115,8 +127,13 @@ pub(crate) fn read_step<H: Hand>(alloc: Global, hand: &mut H, task: &Task, r: Re
     ensures steps { Follows (task_call task.now) (place_in (Phase.Reading r)) (place_in result) }
     ensures pen { HasNoPen result }
     ensures others { (n : ℕ) (b : List ℕ) → H.pending hand.old n b → H.pending hand.new n b }
-    ensures touches { TouchesWrites (body_of (arc_value task.now.operation)).statements result }
     ensures falls { work_in result < work_in (Phase.Reading r) }
+    ensures serves { (s : Stamp) → H.serves hand.old s → H.serves hand.new s }
+    ensures works { (n : ℕ) → H.works_for hand.old n → H.works_for hand.old (n + 1) → H.works_for hand.new n }
+    ensures in_order { H.works_for hand.old 1 → H.serves hand.old r.pin → ending_of result ≢ Some (replies.Failed failures.Device) }
+    ensures fails { H.fails hand.old → FailsWith (place_in (Phase.Reading r)) (ending_of result) }
+    ensures makes { MakesRead H.makes r.pin (length r.got.items) (ending_of result) hand.old hand.new }
+    ensures rises { H.failed hand.old < H.failed hand.new → ending_of result ≡ Some (replies.Failed failures.Device) }
     ensures counted { H.failed hand.old ≤ H.failed hand.new }
     ensures cause { ending_of result ≡ Some (replies.Failed failures.Device) → DeviceFailed (H.failed hand.old) (H.failed hand.new) }
 {

@@ -1,16 +1,18 @@
 //! Runs of calls.
 
-ghost use Rattle.std.specs.Prelude.{◌≡◌, ◌≢◌, ◌<◌, ◌≤◌, ◌⊎◌, ◌↔◌, [], ℕ, List, Some, None, IfOk, IfErr};
+ghost use Rattle.std.specs.Prelude.{◌≡◌, ◌≢◌, ◌+◌, ◌<◌, ◌≤◌, ◌⊎◌, ◌↔◌, [], ℕ, List, Some, None, IfOk, IfErr};
 ghost use Rattle.std.specs.Arc.{arc_value};
 ghost use Rattle.decl_core.specs.Bodies.{body_of};
 ghost use Rattle.decl_core.specs.Touched.{Reads, Writes};
-ghost use Rattle.shelf_core.specs.Device.{Assignment, Failed as DeviceFailed};
+ghost use Rattle.shelf_core.specs.declared.hand.Stamp.{Stamp};
+ghost use Rattle.shelf_core.specs.Device.{Assignment, IsFree, Failed as DeviceFailed};
 ghost use Rattle.body_core.specs.declared.reply.Failure.TheVariants as failures;
 ghost use Rattle.body_core.specs.declared.reply.Reply.TheVariants as replies;
 ghost use Rattle.body_core.specs.Truths.{IsTrueOf};
 ghost use Rattle.body_core.specs.Tasks.{task_call};
-ghost use Rattle.body_core.specs.Steps.{Starts, Follows, place_in, need_at};
-ghost use Rattle.body_core.specs.Phases.{ending_of, sealed_in, pen_in, FoundBy, HasPart, IsSettled, TouchesWrites, step_answer};
+ghost use Rattle.body_core.specs.Steps.{Starts, Follows, FailsWith, PinsServed, ReadsItsPin, place_in, need_at, parts_at};
+ghost use Rattle.body_core.specs.Phases.{ending_of, sealed_in, pen_in, FoundBy, HasPart, IsSettled, step_answer};
+ghost use Rattle.body_core.specs.Written.{WritesInOrder, parts_of};
 
 use crate::advance::advance;
 use crate::conclude::conclude;
@@ -31,8 +33,10 @@ pub struct Run {
     alloc: Global,
     task: Task,
     phase: Phase,
-    // it writes parts of its operation's writes alone
-    ghost inside: { TouchesWrites (body_of (arc_value task.operation)).statements phase },
+    // it writes parts of its operation's writes alone, in their order
+    ghost inside: { (WritesInOrder (body_of (arc_value task.operation)).statements 0 (parts_at (place_in phase)) → ⊥) → ⊥ },
+    // it reads parts of its operation's reads alone, under the pins of its call
+    ghost reading: { ReadsItsPin (task_call task) (place_in phase) },
 }
 
 // Where a new run stands.
@@ -43,7 +47,6 @@ fn first_phase(alloc: Global, task: &Task) -> Phase
     ensures starts { Starts (task_call task.now) (place_in result) }
     ensures pen { pen_in result ≡ None }
     ensures sealed { sealed_in result ≡ [] }
-    ensures touches { TouchesWrites (body_of (arc_value task.now.operation)).statements result }
 {
     match task.next_pin(0) {
         Some((part, pin)) => Phase::Reading(Read {
@@ -58,9 +61,9 @@ fn first_phase(alloc: Global, task: &Task) -> Phase
 
 impl Run {
     ghost use Rattle.body_core.specs.Tickets.{ticket_call};
-    ghost use Rattle.body_core.specs.Outcomes.{outcome_call, outcome_reply, outcome_news};
+    ghost use Rattle.body_core.specs.Outcomes.{outcome_call, outcome_reply, outcome_news, outcome_pins};
     ghost use Rattle.body_core.specs.declared.step.Need.TheVariants as needs;
-    ghost use Rattle.body_core.specs.Runs.{run_call, run_ending, run_sealed, run_pen, run_place, run_work, PenHolds, SoFar};
+    ghost use Rattle.body_core.specs.Runs.{run_call, run_ending, run_sealed, run_pen, run_place, run_work, RunMakes, PenHolds, SoFar};
 
     /// A run that has made no call. It takes no memory. Where the operation reads no part, its body is
     /// evaluated here, and the run has ended.
@@ -106,8 +109,22 @@ impl Run {
         ensures pen { PenHolds (H.pending hand.old) self.old → PenHolds (H.pending hand.new) self.new }
         // Where it stands after the step, by the rule of steps.
         ensures steps { Follows (run_call self.old) (run_place self.old) (run_place self.new) }
-        // What was appended to other files stays.
+        // It makes the call that `next` names, and no other.
+        ensures makes { RunMakes H.makes self.old (run_ending self.new) hand.old hand.new }
+        // The number of a file that it begins is that of no other file that is being written, and what was appended to those stays.
+        ensures unused { (n : ℕ) → run_pen self.new ≡ Some n → (run_pen self.old ≡ Some n) ⊎ IsFree (H.agrees hand.new) (H.pending hand.old) n }
         ensures others { (n : ℕ) (b : List ℕ) → run_pen self.old ≢ Some n → H.pending hand.old n b → H.pending hand.new n b }
+        // A file that it writes no longer is sealed or given up.
+        ensures released { (n : ℕ) → run_pen self.old ≡ Some n → run_pen self.new ≢ Some n → IsFree (H.agrees hand.new) (H.pending hand.new) n }
+        // What could be read can be read, and at most one call counts.
+        ensures serves { (s : Stamp) → H.serves hand.old s → H.serves hand.new s }
+        ensures works { (n : ℕ) → H.works_for hand.old n → H.works_for hand.old (n + 1) → H.works_for hand.new n }
+        // On a device that is in order and can read the pins of the call, it does not fail for the device.
+        ensures in_order { H.works_for hand.old 1 → PenHolds (H.pending hand.old) self.old → PinsServed (H.serves hand.old) (run_call self.old) → run_ending self.old ≡ None → run_ending self.new ≡ Some (replies.Failed failures.Device) → ⊥ }
+        // On a device whose next call fails, it fails for the device, or for memory before a read.
+        ensures fails { H.fails hand.old → FailsWith (run_place self.old) (run_ending self.new) }
+        // Where the device failed in this step, so did the run.
+        ensures rises { H.failed hand.old < H.failed hand.new → run_ending self.new ≡ Some (replies.Failed failures.Device) }
         // A run fails for the device only where the device failed in this very call.
         ensures counted { H.failed hand.old ≤ H.failed hand.new }
         ensures cause { run_ending self.new ≡ Some (replies.Failed failures.Device) → (run_ending self.old ≡ Some (replies.Failed failures.Device)) ⊎ DeviceFailed (H.failed hand.old) (H.failed hand.new) }
@@ -129,12 +146,13 @@ impl Run {
     /// How the run ended, or the run itself, where it has not ended.
     pub fn outcome(self) -> Result<Outcome, Run>
         // The outcome is true of each assignment of which all that the run found is true.
-        ensures told { IfOk result (λ o. (a : Assignment) → SoFar a self → IsTrueOf a (outcome_call o) (outcome_reply o) (outcome_news o)) }
+        ensures told { IfOk result (λ o. (a : Assignment) → SoFar a self → IsTrueOf a (outcome_call o) (outcome_reply o) (outcome_pins o)) }
         ensures call { IfOk result (λ o. outcome_call o ≡ run_call self) }
         ensures reply { IfOk result (λ o. run_ending self ≡ Some (outcome_reply o)) }
         ensures news { IfOk result (λ o. outcome_news o ≡ run_sealed self) }
-        // Its files are of parts that the operation writes.
+        // Its files are of parts that the operation writes, in the order of the parts, one for each part at most.
         ensures writes { IfOk result (λ o. (p : ℕ) → HasPart (outcome_news o) p → Writes (body_of (outcome_call o).operation).statements p) }
+        ensures rising { IfOk result (λ o. WritesInOrder (body_of (outcome_call o).operation).statements 0 (parts_of (outcome_news o))) }
         ensures back { IfErr result (λ run. run ≡ self) }
         ensures begun { IfErr result (λ run. run_ending run ≡ None) }
     {

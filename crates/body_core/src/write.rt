@@ -1,13 +1,15 @@
 //! The steps of a run that writes what its body changed.
 
-ghost use Rattle.std.specs.Prelude.{◌≡◌, ◌≢◌, ◌+◌, ◌-◌, ◌*◌, ◌^◌, ◌<◌, ◌≤◌, ◌⊎◌, [], ℕ, List, length, Some, Option};
-ghost use Rattle.shelf_core.specs.Device.{Assignment, Failed as DeviceFailed};
+ghost use Rattle.std.specs.Prelude.{◌≡◌, ◌≢◌, ◌+◌, ◌-◌, ◌*◌, ◌^◌, ◌<◌, ◌≤◌, [], ℕ, List, length, Some, Option};
+ghost use Rattle.shelf_core.specs.declared.hand.Stamp.{Stamp};
+ghost use Rattle.shelf_core.specs.Device.{Assignment, IsFree, Failed as DeviceFailed};
 ghost use Rattle.body_core.specs.declared.reply.Failure.TheVariants as failures;
 ghost use Rattle.body_core.specs.declared.reply.Reply.TheVariants as replies;
+ghost use Rattle.body_core.specs.Calling.{MakesCreate, MakesAppend, MakesSeal};
 ghost use Rattle.body_core.specs.Calls.{Call};
 ghost use Rattle.body_core.specs.Truths.{PinHolds, IsDone, AreChanges};
 ghost use Rattle.body_core.specs.Steps.{Follows, place_in, at_create, at_append, at_seal, at_end};
-ghost use Rattle.body_core.specs.Phases.{ending_of, sealed_in, failure_of, IsCurrent, PenHoldsIn, HasNoPen, pen_in, FoundBy, AreSealed, IsWrittenSoFar, Touches, ChangesPart, HasPart, PlanTouches, IsSettled, work_in};
+ghost use Rattle.body_core.specs.Phases.{ending_of, sealed_in, failure_of, IsCurrent, PenHoldsIn, HasNoPen, pen_in, FoundBy, AreSealed, IsWrittenSoFar, IsSettled, work_in};
 
 use crate::judge::Change;
 use crate::new_pins::{NewPin, NewPins};
@@ -52,7 +54,6 @@ pub(crate) fn go_on(reply: Option<Datum>, changes: Vec<Change>, sealed: NewPins)
     ensures sealed { sealed_in result ≡ sealed }
     ensures more { length sealed < length changes.items → place_in result ≡ at_create changes.items sealed }
     ensures done { length changes.items ≤ length sealed → place_in result ≡ at_end (replies.Done reply) sealed }
-    ensures touches { (p : ℕ) → Touches result p → ChangesPart changes.items p ⊎ HasPart sealed p }
     ensures cause { ending_of result ≢ Some (replies.Failed failures.Device) }
     ensures settled { changes.items ≡ [] → IsSettled (ending_of result) }
     ensures less { work_in result < (length changes.items - length sealed) * 2 ^ 66 + 2 ^ 66 }
@@ -74,9 +75,15 @@ pub(crate) fn create_step<H: Hand>(hand: &mut H, plan: Plan) -> Phase
     ensures found { (a : Assignment) (call : Call) → IsWrittenSoFar a call plan → FoundBy a call result }
     ensures steps { (call : Call) → Follows call (place_in (Phase.Creating plan)) (place_in result) }
     ensures pen { PenHoldsIn (H.pending hand.new) result }
+    ensures unused { (n : ℕ) → pen_in result ≡ Some n → IsFree (H.agrees hand.new) (H.pending hand.old) n }
+    ensures makes { MakesCreate H.makes hand.old hand.new }
     ensures others { (n : ℕ) (b : List ℕ) → H.pending hand.old n b → H.pending hand.new n b }
-    ensures touches { (p : ℕ) → Touches result p → PlanTouches plan p }
     ensures falls { work_in result < work_in (Phase.Creating plan) }
+    ensures serves { (s : Stamp) → H.serves hand.old s → H.serves hand.new s }
+    ensures works { (n : ℕ) → H.works_for hand.old (n + 1) → H.works_for hand.new n }
+    ensures in_order { H.works_for hand.old 1 → ending_of result ≢ Some (replies.Failed failures.Device) }
+    ensures fails { H.fails hand.old → ending_of result ≡ Some (replies.Failed failures.Device) }
+    ensures rises { H.failed hand.old < H.failed hand.new → ending_of result ≡ Some (replies.Failed failures.Device) }
     ensures counted { H.failed hand.old ≤ H.failed hand.new }
     ensures cause { ending_of result ≡ Some (replies.Failed failures.Device) → DeviceFailed (H.failed hand.old) (H.failed hand.new) }
 {
@@ -92,9 +99,16 @@ pub(crate) fn append_step<H: Hand>(hand: &mut H, plan: Plan, pen: Pen, done: usi
     ensures found { (a : Assignment) (call : Call) → IsWrittenSoFar a call plan → FoundBy a call result }
     ensures steps { (call : Call) → Follows call (place_in (Phase.Appending plan pen done)) (place_in result) }
     ensures pen { PenHoldsIn (H.pending hand.old) (Phase.Appending plan pen done) → PenHoldsIn (H.pending hand.new) result }
+    ensures same { (n : ℕ) → pen_in result ≡ Some n → pen.number ≡ n }
     ensures others { (n : ℕ) (b : List ℕ) → n ≢ pen.number → H.pending hand.old n b → H.pending hand.new n b }
-    ensures touches { (p : ℕ) → Touches result p → PlanTouches plan p }
     ensures falls { work_in result < work_in (Phase.Appending plan pen done) }
+    ensures serves { (s : Stamp) → H.serves hand.old s → H.serves hand.new s }
+    ensures works { (n : ℕ) → H.works_for hand.old (n + 1) → H.works_for hand.new n }
+    ensures in_order { H.works_for hand.old 1 → PenHoldsIn (H.pending hand.old) (Phase.Appending plan pen done) → ending_of result ≢ Some (replies.Failed failures.Device) }
+    ensures fails { H.fails hand.old → ending_of result ≡ Some (replies.Failed failures.Device) }
+    ensures rises { H.failed hand.old < H.failed hand.new → ending_of result ≡ Some (replies.Failed failures.Device) }
+    ensures released { pen_in result ≢ Some pen.number → IsFree (H.agrees hand.new) (H.pending hand.new) pen.number }
+    ensures makes { MakesAppend H.makes pen.number hand.old hand.new }
     ensures counted { H.failed hand.old ≤ H.failed hand.new }
     ensures cause { ending_of result ≡ Some (replies.Failed failures.Device) → DeviceFailed (H.failed hand.old) (H.failed hand.new) }
 {
@@ -125,8 +139,14 @@ pub(crate) fn seal_step<H: Hand>(hand: &mut H, plan: Plan, pen: Pen) -> Phase
     ensures steps { (call : Call) → Follows call (place_in (Phase.Sealing plan pen)) (place_in result) }
     ensures pen { HasNoPen result }
     ensures others { (n : ℕ) (b : List ℕ) → n ≢ pen.number → H.pending hand.old n b → H.pending hand.new n b }
-    ensures touches { (p : ℕ) → Touches result p → PlanTouches plan p }
     ensures falls { work_in result < work_in (Phase.Sealing plan pen) }
+    ensures serves { (s : Stamp) → H.serves hand.old s → H.serves hand.new s }
+    ensures works { (n : ℕ) → H.works_for hand.old (n + 1) → H.works_for hand.new n }
+    ensures in_order { H.works_for hand.old 1 → PenHoldsIn (H.pending hand.old) (Phase.Sealing plan pen) → ending_of result ≢ Some (replies.Failed failures.Device) }
+    ensures fails { H.fails hand.old → ending_of result ≡ Some (replies.Failed failures.Device) }
+    ensures rises { H.failed hand.old < H.failed hand.new → ending_of result ≡ Some (replies.Failed failures.Device) }
+    ensures released { IsFree (H.agrees hand.new) (H.pending hand.new) pen.number }
+    ensures makes { MakesSeal H.makes pen hand.old hand.new }
     ensures counted { H.failed hand.old ≤ H.failed hand.new }
     ensures cause { ending_of result ≡ Some (replies.Failed failures.Device) → DeviceFailed (H.failed hand.old) (H.failed hand.new) }
 {

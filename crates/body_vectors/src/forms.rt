@@ -1,8 +1,11 @@
 //! What each form of a body means, by runs over files and on whole values.
 
+use crate::calls::object;
 use crate::rows::Want::{Nothing, Refused, Value};
 use crate::rows::Word::{Number, Text};
-use crate::rows::{New, Row, Want, Word, assert_runs, assert_wholes};
+use crate::rows::{Line, Row, play_over};
+use crate::wholes::assert_whole;
+use shelf_core::memory::MemHand;
 use std::alloc::Global;
 use std::process::Abort;
 
@@ -51,163 +54,177 @@ pub const PARTS: [&[u8]; 5] = [
     b"\x01\x06\x00\x01\x01k\x01v",
 ];
 
-// A call that reads so many parts and changes nothing.
-const fn told(steps: &'static str, call: &'static str, args: &'static [Word], want: Want) -> Row {
-    Row {
-        call,
-        args,
-        steps,
-        want,
-        new: &[],
-    }
-}
-
-// A call that replies nothing, and changes the one part that it reads.
-const fn changed(call: &'static str, args: &'static [Word], new: New) -> Row {
-    Row {
-        call,
-        args,
-        steps: "rcas",
-        want: Nothing,
-        new,
-    }
-}
-
-// Asserts that each call of a table, over the parts as they are before, replies and changes what it should.
+// Asserts of each call of a table, over the parts as they are before, that it replies and changes what it should,
+// step by step over files and on whole values.
 fn assert_rows(rt: &impl Abort, alloc: Global, rows: &[Row]) {
-    assert_runs(rt, alloc, FORMS, &PARTS, rows);
-    assert_wholes(rt, alloc, FORMS, &PARTS, rows);
+    let forms = object(rt, alloc, FORMS);
+    let mut hand = MemHand::new(alloc);
+    for row in rows {
+        let lines = [Line::Files(&PARTS), Line::Call(*row)];
+        play_over(rt, alloc, &forms, &mut hand, &lines);
+        assert_whole(rt, alloc, &forms, row);
+    }
 }
+
+const EXPRESSIONS: &[Row] = &[
+    Row("r", "element", &[Number(2)], Value(Number(3)), &[]),
+    Row("r", "element", &[Number(3)], Refused(b"index"), &[]),
+    Row("r", "name", &[Number(0)], Value(Text(b"ab")), &[]),
+    Row("r", "name", &[Number(2)], Refused(b"index"), &[]),
+    Row("r", "oldest", &[], Value(Number(4)), &[]),
+    Row("r", "under", &[Text(b"k")], Value(Number(9)), &[]),
+    Row("r", "under", &[Text(b"")], Refused(b"missing"), &[]),
+    Row("r", "text_under", &[Text(b"k")], Value(Text(b"v")), &[]),
+    Row("r", "text_under", &[Text(b"x")], Refused(b"missing"), &[]),
+    Row("rrr", "sizes", &[], Value(Number(6)), &[]),
+    Row("", "sums", &[Number(5), Number(2)], Value(Number(5)), &[]),
+    Row("", "sums", &[Number(1), Number(2)], Refused(b"range"), &[]),
+    Row(
+        "",
+        "sums",
+        &[Number(u32::MAX), Number(0)],
+        Refused(b"range"),
+        &[],
+    ),
+    Row(
+        "",
+        "sums",
+        &[Number(u32::MAX), Number(3)],
+        Value(Number(u32::MAX - 1)),
+        &[],
+    ),
+];
 
 #[test]
 fn expressions(rt: HostRuntime) {
-    let rows = [
-        told("r", "element", &[Number(2)], Value(Number(3))),
-        told("r", "element", &[Number(3)], Refused(b"index")),
-        told("r", "name", &[Number(0)], Value(Text(b"ab"))),
-        told("r", "name", &[Number(2)], Refused(b"index")),
-        told("r", "oldest", &[], Value(Number(4))),
-        told("r", "under", &[Text(b"k")], Value(Number(9))),
-        told("r", "under", &[Text(b"")], Refused(b"missing")),
-        told("r", "text_under", &[Text(b"k")], Value(Text(b"v"))),
-        told("r", "text_under", &[Text(b"x")], Refused(b"missing")),
-        told("rrr", "sizes", &[], Value(Number(6))),
-        told("", "sums", &[Number(5), Number(2)], Value(Number(5))),
-        told("", "sums", &[Number(1), Number(2)], Refused(b"range")),
-        told(
-            "",
-            "sums",
-            &[Number(u32::MAX), Number(0)],
-            Refused(b"range"),
-        ),
-        told(
-            "",
-            "sums",
-            &[Number(u32::MAX), Number(3)],
-            Value(Number(u32::MAX - 1)),
-        ),
-    ];
-    assert_rows(&rt, rt.alloc(), &rows);
+    assert_rows(&rt, rt.alloc(), EXPRESSIONS);
 }
+
+const CONDITIONS_AND_REPLIES: &[Row] = &[
+    Row("rr", "known", &[Text(b"k")], Value(Number(1)), &[]),
+    Row("rr", "known", &[Text(b"x")], Value(Number(2)), &[]),
+    Row("", "order", &[Number(1), Number(2)], Value(Number(4)), &[]),
+    Row("", "order", &[Number(2), Number(2)], Value(Number(2)), &[]),
+    Row("", "order", &[Number(2), Number(1)], Value(Number(5)), &[]),
+    Row("r", "words", &[Text(b"it's")], Value(Number(2)), &[]),
+    Row("r", "words", &[Text(b"ab")], Value(Number(0)), &[]),
+    Row("", "nothing", &[], Value(Number(0)), &[]),
+    Row("r", "no", &[Number(1)], Refused(b"one"), &[]),
+    Row("r", "no", &[Number(2)], Refused(b"index"), &[]),
+];
 
 #[test]
 fn conditions_and_replies(rt: HostRuntime) {
-    let rows = [
-        told("rr", "known", &[Text(b"k")], Value(Number(1))),
-        told("rr", "known", &[Text(b"x")], Value(Number(2))),
-        told("", "order", &[Number(1), Number(2)], Value(Number(4))),
-        told("", "order", &[Number(2), Number(2)], Value(Number(2))),
-        told("", "order", &[Number(2), Number(1)], Value(Number(5))),
-        told("r", "words", &[Text(b"it's")], Value(Number(2))),
-        told("r", "words", &[Text(b"ab")], Value(Number(0))),
-        told("", "nothing", &[], Value(Number(0))),
-        told("r", "no", &[Number(1)], Refused(b"one")),
-        told("r", "no", &[Number(2)], Refused(b"index")),
-    ];
-    assert_rows(&rt, rt.alloc(), &rows);
+    assert_rows(&rt, rt.alloc(), CONDITIONS_AND_REPLIES);
 }
+
+const STATEMENTS: &[Row] = &[
+    Row(
+        "rcas",
+        "assign",
+        &[Number(1), Number(8)],
+        Nothing,
+        &[(
+            0,
+            b"\x01\x01\x00\x03\x00\x00\x00\x01\x00\x00\x00\x08\x00\x00\x00\x03",
+        )],
+    ),
+    Row(
+        "r",
+        "assign",
+        &[Number(3), Number(8)],
+        Refused(b"index"),
+        &[],
+    ),
+    Row("r", "assign", &[Number(1), Number(2)], Nothing, &[]),
+    Row(
+        "rcas",
+        "rename",
+        &[Number(1), Text(b"cd")],
+        Nothing,
+        &[(1, b"\x01\x02\x00\x02\x02ab\x02cd")],
+    ),
+    Row(
+        "rcas",
+        "swap",
+        &[],
+        Nothing,
+        &[(
+            0,
+            b"\x01\x01\x00\x03\x00\x00\x00\x03\x00\x00\x00\x04\x00\x00\x00\x03",
+        )],
+    ),
+    Row(
+        "rcas",
+        "add",
+        &[Number(6)],
+        Nothing,
+        &[(
+            2,
+            b"\x01\x03\x00\x04\x00\x00\x00\x04\x00\x00\x00\x05\x00\x00\x00\x06\x00\x00\x00\x07",
+        )],
+    ),
+    Row("rcas", "drop", &[], Nothing, &[(2, b"\x01\x03\x00\x00")]),
+    Row(
+        "rcas",
+        "put",
+        &[Text(b"m"), Number(20)],
+        Nothing,
+        &[(
+            3,
+            b"\x01\x05\x00\x03\x01k\x00\x00\x00\x09\x01m\x00\x00\x00\x14\x01z\x00\x00\x00\x15",
+        )],
+    ),
+    Row(
+        "rcas",
+        "put",
+        &[Text(b"k"), Number(1)],
+        Nothing,
+        &[(
+            3,
+            b"\x01\x05\x00\x02\x01k\x00\x00\x00\x01\x01z\x00\x00\x00\x02",
+        )],
+    ),
+    Row(
+        "rcas",
+        "cut",
+        &[Text(b"k")],
+        Nothing,
+        &[(3, b"\x01\x05\x00\x00")],
+    ),
+    Row("r", "cut", &[Text(b"x")], Refused(b"missing"), &[]),
+];
 
 #[test]
 fn statements(rt: HostRuntime) {
-    let rows = [
-        changed(
-            "assign",
-            &[Number(1), Number(8)],
-            &[(
-                0,
-                b"\x01\x01\x00\x03\x00\x00\x00\x01\x00\x00\x00\x08\x00\x00\x00\x03",
-            )],
-        ),
-        told("r", "assign", &[Number(3), Number(8)], Refused(b"index")),
-        told("r", "assign", &[Number(1), Number(2)], Nothing),
-        changed(
-            "rename",
-            &[Number(1), Text(b"cd")],
-            &[(1, b"\x01\x02\x00\x02\x02ab\x02cd")],
-        ),
-        changed(
-            "swap",
-            &[],
-            &[(
-                0,
-                b"\x01\x01\x00\x03\x00\x00\x00\x03\x00\x00\x00\x04\x00\x00\x00\x03",
-            )],
-        ),
-        changed(
-            "add",
-            &[Number(6)],
-            &[(
-                2,
-                b"\x01\x03\x00\x04\x00\x00\x00\x04\x00\x00\x00\x05\x00\x00\x00\x06\x00\x00\x00\x07",
-            )],
-        ),
-        changed("drop", &[], &[(2, b"\x01\x03\x00\x00")]),
-        changed(
-            "put",
-            &[Text(b"m"), Number(20)],
-            &[(
-                3,
-                b"\x01\x05\x00\x03\x01k\x00\x00\x00\x09\x01m\x00\x00\x00\x14\x01z\x00\x00\x00\x15",
-            )],
-        ),
-        changed(
-            "put",
-            &[Text(b"k"), Number(1)],
-            &[(
-                3,
-                b"\x01\x05\x00\x02\x01k\x00\x00\x00\x01\x01z\x00\x00\x00\x02",
-            )],
-        ),
-        changed("cut", &[Text(b"k")], &[(3, b"\x01\x05\x00\x00")]),
-        told("r", "cut", &[Text(b"x")], Refused(b"missing")),
-    ];
-    assert_rows(&rt, rt.alloc(), &rows);
+    assert_rows(&rt, rt.alloc(), STATEMENTS);
 }
+
+const FUNCTIONS_THAT_CHANGE_PARTS: &[Row] = &[
+    Row(
+        "rcas",
+        "twice",
+        &[Number(5)],
+        Value(Number(10)),
+        &[(
+            0,
+            b"\x01\x01\x00\x03\x00\x00\x00\x0a\x00\x00\x00\x02\x00\x00\x00\x03",
+        )],
+    ),
+    Row(
+        "rcas",
+        "blank",
+        &[],
+        Value(Text(b"")),
+        &[(
+            0,
+            b"\x01\x01\x00\x03\x00\x00\x00\x08\x00\x00\x00\x02\x00\x00\x00\x03",
+        )],
+    ),
+    Row("r", "twice", &[Number(u32::MAX)], Refused(b"range"), &[]),
+];
 
 #[test]
 fn functions_that_change_parts(rt: HostRuntime) {
-    let rows = [
-        Row {
-            call: "twice",
-            args: &[Number(5)],
-            steps: "rcas",
-            want: Value(Number(10)),
-            new: &[(
-                0,
-                b"\x01\x01\x00\x03\x00\x00\x00\x0a\x00\x00\x00\x02\x00\x00\x00\x03",
-            )],
-        },
-        Row {
-            call: "blank",
-            args: &[],
-            steps: "rcas",
-            want: Value(Text(b"")),
-            new: &[(
-                0,
-                b"\x01\x01\x00\x03\x00\x00\x00\x08\x00\x00\x00\x02\x00\x00\x00\x03",
-            )],
-        },
-        told("r", "twice", &[Number(u32::MAX)], Refused(b"range")),
-    ];
-    assert_rows(&rt, rt.alloc(), &rows);
+    assert_rows(&rt, rt.alloc(), FUNCTIONS_THAT_CHANGE_PARTS);
 }

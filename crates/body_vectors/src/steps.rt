@@ -1,19 +1,19 @@
 //! The steps of runs.
 
 use crate::calls::{CELL, SEVEN, ZERO, object, pinned, run_of, stepped};
+use crate::rows::Line::{After, Before, Call, Files, Performed};
 use crate::rows::Want::{Damaged, Nothing, Refused, Value};
 use crate::rows::Word::Number;
-use crate::rows::{Row, assert_new, assert_runs};
-use body_core::outcome::Outcome;
+use crate::rows::{Bytes, Line, Row, has_new, play};
 use body_core::perform::perform;
 use body_core::reply::Reply;
+use body_core::run::Run;
 use body_core::step::{Need, StepAnswer};
-use decl_core::object::Object;
 use shelf_core::memory::MemHand;
-use shelf_core::pins::Pins;
 use std::alloc::Global;
 use std::process::Abort;
 use value_core::datum::Datum;
+use value_core::text::Text;
 
 // An object with three parts, of which its operations read two, one or none.
 const PARTS: &[u8] = b"object parts;
@@ -26,172 +26,121 @@ const PARTS: &[u8] = b"object parts;
 end;
 ";
 
-const EMPTY_TABLE: &[u8] = b"\x01\x06\x00\x00";
+const EMPTY_TABLE: Bytes = b"\x01\x06\x00\x00";
 
-const EMPTY_QUEUE: &[u8] = b"\x01\x03\x00\x00";
+const EMPTY_QUEUE: Bytes = b"\x01\x03\x00\x00";
 
-const FIVE: &[u8] = b"\x01\x01\x00\x01\x00\x00\x00\x05";
+// A queue of one integer.
+const FIVE_QUEUED: Bytes = b"\x01\x03\x00\x01\x00\x00\x00\x05";
 
-const MOVE: Row = Row {
-    call: "move",
-    args: &[],
-    steps: "rrcascas",
-    want: Nothing,
-    new: &[(0, ZERO), (2, b"\x01\x03\x00\x01\x00\x00\x00\x05")],
-};
+const ZERO_QUEUED: Bytes = b"\x01\x03\x00\x01\x00\x00\x00\x00";
 
-const LOOK: Row = Row {
-    call: "look",
-    args: &[],
-    steps: "r",
-    want: Value(Number(0)),
-    new: &[],
-};
+const FIVE: Bytes = b"\x01\x01\x00\x01\x00\x00\x00\x05";
 
-const STOP: Row = Row {
-    call: "stop",
-    args: &[],
-    steps: "r",
-    want: Refused(b"never"),
-    new: &[],
-};
+const IN_ORDER: &[Line] = &[
+    Files(&[FIVE, EMPTY_TABLE, EMPTY_QUEUE]),
+    Call(Row(
+        "rrcascas",
+        "move",
+        &[],
+        Nothing,
+        &[(0, ZERO), (2, FIVE_QUEUED)],
+    )),
+    Call(Row("r", "look", &[], Value(Number(0)), &[])),
+    Call(Row("r", "stop", &[], Refused(b"never"), &[])),
+];
 
 #[test]
 fn parts_are_read_and_written_in_order(rt: HostRuntime) {
-    let files = [FIVE, EMPTY_TABLE, EMPTY_QUEUE];
-    assert_runs(&rt, rt.alloc(), PARTS, &files, &[MOVE, LOOK, STOP]);
+    play(&rt, rt.alloc(), PARTS, IN_ORDER);
 }
 
 // The damaged table is read by no operation.
+const STAYING: &[Line] = &[
+    Files(&[ZERO, b"", EMPTY_QUEUE]),
+    Call(Row("rrcas", "move", &[], Nothing, &[(2, ZERO_QUEUED)])),
+];
+
 #[test]
 fn a_part_whose_value_stays_is_not_written(rt: HostRuntime) {
-    let row = Row {
-        call: "move",
-        args: &[],
-        steps: "rrcas",
-        want: Nothing,
-        new: &[(2, b"\x01\x03\x00\x01\x00\x00\x00\x00")],
-    };
-    let files = [ZERO, b"".as_slice(), EMPTY_QUEUE];
-    assert_runs(&rt, rt.alloc(), PARTS, &files, &[row]);
+    play(&rt, rt.alloc(), PARTS, STAYING);
 }
 
-// A call that reads damaged parts: all are read before it ends.
-const fn damaged(call: &'static str, steps: &'static str) -> Row {
-    Row {
-        call,
-        args: &[],
-        steps,
-        want: Damaged,
-        new: &[],
-    }
-}
+// All parts of a call are read before it ends.
+const DAMAGED_PARTS: &[Line] = &[
+    Files(&[b"", b"", EMPTY_QUEUE]),
+    Call(Row("rr", "move", &[], Damaged, &[])),
+    Files(&[FIVE, b"", b""]),
+    Call(Row("rr", "move", &[], Damaged, &[])),
+];
+
+// A part of 8 bytes that has one byte less, one more, none, or another format.
+const DAMAGED_CELLS: &[Line] = &[
+    Files(&[b"\x01\x01\x00\x01\x00\x00\x00"]),
+    Call(Row("r", "get", &[], Damaged, &[])),
+    Files(&[b"\x01\x01\x00\x01\x00\x00\x00\x00\x00"]),
+    Call(Row("r", "get", &[], Damaged, &[])),
+    Files(&[b""]),
+    Call(Row("r", "get", &[], Damaged, &[])),
+    Files(&[b"\x02\x01\x00\x01\x00\x00\x00\x00"]),
+    Call(Row("r", "get", &[], Damaged, &[])),
+];
 
 #[test]
 fn damaged_parts_end_the_call(rt: HostRuntime) {
-    let alloc = rt.alloc();
-    let row = [damaged("move", "rr")];
-    assert_runs(&rt, alloc, PARTS, &[b"".as_slice(), b"", EMPTY_QUEUE], &row);
-    assert_runs(&rt, alloc, PARTS, &[FIVE, b"".as_slice(), b""], &row);
-    // A part of 8 bytes that has one byte less, one more, none, or another format.
-    let row = [damaged("get", "r")];
-    assert_runs(&rt, alloc, CELL, &[b"\x01\x01\x00\x01\x00\x00\x00"], &row);
-    assert_runs(
-        &rt,
-        alloc,
-        CELL,
-        &[b"\x01\x01\x00\x01\x00\x00\x00\x00\x00"],
-        &row,
-    );
-    assert_runs(&rt, alloc, CELL, &[b""], &row);
-    assert_runs(
-        &rt,
-        alloc,
-        CELL,
-        &[b"\x02\x01\x00\x01\x00\x00\x00\x00"],
-        &row,
-    );
+    play(&rt, rt.alloc(), PARTS, DAMAGED_PARTS);
+    play(&rt, rt.alloc(), CELL, DAMAGED_CELLS);
 }
+
+const NO_PARTS: &[Line] = &[
+    Call(Row("", "add", &[Number(4), Number(3)], Value(Number(7)), &[])),
+    Call(Row(
+        "",
+        "add",
+        &[Number(u32::MAX), Number(3)],
+        Refused(b"range"),
+        &[],
+    )),
+];
 
 #[test]
 fn a_call_without_parts_is_done_at_once(rt: HostRuntime) {
-    let rows = [
-        Row {
-            call: "add",
-            args: &[Number(4), Number(3)],
-            steps: "",
-            want: Value(Number(7)),
-            new: &[],
-        },
-        Row {
-            call: "add",
-            args: &[Number(u32::MAX), Number(3)],
-            steps: "",
-            want: Refused(b"range"),
-            new: &[],
-        },
-    ];
-    assert_runs(&rt, rt.alloc(), PARTS, &[], &rows);
+    play(&rt, rt.alloc(), PARTS, NO_PARTS);
 }
 
-// `put 7` of a cell over these pins, with its steps.
-fn put_seven(
-    rt: &impl Abort,
-    alloc: Global,
-    cell: &Object,
-    pins: Pins,
-    hand: &mut MemHand,
-) -> Outcome {
-    let run = run_of(rt, alloc, cell, "put", &[Datum::Integer(7)], pins);
-    let (steps, outcome) = stepped(run, hand);
-    assert!(rt; steps.are("rcas") && outcome.reply() == Reply::Done(None));
-    outcome
-}
-
-// `get` of a cell over these pins.
-fn get(rt: &impl Abort, alloc: Global, cell: &Object, pins: Pins, hand: &mut MemHand) -> Reply {
-    let outcome = perform(run_of(rt, alloc, cell, "get", &[], pins), hand);
-    outcome.reply()
-}
+// What a call reads is what its pins tell, whatever was written since.
+const PUT_AND_GET: &[Line] = &[
+    Files(&[ZERO]),
+    Call(Row("rcas", "put", &[Number(7)], Nothing, &[(0, SEVEN)])),
+    Performed(Row("", "get", &[], Value(Number(0)), &[])),
+    After,
+    Performed(Row("", "get", &[], Value(Number(7)), &[])),
+    Before,
+    Performed(Row("", "get", &[], Value(Number(0)), &[])),
+];
 
 #[test]
 fn a_call_reads_the_pins_of_its_ticket(rt: HostRuntime) {
-    let alloc = rt.alloc();
-    let mut hand = MemHand::new(alloc);
-    let cell = object(&rt, alloc, CELL);
-    let before = pinned(&rt, &mut hand, &[ZERO]);
-    let put = put_seven(&rt, alloc, &cell, before, &mut hand);
-    assert_new(&rt, alloc, &mut hand, &put, &[(0, SEVEN)]);
-    let news = put.new_pins();
-    let new = news.first().expect(&rt, "a new pin");
-    let after = Pins::new(&[new.stamp]);
-    let zero = Reply::Done(Some(Datum::Integer(0)));
-    let seven = Reply::Done(Some(Datum::Integer(7)));
-    assert!(rt; get(&rt, alloc, &cell, before, &mut hand) == zero);
-    assert!(rt; get(&rt, alloc, &cell, after, &mut hand) == seven);
-    assert!(rt; get(&rt, alloc, &cell, before, &mut hand) == zero);
+    play(&rt, rt.alloc(), CELL, PUT_AND_GET);
 }
 
-// Asserts that two outcomes tell the same, and that they are of call 1, `put 7`, over these pins.
-fn assert_told(rt: &impl Abort, outcome: &Outcome, copy: &Outcome, pins: Pins) {
-    assert!(rt; outcome.number() == 1 && copy.number() == 1);
-    assert!(rt; outcome.args() == [Datum::Integer(7)].as_slice() && copy.args() == outcome.args());
-    assert!(rt; outcome.operation().name.as_bytes() == b"put".as_slice());
-    assert!(rt; copy.operation().name.as_bytes() == b"put".as_slice());
-    assert!(rt; outcome.pins().as_slice() == pins.as_slice());
-    assert!(rt; copy.pins().as_slice() == pins.as_slice());
-    assert!(rt; copy.reply() == outcome.reply() && copy.new_pins() == outcome.new_pins());
-}
+// Each call of a script, and its copy, tells its number, operation, arguments and pins.
+const TELLING: &[Line] = &[
+    Files(&[ZERO]),
+    Call(Row("rcas", "put", &[Number(7)], Nothing, &[(0, SEVEN)])),
+];
 
 #[test]
 fn an_outcome_tells_its_call(rt: HostRuntime) {
-    let alloc = rt.alloc();
-    let mut hand = MemHand::new(alloc);
-    let cell = object(&rt, alloc, CELL);
-    let pins = pinned(&rt, &mut hand, &[ZERO]);
-    let outcome = put_seven(&rt, alloc, &cell, pins, &mut hand);
-    let copy = outcome.copy(alloc).expect(&rt, "memory");
-    assert_told(&rt, &outcome, &copy, pins);
+    play(&rt, rt.alloc(), CELL, TELLING);
+}
+
+// The next step of a run, that it makes and that it refuses, and the next one then.
+fn step_twice(run: &mut Run, hand: &mut MemHand) -> (Need, StepAnswer, StepAnswer, Need) {
+    let need = run.next();
+    let first = run.step(hand);
+    let second = run.step(hand);
+    (need, first, second, run.next())
 }
 
 #[test]
@@ -204,14 +153,11 @@ fn a_run_that_is_not_done_is_handed_back(rt: HostRuntime) {
         Ok(_) => panic!(rt; "done without a read"),
         Err(run) => run,
     };
-    let need = run.next();
-    let first = run.step(&mut hand);
-    let second = run.step(&mut hand);
-    let last = run.next();
-    let outcome = perform(run, &mut hand);
+    let (need, first, second, last) = step_twice(&mut run, &mut hand);
+    let reply = perform(run, &mut hand).reply();
     assert!(rt; need == Need::Read && last == Need::Done);
     assert!(rt; first == StepAnswer::Went && second == StepAnswer::AlreadyDone);
-    assert!(rt; outcome.reply() == Reply::Done(Some(Datum::Integer(0))));
+    assert!(rt; reply == Reply::Done(Some(Datum::Integer(0))));
 }
 
 // An object with a part of 4,100 bytes.
@@ -233,23 +179,39 @@ fn wide(rt: &impl Abort, alloc: Global, last: u8) -> Vec<u8> {
     bytes
 }
 
+// Asserts the steps and the reply of a call over 1,024 zeros, and that its last integer is this then.
+fn assert_wide(
+    rt: &impl Abort,
+    alloc: Global,
+    name: &str,
+    args: &[Datum],
+    steps: &str,
+    want: Reply,
+    last: Option<u8>,
+) {
+    let mut hand = MemHand::new(alloc);
+    let object = object(rt, alloc, WIDE);
+    let pins = pinned(rt, &mut hand, &[&wide(rt, alloc, 0)]);
+    let run = run_of(rt, alloc, &object, name, args, pins);
+    let (made, outcome) = stepped(run, &mut hand);
+    assert!(rt; made.are(steps) && outcome.reply() == want && outcome.sealed().is_empty());
+    let is_written = match last {
+        Some(last) => {
+            let bytes = wide(rt, alloc, last);
+            has_new(alloc, &mut hand, &outcome, &[(0, &bytes)])
+        }
+        None => outcome.new_pins().is_empty(),
+    };
+    assert!(rt; is_written);
+}
+
 #[test]
 fn long_parts_go_by_4096_bytes(rt: HostRuntime) {
     let alloc = rt.alloc();
-    let zeros = wide(&rt, alloc, 0);
-    let row = Row {
-        call: "get",
-        args: &[Number(1024)],
-        steps: "rr",
-        want: Refused(b"index"),
-        new: &[],
-    };
-    assert_runs(&rt, alloc, WIDE, &[&zeros], &[row]);
-    let mut hand = MemHand::new(alloc);
-    let object = object(&rt, alloc, WIDE);
-    let pins = pinned(&rt, &mut hand, &[&zeros]);
-    let args = [Datum::Integer(1023), Datum::Integer(7)];
-    let (steps, put) = stepped(run_of(&rt, alloc, &object, "put", &args, pins), &mut hand);
-    assert!(rt; steps.are("rrcaas"));
-    assert_new(&rt, alloc, &mut hand, &put, &[(0, &wide(&rt, alloc, 7))]);
+    let refused = Reply::Refused(Text::from_bytes(b"index").expect(&rt, "a text"));
+    let get = [Datum::Integer(1024)];
+    assert_wide(&rt, alloc, "get", &get, "rr", refused, None);
+    let put = [Datum::Integer(1023), Datum::Integer(7)];
+    let done = Reply::Done(None);
+    assert_wide(&rt, alloc, "put", &put, "rrcaas", done, Some(7));
 }

@@ -1,15 +1,14 @@
-//! Bodies on whole values, beside runs over files.
+//! Bodies on whole values.
 
 use crate::calls::{object, operation};
 use crate::forms::{FORMS, PARTS};
+use crate::rows::{Bytes, New, Row, data, reply};
 use body_core::apply::apply;
 use body_core::fits::{arguments_fit, values_fit};
-use body_core::reply::Reply;
 use decl_core::footprint::reads;
-use decl_core::object::Operation;
+use decl_core::object::{Object, Operation};
 use std::alloc::Global;
 use std::process::Abort;
-use value_core::datum::Datum;
 use value_core::decode::decode;
 use value_core::encode::encode;
 use value_core::value::Value;
@@ -27,52 +26,58 @@ fn parts_read(rt: &impl Abort, alloc: Global, operation: &Operation) -> Vec<usiz
     found
 }
 
+// The value of a part.
+fn value_of(rt: &impl Abort, alloc: Global, operation: &Operation, part: usize) -> Value {
+    let kind = operation.kinds.get(part).expect(rt, "a part");
+    let kind = kind.expect(rt, "its kind");
+    let bytes = PARTS.get(part).expect(rt, "its bytes");
+    decode(alloc, kind, bytes).expect(rt, "a value")
+}
+
 // The values of the parts that an operation reads.
-fn values_read(
-    rt: &impl Abort,
-    alloc: Global,
-    operation: &Operation,
-    parts: &[&[u8]],
-) -> Vec<Value> {
+fn values_of(rt: &impl Abort, alloc: Global, operation: &Operation, parts: &[usize]) -> Vec<Value> {
     let mut values = Vec::new(alloc);
-    for part in parts_read(rt, alloc, operation) {
-        let kind = operation.kinds.get(part).expect(rt, "a part");
-        let kind = kind.expect(rt, "its kind");
-        let bytes = parts.get(part).expect(rt, "its bytes");
-        let value = decode(alloc, kind, bytes).expect(rt, "a value");
+    for part in parts {
+        let value = value_of(rt, alloc, operation, *part);
         values.push(value).expect(rt, "memory");
     }
     values
 }
 
-/// Asserts that a body replies so on whole values, and leaves the bytes of `new` and else those before it.
-pub fn assert_whole(
-    rt: &impl Abort,
-    alloc: Global,
-    operation: &Operation,
-    args: &[Datum],
-    parts: &[&[u8]],
-    reply: Reply,
-    new: &[(usize, &[u8])],
-) {
-    let values = values_read(rt, alloc, operation, parts);
-    if !arguments_fit(operation, args) || !values_fit(operation, &values) {
+// The bytes of a part after a call.
+fn bytes_after(part: usize, new: New) -> Option<Bytes> {
+    for (changed, bytes) in new {
+        if *changed == part {
+            return Some(*bytes);
+        }
+    }
+    PARTS.get(part).copied()
+}
+
+// Whether the values that a body leaves of these parts are the new ones, and else those before it.
+fn are_left(alloc: Global, parts: &[usize], left: &[Value], new: New) -> bool {
+    for (part, value) in parts.iter().zip(left) {
+        match encode(alloc, value) {
+            Ok(spelled) if Some(spelled.as_slice()) == bytes_after(*part, new) => {}
+            _ => return false,
+        }
+    }
+    left.len() == parts.len()
+}
+
+/// Asserts that a body replies as its row says, and leaves the new bytes and else those before it.
+pub fn assert_whole(rt: &impl Abort, alloc: Global, forms: &Object, row: &Row) {
+    let Row(_, name, args, want, new) = *row;
+    let operation = operation(rt, forms, name);
+    let args = data(rt, alloc, args);
+    let parts = parts_read(rt, alloc, &operation);
+    let values = values_of(rt, alloc, &operation, &parts);
+    if !arguments_fit(&operation, &args) || !values_fit(&operation, &values) {
         panic!(rt; "no such call");
     }
-    let (told, left) = apply(alloc, operation, args, &values).expect(rt, "memory");
-    assert!(rt; told == reply);
-    let read = parts_read(rt, alloc, operation);
-    assert!(rt; left.len() == read.len());
-    for (part, value) in read.iter().zip(&left) {
-        let mut want = *parts.get(*part).expect(rt, "its bytes");
-        for (changed, bytes) in new {
-            if changed == part {
-                want = *bytes;
-            }
-        }
-        let spelled = encode(alloc, value).expect(rt, "memory");
-        assert!(rt; spelled.as_slice() == want);
-    }
+    let (told, left) = apply(alloc, &operation, &args, &values).expect(rt, "memory");
+    let is_right = told == reply(rt, want) && are_left(alloc, &parts, &left, new);
+    assert!(rt; is_right, "{name}: another body");
 }
 
 #[test]
@@ -80,14 +85,18 @@ fn values_fit_where_each_is_of_its_kind(rt: HostRuntime) {
     let alloc = rt.alloc();
     let forms = object(&rt, alloc, FORMS);
     let known = operation(&rt, &forms, "known");
-    let mut values = values_read(&rt, alloc, &known, &PARTS);
-    assert!(rt; values_fit(&known, &values));
+    let parts = parts_read(&rt, alloc, &known);
+    let mut values = values_of(&rt, alloc, &known, &parts);
+    let fit = values_fit(&known, &values);
     // The two tables are of other elements.
     values.reverse();
-    assert!(rt; !values_fit(&known, &values));
+    let fit_reversed = values_fit(&known, &values);
     values.reverse();
     let last = values.pop();
-    assert!(rt; last.is_some() && !values_fit(&known, &values));
-    let none = values_read(&rt, alloc, &operation(&rt, &forms, "nothing"), &PARTS);
-    assert!(rt; none.is_empty() && !values_fit(&known, &none));
+    let fit_less = values_fit(&known, &values);
+    let fit_none = values_fit(&known, &[]);
+    assert!(rt; fit && last.is_some() && !fit_reversed && !fit_less && !fit_none);
+    // An operation that reads no part has no values.
+    let parts = parts_read(&rt, alloc, &operation(&rt, &forms, "nothing"));
+    assert!(rt; parts.is_empty());
 }

@@ -1,5 +1,5 @@
 -- The lines of objects, one object after the other, and the report of a source.
-use Rattle.std.proofs.Common.{◌≡◌, ◌≢◌, ◌≤◌, ◌<◌, ◌+◌, ◌^◌, ◌⊎◌, inl, inr, ℕ, List, [], ◌∷◌, ◌++◌, length, Result, Err, arith, ap, sym, subst, ◌∙◌, append_assoc, length-append}
+use Rattle.std.proofs.Common.{◌≡◌, ◌≤◌, ◌<◌, ◌+◌, ◌^◌, ◌⊎◌, inl, inr, ℕ, List, [], ◌∷◌, ◌++◌, length, Result, Err, arith, ap, sym, subst, ◌∙◌, append_assoc, length-append}
 use Rattle.std.proofs.lemmas.List.{append-nil, map-append, length-map}
 use Rattle.path_tree.specs.Tokens.{IsFirstFault}
 use Rattle.path_tree.specs.declared.lex.fault.LexFault.{LexFault}
@@ -12,7 +12,7 @@ use Rattle.decl_read.specs.Sources.{AreObjectsOf, lex_fault_told}
 use Rattle.decl_core.specs.ObjectMap.{object_of, objects_of}
 use Rattle.exclude_core.specs.declared.report.CheckEnd.{CheckEnd}
 use Rattle.exclude_core.specs.declared.report.CheckEnd.TheVariants.{Counted, Faulty}
-use Rattle.exclude_core.specs.Report.{IsReported, AreReported, IsToldFault, IsCheck, accepted, refused, no_object, and_object, counted, faulty, count_line, fault_line}
+use Rattle.exclude_core.specs.Report.{IsReported, AreReported, IsToldFault, IsCheck, IsWantOfMemory, accepted, refused, no_object, and_object, counted, faulty, count_line, fault_line}
 
 -- Of all objects those before the rest are reported.
 pub record Reported (all rest : List Object) (refused : ℕ) (text : List ℕ) : Type 0 where
@@ -71,21 +71,21 @@ pub count_only : (all : List Object) (objects : List ObjectForm) (n : ℕ) (end 
 count_only all objects n end is same = is ∙ ap (λ k. Counted k n) (sym (length-map all object_of) ∙ ap length same)
 
 -- What the reader of objects says of a fault, where it is no want of memory.
-pub told_fault : {M : Type 0} (source : List ℕ) (fault : DeclFault) → fault ≢ Memory
+pub told_fault : {M : Type 0} (source : List ℕ) (fault : DeclFault) → (IsWantOfMemory fault → ⊥)
     → ((objects : List ObjectForm) → AreObjectsOf source objects → fault ≡ Memory)
     → (65536 < length source → ◌≡◌ {A = Result M DeclFault} (Err fault) (Err (Lex TooLong)))
     → ((first : LexFault) → IsFirstFault source first → length source ≤ 65536 → (fault ≡ lex_fault_told first) ⊎ (fault ≡ Memory))
     → IsToldFault source fault
 told_fault source fault other only long lexical = record {
   not_memory = other;
-  no_objects = λ objects are. other (only objects are);
+  no_objects = λ objects are. other (inl (only objects are));
   too_long = λ h. let e = long h in cc;
   lexical = λ first h short. first_of first (lexical first h short);
 }
   where
     first_of : (first : LexFault) → (fault ≡ lex_fault_told first) ⊎ (fault ≡ Memory) → fault ≡ lex_fault_told first
     first_of first (inl e) = e
-    first_of first (inr e) = absurd (other e)
+    first_of first (inr e) = absurd (other (inl e))
 
 -- The line of such a fault is a check of the source.
 pub check_faulty : (source : List ℕ) (fault : DeclFault) (text : List ℕ) (end : CheckEnd) → IsToldFault source fault → end ≡ Faulty → text ≡ fault_line fault → IsCheck source end text

@@ -1,8 +1,9 @@
 -- What a check of a source writes.
-use Rattle.std.specs.Prelude.{◌≡◌, ◌≢◌, ℕ, ◌+◌, ◌<◌, ◌≤◌, Option, Some, None, List, [], ◌∷◌, ◌++◌, length, slice_get, codes, decimal}
+use Rattle.std.specs.Prelude.{◌≡◌, ℕ, ◌+◌, ◌<◌, ◌≤◌, ◌⊎◌, Option, Some, None, List, [], ◌∷◌, ◌++◌, length, slice_get, codes, decimal}
 use Rattle.value_core.specs.declared.kind.Kind.{Kind}
 use Rattle.path_tree.specs.declared.lex.fault.LexFault.{LexFault}
 use Rattle.path_tree.specs.declared.lex.fault.LexFault.TheVariants as lex_faults
+use Rattle.path_tree.specs.declared.path_fault.PathFault.TheVariants as path_faults
 use Rattle.path_tree.specs.Tokens.{IsFirstFault}
 use Rattle.line_core.specs.Reply.{fault_text}
 use Rattle.decl_read.specs.declared.fault.DeclFault.{DeclFault}
@@ -75,9 +76,13 @@ pub data AreReported : List ObjectForm → ℕ → List ℕ → Type 0 where
   and_object : {before : List ObjectForm} {o : ObjectForm} {n m : ℕ} {text more : List ℕ} →
       AreReported before n text → IsReported o m more → AreReported (before ++ o ∷ []) (n + m) (text ++ more)
 
+-- a want of memory: of the reader of objects, of the lexer, or of the reader of a path
+abbrev pub IsWantOfMemory : DeclFault → Type 0
+IsWantOfMemory fault = (fault ≡ faults.Memory) ⊎ ((fault ≡ faults.Lex lex_faults.Memory) ⊎ (fault ≡ faults.Path path_faults.Memory))
+
 -- A source that is no file of objects is told why: its first fault as far as its tokens go, and never a want of memory.
 pub record IsToldFault (source : List ℕ) (fault : DeclFault) : Type 0 where
-  pub not_memory : fault ≢ faults.Memory
+  pub not_memory : IsWantOfMemory fault → ⊥
   pub no_objects : (objects : List ObjectForm) → AreObjectsOf source objects → ⊥
   pub too_long : 65536 < length source → fault ≡ faults.Lex lex_faults.TooLong
   pub lexical : (first : LexFault) → IsFirstFault source first → length source ≤ 65536 → fault ≡ lex_fault_told first

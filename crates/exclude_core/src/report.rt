@@ -1,6 +1,6 @@
 //! What `pathserve check` prints.
 
-ghost use Rattle.std.specs.Prelude.{◌≡◌, ◌≢◌, ◌++◌, ⊤, ℕ, List, IfOk, OnOk, IsErrOf, MatchResult, length, take};
+ghost use Rattle.std.specs.Prelude.{◌≡◌, ◌++◌, ⊤, ℕ, List, IfOk, OnOk, IsErrOf, MatchResult, length, take};
 ghost use Rattle.std.specs.Io.KnownBytes.{Appends, Keeps};
 ghost use Rattle.std.specs.Map.{values_of};
 ghost use Rattle.decl_core.specs.ObjectForm.{ObjectForm};
@@ -10,7 +10,7 @@ ghost use Rattle.exclude_core.specs.Certificate.{IsFirstCertificate};
 ghost use Rattle.exclude_core.specs.CheckFaults.{fault_number, fault_name};
 ghost use Rattle.exclude_core.specs.Exclusive.{IsExclusive};
 ghost use Rattle.exclude_core.specs.Refusals.{IsWhy};
-ghost use Rattle.exclude_core.specs.Report.{AreReported, IsCheck, IsReported, accepted_lines, count_line, fault_line, refused_line};
+ghost use Rattle.exclude_core.specs.Report.{AreReported, IsCheck, IsReported, IsWantOfMemory, accepted_lines, count_line, fault_line, refused_line};
 ghost use Rattle.exclude_core.specs.declared.certificate.Entry.{Entry};
 ghost use Rattle.exclude_core.specs.declared.report.CheckEnd.TheVariants.{Counted, Faulty};
 ghost use Rattle.exclude_core.specs.declared.report.CheckFault.TheVariants.{WriteFault, Memory};
@@ -23,7 +23,9 @@ use decl_read::read::read_objects;
 use indexmap::IndexMap;
 use line_core::reply::{push_fault, push_number};
 use line_core::write_whole;
+use path_tree::lex::fault::LexFault;
 use path_tree::name::Name;
+use path_tree::path_fault::PathFault;
 use std::alloc::{AllocError, Global};
 use std::io::Write;
 use thiserror::Error;
@@ -101,7 +103,7 @@ pub fn push_unseparated(
 }
 
 /// Adds the line of a fault of a source: `lex`, `path` or `decl`, its number, its name, and `at K` where it
-/// has a place.
+/// has a place. `check_report` tells no want of memory so: that is its fault `Memory`.
 pub fn push_source_fault(out: &mut Vec<u8>, fault: DeclFault) -> Result<(), AllocError>
     ensures { OnOk result (out.new.items ≡ out.old.items ++ fault_line fault) }
 {
@@ -178,21 +180,28 @@ fn report_file(alloc: Global, all: IndexMap<Name, Object>) -> Result<Written, Al
     })
 }
 
-// The report of a source that is no file of objects.
-fn report_fault(alloc: Global, fault: DeclFault) -> Result<Written, AllocError>
-    ensures { IfOk result (λ r. (fault ≢ DeclFault.Memory) × (r.end ≡ Faulty) × (r.text.items ≡ fault_line fault)) }
+// The fault of a source, apart from a want of memory.
+fn told_fault(fault: DeclFault) -> Result<DeclFault, AllocError>
+    ensures { IfOk result (λ told. (told ≡ fault) × (IsWantOfMemory fault → ⊥)) }
 {
     match fault {
-        DeclFault::Memory => Err(AllocError),
-        _ => {
-            let mut text = Vec::new(alloc);
-            push_source_fault(&mut text, fault)?;
-            Ok(Written {
-                end: CheckEnd::Faulty,
-                text,
-            })
-        }
+        DeclFault::Memory | DeclFault::Lex(LexFault::Memory) | DeclFault::Path(PathFault::Memory) =>
+            Err(AllocError),
+        _ => Ok(fault),
     }
+}
+
+// The report of a source that is no file of objects.
+fn report_fault(alloc: Global, fault: DeclFault) -> Result<Written, AllocError>
+    ensures { IfOk result (λ r. (IsWantOfMemory fault → ⊥) × (r.end ≡ Faulty) × (r.text.items ≡ fault_line fault)) }
+{
+    let fault = told_fault(fault)?;
+    let mut text = Vec::new(alloc);
+    push_source_fault(&mut text, fault)?;
+    Ok(Written {
+        end: CheckEnd::Faulty,
+        text,
+    })
 }
 
 // The report of a source.
@@ -216,7 +225,7 @@ fn report(alloc: Global, source: &[u8]) -> Result<Written, AllocError>
 /// Checks each object of a source, and writes the report: per object `object NAME accepted` and one line
 /// `pair A B path P node K` for each entry of its certificate, or `object NAME refused 1 Unseparated A B
 /// PART`; and last `N objects, M refused`. A source that is no file of objects gets the line of its fault
-/// alone. The whole report is written at once.
+/// alone, which is never a want of memory. The whole report is written at once.
 ///
 /// The faults, in this order: `Memory` where a growth was refused, and nothing was written; `WriteFault`
 /// where a write failed, and a front of the report was written.

@@ -2,7 +2,7 @@
 use Rattle.std.specs.Prelude.{◌≡◌, ℕ, ◌+◌, Bool, true, false, Option, unwrap_or, List, [], ◌∷◌, ◌++◌, length, take}
 use Rattle.std.specs.Str.Lines.{lines}
 use Rattle.std.specs.Io.KnownBytes.{IsAtEnd}
-use Rattle.line_core.specs.Runs.{Gives, Runs, Stops}
+use Rattle.line_core.specs.Runs.{Gives, Runs, Stops, Cuts, NoLineFeed}
 use Rattle.line_core.specs.declared.machine.LinesEnd.{LinesEnd}
 use Rattle.line_core.specs.declared.machine.LinesEnd.TheVariants.{Whole, Stopped}
 
@@ -27,3 +27,9 @@ Begins {S} gives old text left written =
     (whole : List (List ℕ)) × (after : List (List ℕ)) × (lines (text ++ unwrap_or left []) ≡ whole ++ after)
     × (goes : Bool) × (answers : List ℕ) × (new : S) × Answered gives old whole goes answers new
     × (count : ℕ) × (written ≡ take count answers)
+
+-- each line that has come whole is answered, and no other; `held` is what has come of the next one
+abbrev pub AllAnswered : {S : Type 0} → Gives S → S → List ℕ → List ℕ → Type 0
+AllAnswered {S} gives old text written =
+    (whole : List (List ℕ)) × (held : List ℕ) × Cuts text whole held × NoLineFeed held
+    × (new : S) × Runs gives old 1 whole written new

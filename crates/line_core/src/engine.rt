@@ -1,10 +1,11 @@
 //! The engine: from pieces of a text to lines, and from answers to writes.
 
-ghost use Rattle.std.specs.Prelude.{◌≡◌, ◌+◌, ◌*◌, ◌≤◌, ◌<◌, ◌^◌, ◌++◌, ◌∷◌, [], ℕ, List, Bool, true, false, MatchOption, IfOk, OnOk, OnErr, length, vec_len};
+ghost use Rattle.std.specs.Prelude.{◌≡◌, ◌+◌, ◌*◌, ◌≤◌, ◌<◌, ◌^◌, ◌++◌, ◌∷◌, [], ℕ, List, Bool, true, false, MatchOption, IfOk, OnOk, OnErr, IsErrOf, length, vec_len};
 ghost use Rattle.std.specs.Io.KnownBytes.{Appends, Consumes};
 ghost use Rattle.std.specs.Str.Lines.{strip_carriage_return};
 ghost use Rattle.line_core.specs.Runs.{NoLineFeed};
-ghost use Rattle.line_core.specs.Ends.{Ends, Begins};
+ghost use Rattle.line_core.specs.Ends.{Ends, Begins, AllAnswered};
+ghost use Rattle.line_core.specs.declared.machine.LinesFault.TheVariants.{ReadFault};
 
 use crate::machine::{LinesEnd, LinesFault, Machine};
 use crate::send::write_whole;
@@ -116,9 +117,10 @@ fn room_for_piece(alloc: Global) -> Result<Vec<u8>, AllocError>
     vec![in alloc; 0u8; PIECE]
 }
 
-/// Answers the lines of a text, each as soon as it has come.
+/// Answers the lines of a text, each as soon as it has come: all answers to the lines of a piece are
+/// written before the next read.
 ///
-/// After a fault the machine's state is open.
+/// After a fault the machine's state is open. After a `ReadFault` each line that had come whole is answered.
 pub fn run_lines<M: Machine, R: Read, W: Write>(
     alloc: Global,
     machine: &mut M,
@@ -135,6 +137,11 @@ pub fn run_lines<M: Machine, R: Read, W: Write>(
         × Consumes (R.remaining reader.old) (R.remaining reader.new) text
         × Appends (W.contents writer.old) (W.contents writer.new) written
         × Begins M.gives machine.old text (R.remaining reader.new) written) }
+    // The answers to all lines that have come are written before the next read: any read may fail.
+    ensures unread { IsErrOf result ReadFault → (text : List ℕ) × (written : List ℕ)
+        × Consumes (R.remaining reader.old) (R.remaining reader.new) text
+        × Appends (W.contents writer.old) (W.contents writer.new) written
+        × AllAnswered M.gives machine.old text written }
 {
     let mut piece = room_for_piece(alloc)?;
     let mut pending = Pending {

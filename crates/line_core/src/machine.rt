@@ -19,7 +19,7 @@ pub enum LinesEnd {
 pub enum LinesFault {
     /// A read failed, or the text had not ended after `MOST_READS` reads.
     ReadFault,
-    /// A write failed, or took no byte.
+    /// A write failed or took no byte, or a signal broke 16,777,216 writes in a row.
     WriteFault,
     /// There was no memory for a line or an answer.
     Memory,

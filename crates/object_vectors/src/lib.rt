@@ -1,44 +1,25 @@
-//! Worked rows, limits, faults and drawn objects, over the public calls of the reader of objects and of the
-//! analyser.
+//! What no subcommand of the program tells of objects: what stands in them, which parts their operations touch,
+//! which certificates they have, and what a writer that fails was given; and the analyser beside a slow one on
+//! drawn objects. What `pathserve check` tells stands in `cases/check`.
 #![tactic(auto)]
 
 #[cfg(test)]
-mod bodies;
+mod analyse;
 #[cfg(test)]
-mod check_bodies;
+mod certificates;
 #[cfg(test)]
-mod check_calls;
+mod contents;
 #[cfg(test)]
-mod check_faults;
+mod draw_bodies;
 #[cfg(test)]
-mod check_footprints;
+mod draw_paths;
 #[cfg(test)]
-mod check_limits;
+mod footprints;
 #[cfg(test)]
-mod check_nodes;
+mod pen;
 #[cfg(test)]
-mod check_paths;
-#[cfg(test)]
-mod check_pen;
-#[cfg(test)]
-mod check_rows;
-#[cfg(test)]
-mod check_slow;
-#[cfg(test)]
-mod declarations;
-#[cfg(test)]
-mod expressions;
-#[cfg(test)]
-mod faults;
-#[cfg(test)]
-mod limits;
-#[cfg(test)]
-mod names;
-#[cfg(test)]
-mod refused;
-#[cfg(test)]
-mod rows;
-#[cfg(test)]
-mod tables;
+mod slow;
 #[cfg(test)]
 mod texts;
+#[cfg(test)]
+mod writers;

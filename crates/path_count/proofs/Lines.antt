@@ -125,10 +125,10 @@ path_line_told told number line tree text old new stands some unbegun few is sto
 
 -- a fault of a path line is told
 pub fault_told : (told : Told) (number : ℕ) (line : List ℕ) (fault : LineFault) (old : Paths) → Stands old told → told.names ≢ [] → old.begun ≡ false → length old.paths.items < 16
-    → asked_of line ≡ path → ((tree : Path) → IsPathLine old.operations line tree → ⊥) → IsLineFault line fault
+    → asked_of line ≡ path → ((tree : Path) → IsPathLine old.operations line tree → ⊥) → IsLineFault old.operations line fault
     → Leaves told number line (codes "line " ++ decimal number ++ codes ": " ++ line_fault_text fault) false old
 fault_told told number line fault old stands some unbegun few is none faulty =
-    (told, stands, path_refused fault some (sym stands.begun ∙ unbegun) (subst (λ ps. length ps < 16) stands.paths few) is (subst (λ ns. (tree : Path) → IsPathLine ns line tree → ⊥) stands.names none) faulty)
+    (told, stands, path_refused fault some (sym stands.begun ∙ unbegun) (subst (λ ps. length ps < 16) stands.paths few) is (subst (λ ns. (tree : Path) → IsPathLine ns line tree → ⊥) stands.names none) (subst (λ ns. IsLineFault ns line fault) stands.names faulty))
 
 -- a path line is told that it has no place
 pub late_path : (told : Told) (number : ℕ) (line : List ℕ) (old : Paths) → Stands old told → asked_of line ≡ path

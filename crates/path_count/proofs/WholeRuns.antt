@@ -1,18 +1,18 @@
 -- Runs of the machine are runs of `paths`.
 use Rattle.std.proofs.Common.{◌≡◌, ℕ, ◌+◌, Bool, true, false, Option, Some, None, List, [], ◌∷◌, ◌++◌, refl, sym, ap, ◌∙◌, subst}
-use Rattle.std.specs.Prelude.{unwrap_or, IfSome, Result, Ok, Err, OnErr}
+use Rattle.std.specs.Prelude.{unwrap_or, IfSome, Result, Ok, Err, OnErr, IsErrAnd}
 use Rattle.std.specs.Io.KnownBytes.{Appends, Consumes, IsAtEnd}
 use Rattle.std.specs.Str.Lines.{lines}
 use Rattle.std.proofs.lemmas.List.{append-nil}
 use Rattle.line_core.specs.Runs.{Runs, Stops}
-use Rattle.line_core.specs.Ends.{Ends, Begins, Answered}
+use Rattle.line_core.specs.Ends.{Ends, Begins, Answered, AllAnswered}
 use Rattle.line_core.specs.declared.machine.LinesEnd.{LinesEnd}
 use Rattle.line_core.specs.declared.machine.LinesEnd.TheVariants as ends
 use Rattle.path_count.specs.declared.paths.machine.Paths.{Paths}
 use Rattle.path_count.specs.Told.{Told, nothing_told}
 use Rattle.path_count.specs.Answers.{Answers}
 use Rattle.path_count.specs.Telling.{Stands, PathsGives}
-use Rattle.path_count.specs.Run.{IsRun, IsFront}
+use Rattle.path_count.specs.Run.{IsRun, IsFront, IsRunSoFar}
 
 -- lines that go on
 told_runs : (old : Paths) (told : Told) (number : ℕ) (ls : List (List ℕ)) (text : List ℕ) (new : Paths) → Stands old told → Runs PathsGives old number ls text new
@@ -60,6 +60,12 @@ told_begins old text left written stands (whole, after, cut, goes, answers, new,
     let all = told_answered old whole goes answers new stands answered in
     (whole, after, cut, goes, answers, all.0, all.1, count, front)
 
+-- the answers to all lines that have come whole
+pub told_so_far : (old : Paths) (text : List ℕ) (written : List ℕ) → Stands old nothing_told → AllAnswered PathsGives old text written → IsRunSoFar text written
+told_so_far old text written stands (whole, held, cuts, clear, new, runs) =
+    let all = told_runs old nothing_told 1 whole written new stands runs in
+    (whole, held, cuts, clear, all.0, all.2)
+
 -- what holds of the text read and what is left of it, holds of the known text
 pub IfSome-known : (old new : Option (List ℕ)) (text : List ℕ) (P : List ℕ → Type 0) → Consumes old new text → P (text ++ unwrap_or new []) → IfSome old P
 IfSome-known None new text P eaten holds = tt
@@ -75,6 +81,11 @@ IfSome-any (Some text) P holds = holds text
 pub on_err : {T E P : Type 0} (r : Result T E) → P → OnErr r P
 on_err (Ok x) p = tt
 on_err (Err e) p = p
+
+-- a result that has one error has no other
+pub one_error : {T E : Type 0} (r : Result T E) (e f : E) → IsErrAnd r (λ x. x ≡ e) → r ≡ Err f → e ≡ f
+one_error (Ok x) e f is same = absurd is
+one_error (Err x) e f is same = cc
 
 pub Appends-none : (known : Option (List ℕ)) → Appends known known []
 Appends-none None = tt

@@ -20,7 +20,7 @@ pub data Answers (told : Told) (number : ℕ) (line : List ℕ) : List ℕ → B
   path_told : {tree : Path} → told.names ≢ [] → told.begun ≡ false → length told.paths < 16 → asked_of line ≡ path → IsPathLine told.names line tree
       → Answers told number line (reply (canonical_bytes told.names tree) []) true (record told { paths = told.paths ++ tree ∷ [] })
   path_refused : (fault : LineFault) → told.names ≢ [] → told.begun ≡ false → length told.paths < 16 → asked_of line ≡ path
-      → ((tree : Path) → IsPathLine told.names line tree → ⊥) → IsLineFault line fault
+      → ((tree : Path) → IsPathLine told.names line tree → ⊥) → IsLineFault told.names line fault
       → Answers told number line (codes "line " ++ decimal number ++ codes ": " ++ line_fault_text fault) false told
   start_told : {word : List ℕ} {op : ℕ} {text : List ℕ} {after : List Event} → asked_of line ≡ start word → IsNamed told.names op word
       → StartAnswer told.paths told.trace op (str_to_ascii_lowercase word) text after

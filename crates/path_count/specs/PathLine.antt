@@ -1,5 +1,5 @@
 -- Lines that are paths.
-use Rattle.std.specs.Prelude.{◌≡◌, ℕ, ◌≤◌, ◌⊎◌, List, [], ◌∷◌, length, map, drop}
+use Rattle.std.specs.Prelude.{◌≡◌, ◌≢◌, ℕ, ◌≤◌, ◌⊎◌, List, [], ◌∷◌, length, map, drop}
 use Rattle.path_tree.specs.Path.{Path}
 use Rattle.path_tree.specs.declared.token.Symbol.TheVariants.{Semicolon}
 use Rattle.path_tree.specs.Lexeme.{Lexeme, symbol, end_mark}
@@ -10,6 +10,11 @@ use Rattle.path_tree.specs.Grammar.{IsPathAt}
 -- nothing stands behind a path, or one semicolon
 abbrev pub IsPathEnd : List Lexeme → Type 0
 IsPathEnd ws = (ws ≡ end_mark ∷ []) ⊎ (ws ≡ symbol Semicolon ∷ end_mark ∷ [])
+
+-- the place of what follows a path: of the first token behind it, or behind the semicolon there
+pub data StandsBehind : List Placed → ℕ → Type 0 where
+  next : {t : Placed} {more : List Placed} → t.lexeme ≢ symbol Semicolon → StandsBehind (t ∷ more) t.start
+  behind_semicolon : {s t : Placed} {more : List Placed} → s.lexeme ≡ symbol Semicolon → StandsBehind (s ∷ t ∷ more) t.start
 
 abbrev pub lexemes_of : List Placed → List Lexeme
 lexemes_of all = map (λ t. t.lexeme) all

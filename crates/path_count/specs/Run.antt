@@ -1,7 +1,7 @@
 -- Runs of `paths` over whole texts.
 use Rattle.std.specs.Prelude.{◌≡◌, ℕ, ◌+◌, Bool, List, ◌∷◌, ◌++◌, length, take}
 use Rattle.std.specs.Str.Lines.{lines}
-use Rattle.line_core.specs.Runs.{Runs, Stops}
+use Rattle.line_core.specs.Runs.{Runs, Stops, Cuts, NoLineFeed}
 use Rattle.line_core.specs.Ends.{Answered}
 use Rattle.line_core.specs.declared.machine.LinesEnd.{LinesEnd}
 use Rattle.line_core.specs.declared.machine.LinesEnd.TheVariants.{Whole, Stopped}
@@ -22,3 +22,9 @@ IsFront text written =
     (whole : List (List ℕ)) × (after : List (List ℕ)) × (lines text ≡ whole ++ after)
     × (goes : Bool) × (answers : List ℕ) × (told : Told) × Answered Answers nothing_told whole goes answers told
     × (count : ℕ) × (written ≡ take count answers)
+
+-- the answers to each line that has come whole, and to no other; `held` is what has come of the next one
+abbrev pub IsRunSoFar : List ℕ → List ℕ → Type 0
+IsRunSoFar text written =
+    (whole : List (List ℕ)) × (held : List ℕ) × Cuts text whole held × NoLineFeed held
+    × (told : Told) × Runs Answers nothing_told 1 whole written told

@@ -1,6 +1,7 @@
 //! Why the program has nothing to answer.
 
 ghost use Rattle.std.specs.Prelude.{◌≡◌};
+ghost use Rattle.pathserve.specs.Status.{exit_status_of};
 
 use clap::Error;
 use clap::error::ErrorKind;
@@ -14,8 +15,11 @@ use std::{fmt, io};
 pub enum Failure {
     /// The command line asks for no command, or for help.
     Usage(Error),
+    /// Standard input or a file cannot be read, or standard input has no end.
     ReadFault,
+    /// Standard output takes nothing more.
     WriteFault,
+    /// Memory was refused.
     Memory,
 }
 
@@ -34,7 +38,21 @@ impl Failure {
     }
 }
 
+/// The exit status of a run: the one that it gave, or that of its failure.
+pub fn exit_status(ended: &Result<u8, Failure>) -> u8
+    ensures { result ≡ exit_status_of ended.now }
+{
+    match ended {
+        Ok(status) => *status,
+        Err(failure) => failure.status(),
+    }
+}
+
 impl fmt::Display for Failure {
+    ghost use Rattle.pathserve.specs.Status.{failure_text};
+
+    ghost output = { failure_text };
+
     fn fmt<W: fmt::Write>(&self, f: &mut fmt::Formatter<W>) -> fmt::Result {
         match self {
             Failure::Usage(error) => write!(f, "{error}"),
@@ -57,6 +75,10 @@ impl From<AllocError> for Failure {
 }
 
 impl From<Error> for Failure {
+    ghost use Rattle.pathserve.specs.Status.{IsUsage};
+
+    ghost from_gives = { IsUsage };
+
     fn from(error: Error) -> Failure {
         if error.kind() == ErrorKind::OutOfMemory {
             Failure::Memory
@@ -67,6 +89,10 @@ impl From<Error> for Failure {
 }
 
 impl From<io::Error> for Failure {
+    ghost use Rattle.pathserve.specs.Status.{IsUnread};
+
+    ghost from_gives = { IsUnread };
+
     fn from(error: io::Error) -> Failure {
         if error.kind() == io::ErrorKind::OutOfMemory {
             Failure::Memory
@@ -78,9 +104,9 @@ impl From<io::Error> for Failure {
 
 impl From<PathsFault> for Failure {
     ghost use Rattle.std.specs.Prelude.{◌≡◌};
-    ghost use Rattle.pathserve.specs.Status.{failure_of};
+    ghost use Rattle.pathserve.specs.Status.{paths_failure};
 
-    ghost from_gives = { λ fault failure. failure ≡ failure_of fault };
+    ghost from_gives = { λ fault failure. failure ≡ paths_failure fault };
 
     fn from(fault: PathsFault) -> Failure {
         match fault {
@@ -93,9 +119,9 @@ impl From<PathsFault> for Failure {
 
 impl From<CheckFault> for Failure {
     ghost use Rattle.std.specs.Prelude.{◌≡◌};
-    ghost use Rattle.pathserve.specs.Status.{check_failure_of};
+    ghost use Rattle.pathserve.specs.Status.{check_failure};
 
-    ghost from_gives = { λ fault failure. failure ≡ check_failure_of fault };
+    ghost from_gives = { λ fault failure. failure ≡ check_failure fault };
 
     fn from(fault: CheckFault) -> Failure {
         match fault {

@@ -1,5 +1,6 @@
 //! The command line.
 
+use crate::help;
 use clap::{Arg, Command, Error};
 use std::alloc::{AllocError, Global};
 
@@ -14,11 +15,21 @@ pub enum Request<'a> {
 
 // The commands of the program.
 fn command<'a>(alloc: Global) -> Result<Command<'a>, AllocError> {
-    let file = Arg::new(alloc, "FILE").required(true);
-    let check = Command::new(alloc, "check").arg(file)?;
+    let paths = Command::new(alloc, "paths")
+        .about(help::PATHS)
+        .after_help(help::PATHS_MORE);
+    let file = Arg::new(alloc, "FILE")
+        .required(true)
+        .help(help::CHECK_FILE);
+    let check = Command::new(alloc, "check")
+        .about(help::CHECK)
+        .after_help(help::CHECK_MORE)
+        .arg(file)?;
     Command::new(alloc, "pathserve")
+        .about(help::PROGRAM)
+        .after_help(help::PROGRAM_MORE)
         .subcommand_required(true)
-        .subcommand(Command::new(alloc, "paths"))?
+        .subcommand(paths)?
         .subcommand(check)
 }
 

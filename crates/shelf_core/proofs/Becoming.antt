@@ -4,7 +4,7 @@ use Rattle.std.specs.Prelude.{slice_get}
 use Rattle.shelf_core.specs.declared.file.File.{File}
 use Rattle.shelf_core.specs.declared.file.State.{State}
 use Rattle.shelf_core.specs.declared.file.State.TheVariants.{Open, Sealed}
-use Rattle.shelf_core.specs.Files.{file_at, open_of, open_bytes, kept_of, kept_bytes, IsOpen, IsKept, Puts, Becomes}
+use Rattle.shelf_core.specs.Files.{file_at, open_of, open_bytes, kept_of, kept_bytes, IsOpen, IsKept, Serves, Puts, Becomes}
 use Rattle.shelf_core.proofs.Slots.{puts_push, some_same}
 
 -- what is pending of an open file are its bytes
@@ -34,3 +34,8 @@ pub begun : (files : List File) (file : File) → file.state ≡ Open → file.b
 begun files file opened empty =
     let number : suc (length files) ≡ length files + 1 = omega arith in
     (file, subst (λ k. Puts files (files ++ file ∷ []) k file) number (puts_push files file), opened, empty)
+
+-- a sealed file is served
+pub sealed_serves : (old new : List File) (n len : ℕ) (b : List ℕ) → Becomes old new n Sealed b → len ≡ length b → Serves new (record { number = n; len = len })
+sealed_serves old new n len b is long =
+    (b, ap kept_of is.1.there ∙ ap (kept_bytes is.0) is.2 ∙ ap (λ c. Some c) is.3, omega (arith, long))

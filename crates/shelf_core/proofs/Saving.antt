@@ -8,7 +8,7 @@ use Rattle.decl_core.specs.declared.object.Part.{Part}
 use Rattle.shelf_core.specs.declared.hand.Stamp.{Stamp}
 use Rattle.shelf_core.specs.declared.save.SaveFault.{SaveFault}
 use Rattle.shelf_core.specs.declared.save.SaveFault.TheVariants.{Damaged, Device, Memory}
-use Rattle.shelf_core.specs.Device.{Assignment, Failed}
+use Rattle.shelf_core.specs.Device.{Assignment, Failed, Always}
 use Rattle.shelf_core.specs.Papers.{Papers, part_key}
 use Rattle.shelf_core.specs.Saved.{IsFetched, AreFetched, with_parts, IsDamagedPin, SaveCause, PinSaveCause, IsSavedTo, IsStored, MaySave, SaveLeaves, PartLeft, PartLeaves, StoreCause, StoreLeaves}
 use Rattle.shelf_core.proofs.Opening.{failed_since}
@@ -32,32 +32,36 @@ with_more papers object (q ∷ parts) [] part bytes same = absurd (omega (arith,
 with_more papers object (q ∷ parts) (b ∷ all) part bytes same = with_more (insert papers (part_key object q.name) b) object parts all part bytes (omega (arith, same))
 
 -- Some parts are saved. So far the devices were driven from these states on.
-pub record Saving (was holds : Papers → Type 0) (earlier agrees : Assignment → Type 0) (s t h k : ℕ) (object : List ℕ) (parts : List Part) (pins : List Stamp) : Type 0 where
+pub record Saving (was holds : Papers → Type 0) (earlier agrees : Assignment → Type 0) (early serves : Stamp → Type 0) (fresh works_for : ℕ → Type 0) (s t h k : ℕ) (object : List ℕ) (parts : List Part) (pins : List Stamp) : Type 0 where
   pub all : List (List ℕ)
   pub many : length all ≡ length parts
   pub fetched : (a : Assignment) → agrees a → AreFetched a parts pins all
   pub stored : (papers : Papers) → holds papers → (before : Papers) × was before × (papers ≡ with_parts before object parts all)
   pub files : (a : Assignment) → agrees a → earlier a
+  pub kept : (s : Stamp) → early s → serves s
+  pub works : Always fresh → Always works_for
   pub shelf : s ≤ t
   pub hand : h ≤ k
 
-pub start : (holds : Papers → Type 0) (agrees : Assignment → Type 0) (s h : ℕ) (object : List ℕ) → Saving holds holds agrees agrees s s h h object [] []
-start holds agrees s h object = record {
+pub start : (holds : Papers → Type 0) (agrees : Assignment → Type 0) (serves : Stamp → Type 0) (works_for : ℕ → Type 0) (s h : ℕ) (object : List ℕ) → Saving holds holds agrees agrees serves serves works_for works_for s s h h object [] []
+start holds agrees serves works_for s h object = record {
   all = [];
   many = refl;
   fetched = λ a so. tt;
   stored = λ papers is. (papers, is, refl);
   files = λ a so. so;
+  kept = λ s is. is;
+  works = λ always. always;
   shelf = omega arith;
   hand = omega arith;
 }
 
-pub next : {was mid : Papers → Type 0} {earlier then : Assignment → Type 0} {s t u h k m : ℕ} {object : List ℕ} {parts : List Part} {pins : List Stamp} (holds : Papers → Type 0) (agrees : Assignment → Type 0) (part : Part) (pin : Stamp) →
-    Saving was mid earlier then s t h k object parts pins →
+pub next : {was mid : Papers → Type 0} {earlier then : Assignment → Type 0} {early serving : Stamp → Type 0} {fresh mid_works : ℕ → Type 0} {s t u h k m : ℕ} {object : List ℕ} {parts : List Part} {pins : List Stamp} (holds : Papers → Type 0) (agrees : Assignment → Type 0) (serves : Stamp → Type 0) (works_for : ℕ → Type 0) (part : Part) (pin : Stamp) →
+    Saving was mid earlier then early serving fresh mid_works s t h k object parts pins →
     (bytes : List ℕ) × ((a : Assignment) → agrees a → IsFetched a part pin bytes) × ((papers : Papers) → holds papers → (before : Papers) × mid before × (papers ≡ insert before (part_key object part.name) bytes)) →
-    ((a : Assignment) → agrees a → then a) → t ≤ u → k ≤ m →
-    Saving was holds earlier agrees s u h m object (parts ++ part ∷ []) (pins ++ pin ∷ [])
-next {was = was} {object = object} {parts = parts} {pins = pins} holds agrees part pin so one files shelf hand =
+    ((a : Assignment) → agrees a → then a) → ((s : Stamp) → serving s → serves s) → (Always mid_works → Always works_for) → t ≤ u → k ≤ m →
+    Saving was holds earlier agrees early serves fresh works_for s u h m object (parts ++ part ∷ []) (pins ++ pin ∷ [])
+next {was = was} {object = object} {parts = parts} {pins = pins} holds agrees serves works_for part pin so one files kept works shelf hand =
     let stored : (papers : Papers) → holds papers → (before : Papers) × was before × (papers ≡ with_parts before object (parts ++ part ∷ []) (so.all ++ one.0 ∷ [])) = λ papers is.
     let last = one.2 papers is in
     let first = so.stored last.0 last.1 in
@@ -68,13 +72,15 @@ next {was = was} {object = object} {parts = parts} {pins = pins} holds agrees pa
       fetched = λ a is. more a parts pins so.all part pin one.0 (so.fetched a (files a is)) (one.1 a is);
       stored = stored;
       files = λ a is. so.files a (files a is);
+      kept = λ s is. kept s (so.kept s is);
+      works = λ always. works (so.works always);
       shelf = omega (arith, so.shelf, shelf);
       hand = omega (arith, so.hand, hand);
     }
 
 -- why a part was not saved is why they all were not
-pub since : {was mid : Papers → Type 0} {earlier then : Assignment → Type 0} {s t u h k m : ℕ} {object : List ℕ} {parts : List Part} {pins : List Stamp} (agrees : Assignment → Type 0) (all : List Part) (stamps : List Stamp) (part : Part) (pin : Stamp) (number : ℕ) →
-    slice_get all number ≡ Some part → slice_get stamps number ≡ Some pin → Saving was mid earlier then s t h k object parts pins → t ≤ u → k ≤ m →
+pub since : {was mid : Papers → Type 0} {earlier then : Assignment → Type 0} {early serving : Stamp → Type 0} {fresh mid_works : ℕ → Type 0} {s t u h k m : ℕ} {object : List ℕ} {parts : List Part} {pins : List Stamp} (agrees : Assignment → Type 0) (all : List Part) (stamps : List Stamp) (part : Part) (pin : Stamp) (number : ℕ) →
+    slice_get all number ≡ Some part → slice_get stamps number ≡ Some pin → Saving was mid earlier then early serving fresh mid_works s t h k object parts pins → t ≤ u → k ≤ m →
     (e : SaveFault) → PinSaveCause agrees part pin number (Failed t u ⊎ Failed k m) e → SaveCause agrees all stamps (Failed s u ⊎ Failed h m) e
 since agrees all stamps part pin number there under so shelf hand (Damaged n) cause = λ a is. subst (λ j. IsDamagedPin a all stamps j) (sym cause.0) (record { part = part; pin = pin; part_there = there; pin_there = under; damaged = cause.1 a is })
 since {s = s} {t = t} {u = u} {h = h} {k = k} {m = m} agrees all stamps part pin number there under so shelf hand (Device n) cause = (subst (λ j. j < length all) (sym cause.0) (slice_get_within all number part there), either cause.1) where
@@ -84,17 +90,17 @@ since {s = s} {t = t} {u = u} {h = h} {k = k} {m = m} agrees all stamps part pin
 since agrees all stamps part pin number there under so shelf hand Memory cause = tt
 
 -- nothing of the next part is stored
-none_of : {was mid : Papers → Type 0} {earlier then : Assignment → Type 0} {s t h k : ℕ} {object : List ℕ} (agrees : Assignment → Type 0) (all : List Part) (pins : List Stamp) (n : ℕ) →
-    Saving was mid earlier then s t h k object (take n all) (take n pins) → ((a : Assignment) → agrees a → then a) →
+none_of : {was mid : Papers → Type 0} {earlier then : Assignment → Type 0} {early serving : Stamp → Type 0} {fresh mid_works : ℕ → Type 0} {s t h k : ℕ} {object : List ℕ} (agrees : Assignment → Type 0) (all : List Part) (pins : List Stamp) (n : ℕ) →
+    Saving was mid earlier then early serving fresh mid_works s t h k object (take n all) (take n pins) → ((a : Assignment) → agrees a → then a) →
     (last papers : Papers) → mid last → papers ≡ last → (before : Papers) × was before × IsSavedTo agrees before papers object all pins n
 none_of agrees all pins n so files last papers is same =
     let first = so.stored last is in
     (first.0, first.1, record { all = so.all; fetched = λ a with. so.fetched a (files a with); many = so.many; stored = same ∙ first.2 })
 
 -- the next part is stored
-one_more : {was mid : Papers → Type 0} {earlier then : Assignment → Type 0} {s t h k : ℕ} {object : List ℕ} (agrees : Assignment → Type 0) (all : List Part) (pins : List Stamp) (part : Part) (pin : Stamp) (n : ℕ) →
+one_more : {was mid : Papers → Type 0} {earlier then : Assignment → Type 0} {early serving : Stamp → Type 0} {fresh mid_works : ℕ → Type 0} {s t h k : ℕ} {object : List ℕ} (agrees : Assignment → Type 0) (all : List Part) (pins : List Stamp) (part : Part) (pin : Stamp) (n : ℕ) →
     take (n + 1) all ≡ take n all ++ part ∷ [] → take (n + 1) pins ≡ take n pins ++ pin ∷ [] →
-    Saving was mid earlier then s t h k object (take n all) (take n pins) → ((a : Assignment) → agrees a → then a) →
+    Saving was mid earlier then early serving fresh mid_works s t h k object (take n all) (take n pins) → ((a : Assignment) → agrees a → then a) →
     (last papers : Papers) → mid last → IsStored agrees last papers object part pin → (before : Papers) × was before × IsSavedTo agrees before papers object all pins (n + 1)
 one_more {object = object} agrees all pins part pin n longer further so files last papers is one =
     let first = so.stored last is in
@@ -107,9 +113,9 @@ one_more {object = object} agrees all pins part pin n longer further so files la
     (first.0, first.1, record { all = rows; fetched = fetched; many = many; stored = stored })
 
 -- what a refused part leaves is what the call leaves
-pub leaves : {was mid : Papers → Type 0} {earlier then : Assignment → Type 0} {s t h k : ℕ} {object : List ℕ} (holds : Papers → Type 0) (agrees : Assignment → Type 0) (failed : Type 0) (all : List Part) (pins : List Stamp) (part : Part) (pin : Stamp) (n : ℕ) →
+pub leaves : {was mid : Papers → Type 0} {earlier then : Assignment → Type 0} {early serving : Stamp → Type 0} {fresh mid_works : ℕ → Type 0} {s t h k : ℕ} {object : List ℕ} (holds : Papers → Type 0) (agrees : Assignment → Type 0) (failed : Type 0) (all : List Part) (pins : List Stamp) (part : Part) (pin : Stamp) (n : ℕ) →
     take (n + 1) all ≡ take n all ++ part ∷ [] → take (n + 1) pins ≡ take n pins ++ pin ∷ [] →
-    Saving was mid earlier then s t h k object (take n all) (take n pins) → ((a : Assignment) → agrees a → then a) →
+    Saving was mid earlier then early serving fresh mid_works s t h k object (take n all) (take n pins) → ((a : Assignment) → agrees a → then a) →
     (e : SaveFault) → PinSaveCause agrees part pin n failed e → PartLeaves agrees mid holds object part pin e → SaveLeaves agrees was holds object all pins e
 leaves holds agrees failed all pins part pin n longer further so files (Damaged m) cause left papers is =
     let one = left papers is in
@@ -151,3 +157,8 @@ pub nothing_left : (agrees : Assignment → Type 0) (holds : Papers → Type 0) 
 nothing_left agrees holds object part pin (Damaged n) papers is = (papers, is, refl)
 nothing_left agrees holds object part pin (Device n) papers is = (papers, is, inl refl)
 nothing_left agrees holds object part pin Memory papers is = (papers, is, inl refl)
+
+-- over a hand that works the shelf failed
+pub shelf_since : {was mid : Papers → Type 0} {earlier then : Assignment → Type 0} {early serving : Stamp → Type 0} {fresh mid_works : ℕ → Type 0} {s t u h k : ℕ} {object : List ℕ} {parts : List Part} {pins : List Stamp} →
+    Saving was mid earlier then early serving fresh mid_works s t h k object parts pins → t ≤ u → Failed t u → Failed s u
+shelf_since {s = s} {t = t} {u = u} so shelf f = failed_since s t u so.shelf shelf f

@@ -1,5 +1,5 @@
 -- What is assumed of devices: what was written is what is read.
-use Rattle.std.specs.Prelude.{◌≡◌, ℕ, ◌+◌, ◌-◌, ◌^◌, ◌<◌, ◌≤◌, ◌⊎◌, List, length, take, drop, Option, Some, None, Result, Ok, Err}
+use Rattle.std.specs.Prelude.{◌≡◌, ℕ, ◌+◌, ◌-◌, ◌^◌, ◌<◌, ◌≤◌, ◌⊎◌, List, length, take, drop, Option, Some, None, Result, Ok, Err, slice_get}
 use Rattle.std.specs.Ordering.{nat_cmp}
 use Rattle.std.specs.FinMap.{FinMap, get}
 use Rattle.shelf_core.specs.declared.hand.HandFault.{HandFault}
@@ -56,3 +56,15 @@ Failed before now = (before < now) ⊎ (before ≡ 2 ^ 64 - 1)
 abbrev pub FaultCause : ℕ → ℕ → HandFault → Type 0
 FaultCause before now Device = Failed before now
 FaultCause before now Memory = Unit {0}
+
+-- No file of this number is being written, as far as some assignment agrees with the device.
+abbrev pub IsFree : (Assignment → Type 0) → (ℕ → List ℕ → Type 0) → ℕ → Type 0
+IsFree agrees pending number = (a : Assignment) → agrees a → (b : List ℕ) → pending number b → ⊥
+
+-- a device is in order for as many calls as one may make
+abbrev pub Always : (ℕ → Type 0) → Type 0
+Always works_for = (n : ℕ) → works_for n
+
+-- each of these files can be read
+abbrev pub AreServed : (Stamp → Type 0) → List Stamp → Type 0
+AreServed serves pins = (p : ℕ) (pin : Stamp) → slice_get pins p ≡ Some pin → serves pin

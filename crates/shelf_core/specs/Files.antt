@@ -1,9 +1,10 @@
 -- The files of a hand in memory.
-use Rattle.std.specs.Prelude.{◌≡◌, ◌≢◌, ℕ, zero, suc, ◌+◌, ◌-◌, ◌^◌, min, List, Option, Some, None, Result, Ok, Err, slice_get}
+use Rattle.std.specs.Prelude.{◌≡◌, ◌≢◌, ℕ, zero, suc, ◌+◌, ◌-◌, ◌^◌, ◌≤◌, min, List, length, Option, Some, None, Result, Ok, Err, slice_get}
 use Rattle.std.specs.FinMap.{get}
 use Rattle.shelf_core.specs.Device.{Assignment}
 use Rattle.shelf_core.specs.declared.hand.HandFault.{HandFault}
 use Rattle.shelf_core.specs.declared.hand.HandFault.TheVariants.{Device, Memory}
+use Rattle.shelf_core.specs.declared.hand.Stamp.{Stamp}
 use Rattle.shelf_core.specs.declared.memory.MemHand.{MemHand}
 use Rattle.shelf_core.specs.declared.file.File.{File}
 use Rattle.shelf_core.specs.declared.file.State.{State}
@@ -58,6 +59,10 @@ IsOpen files n b = open_of (file_at files n) ≡ Some b
 -- the file of this number is sealed and not retired, and has these bytes
 abbrev pub IsKept : List File → ℕ → List ℕ → Type 0
 IsKept files n b = kept_of (file_at files n) ≡ Some b
+
+-- the file of a stamp is sealed and not retired, and is as long as the stamp says
+abbrev pub Serves : List File → Stamp → Type 0
+Serves files stamp = (b : List ℕ) × IsKept files stamp.number b × (stamp.len ≤ length b)
 
 -- new has this file at this number, and elsewhere what old has
 pub record Puts (old new : List File) (n : ℕ) (file : File) : Type 0 where

@@ -1,9 +1,11 @@
 pub mod Device
 pub mod Faults
 pub mod Files
+pub mod Made
+pub mod MadeFiles
 pub mod MemShelf
 pub mod Opened
 pub mod Papers
-pub mod Wrapped
 pub mod Pins
 pub mod Saved
+pub mod Wrapped

@@ -1,5 +1,5 @@
 -- The parts of an object, from a shelf to a hand.
-use Rattle.std.specs.Prelude.{◌≡◌, ℕ, List, [], ◌∷◌, Option, Some, None, slice_get, codes}
+use Rattle.std.specs.Prelude.{◌≡◌, ℕ, ◌<◌, List, [], ◌∷◌, Option, Some, None, slice_get, codes}
 use Rattle.std.specs.FinMap.{get}
 use Rattle.value_core.specs.declared.kind.Kind.{Kind}
 use Rattle.value_core.specs.Contents.{Contents}
@@ -40,19 +40,21 @@ pub record IsPinned (a : Assignment) (kind : Kind) (pin : Stamp) (value : Conten
   pub spells : Spells bytes kind value
   pub sealed : Holds a pin bytes
 
--- a part of the object of this name has its value from the shelf, and its pin has the value's spelling
-pub record IsOpened (papers : Papers) (a : Assignment) (object : List ℕ) (part : Part) (pin : Stamp) (value : Contents) : Type 0 where
-  pub loaded : BeginsWith part.kind (get papers (part_key object part.name)) value
-  pub pinned : IsPinned a part.kind pin value
+-- part by part: each part of the object of this name has its value from the shelf
+abbrev pub AreLoaded : Papers → List ℕ → List Part → List Contents → Type 0
+AreLoaded papers object [] [] = Unit {0}
+AreLoaded papers object (part ∷ parts) (value ∷ values) = BeginsWith part.kind (get papers (part_key object part.name)) value × AreLoaded papers object parts values
+AreLoaded papers object [] (value ∷ values) = ⊥
+AreLoaded papers object (part ∷ parts) [] = ⊥
 
--- part by part, with one pin and one value each
-abbrev pub AreOpened : Papers → Assignment → List ℕ → List Part → List Stamp → List Contents → Type 0
-AreOpened papers a object [] [] [] = Unit {0}
-AreOpened papers a object (part ∷ parts) (pin ∷ pins) (value ∷ values) = IsOpened papers a object part pin value × AreOpened papers a object parts pins values
-AreOpened papers a object [] [] (value ∷ values) = ⊥
-AreOpened papers a object [] (pin ∷ pins) values = ⊥
-AreOpened papers a object (part ∷ parts) [] values = ⊥
-AreOpened papers a object (part ∷ parts) (pin ∷ pins) [] = ⊥
+-- part by part: each pin was sealed with the spelling of its part's value
+abbrev pub ArePinned : Assignment → List Part → List Stamp → List Contents → Type 0
+ArePinned a [] [] [] = Unit {0}
+ArePinned a (part ∷ parts) (pin ∷ pins) (value ∷ values) = IsPinned a part.kind pin value × ArePinned a parts pins values
+ArePinned a [] [] (value ∷ values) = ⊥
+ArePinned a [] (pin ∷ pins) values = ⊥
+ArePinned a (part ∷ parts) [] values = ⊥
+ArePinned a (part ∷ parts) (pin ∷ pins) [] = ⊥
 
 -- there are bytes, and they spell no value of this kind
 pub record AreDamaged (kind : Kind) (found : Option (List ℕ)) : Type 0 where
@@ -66,9 +68,14 @@ pub record IsDamaged (papers : Papers) (object : List ℕ) (parts : List Part) (
   pub there : slice_get parts number ≡ Some part
   pub damaged : AreDamaged part.kind (get papers (part_key object part.name))
 
--- Why the parts of an object were not opened: a part is damaged, whatever the shelf may hold, or a device failed.
+-- the part of this number is damaged, and none before it
+pub record IsFirstDamaged (papers : Papers) (object : List ℕ) (parts : List Part) (number : ℕ) : Type 0 where
+  pub here : IsDamaged papers object parts number
+  pub first : (n : ℕ) → n < number → IsDamaged papers object parts n → ⊥
+
+-- Why the parts of an object were not opened: a part is the first damaged one, whatever the shelf may hold, or a device failed.
 abbrev pub OpenCause : (Papers → Type 0) → List ℕ → List Part → Type 0 → OpenFault → Type 0
-OpenCause holds object parts failed (Damaged number) = (papers : Papers) → holds papers → IsDamaged papers object parts number
+OpenCause holds object parts failed (Damaged number) = (papers : Papers) → holds papers → IsFirstDamaged papers object parts number
 OpenCause holds object parts failed Device = failed
 OpenCause holds object parts failed Memory = Unit {0}
 

@@ -209,6 +209,15 @@ impl<R: Files + AllocGlobal> Hand for DirHand<R> {
 
     ghost pending = { λ h n b. Unit {0} };
 
+    ghost serves = { λ h s. Unit {0} };
+
+    // Nor can one say that it is in order.
+    ghost works_for = { λ h n. ⊥ };
+
+    ghost fails = { λ h. ⊥ };
+
+    ghost makes = { λ h call k. Unit {0} };
+
     ghost failed = { λ h. h.failures };
 
     fn create(&mut self) -> Result<Pen, HandFault> {

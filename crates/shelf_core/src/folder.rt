@@ -1,6 +1,6 @@
 //! What the devices in a folder have in common: their faults.
 
-ghost use Rattle.std.specs.Prelude.{◌≡◌, ◌≢◌, ◌≤◌};
+ghost use Rattle.std.specs.Prelude.{◌≡◌, ◌≢◌, ◌<◌, ◌≤◌};
 ghost use Rattle.std.specs.IoError.{error_kind};
 ghost use Rattle.shelf_core.specs.Device.{FaultCause};
 
@@ -32,6 +32,7 @@ pub fn count(failures: &mut u64, fault: HandFault) -> HandFault
     ensures fault { result ≡ fault }
     ensures counted { failures.old ≤ failures.new }
     ensures cause { FaultCause failures.old failures.new result }
+    ensures rises { failures.old < failures.new → result ≡ HandFault.Device }
 {
     match fault {
         HandFault::Device => *failures = failures.saturating_add(1),

@@ -56,10 +56,13 @@ pub struct Stamp {
 /// A device that holds files by number. A file is written once, by a pen, and sealed; then it is read.
 ///
 /// A hand is driven by one thread. The clauses carry the device premise from call to call: an assignment
-/// agrees with the hand after a call exactly where it agreed before and agrees with that call.
+/// agrees with the hand after a call exactly where it agreed before and agrees with that call. They say too
+/// when a device is in order, so that a call does not fail for it, and what it can read then.
 pub trait Hand {
-    ghost use Rattle.std.specs.Prelude.{◌≡◌, ◌≢◌, ◌↔◌, ◌+◌, ◌≤◌, ◌++◌, [], List, ℕ, length, IfOk, OnOk, OnErr, IfErr};
-    ghost use Rattle.shelf_core.specs.Device.{Assignment, SealAgrees, ReadAgrees, FaultCause};
+    ghost use Rattle.std.specs.Prelude.{◌≡◌, ◌≢◌, ◌↔◌, ◌+◌, ◌<◌, ◌≤◌, ◌++◌, [], List, ℕ, length, IfOk, OnOk, OnErr, IfErr};
+    ghost use Rattle.shelf_core.specs.Device.{Assignment, SealAgrees, ReadAgrees, FaultCause, IsFree};
+    ghost use Rattle.shelf_core.specs.Made.{Made, creates, appends, seals, discards, reads, retires, IsDeviceErr, IsSealErr};
+    ghost use Rattle.shelf_core.specs.declared.hand.Stamp.{Stamp};
 
     /// The assignments that agree with each call so far.
     ghost agrees: { Self → Assignment → Type 0 };
@@ -67,14 +70,34 @@ pub trait Hand {
     /// What was appended to a pen that is neither sealed nor discarded, as far as it is known.
     ghost pending: { Self → ℕ → List ℕ → Type 0 };
 
+    /// The files that can be read while the device is in order.
+    ghost serves: { Self → Stamp → Type 0 };
+
+    /// The device is in order for so many calls of `create`, `append`, `seal`, `read` and `retire`.
+    ghost works_for: { Self → ℕ → Type 0 };
+
+    /// The next one of these calls fails for the device.
+    ghost fails: { Self → Type 0 };
+
+    /// What a call did: the hand before it, the call with its answer, and the hand after it. No law is known
+    /// of it, so a hand that stands over another one can show it of that one only by making that very call.
+    ghost makes: { Self → Made → Self → Type 0 };
+
     /// How often a call has failed for the device.
     ghost failed: { Self → ℕ };
 
-    /// Begins a file.
+    /// Begins a file, under a number that no other file has that is being written.
     fn create(&mut self) -> Result<Pen, HandFault>
         ensures pen { IfOk result (λ pen. pending self.new pen.number []) }
+        ensures unused { IfOk result (λ pen. IsFree (agrees self.new) (pending self.old) pen.number) }
         ensures others { (n : ℕ) (b : List ℕ) → pending self.old n b → pending self.new n b }
         ensures agrees { (a : Assignment) → agrees self.new a ↔ agrees self.old a }
+        ensures serves { (s : Stamp) → serves self.old s → serves self.new s }
+        ensures works { (n : ℕ) → works_for self.old (n + 1) → works_for self.new n }
+        ensures in_order { works_for self.old 1 → IsDeviceErr result → ⊥ }
+        ensures fails { fails self.old → IsDeviceErr result }
+        ensures makes { makes self.old (creates result) self.new }
+        ensures rises { failed self.old < failed self.new → IsDeviceErr result }
         ensures counted { failed self.old ≤ failed self.new }
         ensures cause { IfErr result (λ e. FaultCause (failed self.old) (failed self.new) e) };
 
@@ -84,6 +107,12 @@ pub trait Hand {
         ensures pen { OnOk result ((b : List ℕ) → pending self.old pen.old.number b → pending self.new pen.old.number (b ++ bytes.now)) }
         ensures others { (n : ℕ) (b : List ℕ) → n ≢ pen.old.number → pending self.old n b → pending self.new n b }
         ensures agrees { (a : Assignment) → agrees self.new a ↔ agrees self.old a }
+        ensures serves { (s : Stamp) → serves self.old s → serves self.new s }
+        ensures works { (n : ℕ) → works_for self.old (n + 1) → works_for self.new n }
+        ensures in_order { works_for self.old 1 → (b : List ℕ) → pending self.old pen.old.number b → IsDeviceErr result → ⊥ }
+        ensures fails { fails self.old → IsDeviceErr result }
+        ensures makes { makes self.old (appends pen.old.number bytes.now result) self.new }
+        ensures rises { failed self.old < failed self.new → IsDeviceErr result }
         ensures counted { failed self.old ≤ failed self.new }
         ensures cause { IfErr result (λ e. FaultCause (failed self.old) (failed self.new) e) };
 
@@ -94,6 +123,14 @@ pub trait Hand {
         ensures agrees { (b : List ℕ) → pending self.old pen.number b → (a : Assignment) → agrees self.new a ↔ agrees self.old a × SealAgrees a b result }
         ensures kept { (a : Assignment) → agrees self.new a → agrees self.old a }
         ensures failing { OnErr result ((a : Assignment) → agrees self.new a ↔ agrees self.old a) }
+        ensures sealed { OnOk result (IsFree (agrees self.new) (pending self.new) pen.number) }
+        ensures served { IfOk result (λ stamp. serves self.new stamp) }
+        ensures serves { (s : Stamp) → serves self.old s → serves self.new s }
+        ensures works { (n : ℕ) → works_for self.old (n + 1) → works_for self.new n }
+        ensures in_order { works_for self.old 1 → (b : List ℕ) → pending self.old pen.number b → IsSealErr result → ⊥ }
+        ensures fails { fails self.old → IsSealErr result }
+        ensures makes { makes self.old (seals pen result) self.new }
+        ensures rises { failed self.old < failed self.new → IsSealErr result }
         ensures counted { failed self.old ≤ failed self.new }
         ensures cause { IfErr result (λ e. FaultCause (failed self.old) (failed self.new) e.1) };
 
@@ -101,6 +138,10 @@ pub trait Hand {
     fn discard(&mut self, pen: Pen)
         ensures others { (n : ℕ) (b : List ℕ) → n ≢ pen.number → pending self.old n b → pending self.new n b }
         ensures agrees { (a : Assignment) → agrees self.new a ↔ agrees self.old a }
+        ensures given_up { IsFree (agrees self.new) (pending self.new) pen.number }
+        ensures serves { (s : Stamp) → serves self.old s → serves self.new s }
+        ensures works { (n : ℕ) → works_for self.old n → works_for self.new n }
+        ensures makes { makes self.old (discards pen) self.new }
         ensures counted { failed self.new ≡ failed self.old };
 
     /// Fills the slice with the bytes of a file that stand at this place. After a failure its content is open.
@@ -108,6 +149,12 @@ pub trait Hand {
         requires { at + length into.old ≤ stamp.now.len }
         ensures others { (n : ℕ) (b : List ℕ) → pending self.old n b → pending self.new n b }
         ensures agrees { (a : Assignment) → agrees self.new a ↔ agrees self.old a × ReadAgrees a stamp.now.number at into.new result }
+        ensures serves { (s : Stamp) → serves self.old s → serves self.new s }
+        ensures works { (n : ℕ) → works_for self.old (n + 1) → works_for self.new n }
+        ensures in_order { works_for self.old 1 → serves self.old stamp.now → IsDeviceErr result → ⊥ }
+        ensures fails { fails self.old → IsDeviceErr result }
+        ensures makes { makes self.old (reads stamp.now at into.new result) self.new }
+        ensures rises { failed self.old < failed self.new → IsDeviceErr result }
         ensures counted { failed self.old ≤ failed self.new }
         ensures cause { IfErr result (λ e. FaultCause (failed self.old) (failed self.new) e) };
 
@@ -115,6 +162,12 @@ pub trait Hand {
     fn retire(&mut self, stamp: &Stamp) -> Result<(), HandFault>
         ensures others { (n : ℕ) (b : List ℕ) → pending self.old n b → pending self.new n b }
         ensures agrees { (a : Assignment) → agrees self.new a ↔ agrees self.old a }
+        ensures serves { (s : Stamp) → s.number ≢ stamp.now.number → serves self.old s → serves self.new s }
+        ensures works { (n : ℕ) → works_for self.old (n + 1) → works_for self.new n }
+        ensures in_order { works_for self.old 1 → serves self.old stamp.now → IsDeviceErr result → ⊥ }
+        ensures fails { fails self.old → IsDeviceErr result }
+        ensures makes { makes self.old (retires stamp.now result) self.new }
+        ensures rises { failed self.old < failed self.new → IsDeviceErr result }
         ensures counted { failed self.old ≤ failed self.new }
         ensures cause { IfErr result (λ e. FaultCause (failed self.old) (failed self.new) e) };
 

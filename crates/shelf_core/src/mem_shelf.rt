@@ -104,6 +104,7 @@ impl Shelf for MemShelf {
 
     fn store(&mut self, name: &[u8], bytes: &[u8]) -> Result<(), HandFault>
         ensures agrees { (papers : Papers) → papers ≡ self.new → (before : Papers) × (before ≡ self.old) × StoreAgrees before name.now bytes.now result papers }
+        ensures follows { (before : Papers) → before ≡ self.old → (papers : Papers) × (papers ≡ self.new) × StoreAgrees before name.now bytes.now result papers }
         ensures counted { 0 ≤ 0 }
         ensures cause { IfErr result (λ e. FaultCause 0 0 e) }
         // What this shelf promises besides: the bytes are there or nothing changed, and only memory can be refused.

@@ -55,20 +55,38 @@ impl Hand for MemHand {
     ghost use Rattle.std.specs.Prelude.{◌≡◌, ◌≢◌, ◌↔◌, ◌+◌, ◌^◌, ◌<◌, ◌≤◌, ◌++◌, [], List, ℕ, length, IfOk, OnOk, OnErr, IfErr};
     ghost use Rattle.std.specs.Result.{IsErrOf, IsErr};
     ghost use Rattle.shelf_core.specs.declared.file.State.TheVariants.{Open, Sealed, Retired, Discarded};
-    ghost use Rattle.shelf_core.specs.Device.{Assignment, SealAgrees, ReadAgrees, FaultCause};
-    ghost use Rattle.shelf_core.specs.Files.{HasFiles, IsOpen, IsKept, Becomes, files_of, failures_of, failures_after, more_failures};
+    ghost use Rattle.shelf_core.specs.Device.{Assignment, SealAgrees, ReadAgrees, FaultCause, IsFree};
+    ghost use Rattle.shelf_core.specs.Made.{creates, appends, seals, discards, reads, retires, IsDeviceErr, IsSealErr};
+    ghost use Rattle.shelf_core.specs.declared.hand.Stamp.{Stamp};
+    ghost use Rattle.shelf_core.specs.MadeFiles.{Makes};
+    ghost use Rattle.shelf_core.specs.Files.{HasFiles, IsOpen, IsKept, Serves, Becomes, files_of, failures_of, failures_after, more_failures};
 
     ghost agrees = { λ h a. HasFiles (files_of h) a };
 
     ghost pending = { λ h n b. IsOpen (files_of h) n b };
+
+    ghost serves = { λ h s. Serves (files_of h) s };
+
+    ghost works_for = { λ h n. Unit {0} };
+
+    ghost fails = { λ h. ⊥ };
+
+    ghost makes = { λ h call k. Makes (files_of h) (files_of k) call };
 
     ghost failed = { λ h. failures_of h };
 
     /// `Device` exactly at 2^63 files; `Memory` where memory is refused.
     fn create(&mut self) -> Result<Pen, HandFault>
         ensures pen { IfOk result (λ pen. IsOpen (files_of self.new) pen.number []) }
+        ensures unused { IfOk result (λ pen. IsFree (HasFiles (files_of self.new)) (IsOpen (files_of self.old)) pen.number) }
         ensures others { (n : ℕ) (b : List ℕ) → IsOpen (files_of self.old) n b → IsOpen (files_of self.new) n b }
         ensures agrees { (a : Assignment) → HasFiles (files_of self.new) a ↔ HasFiles (files_of self.old) a }
+        ensures serves { (s : Stamp) → Serves (files_of self.old) s → Serves (files_of self.new) s }
+        ensures works { (n : ℕ) → Unit {0} → Unit {0} }
+        ensures in_order { Unit {0} → IsDeviceErr result → ⊥ }
+        ensures fails { ⊥ → IsDeviceErr result }
+        ensures makes { Makes (files_of self.old) (files_of self.new) (creates result) }
+        ensures rises { failures_of self.old < failures_of self.new → IsDeviceErr result }
         ensures counted { failures_of self.old ≤ failures_of self.new }
         ensures cause { IfErr result (λ e. FaultCause (failures_of self.old) (failures_of self.new) e) }
         ensures fresh { IfOk result (λ pen. pen.number ≡ length (files_of self.old) + 1) }
@@ -96,6 +114,12 @@ impl Hand for MemHand {
         ensures pen { OnOk result ((b : List ℕ) → IsOpen (files_of self.old) pen.old.number b → IsOpen (files_of self.new) pen.old.number (b ++ bytes.now)) }
         ensures others { (n : ℕ) (b : List ℕ) → n ≢ pen.old.number → IsOpen (files_of self.old) n b → IsOpen (files_of self.new) n b }
         ensures agrees { (a : Assignment) → HasFiles (files_of self.new) a ↔ HasFiles (files_of self.old) a }
+        ensures serves { (s : Stamp) → Serves (files_of self.old) s → Serves (files_of self.new) s }
+        ensures works { (n : ℕ) → Unit {0} → Unit {0} }
+        ensures in_order { Unit {0} → (b : List ℕ) → IsOpen (files_of self.old) pen.old.number b → IsDeviceErr result → ⊥ }
+        ensures fails { ⊥ → IsDeviceErr result }
+        ensures makes { Makes (files_of self.old) (files_of self.new) (appends pen.old.number bytes.now result) }
+        ensures rises { failures_of self.old < failures_of self.new → IsDeviceErr result }
         ensures counted { failures_of self.old ≤ failures_of self.new }
         ensures cause { IfErr result (λ e. FaultCause (failures_of self.old) (failures_of self.new) e) }
         ensures length { length (files_of self.new) ≡ length (files_of self.old) }
@@ -122,6 +146,14 @@ impl Hand for MemHand {
         ensures agrees { (b : List ℕ) → IsOpen (files_of self.old) pen.number b → (a : Assignment) → HasFiles (files_of self.new) a ↔ HasFiles (files_of self.old) a × SealAgrees a b result }
         ensures kept { (a : Assignment) → HasFiles (files_of self.new) a → HasFiles (files_of self.old) a }
         ensures failing { OnErr result ((a : Assignment) → HasFiles (files_of self.new) a ↔ HasFiles (files_of self.old) a) }
+        ensures served { IfOk result (λ stamp. Serves (files_of self.new) stamp) }
+        ensures serves { (s : Stamp) → Serves (files_of self.old) s → Serves (files_of self.new) s }
+        ensures works { (n : ℕ) → Unit {0} → Unit {0} }
+        ensures in_order { Unit {0} → (b : List ℕ) → IsOpen (files_of self.old) pen.number b → IsSealErr result → ⊥ }
+        ensures fails { ⊥ → IsSealErr result }
+        ensures makes { Makes (files_of self.old) (files_of self.new) (seals pen result) }
+        ensures rises { failures_of self.old < failures_of self.new → IsSealErr result }
+        ensures sealed { OnOk result (IsFree (HasFiles (files_of self.new)) (IsOpen (files_of self.new)) pen.number) }
         ensures counted { failures_of self.old ≤ failures_of self.new }
         ensures cause { IfErr result (λ e. FaultCause (failures_of self.old) (failures_of self.new) e.1) }
         ensures length { length (files_of self.new) ≡ length (files_of self.old) }
@@ -148,6 +180,10 @@ impl Hand for MemHand {
     fn discard(&mut self, pen: Pen)
         ensures others { (n : ℕ) (b : List ℕ) → n ≢ pen.number → IsOpen (files_of self.old) n b → IsOpen (files_of self.new) n b }
         ensures agrees { (a : Assignment) → HasFiles (files_of self.new) a ↔ HasFiles (files_of self.old) a }
+        ensures serves { (s : Stamp) → Serves (files_of self.old) s → Serves (files_of self.new) s }
+        ensures works { (n : ℕ) → Unit {0} → Unit {0} }
+        ensures makes { Makes (files_of self.old) (files_of self.new) (discards pen) }
+        ensures given_up { IsFree (HasFiles (files_of self.new)) (IsOpen (files_of self.new)) pen.number }
         ensures counted { failures_of self.new ≡ failures_of self.old }
         ensures length { length (files_of self.new) ≡ length (files_of self.old) }
         ensures ends { (b : List ℕ) → IsOpen (files_of self.old) pen.number b → Becomes (files_of self.old) (files_of self.new) pen.number Discarded b }
@@ -162,6 +198,12 @@ impl Hand for MemHand {
         requires { at + length into.old ≤ stamp.now.len }
         ensures others { (n : ℕ) (b : List ℕ) → IsOpen (files_of self.old) n b → IsOpen (files_of self.new) n b }
         ensures agrees { (a : Assignment) → HasFiles (files_of self.new) a ↔ HasFiles (files_of self.old) a × ReadAgrees a stamp.now.number at into.new result }
+        ensures serves { (s : Stamp) → Serves (files_of self.old) s → Serves (files_of self.new) s }
+        ensures works { (n : ℕ) → Unit {0} → Unit {0} }
+        ensures in_order { Unit {0} → Serves (files_of self.old) stamp.now → IsDeviceErr result → ⊥ }
+        ensures fails { ⊥ → IsDeviceErr result }
+        ensures makes { Makes (files_of self.old) (files_of self.new) (reads stamp.now at into.new result) }
+        ensures rises { failures_of self.old < failures_of self.new → IsDeviceErr result }
         ensures counted { failures_of self.old ≤ failures_of self.new }
         ensures cause { IfErr result (λ e. FaultCause (failures_of self.old) (failures_of self.new) e) }
         ensures same { files_of self.new ≡ files_of self.old }
@@ -180,6 +222,12 @@ impl Hand for MemHand {
     fn retire(&mut self, stamp: &Stamp) -> Result<(), HandFault>
         ensures others { (n : ℕ) (b : List ℕ) → IsOpen (files_of self.old) n b → IsOpen (files_of self.new) n b }
         ensures agrees { (a : Assignment) → HasFiles (files_of self.new) a ↔ HasFiles (files_of self.old) a }
+        ensures serves { (s : Stamp) → s.number ≢ stamp.now.number → Serves (files_of self.old) s → Serves (files_of self.new) s }
+        ensures works { (n : ℕ) → Unit {0} → Unit {0} }
+        ensures in_order { Unit {0} → Serves (files_of self.old) stamp.now → IsDeviceErr result → ⊥ }
+        ensures fails { ⊥ → IsDeviceErr result }
+        ensures makes { Makes (files_of self.old) (files_of self.new) (retires stamp.now result) }
+        ensures rises { failures_of self.old < failures_of self.new → IsDeviceErr result }
         ensures counted { failures_of self.old ≤ failures_of self.new }
         ensures cause { IfErr result (λ e. FaultCause (failures_of self.old) (failures_of self.new) e) }
         ensures length { length (files_of self.new) ≡ length (files_of self.old) }

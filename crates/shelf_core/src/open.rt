@@ -1,12 +1,12 @@
 //! The parts of an object, from a shelf to a hand.
 
-ghost use Rattle.std.specs.Prelude.{◌≡◌, ◌≤◌, ◌⊎◌, [], ◌∷◌, ◌++◌, length, map, IfOk, OnOk, IfErr};
+ghost use Rattle.std.specs.Prelude.{◌≡◌, ◌≤◌, ◌⊎◌, ℕ, [], ◌∷◌, ◌++◌, length, map, IfOk, OnOk, IfErr};
 ghost use Rattle.std.specs.FinMap.{get};
 ghost use Rattle.value_core.specs.Contents.{kind_of};
 ghost use Rattle.value_core.specs.Kinds.{IsKind};
-ghost use Rattle.shelf_core.specs.Device.{Assignment, Failed};
+ghost use Rattle.shelf_core.specs.Device.{Assignment, Failed, Always, AreServed};
 ghost use Rattle.shelf_core.specs.Papers.{Papers, part_key};
-ghost use Rattle.shelf_core.specs.Opened.{open_fault_number, open_fault_name, open_fault_of, BeginsWith, IsPinned, IsOpened, AreOpened, OpenCause, PartCause, PinCause};
+ghost use Rattle.shelf_core.specs.Opened.{open_fault_number, open_fault_name, open_fault_of, BeginsWith, IsPinned, AreLoaded, ArePinned, OpenCause, PartCause, PinCause};
 
 use crate::hand::{Hand, HandFault, Stamp};
 use crate::pins::Pins;
@@ -123,6 +123,10 @@ fn load_value<S: Shelf>(
 fn pin_value<H: Hand>(alloc: Global, hand: &mut H, value: &Value) -> Result<Stamp, OpenFault>
     ensures ok { IfOk result (λ pin. (a : Assignment) → H.agrees hand.new a → IsPinned a (kind_of value.now) pin value.now) }
     ensures kept { (a : Assignment) → H.agrees hand.new a → H.agrees hand.old a }
+    ensures served { IfOk result (λ pin. H.serves hand.new pin) }
+    ensures serves { (s : Stamp) → H.serves hand.old s → H.serves hand.new s }
+    ensures works { Always (H.works_for hand.old) → Always (H.works_for hand.new) }
+    ensures in_order { Always (H.works_for hand.old) → IfErr result (λ e. e ≡ OpenFault.Device → ⊥) }
     ensures counted { H.failed hand.old ≤ H.failed hand.new }
     ensures cause { IfErr result (λ e. PinCause (Failed (H.failed hand.old) (H.failed hand.new)) e) }
 {
@@ -143,10 +147,15 @@ fn open_part<S: Shelf, H: Hand>(
     hand: &mut H,
     key: &mut Vec<u8>,
 ) -> Result<(Stamp, Value), OpenFault>
-    ensures ok { IfOk result (λ opened. (papers : Papers) → S.holds shelf.new papers → (a : Assignment) → H.agrees hand.new a → IsOpened papers a object.now part.now opened.0 opened.1) }
+    ensures loaded { IfOk result (λ opened. (papers : Papers) → S.holds shelf.new papers → BeginsWith part.now.kind (get papers (part_key object.now part.now.name)) opened.1) }
+    ensures pinned { IfOk result (λ opened. (a : Assignment) → H.agrees hand.new a → IsPinned a part.now.kind opened.0 opened.1) }
+    ensures served { IfOk result (λ opened. H.serves hand.new opened.0) }
     ensures kind { IfOk result (λ opened. kind_of opened.1 ≡ part.now.kind) }
     ensures papers { (papers : Papers) → S.holds shelf.new papers → S.holds shelf.old papers }
     ensures files { (a : Assignment) → H.agrees hand.new a → H.agrees hand.old a }
+    ensures serves { (s : Stamp) → H.serves hand.old s → H.serves hand.new s }
+    ensures works { Always (H.works_for hand.old) → Always (H.works_for hand.new) }
+    ensures in_order { Always (H.works_for hand.old) → IfErr result (λ e. e ≡ OpenFault.Device → Failed (S.failed shelf.old) (S.failed shelf.new)) }
     ensures counted_shelf { S.failed shelf.old ≤ S.failed shelf.new }
     ensures counted_hand { H.failed hand.old ≤ H.failed hand.new }
     ensures cause { IfErr result (λ e. PartCause (S.holds shelf.new) (part_key object.now part.now.name) part.now.kind number (Failed (S.failed shelf.old) (S.failed shelf.new) ⊎ Failed (H.failed hand.old) (H.failed hand.new)) e) }
@@ -185,11 +194,18 @@ pub fn open_parts<S: Shelf, H: Hand>(
     shelf: &mut S,
     hand: &mut H,
 ) -> Result<(Pins, Vec<Value>), OpenFault>
-    ensures ok { IfOk result (λ opened. (papers : Papers) → S.holds shelf.new papers → (a : Assignment) → H.agrees hand.new a → AreOpened papers a object.now.name object.now.parts.items opened.0 opened.1.items) }
+    ensures loaded { IfOk result (λ opened. (papers : Papers) → S.holds shelf.new papers → AreLoaded papers object.now.name object.now.parts.items opened.1.items) }
+    ensures pinned { IfOk result (λ opened. (a : Assignment) → H.agrees hand.new a → ArePinned a object.now.parts.items opened.0 opened.1.items) }
+    // Each pin can be read.
+    ensures served { IfOk result (λ opened. AreServed (H.serves hand.new) opened.0) }
     ensures many { IfOk result (λ opened. length opened.0 ≡ length object.now.parts.items) }
     ensures kinds { IfOk result (λ opened. map kind_of opened.1.items ≡ map (λ part. part.kind) object.now.parts.items) }
     ensures papers { (papers : Papers) → S.holds shelf.new papers → S.holds shelf.old papers }
     ensures files { (a : Assignment) → H.agrees hand.new a → H.agrees hand.old a }
+    ensures serves { (s : Stamp) → H.serves hand.old s → H.serves hand.new s }
+    ensures works { Always (H.works_for hand.old) → Always (H.works_for hand.new) }
+    // Over a hand that works only the shelf can fail.
+    ensures in_order { Always (H.works_for hand.old) → IfErr result (λ e. e ≡ OpenFault.Device → Failed (S.failed shelf.old) (S.failed shelf.new)) }
     ensures counted_shelf { S.failed shelf.old ≤ S.failed shelf.new }
     ensures counted_hand { H.failed hand.old ≤ H.failed hand.new }
     ensures cause { IfErr result (λ e. OpenCause (S.holds shelf.new) object.now.name object.now.parts.items (Failed (S.failed shelf.old) (S.failed shelf.new) ⊎ Failed (H.failed hand.old) (H.failed hand.new)) e) }

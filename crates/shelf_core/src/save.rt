@@ -2,7 +2,7 @@
 
 ghost use Rattle.std.specs.Prelude.{◌≡◌, ◌≤◌, ◌⊎◌, ℕ, List, length, IfOk, IfErr, OnOk, OnErr};
 ghost use Rattle.std.specs.FinMap.{insert};
-ghost use Rattle.shelf_core.specs.Device.{Assignment, Failed};
+ghost use Rattle.shelf_core.specs.Device.{Assignment, Failed, Always, AreServed};
 ghost use Rattle.shelf_core.specs.Papers.{Papers, part_key};
 ghost use Rattle.shelf_core.specs.Saved.{save_fault_number, save_fault_name, save_fault_of, IsFetched, AreFetched, with_parts, SaveCause, PinSaveCause, StoreCause, SaveLeaves, PartLeaves, StoreLeaves};
 
@@ -88,6 +88,9 @@ fn fetch_part<H: Hand>(
 ) -> Result<Vec<u8>, SaveFault>
     ensures ok { IfOk result (λ bytes. (a : Assignment) → H.agrees hand.new a → IsFetched a part.now pin.now bytes.items) }
     ensures files { (a : Assignment) → H.agrees hand.new a → H.agrees hand.old a }
+    ensures serves { (s : Stamp) → H.serves hand.old s → H.serves hand.new s }
+    ensures works { Always (H.works_for hand.old) → Always (H.works_for hand.new) }
+    ensures in_order { Always (H.works_for hand.old) → H.serves hand.old pin.now → IfErr result (λ e. (n : ℕ) → e ≡ SaveFault.Device n → ⊥) }
     ensures counted { H.failed hand.old ≤ H.failed hand.new }
     ensures cause { IfErr result (λ e. PinSaveCause (H.agrees hand.new) part.now pin.now number (Failed (H.failed hand.old) (H.failed hand.new)) e) }
 {
@@ -139,6 +142,9 @@ fn save_part<S: Shelf, H: Hand>(
     ensures ok { OnOk result ((bytes : List ℕ) × ((a : Assignment) → H.agrees hand.new a → IsFetched a part.now pin.now bytes) × ((papers : Papers) → S.holds shelf.new papers → (before : Papers) × S.holds shelf.old before × (papers ≡ insert before (part_key object.now part.now.name) bytes))) }
     ensures left { IfErr result (λ e. PartLeaves (H.agrees hand.new) (S.holds shelf.old) (S.holds shelf.new) object.now part.now pin.now e) }
     ensures files { (a : Assignment) → H.agrees hand.new a → H.agrees hand.old a }
+    ensures serves { (s : Stamp) → H.serves hand.old s → H.serves hand.new s }
+    ensures works { Always (H.works_for hand.old) → Always (H.works_for hand.new) }
+    ensures in_order { Always (H.works_for hand.old) → H.serves hand.old pin.now → IfErr result (λ e. (n : ℕ) → e ≡ SaveFault.Device n → Failed (S.failed shelf.old) (S.failed shelf.new)) }
     ensures counted_shelf { S.failed shelf.old ≤ S.failed shelf.new }
     ensures counted_hand { H.failed hand.old ≤ H.failed hand.new }
     ensures cause { IfErr result (λ e. PinSaveCause (H.agrees hand.new) part.now pin.now number (Failed (S.failed shelf.old) (S.failed shelf.new) ⊎ Failed (H.failed hand.old) (H.failed hand.new)) e) }
@@ -159,7 +165,8 @@ fn save_part<S: Shelf, H: Hand>(
 /// The first fault on the way is told: `Damaged` where the bytes under a part's pin spell no value of its
 /// kind, `Device` where the shelf or the hand failed at a part, `Memory` where memory was refused. The parts
 /// before it are saved then, and nothing after it. Of the part itself nothing is stored where it is damaged;
-/// where a device failed or memory was refused, nothing of it or all.
+/// where a device failed or memory was refused, nothing of it or all. No file is retired: each pin can be read
+/// as before.
 pub fn save_parts<S: Shelf, H: Hand>(
     alloc: Global,
     object: &Object,
@@ -171,6 +178,10 @@ pub fn save_parts<S: Shelf, H: Hand>(
     ensures ok { OnOk result ((all : List (List ℕ)) × ((a : Assignment) → H.agrees hand.new a → AreFetched a object.now.parts.items pins.now all) × (length all ≡ length object.now.parts.items) × ((papers : Papers) → S.holds shelf.new papers → (before : Papers) × S.holds shelf.old before × (papers ≡ with_parts before object.now.name object.now.parts.items all))) }
     ensures left { IfErr result (λ e. SaveLeaves (H.agrees hand.new) (S.holds shelf.old) (S.holds shelf.new) object.now.name object.now.parts.items pins.now e) }
     ensures files { (a : Assignment) → H.agrees hand.new a → H.agrees hand.old a }
+    ensures serves { (s : Stamp) → H.serves hand.old s → H.serves hand.new s }
+    ensures works { Always (H.works_for hand.old) → Always (H.works_for hand.new) }
+    // Over a hand that works and pins that can be read only the shelf can fail.
+    ensures in_order { Always (H.works_for hand.old) → AreServed (H.serves hand.old) pins.now → IfErr result (λ e. (n : ℕ) → e ≡ SaveFault.Device n → Failed (S.failed shelf.old) (S.failed shelf.new)) }
     ensures counted_shelf { S.failed shelf.old ≤ S.failed shelf.new }
     ensures counted_hand { H.failed hand.old ≤ H.failed hand.new }
     ensures cause { IfErr result (λ e. SaveCause (H.agrees hand.new) object.now.parts.items pins.now (Failed (S.failed shelf.old) (S.failed shelf.new) ⊎ Failed (H.failed hand.old) (H.failed hand.new)) e) }

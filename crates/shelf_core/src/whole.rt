@@ -1,7 +1,8 @@
 //! Whole files over any hand.
 
-ghost use Rattle.std.specs.Prelude.{◌≡◌, ◌↔◌, ◌≤◌, Some, length, IfOk, OnErr, IfErr};
-ghost use Rattle.shelf_core.specs.Device.{Assignment, FaultCause, Holds, bytes_of};
+ghost use Rattle.std.specs.Prelude.{◌≡◌, ◌↔◌, ◌≤◌, ℕ, Some, length, IfOk, OnErr, IfErr};
+ghost use Rattle.shelf_core.specs.Device.{Assignment, FaultCause, Holds, Always, bytes_of};
+ghost use Rattle.shelf_core.specs.Made.{IsDeviceErr};
 
 use crate::hand::{Hand, HandFault, Stamp};
 use std::alloc::{AllocError, Global};
@@ -12,6 +13,10 @@ use std::alloc::{AllocError, Global};
 pub fn put<H: Hand>(hand: &mut H, bytes: &[u8]) -> Result<Stamp, HandFault>
     ensures ok { IfOk result (λ stamp. (a : Assignment) → H.agrees hand.new a ↔ H.agrees hand.old a × Holds a stamp bytes.now) }
     ensures err { OnErr result ((a : Assignment) → H.agrees hand.new a ↔ H.agrees hand.old a) }
+    ensures served { IfOk result (λ stamp. H.serves hand.new stamp) }
+    ensures serves { (s : Stamp) → H.serves hand.old s → H.serves hand.new s }
+    ensures works { Always (H.works_for hand.old) → Always (H.works_for hand.new) }
+    ensures in_order { Always (H.works_for hand.old) → IsDeviceErr result → ⊥ }
     ensures counted { H.failed hand.old ≤ H.failed hand.new }
     ensures cause { IfErr result (λ e. FaultCause (H.failed hand.old) (H.failed hand.new) e) }
 {
@@ -36,6 +41,9 @@ pub fn fetch<H: Hand>(alloc: Global, hand: &mut H, stamp: &Stamp) -> Result<Vec<
     ensures ok { IfOk result (λ v. (a : Assignment) → H.agrees hand.new a ↔ H.agrees hand.old a × (bytes_of a stamp.now ≡ Some v.items)) }
     ensures len { IfOk result (λ v. length v.items ≡ stamp.now.len) }
     ensures err { OnErr result ((a : Assignment) → H.agrees hand.new a ↔ H.agrees hand.old a) }
+    ensures serves { (s : Stamp) → H.serves hand.old s → H.serves hand.new s }
+    ensures works { Always (H.works_for hand.old) → Always (H.works_for hand.new) }
+    ensures in_order { Always (H.works_for hand.old) → H.serves hand.old stamp.now → IsDeviceErr result → ⊥ }
     ensures counted { H.failed hand.old ≤ H.failed hand.new }
     ensures cause { IfErr result (λ e. FaultCause (H.failed hand.old) (H.failed hand.new) e) }
 {

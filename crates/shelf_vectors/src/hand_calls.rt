@@ -1,42 +1,103 @@
-//! Calls of any hand, as the tests make them.
+//! Calls of any hand, as the rows of scripts.
+//!
+//! A script names its files by their places in a row, `A`, `B`, .. A pen is nothing but the number of its file:
+//! the row keeps the number, and each call gets a pen of it.
 
 use shelf_core::hand::{Hand, HandFault, Pen, Stamp};
+use shelf_core::whole::fetch;
 use std::alloc::Global;
 use std::process::Abort;
 
-/// What a call answers whose device failed.
-pub const DEVICE: Result<(), HandFault> = Err(HandFault::Device);
-
-/// Begins a file.
-pub fn begun<H: Hand>(rt: &impl Abort, hand: &mut H) -> Pen {
-    match hand.create() {
-        Ok(pen) => pen,
-        Err(fault) => panic!(rt; "create: {fault}"),
-    }
+/// A call of a hand, of the file at a place of the row, and what it answers. Each call that fails does so for
+/// the device.
+#[derive(Clone, Copy, Drop)]
+pub enum Call {
+    /// A file is begun. No other file of the row has its number.
+    Create(usize),
+    /// No file is begun.
+    NoCreate,
+    /// These bytes are added.
+    Append(usize, &'static [u8]),
+    /// These bytes are not added.
+    NoAppend(usize, &'static [u8]),
+    /// The file is ended, under the number of its pen, and has so many bytes.
+    Seal(usize, usize),
+    /// The file is not ended, and given up.
+    NoSeal(usize),
+    /// The file is given up.
+    Discard(usize),
+    /// From this byte on it reads so.
+    Read(usize, usize, &'static [u8]),
+    /// From this byte on so many bytes, which the stamp has, are not read.
+    NoRead(usize, usize, usize),
+    /// All bytes of the stamp are these.
+    Fetch(usize, &'static [u8]),
+    /// The bytes of the stamp are not fetched.
+    NoFetch(usize),
+    /// The file is read no more.
+    Retire(usize),
+    /// The file is not retired.
+    NoRetire(usize),
+    /// The place gets a stamp of this number and so many bytes.
+    Stamped(usize, u64, usize),
+    /// The stamp gets so many bytes.
+    Resized(usize, usize),
+    /// The file has this number.
+    Number(usize, u64),
+    /// So many calls failed for the device since the row was made.
+    Failures(u64),
 }
 
-/// Ends a file.
-pub fn sealed<H: Hand>(rt: &impl Abort, hand: &mut H, pen: Pen) -> Stamp {
-    match hand.seal(pen) {
-        Ok(stamp) => stamp,
-        Err((pen, fault)) => {
-            hand.discard(pen);
-            panic!(rt; "seal: {fault}")
-        }
-    }
+/// Places in the row of files.
+pub const A: usize = 0;
+
+pub const B: usize = 1;
+
+pub const C: usize = 2;
+
+pub const D: usize = 3;
+
+pub const E: usize = 4;
+
+pub const F: usize = 5;
+
+pub const G: usize = 6;
+
+// How many files a row has.
+const FILES: usize = 8;
+
+// What a call answers whose device failed.
+const DEVICE: Result<(), HandFault> = Err(HandFault::Device);
+
+/// The files of a script. Those that are not begun have the number 0.
+#[derive(Clone, Copy, Drop)]
+pub struct FileRow {
+    stamps: [Stamp; FILES],
+    // How many calls of the hand had failed before.
+    failures: u64,
 }
 
-/// Adds bytes to the file of this number.
-pub fn append_to<H: Hand>(hand: &mut H, number: u64, bytes: &[u8]) -> Result<(), HandFault> {
+// Begins a file.
+fn create<H: Hand>(hand: &mut H) -> Result<Stamp, HandFault> {
+    let Pen { number } = hand.create()?;
+    Ok(Stamp { number, len: 0 })
+}
+
+// Whether no file is begun.
+fn creates_none<H: Hand>(hand: &mut H) -> bool {
+    create(hand) == Err(HandFault::Device)
+}
+
+fn append<H: Hand>(hand: &mut H, number: u64, bytes: &[u8]) -> Result<(), HandFault> {
     let mut pen = Pen { number };
     let answer = hand.append(&mut pen, bytes);
     let Pen { number: _ } = pen;
     answer
 }
 
-/// Ends a file, or gives it up where that fails.
-pub fn try_seal<H: Hand>(hand: &mut H, pen: Pen) -> Result<Stamp, HandFault> {
-    match hand.seal(pen) {
+// Ends a file, or gives it up where that fails.
+fn seal<H: Hand>(hand: &mut H, number: u64) -> Result<Stamp, HandFault> {
+    match hand.seal(Pen { number }) {
         Ok(stamp) => Ok(stamp),
         Err((pen, fault)) => {
             hand.discard(pen);
@@ -45,51 +106,158 @@ pub fn try_seal<H: Hand>(hand: &mut H, pen: Pen) -> Result<Stamp, HandFault> {
     }
 }
 
-/// Writes a file of these pieces, one in each append.
-pub fn written<H: Hand>(rt: &impl Abort, hand: &mut H, pieces: &[&[u8]]) -> Stamp {
-    let mut pen = begun(rt, hand);
-    for piece in pieces {
-        assert_eq!(rt; hand.append(&mut pen, piece), Ok(()));
+fn discard<H: Hand>(hand: &mut H, number: u64) -> bool {
+    hand.discard(Pen { number });
+    true
+}
+
+// The most bytes that one row reads.
+const MOST_READ: usize = 16;
+
+// Reads so many bytes of a stamp that has them, or answers nothing where it has not.
+fn read<H: Hand>(
+    hand: &mut H,
+    stamp: Stamp,
+    at: usize,
+    into: &mut [u8],
+) -> Option<Result<(), HandFault>> {
+    if at > stamp.len || into.len() > stamp.len - at {
+        return None;
     }
-    sealed(rt, hand, pen)
+    Some(hand.read(&stamp, at, into))
 }
 
-/// Reads so many bytes at a place of a file. The stamp has to have them.
-pub fn piece<H: Hand>(
-    rt: &impl Abort,
-    alloc: Global,
-    hand: &mut H,
-    stamp: &Stamp,
-    at: usize,
-    len: usize,
-) -> Result<Vec<u8>, HandFault> {
-    let mut into = vec![in alloc; 0xAAu8; len].expect(rt, "memory");
-    assert!(rt; at <= stamp.len && len <= stamp.len - at);
-    hand.read(stamp, at, &mut into)?;
-    Ok(into)
+fn reads<H: Hand>(hand: &mut H, stamp: Stamp, at: usize, want: &[u8]) -> bool {
+    let mut row = [0xAA; MOST_READ];
+    match row.get_mut(..want.len()) {
+        Some(into) => read(hand, stamp, at, into) == Some(Ok(())) && *into == *want,
+        None => false,
+    }
 }
 
-/// Asserts what stands at a place of a file.
-pub fn assert_piece<H: Hand>(
-    rt: &impl Abort,
-    alloc: Global,
-    hand: &mut H,
-    stamp: &Stamp,
-    at: usize,
-    want: &[u8],
-) {
-    let found = piece(rt, alloc, hand, stamp, at, want.len()).expect(rt, "a read");
-    assert_eq!(rt; found.as_slice(), want);
+fn reads_none<H: Hand>(hand: &mut H, stamp: Stamp, at: usize, len: usize) -> bool {
+    let mut row = [0xAA; MOST_READ];
+    match row.get_mut(..len) {
+        Some(into) => read(hand, stamp, at, into) == Some(DEVICE),
+        None => false,
+    }
 }
 
-/// Asserts that the read of a stamp's first byte, of a stamp of some bytes, fails for the device.
-pub fn assert_no_read<H: Hand>(rt: &impl Abort, hand: &mut H, stamp: &Stamp) {
-    let mut into = [0u8; 1];
-    assert!(rt; 1 <= stamp.len);
-    assert_eq!(rt; hand.read(stamp, 0, &mut into), DEVICE);
+fn fetches<H: Hand>(alloc: Global, hand: &mut H, stamp: Stamp, want: &[u8]) -> bool {
+    match fetch(alloc, hand, &stamp) {
+        Ok(bytes) => bytes.as_slice() == want,
+        Err(_) => false,
+    }
 }
 
-/// How many calls failed for the device since there were so many.
-pub fn failed_since<H: Hand>(hand: &H, before: u64) -> u64 {
-    hand.failures().wrapping_sub(before)
+fn fetches_none<H: Hand>(alloc: Global, hand: &mut H, stamp: Stamp) -> bool {
+    match fetch(alloc, hand, &stamp) {
+        Ok(_) => false,
+        Err(fault) => fault == HandFault::Device,
+    }
+}
+
+impl FileRow {
+    /// A row of files for this hand.
+    pub fn new<H: Hand>(hand: &H) -> FileRow {
+        FileRow {
+            stamps: [Stamp { number: 0, len: 0 }; FILES],
+            failures: hand.failures(),
+        }
+    }
+
+    // The stamp at a place.
+    fn at(&self, place: usize) -> Stamp {
+        match self.stamps.get(place) {
+            Some(stamp) => *stamp,
+            None => Stamp { number: 0, len: 0 },
+        }
+    }
+
+    // Whether there is such a place, which gets this stamp.
+    fn set(&mut self, place: usize, number: u64, len: usize) -> bool {
+        match self.stamps.get_mut(place) {
+            Some(stamp) => {
+                *stamp = Stamp { number, len };
+                true
+            }
+            None => false,
+        }
+    }
+
+    // Whether no file has this number.
+    fn is_new(&self, number: u64) -> bool {
+        for stamp in &self.stamps {
+            if stamp.number == number {
+                return false;
+            }
+        }
+        true
+    }
+
+    fn creates<H: Hand>(&mut self, hand: &mut H, place: usize) -> bool {
+        match create(hand) {
+            Ok(stamp) => self.is_new(stamp.number) && self.set(place, stamp.number, 0),
+            Err(_) => false,
+        }
+    }
+
+    fn seals<H: Hand>(&mut self, hand: &mut H, place: usize, len: usize) -> bool {
+        let number = self.at(place).number;
+        seal(hand, number) == Ok(Stamp { number, len }) && self.set(place, number, len)
+    }
+
+    // Makes a call of a file that is written, and tells whether it answers what the row says.
+    fn writes<H: Hand>(&mut self, hand: &mut H, call: Call) -> bool {
+        match call {
+            Call::Create(place) => self.creates(hand, place),
+            Call::NoCreate => creates_none(hand),
+            Call::Append(place, bytes) => append(hand, self.at(place).number, bytes).is_ok(),
+            Call::NoAppend(place, bytes) => append(hand, self.at(place).number, bytes) == DEVICE,
+            Call::Seal(place, len) => self.seals(hand, place, len),
+            Call::NoSeal(place) => seal(hand, self.at(place).number) == Err(HandFault::Device),
+            Call::Discard(place) => discard(hand, self.at(place).number),
+            _ => false,
+        }
+    }
+
+    /// Makes a call, and tells whether it answers what the row says.
+    pub fn is_right<H: Hand>(&mut self, alloc: Global, hand: &mut H, call: Call) -> bool {
+        match call {
+            Call::Read(place, at, bytes) => reads(hand, self.at(place), at, bytes),
+            Call::NoRead(place, at, len) => reads_none(hand, self.at(place), at, len),
+            Call::Fetch(place, bytes) => fetches(alloc, hand, self.at(place), bytes),
+            Call::NoFetch(place) => fetches_none(alloc, hand, self.at(place)),
+            Call::Retire(place) => hand.retire(&self.at(place)).is_ok(),
+            Call::NoRetire(place) => hand.retire(&self.at(place)) == DEVICE,
+            Call::Stamped(place, number, len) => self.set(place, number, len),
+            Call::Resized(place, len) => self.set(place, self.at(place).number, len),
+            Call::Number(place, number) => self.at(place).number == number,
+            Call::Failures(count) => hand.failures().wrapping_sub(self.failures) == count,
+            written => self.writes(hand, written),
+        }
+    }
+
+    /// Makes calls, and asserts that each answers what its row says. They stand in this line of a script.
+    pub fn play<H: Hand>(
+        &mut self,
+        rt: &impl Abort,
+        alloc: Global,
+        hand: &mut H,
+        calls: &[Call],
+        line: usize,
+    ) {
+        for (number, call) in calls.iter().enumerate() {
+            assert!(rt;
+                self.is_right(alloc, hand, *call),
+                "line {line}: call {number}"
+            );
+        }
+    }
+}
+
+/// Makes calls, over files of their own, and asserts that each answers what its row says.
+pub fn play<H: Hand>(rt: &impl Abort, alloc: Global, hand: &mut H, calls: &[Call]) {
+    let mut files = FileRow::new(hand);
+    files.play(rt, alloc, hand, calls, 0);
 }

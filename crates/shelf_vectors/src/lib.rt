@@ -7,13 +7,17 @@ mod fake_shelf;
 #[cfg(test)]
 mod folder;
 #[cfg(test)]
-mod folder_shelf;
+mod folder_calls;
+#[cfg(test)]
+mod given_up;
 #[cfg(test)]
 mod hand_calls;
 #[cfg(test)]
 mod hands;
 #[cfg(test)]
 mod numbers;
+#[cfg(test)]
+mod part_calls;
 #[cfg(test)]
 mod parts;
 #[cfg(test)]
@@ -22,6 +26,8 @@ mod refused;
 mod saving;
 #[cfg(test)]
 mod scratch;
+#[cfg(test)]
+mod shelf_calls;
 #[cfg(test)]
 mod shelves;
 #[cfg(test)]

@@ -17,12 +17,33 @@ fn drawn(alloc: Global, numbers: &Numbers) -> Result<Vec<u64>, AllocError> {
     Ok(all)
 }
 
+// Whether these are as many numbers as a thread draws, and rise.
+fn rise(numbers: &[u64]) -> bool {
+    let mut above = 0;
+    for number in numbers {
+        if *number < above {
+            return false;
+        }
+        above = number.saturating_add(1);
+    }
+    numbers.len() == DRAWS
+}
+
+// Whether these are the 2,000 numbers from 5 on, so that no two are the same.
+fn are_all(numbers: &[u64]) -> bool {
+    for (place, number) in numbers.iter().enumerate() {
+        if *number != (place as u64).saturating_add(5) {
+            return false;
+        }
+    }
+    numbers.len() == 2 * DRAWS
+}
+
 #[test]
 fn numbers_rise_by_one(rt: HostRuntime) {
     let numbers = Numbers::new(17);
-    assert_eq!(rt; numbers.draw(), 17);
-    assert_eq!(rt; numbers.draw(), 18);
-    assert_eq!(rt; numbers.draw(), 19);
+    let drawn = [numbers.draw(), numbers.draw(), numbers.draw()];
+    assert!(rt; drawn == [17, 18, 19]);
 }
 
 #[test]
@@ -33,16 +54,11 @@ fn drawn_numbers_differ(rt: HostRuntime) -> Result<(), Fail> {
     let mut all = Vec::new(alloc);
     for row in rows {
         let row = row?;
-        assert_eq!(rt; row.len(), DRAWS);
         // In one thread they rise.
-        assert!(rt; row.windows(2).all(|pair| pair.first() < pair.last()));
+        assert!(rt; rise(&row));
         all.extend_from_slice(&row)?;
     }
     all.sort_unstable();
-    assert_eq!(rt; all.len(), 2 * DRAWS);
-    // In order they are the 2,000 numbers from the first on, so that no two are the same.
-    for (place, number) in all.iter().enumerate() {
-        assert_eq!(rt; *number, (place as u64).saturating_add(5));
-    }
+    assert!(rt; are_all(&all));
     Ok(())
 }

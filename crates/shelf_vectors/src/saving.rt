@@ -1,205 +1,217 @@
 //! The parts of objects, from a hand to a shelf and back.
 
 use crate::fake_shelf::FakeShelf;
-use crate::parts::{CELL, ROWS, SEVEN, THREE, ZERO, assert_opens, object};
-use crate::scratch::Scratch;
-use crate::shelves::assert_holds;
+use crate::part_calls::Line::{Failures, NoSave, Opens, Puts, Saves, Shelf};
+use crate::part_calls::Pin::{File, NoFile, Resized};
+use crate::part_calls::{
+    CELL, Line, NEW_Q, NEW_T, NEW_V, OLD_Q, OLD_T, OLD_V, Parts, SEVEN, THREE, ZERO, object,
+    play_in_folder, play_in_memory,
+};
+use crate::shelf_calls::Entry::{Load, Nothing, Store};
+use crate::shelf_calls::{Entry, play};
 use decl_core::object::Object;
-use shelf_core::dir::DirHand;
-use shelf_core::dir_shelf::DirShelf;
-use shelf_core::hand::{Hand, Stamp};
 use shelf_core::mem_shelf::MemShelf;
 use shelf_core::memory::MemHand;
-use shelf_core::numbers::Numbers;
 use shelf_core::once::OnceHand;
-use shelf_core::open::open_parts;
 use shelf_core::pins::Pins;
-use shelf_core::save::{SaveFault, save_parts};
-use shelf_core::shelf::Shelf;
-use shelf_core::whole::put;
+use shelf_core::save::SaveFault;
 use std::alloc::Global;
 use std::process;
 use std::process::Abort;
-use std::sync::Arc;
-use std::test::Fail;
 
-// Saves the parts of an object that has as many parts as there are pins.
-fn saved<S: Shelf, H: Hand>(
-    rt: &impl Abort,
-    alloc: Global,
-    object: &Object,
-    stamps: &[Stamp],
-    shelf: &mut S,
-    hand: &mut H,
-) -> Result<(), SaveFault> {
-    assert!(rt; stamps.len() <= 16 && stamps.len() == object.parts.len());
-    let pins = Pins::new(stamps);
-    save_parts(alloc, object, &pins, shelf, hand)
-}
+// Stores the first values of three parts.
+const STORE_OLD: &[Entry] = &[
+    Store(b"three.q", OLD_Q),
+    Store(b"three.t", OLD_T),
+    Store(b"three.v", OLD_V),
+];
 
-// Asserts that the shelf has the first value of each row where it is told so, and else the second one.
-fn assert_rows<S: Shelf>(rt: &impl Abort, alloc: Global, shelf: &mut S, news: usize) {
-    for (place, (name, old, new)) in ROWS.iter().enumerate() {
-        let want = if place < news { *new } else { *old };
-        assert_holds(rt, alloc, shelf, name, Some(want));
-    }
-}
+// What a shelf has after a save of the second values that ended before the first part,
+const NONE_NEW: &[Entry] = &[
+    Load(b"three.q", OLD_Q),
+    Load(b"three.t", OLD_T),
+    Load(b"three.v", OLD_V),
+];
 
-// Stores the first value of each row.
-fn store_old<S: Shelf>(rt: &impl Abort, shelf: &mut S) {
-    for (name, old, _) in ROWS {
-        assert_eq!(rt; shelf.store(name, old), Ok(()));
-    }
-}
+// before the second,
+const ONE_NEW: &[Entry] = &[
+    Load(b"three.q", NEW_Q),
+    Load(b"three.t", OLD_T),
+    Load(b"three.v", OLD_V),
+];
 
-// Seals the second value of each row.
-fn put_new<H: Hand>(rt: &impl Abort, hand: &mut H) -> [Stamp; 3] {
-    let [(_, _, q), (_, _, t), (_, _, v)] = ROWS;
-    [q, t, v].map(|bytes| put(hand, bytes).expect(rt, "sealed"))
-}
+// before the third,
+const TWO_NEW: &[Entry] = &[
+    Load(b"three.q", NEW_Q),
+    Load(b"three.t", NEW_T),
+    Load(b"three.v", OLD_V),
+];
+
+// and behind it.
+const ALL_NEW: &[Entry] = &[
+    Load(b"three.q", NEW_Q),
+    Load(b"three.t", NEW_T),
+    Load(b"three.v", NEW_V),
+];
+
+const AGAIN: &[Line] = &[
+    Opens(&[ZERO]),
+    Puts(&[File(SEVEN)]),
+    Saves,
+    Shelf(&[Load(b"cell.v", SEVEN)]),
+    Opens(&[SEVEN]),
+    Failures(0, 0),
+];
 
 #[test]
 fn a_saved_part_is_opened_again(rt: HostRuntime) {
-    let alloc = rt.alloc();
-    let cell = object(&rt, alloc, CELL);
-    let mut shelf = MemShelf::new(alloc);
-    let mut hand = MemHand::new(alloc);
-    assert_opens(&rt, alloc, &cell, &mut shelf, &mut hand, &[ZERO]);
-    let pin = put(&mut hand, SEVEN).expect(&rt, "sealed");
-    let answer = saved(&rt, alloc, &cell, &[pin], &mut shelf, &mut hand);
-    assert_eq!(rt; answer, Ok(()));
-    assert_holds(&rt, alloc, &mut shelf, b"cell.v", Some(SEVEN));
-    assert_opens(&rt, alloc, &cell, &mut shelf, &mut hand, &[SEVEN]);
-    assert_eq!(rt; (shelf.failures(), hand.failures()), (0, 0));
+    play_in_memory(&rt, rt.alloc(), CELL, AGAIN);
 }
 
 // A part that was opened and saved with its own pins is on the shelf as it began.
+const OWN_PINS: &[Line] = &[Opens(&[OLD_Q, OLD_T, OLD_V]), Saves, Shelf(NONE_NEW)];
+
 #[test]
 fn opened_pins_are_saved(rt: HostRuntime) {
-    let alloc = rt.alloc();
-    let three = object(&rt, alloc, THREE);
-    let mut shelf = MemShelf::new(alloc);
-    let mut hand = MemHand::new(alloc);
-    let (pins, _) = open_parts(alloc, &three, &mut shelf, &mut hand).expect(&rt, "opened");
-    let answer = saved(&rt, alloc, &three, pins.as_slice(), &mut shelf, &mut hand);
-    assert_eq!(rt; answer, Ok(()));
-    assert_rows(&rt, alloc, &mut shelf, 0);
+    play_in_memory(&rt, rt.alloc(), THREE, OWN_PINS);
 }
+
+const DAMAGED: &[Line] = &[
+    // A byte less, a byte more, another kind, and none.
+    Puts(&[File(b"\x01\x01\x00\x01\x00\x00\x00")]),
+    NoSave(SaveFault::Damaged(0)),
+    Shelf(&[Nothing(b"cell.v")]),
+    Puts(&[File(b"\x01\x01\x00\x01\x00\x00\x00\x07\x00")]),
+    NoSave(SaveFault::Damaged(0)),
+    Shelf(&[Nothing(b"cell.v")]),
+    Puts(&[File(b"\x01\x03\x00\x00")]),
+    NoSave(SaveFault::Damaged(0)),
+    Shelf(&[Nothing(b"cell.v")]),
+    Puts(&[File(b"")]),
+    NoSave(SaveFault::Damaged(0)),
+    Shelf(&[Nothing(b"cell.v")]),
+    // The stamp of a whole file that has one byte less.
+    Puts(&[Resized(SEVEN, 7)]),
+    NoSave(SaveFault::Damaged(0)),
+    Shelf(&[Nothing(b"cell.v")]),
+    Failures(0, 0),
+    // The pin of a file that is not there, and of one that has a byte less than the pin.
+    Puts(&[NoFile(99, 8)]),
+    NoSave(SaveFault::Device(0)),
+    Shelf(&[Nothing(b"cell.v")]),
+    Puts(&[Resized(b"\x01\x01\x00\x01\x00\x00\x00", 8)]),
+    NoSave(SaveFault::Device(0)),
+    Shelf(&[Nothing(b"cell.v")]),
+    Failures(0, 2),
+];
 
 #[test]
 fn damaged_pins_are_told(rt: HostRuntime) {
-    let alloc = rt.alloc();
-    let cell = object(&rt, alloc, CELL);
-    let mut shelf = MemShelf::new(alloc);
-    let mut hand = MemHand::new(alloc);
-    let whole = put(&mut hand, SEVEN).expect(&rt, "sealed");
-    let short = put(&mut hand, b"\x01\x01\x00\x01\x00\x00\x00").expect(&rt, "sealed");
-    let long = put(&mut hand, b"\x01\x01\x00\x01\x00\x00\x00\x07\x00").expect(&rt, "sealed");
-    let queue = put(&mut hand, b"\x01\x03\x00\x00").expect(&rt, "sealed");
-    let none = put(&mut hand, b"").expect(&rt, "sealed");
-    // The stamp of a whole file that has one byte less.
-    let front = Stamp {
-        number: whole.number,
-        len: 7,
-    };
-    for pin in [short, long, queue, none, front] {
-        let answer = saved(&rt, alloc, &cell, &[pin], &mut shelf, &mut hand);
-        assert_eq!(rt; answer, Err(SaveFault::Damaged(0)));
-        assert_holds(&rt, alloc, &mut shelf, b"cell.v", None);
-    }
-    assert_eq!(rt; (shelf.failures(), hand.failures()), (0, 0));
-    // The pin of a file that is not there, and of one that has a byte less than the pin.
-    for pin in [Stamp { number: 99, len: 8 }, Stamp { len: 8, ..short }] {
-        let answer = saved(&rt, alloc, &cell, &[pin], &mut shelf, &mut hand);
-        assert_eq!(rt; answer, Err(SaveFault::Device(0)));
-        assert_holds(&rt, alloc, &mut shelf, b"cell.v", None);
-    }
-    assert_eq!(rt; (shelf.failures(), hand.failures()), (0, 2));
+    play_in_memory(&rt, rt.alloc(), CELL, DAMAGED);
 }
 
 // Where a later part is damaged, the ones before it are saved, and it and those behind it are as before.
+const ONE_DAMAGED: &[Line] = &[
+    Shelf(STORE_OLD),
+    Puts(&[File(b"\x01"), File(NEW_T), File(NEW_V)]),
+    NoSave(SaveFault::Damaged(0)),
+    Shelf(NONE_NEW),
+    Shelf(STORE_OLD),
+    Puts(&[File(NEW_Q), File(b"\x01"), File(NEW_V)]),
+    NoSave(SaveFault::Damaged(1)),
+    Shelf(ONE_NEW),
+    Shelf(STORE_OLD),
+    Puts(&[File(NEW_Q), File(NEW_T), File(b"\x01")]),
+    NoSave(SaveFault::Damaged(2)),
+    Shelf(TWO_NEW),
+];
+
 #[test]
 fn parts_before_a_damaged_one_are_saved(rt: HostRuntime) {
-    let alloc = rt.alloc();
-    let three = object(&rt, alloc, THREE);
-    for place in 0..3 {
-        let mut shelf = MemShelf::new(alloc);
-        let mut hand = MemHand::new(alloc);
-        store_old(&rt, &mut shelf);
-        let mut pins = put_new(&rt, &mut hand);
-        pins[place] = put(&mut hand, b"\x01").expect(&rt, "sealed");
-        let answer = saved(&rt, alloc, &three, &pins, &mut shelf, &mut hand);
-        assert_eq!(rt; answer, Err(SaveFault::Damaged(place)));
-        assert_rows(&rt, alloc, &mut shelf, place);
-    }
+    play_in_memory(&rt, rt.alloc(), THREE, ONE_DAMAGED);
 }
 
 // Opens three parts, saves others in their place and opens those.
-fn saves_three<S: Shelf, H: Hand>(rt: &impl Abort, alloc: Global, shelf: &mut S, hand: &mut H) {
-    let three = object(rt, alloc, THREE);
-    let [(_, old_q, q), (_, old_t, t), (_, old_v, v)] = ROWS;
-    assert_opens(rt, alloc, &three, shelf, hand, &[old_q, old_t, old_v]);
-    let pins = put_new(rt, hand);
-    assert_eq!(rt; saved(rt, alloc, &three, &pins, shelf, hand), Ok(()));
-    assert_rows(rt, alloc, shelf, 3);
-    assert_opens(rt, alloc, &three, shelf, hand, &[q, t, v]);
-    assert_eq!(rt; (shelf.failures(), hand.failures()), (0, 0));
-}
+const SAVING: &[Line] = &[
+    Opens(&[OLD_Q, OLD_T, OLD_V]),
+    Puts(&[File(NEW_Q), File(NEW_T), File(NEW_V)]),
+    Saves,
+    Shelf(ALL_NEW),
+    Opens(&[NEW_Q, NEW_T, NEW_V]),
+    Failures(0, 0),
+];
 
 #[test]
 fn three_parts_are_saved_in_memory(rt: HostRuntime) {
-    let mut shelf = MemShelf::new(rt.alloc());
-    let mut hand = MemHand::new(rt.alloc());
-    saves_three(&rt, rt.alloc(), &mut shelf, &mut hand);
+    play_in_memory(&rt, rt.alloc(), THREE, SAVING);
 }
 
 #[test]
-fn three_parts_are_saved_in_a_folder(rt: HostRuntime) -> Result<(), Fail> {
-    let scratch = Scratch::new(rt, process::id(rt.process()), "saving")?;
-    let numbers = Arc::new(rt.alloc(), Numbers::new(1))?;
-    let mut shelf = DirShelf::new(rt, scratch.folder())?;
-    let mut hand = DirHand::new(rt, scratch.folder(), numbers)?;
-    saves_three(&rt, rt.alloc(), &mut shelf, &mut hand);
-    scratch.remove()?;
-    Ok(())
+fn three_parts_are_saved_in_a_folder(rt: HostRuntime) {
+    let process = process::id(rt.process());
+    play_in_folder(rt, process, "saving", THREE, SAVING).expect(&rt, "a folder");
 }
 
-// Each part takes one call of the hand, and then one of the shelf. Whichever fails, its part is told, and
-// only the parts before it are saved.
+// What the shelf and the hand have before a save.
+const BEFORE: &[Line] = &[
+    Shelf(STORE_OLD),
+    Puts(&[File(NEW_Q), File(NEW_T), File(NEW_V)]),
+];
+
+// Made again, it succeeds.
+const MADE_AGAIN: &[Line] = &[Saves, Shelf(ALL_NEW)];
+
+// What a save tells, how many calls failed, and what the shelf has then.
+type Row = (Line, u64, &'static [Entry]);
+
+// Each part takes one call of the hand, and then one of the shelf: by the number of the call that fails.
+const FAILING: [Row; 6] = [
+    (Saves, 0, ALL_NEW),
+    (NoSave(SaveFault::Device(0)), 1, NONE_NEW),
+    (NoSave(SaveFault::Device(1)), 1, ONE_NEW),
+    (NoSave(SaveFault::Device(2)), 1, TWO_NEW),
+    (Saves, 0, ALL_NEW),
+    (Saves, 0, ALL_NEW),
+];
+
+// Asserts what becomes of a save where the call of the hand of this number fails.
+fn saves_with_hand(rt: &impl Abort, alloc: Global, three: &Object, call: u64, row: Row) {
+    let (line, failures, entries) = row;
+    let mut shelf = MemShelf::new(alloc);
+    let mut hand = MemHand::new(alloc);
+    let mut parts = Parts {
+        object: three,
+        pins: Pins::new(&[]),
+    };
+    parts.play(rt, alloc, &mut shelf, &mut hand, BEFORE);
+    let mut hand = OnceHand::new(hand, call);
+    let lines = [line, Failures(0, failures)];
+    parts.play(rt, alloc, &mut shelf, &mut hand, &lines);
+    play(rt, alloc, &mut shelf, entries, 0);
+}
+
+// Asserts what becomes of a save where the call of the shelf of this number fails.
+fn saves_with_shelf(rt: &impl Abort, alloc: Global, three: &Object, call: u64, row: Row) {
+    let (line, failures, entries) = row;
+    let mut shelf = MemShelf::new(alloc);
+    let mut hand = MemHand::new(alloc);
+    let mut parts = Parts {
+        object: three,
+        pins: Pins::new(&[]),
+    };
+    parts.play(rt, alloc, &mut shelf, &mut hand, BEFORE);
+    let mut shelf = FakeShelf::new(shelf, call);
+    let lines = [line, Failures(failures, 0)];
+    parts.play(rt, alloc, &mut shelf, &mut hand, &lines);
+    play(rt, alloc, &mut shelf.inner, entries, 0);
+    parts.play(rt, alloc, &mut shelf.inner, &mut hand, MADE_AGAIN);
+}
+
 #[test]
 fn a_failed_save_is_told(rt: HostRuntime) {
-    let alloc = rt.alloc();
-    let three = object(&rt, alloc, THREE);
-    for call in 0..6usize {
-        let failing = (1..=3).contains(&call);
-        let place = call.saturating_sub(1);
-        let want = if failing {
-            Err(SaveFault::Device(place))
-        } else {
-            Ok(())
-        };
-        let news = if failing { place } else { 3 };
-        let mut shelf = MemShelf::new(alloc);
-        store_old(&rt, &mut shelf);
-        let mut hand = MemHand::new(alloc);
-        let pins = put_new(&rt, &mut hand);
-        let mut hand = OnceHand::new(hand, call as u64);
-        let answer = saved(&rt, alloc, &three, &pins, &mut shelf, &mut hand);
-        assert_eq!(rt; answer, want);
-        assert_eq!(rt; hand.failures(), failing as u64);
-        assert_rows(&rt, alloc, &mut shelf, news);
-        let mut hand = hand.into_inner();
-        // The shelf fails in place of the hand.
-        let mut inner = MemShelf::new(alloc);
-        store_old(&rt, &mut inner);
-        let mut shelf = FakeShelf::new(inner, call as u64);
-        let answer = saved(&rt, alloc, &three, &pins, &mut shelf, &mut hand);
-        assert_eq!(rt; answer, want);
-        assert_eq!(rt; shelf.failures(), failing as u64);
-        assert_rows(&rt, alloc, &mut shelf.inner, news);
-        // Made again, it succeeds.
-        let answer = saved(&rt, alloc, &three, &pins, &mut shelf.inner, &mut hand);
-        assert_eq!(rt; answer, Ok(()));
-        assert_rows(&rt, alloc, &mut shelf.inner, 3);
+    let three = object(&rt, rt.alloc(), THREE);
+    for (call, row) in FAILING.iter().enumerate() {
+        saves_with_hand(&rt, rt.alloc(), &three, call as u64, *row);
+        saves_with_shelf(&rt, rt.alloc(), &three, call as u64, *row);
     }
 }

@@ -1,55 +1,72 @@
 //! What every shelf does.
 
-use shelf_core::hand::HandFault;
+use crate::hands::many_bytes;
+use crate::scratch::Scratch;
+use crate::shelf_calls::Entry::{Failures, Load, Nothing, Store};
+use crate::shelf_calls::{Entry, loads, play};
+use shelf_core::dir_shelf::DirShelf;
 use shelf_core::mem_shelf::MemShelf;
 use shelf_core::shelf::Shelf;
 use std::alloc::Global;
+use std::process;
 use std::process::Abort;
+use std::test::Fail;
 
-/// Asserts what stands under a name.
-pub fn assert_holds<S: Shelf>(
-    rt: &impl Abort,
-    alloc: Global,
-    shelf: &mut S,
-    name: &[u8],
-    want: Option<&[u8]>,
-) {
-    let found = shelf.load(alloc, name).expect(rt, "loaded");
-    match (found, want) {
-        (Some(found), Some(want)) => assert_eq!(rt; found.as_slice(), want),
-        (found, want) => assert_eq!(rt; found.is_some(), want.is_some()),
-    }
-}
-
-/// Asserts that what was stored last under a name is loaded, and that names are kept apart. The shelf has
-/// to be empty.
-pub fn is_a_shelf<S: Shelf>(rt: &impl Abort, alloc: Global, shelf: &mut S) {
-    assert_eq!(rt; shelf.failures(), 0);
-    assert_holds(rt, alloc, shelf, b"cell.v", None);
-    assert_eq!(rt; shelf.store(b"cell.v", b"\x01\x00\xFF"), Ok(()));
-    assert_holds(rt, alloc, shelf, b"cell.v", Some(b"\x01\x00\xFF"));
-    assert_holds(rt, alloc, shelf, b"cell.w", None);
-    assert_holds(rt, alloc, shelf, b"cell", None);
-    assert_eq!(rt; shelf.store(b"cell.w", b"other"), Ok(()));
-    assert_holds(rt, alloc, shelf, b"cell.v", Some(b"\x01\x00\xFF"));
+// What was stored last under a name is loaded, and names are kept apart.
+const ENTRIES: &[Entry] = &[
+    Failures(0),
+    Nothing(b"cell.v"),
+    Store(b"cell.v", b"\x01\x00\xFF"),
+    Load(b"cell.v", b"\x01\x00\xFF"),
+    Nothing(b"cell.w"),
+    Nothing(b"cell"),
+    Store(b"cell.w", b"other"),
+    Load(b"cell.v", b"\x01\x00\xFF"),
     // A shorter one, a longer one and an empty one in its place.
-    for bytes in [b"a".as_slice(), b"a longer one", b""] {
-        assert_eq!(rt; shelf.store(b"cell.v", bytes), Ok(()));
-        assert_holds(rt, alloc, shelf, b"cell.v", Some(bytes));
-        assert_holds(rt, alloc, shelf, b"cell.v", Some(bytes));
-        assert_holds(rt, alloc, shelf, b"cell.w", Some(b"other"));
-    }
-    let many = vec![in alloc; 7u8; 70_000].expect(rt, "memory");
-    assert_eq!(rt; shelf.store(b"cell.v", &many), Ok(()));
-    assert_holds(rt, alloc, shelf, b"cell.v", Some(&many));
-    assert_eq!(rt; shelf.failures(), 0);
+    Store(b"cell.v", b"a"),
+    Load(b"cell.v", b"a"),
+    Load(b"cell.v", b"a"),
+    Load(b"cell.w", b"other"),
+    Store(b"cell.v", b"a longer one"),
+    Load(b"cell.v", b"a longer one"),
+    Load(b"cell.v", b"a longer one"),
+    Load(b"cell.w", b"other"),
+    Store(b"cell.v", b""),
+    Load(b"cell.v", b""),
+    Load(b"cell.v", b""),
+    Load(b"cell.w", b"other"),
+];
+
+// 70,000 bytes in the place of what a name has.
+fn holds_many_bytes<S: Shelf>(rt: &impl Abort, alloc: Global, shelf: &mut S) {
+    let many = many_bytes(rt, alloc);
+    assert!(rt;
+        shelf.store(b"cell.v", &many).is_ok() && loads(alloc, shelf, b"cell.v", Some(&many))
+    );
 }
 
-/// What a call answers whose device failed.
-pub const DEVICE: Result<(), HandFault> = Err(HandFault::Device);
+/// Asserts all of the above. The shelf has to be empty.
+pub fn is_a_shelf<S: Shelf>(rt: &impl Abort, alloc: Global, shelf: &mut S) {
+    play(rt, alloc, shelf, ENTRIES, 0);
+    holds_many_bytes(rt, alloc, shelf);
+    assert!(rt; shelf.failures() == 0);
+}
 
 #[test]
 fn a_shelf_in_memory(rt: HostRuntime) {
     let mut shelf = MemShelf::new(rt.alloc());
     is_a_shelf(&rt, rt.alloc(), &mut shelf);
+}
+
+#[test]
+fn a_shelf_in_a_folder(rt: HostRuntime) -> Result<(), Fail> {
+    let scratch = Scratch::new(rt, process::id(rt.process()), "shelf")?;
+    let mut shelf = DirShelf::new(rt, scratch.folder())?;
+    is_a_shelf(&rt, rt.alloc(), &mut shelf);
+    assert!(rt; shelf.store(b"cell.v", b"left").is_ok());
+    // A later shelf on the folder has what this one stored.
+    let mut later = DirShelf::new(rt, scratch.folder())?;
+    play(&rt, rt.alloc(), &mut later, &[Load(b"cell.v", b"left")], 0);
+    scratch.remove()?;
+    Ok(())
 }

@@ -1,190 +1,160 @@
 //! Hands that fail chosen calls of the hand inside them.
 
-use crate::hand_calls::{append_to, begun, try_seal, written};
+use crate::hand_calls::Call::{
+    Append, Create, Discard, Failures, NoAppend, NoCreate, NoRead, NoRetire, NoSeal, Read, Retire,
+    Seal, Stamped,
+};
+use crate::hand_calls::{A, B, C, Call, D, E, F, FileRow, G, play};
 use shelf_core::fuse::FuseHand;
-use shelf_core::hand::{Hand, HandFault, Pen, Stamp};
+use shelf_core::hand::Hand;
 use shelf_core::memory::MemHand;
 use shelf_core::once::OnceHand;
+use std::alloc::Global;
 use std::process::Abort;
 
-// How many calls a run makes.
-const CALLS: usize = 10;
+// Files on a hand, so that each call of a run succeeds whatever became of the others: one for appends, two to
+// be sealed, one to be read, two to be retired, and a number that no file has.
+const FILES: &[Call] = &[
+    Create(A),
+    Create(B),
+    Create(C),
+    Create(D),
+    Append(D, b"read"),
+    Seal(D, 4),
+    Create(E),
+    Append(E, b"gone"),
+    Seal(E, 4),
+    Create(F),
+    Append(F, b"gone"),
+    Seal(F, 4),
+    Stamped(G, u64::MAX, 0),
+];
 
-// What each call of a run answers.
-type Answers = [Result<(), HandFault>; CALLS];
+// The calls of a run, each where it is passed on and where it fails.
+const RUN: [(Call, Call); 10] = [
+    (Create(G), NoCreate),
+    (Append(A, b"ab"), NoAppend(A, b"ab")),
+    (Seal(B, 0), NoSeal(B)),
+    (Read(D, 1, b"ea"), NoRead(D, 1, 2)),
+    (Retire(E), NoRetire(E)),
+    (Read(D, 1, b"ea"), NoRead(D, 1, 2)),
+    (Retire(F), NoRetire(F)),
+    (Seal(C, 0), NoSeal(C)),
+    (Append(A, b"ab"), NoAppend(A, b"ab")),
+    (Create(G), NoCreate),
+];
 
-// Files on a hand, so that each call of a run succeeds whatever became of the others.
-#[derive(Drop)]
-struct Files {
-    // Open files: one for appends, two to be sealed.
-    open: [u64; 3],
-    // Sealed files of four bytes: one to be read, two to be retired.
-    sealed: [Stamp; 3],
-}
-
-// The files of a run. No call of the hand may fail.
-fn prepared<H: Hand>(rt: &impl Abort, hand: &mut H) -> Files {
-    let mut open = [0; 3];
-    for place in &mut open {
-        let Pen { number } = begun(rt, hand);
-        *place = number;
+// Makes the calls of a run, of which those from one place to before another fail. Between them a file is given
+// up, which is no call that counts.
+fn run<H: Hand>(
+    rt: &impl Abort,
+    alloc: Global,
+    files: &mut FileRow,
+    hand: &mut H,
+    failing: (usize, usize),
+) {
+    for (place, (passed, failed)) in RUN.iter().enumerate() {
+        let fails = failing.0 <= place && place < failing.1;
+        let call = if fails { *failed } else { *passed };
+        let is_right = files.is_right(alloc, hand, call) && files.is_right(alloc, hand, Discard(G));
+        assert!(rt; is_right, "call {place} of a run");
     }
-    let read = written(rt, hand, &[b"read"]);
-    let first = written(rt, hand, &[b"gone"]);
-    let second = written(rt, hand, &[b"gone"]);
-    Files {
-        open,
-        sealed: [read, first, second],
-    }
 }
 
-// Begins a file and gives it up.
-fn created<H: Hand>(hand: &mut H) -> Result<(), HandFault> {
-    let pen = hand.create()?;
-    hand.discard(pen);
-    Ok(())
+// A hand with the files of a run.
+fn prepared(rt: &impl Abort, alloc: Global) -> (MemHand, FileRow) {
+    let mut hand = MemHand::new(alloc);
+    let mut files = FileRow::new(&hand);
+    files.play(rt, alloc, &mut hand, FILES, 0);
+    (hand, files)
 }
 
-fn ended<H: Hand>(hand: &mut H, number: u64) -> Result<(), HandFault> {
-    try_seal(hand, Pen { number })?;
-    Ok(())
-}
-
-// Reads the middle of a file of four bytes.
-fn read<H: Hand>(rt: &impl Abort, hand: &mut H, stamp: &Stamp) -> Result<(), HandFault> {
-    let mut into = [0u8; 2];
-    assert!(rt; stamp.len == 4);
-    hand.read(stamp, 1, &mut into)?;
-    assert_eq!(rt; into, *b"ea");
-    Ok(())
-}
-
-// Makes ten calls that count, and as many that do not.
-fn run<H: Hand>(rt: &impl Abort, hand: &mut H, files: &Files) -> Answers {
-    let [appending, first, second] = files.open;
-    let [reading, gone, lost] = files.sealed;
-    let mut answers = [Ok(()); CALLS];
-    answers[0] = created(hand);
-    hand.discard(Pen { number: u64::MAX });
-    answers[1] = append_to(hand, appending, b"ab");
-    hand.discard(Pen { number: u64::MAX });
-    answers[2] = ended(hand, first);
-    answers[3] = read(rt, hand, &reading);
-    hand.discard(Pen { number: u64::MAX });
-    answers[4] = hand.retire(&gone);
-    answers[5] = read(rt, hand, &reading);
-    answers[6] = hand.retire(&lost);
-    hand.discard(Pen { number: u64::MAX });
-    answers[7] = ended(hand, second);
-    answers[8] = append_to(hand, appending, b"ab");
-    hand.discard(Pen { number: u64::MAX });
-    answers[9] = created(hand);
-    answers
-}
-
-// How many of the answers are failures of the device.
-fn failed(answers: &Answers) -> u64 {
-    let mut count = 0u64;
-    for answer in answers {
-        if *answer == Err(HandFault::Device) {
-            count = count.saturating_add(1);
-        }
-    }
-    count
+// Asserts that a fuse of so many calls passes these and fails the others.
+fn passes_so_many(rt: &impl Abort, alloc: Global, calls: usize) {
+    let (hand, mut files) = prepared(rt, alloc);
+    let mut hand = FuseHand::new(hand, calls as u64);
+    run(rt, alloc, &mut files, &mut hand, (calls, RUN.len()));
+    assert!(rt; hand.failures() == RUN.len().saturating_sub(calls) as u64);
+    assert!(rt; hand.into_inner().failures() == 0);
 }
 
 #[test]
 fn a_fuse_passes_its_calls(rt: HostRuntime) {
-    for calls in 0..CALLS + 3 {
-        let mut hand = MemHand::new(rt.alloc());
-        let files = prepared(&rt, &mut hand);
-        let mut hand = FuseHand::new(hand, calls as u64);
-        let answers = run(&rt, &mut hand, &files);
-        for (place, answer) in answers.iter().enumerate() {
-            let passes = place < calls;
-            assert_eq!(rt;
-                *answer,
-                if passes {
-                    Ok(())
-                } else {
-                    Err(HandFault::Device)
-                }
-            );
-        }
-        assert_eq!(rt; failed(&answers), CALLS.saturating_sub(calls) as u64);
-        assert_eq!(rt; hand.failures(), CALLS.saturating_sub(calls) as u64);
-        assert_eq!(rt; hand.into_inner().failures(), 0);
+    for calls in 0..RUN.len() + 3 {
+        passes_so_many(&rt, rt.alloc(), calls);
     }
+}
+
+// Runs over a hand that fails the call of this number, counted from 1, and gives back the hand inside it.
+fn ran_once(rt: &impl Abort, alloc: Global, call: usize) -> (MemHand, FileRow) {
+    let (hand, mut files) = prepared(rt, alloc);
+    let mut hand = OnceHand::new(hand, call as u64);
+    // No call is of number 0.
+    let place = call.wrapping_sub(1);
+    run(rt, alloc, &mut files, &mut hand, (place, call));
+    assert!(rt; hand.failures() == (place < RUN.len()) as u64);
+    (hand.into_inner(), files)
 }
 
 #[test]
 fn one_call_fails(rt: HostRuntime) {
-    for call in 0..CALLS + 3 {
-        let mut hand = MemHand::new(rt.alloc());
-        let files = prepared(&rt, &mut hand);
-        let mut hand = OnceHand::new(hand, call as u64);
-        let answers = run(&rt, &mut hand, &files);
-        for (place, answer) in answers.iter().enumerate() {
-            let fails = place + 1 == call;
-            assert_eq!(rt;
-                *answer,
-                if fails {
-                    Err(HandFault::Device)
-                } else {
-                    Ok(())
-                }
-            );
-        }
-        let fails = (1..=CALLS).contains(&call);
-        assert_eq!(rt; hand.failures(), fails as u64);
-        assert_eq!(rt; hand.into_inner().failures(), 0);
+    for call in 0..RUN.len() + 3 {
+        let (hand, _) = ran_once(&rt, rt.alloc(), call);
+        assert!(rt; hand.failures() == 0);
+    }
+}
+
+// What becomes of a hand inside one that failed a call: a retired file is retired no more, one whose retiring
+// failed outside is there, and the file of the two appends has the bytes of those that were passed on.
+const NONE_OF_THESE: &[Call] = &[NoRetire(E), NoRetire(F), Failures(2), Seal(A, 4)];
+
+const AN_APPEND: &[Call] = &[NoRetire(E), NoRetire(F), Failures(2), Seal(A, 2)];
+
+const FIRST_RETIRING: &[Call] = &[Retire(E), NoRetire(F), Failures(1), Seal(A, 4)];
+
+const SECOND_RETIRING: &[Call] = &[NoRetire(E), Retire(F), Failures(1), Seal(A, 4)];
+
+// By the place of the call that failed.
+const LEFT: [&[Call]; 10] = [
+    NONE_OF_THESE,
+    AN_APPEND,
+    NONE_OF_THESE,
+    NONE_OF_THESE,
+    FIRST_RETIRING,
+    NONE_OF_THESE,
+    SECOND_RETIRING,
+    NONE_OF_THESE,
+    AN_APPEND,
+    NONE_OF_THESE,
+];
+
+#[test]
+fn a_failed_call_does_nothing(rt: HostRuntime) {
+    for (place, calls) in LEFT.iter().enumerate() {
+        let (mut hand, mut files) = ran_once(&rt, rt.alloc(), place + 1);
+        files.play(&rt, rt.alloc(), &mut hand, calls, place);
     }
 }
 
 // A failure of the hand inside counts there and outside, and the call counts.
-fn fails_inside<H: Hand>(rt: &impl Abort, hand: &mut H) {
-    assert_eq!(rt; hand.failures(), 0);
-    let stamp = Stamp { number: 9, len: 4 };
-    assert_eq!(rt; hand.retire(&stamp), Err(HandFault::Device));
-    assert_eq!(rt; hand.failures(), 1);
-    assert_eq!(rt; created(hand), Err(HandFault::Device));
-    assert_eq!(rt; hand.failures(), 2);
-}
+const INSIDE: &[Call] = &[
+    Failures(0),
+    Stamped(A, 9, 4),
+    NoRetire(A),
+    Failures(1),
+    NoCreate,
+    Failures(2),
+];
 
 #[test]
 fn failures_add_up(rt: HostRuntime) {
-    let mut hand = FuseHand::new(MemHand::new(rt.alloc()), 1);
-    fails_inside(&rt, &mut hand);
-    assert_eq!(rt; created(&mut hand), Err(HandFault::Device));
-    assert_eq!(rt; hand.failures(), 3);
-    assert_eq!(rt; hand.into_inner().failures(), 1);
-    let mut hand = OnceHand::new(MemHand::new(rt.alloc()), 2);
-    fails_inside(&rt, &mut hand);
-    assert_eq!(rt; created(&mut hand), Ok(()));
-    assert_eq!(rt; hand.failures(), 2);
-    assert_eq!(rt; hand.into_inner().failures(), 1);
-}
-
-// A call that fails outside does not reach the hand inside.
-#[test]
-fn a_failed_call_does_nothing(rt: HostRuntime) {
-    for place in 0..CALLS {
-        let mut hand = MemHand::new(rt.alloc());
-        let files = prepared(&rt, &mut hand);
-        let mut hand = OnceHand::new(hand, (place + 1) as u64);
-        let _ = run(&rt, &mut hand, &files);
-        let mut hand = hand.into_inner();
-        let [_, gone, lost] = files.sealed;
-        // A retired file is retired no more, and one whose retiring failed outside is there.
-        assert_eq!(rt; hand.retire(&gone).is_ok(), place == 4);
-        assert_eq!(rt; hand.retire(&lost).is_ok(), place == 6);
-        assert_eq!(rt;
-            hand.failures(),
-            if place == 4 || place == 6 { 1 } else { 2 }
-        );
-        // The file of the two appends has the bytes of those that were passed on.
-        let [appending, _, _] = files.open;
-        let sealed = try_seal(&mut hand, Pen { number: appending }).expect(&rt, "sealed");
-        assert_eq!(rt; sealed.len, if place == 1 || place == 8 { 2 } else { 4 });
-    }
+    let alloc = rt.alloc();
+    let mut hand = FuseHand::new(MemHand::new(alloc), 1);
+    play(&rt, alloc, &mut hand, INSIDE);
+    play(&rt, alloc, &mut hand, &[NoCreate, Failures(1)]);
+    assert!(rt; hand.failures() == 3 && hand.into_inner().failures() == 1);
+    let mut hand = OnceHand::new(MemHand::new(alloc), 2);
+    play(&rt, alloc, &mut hand, INSIDE);
+    play(&rt, alloc, &mut hand, &[Create(B), Discard(B), Failures(0)]);
+    assert!(rt; hand.failures() == 2 && hand.into_inner().failures() == 1);
 }

@@ -1,5 +1,5 @@
 -- Laws of spellings.
-use Rattle.std.specs.Prelude.{◌≡◌, ℕ, ◌+◌, ◌*◌, List, Some, slice_get, take, drop}
+use Rattle.std.specs.Prelude.{◌≡◌, ℕ, ◌+◌, ◌*◌, ◌<◌, List, Some, slice_get, slice_index, take, drop}
 use Rattle.std.specs.Int.{w32, to_be_bytes}
 use Rattle.value_core.specs.declared.datum.Datum.{Datum}
 use Rattle.value_core.specs.declared.datum.Datum.TheVariants as datum
@@ -16,3 +16,11 @@ SpellingUnique = (bytes : List ℕ) (k l : Kind) (first second : Contents) → S
 abbrev pub IntegersStandInPlace : Type 0
 IntegersStandInPlace = (xs : List Datum) (i n : ℕ) → IsContents (array elem.Integer xs) → slice_get xs i ≡ Some (datum.Integer n) →
     take 4 (drop (4 + 4 * i) (spelling (array elem.Integer xs))) ≡ to_be_bytes w32 n
+
+-- each of these numbers is a byte
+abbrev pub AreBytes : List ℕ → Type 0
+AreBytes bytes = (i : ℕ) → slice_index bytes i < 256
+
+-- a spelling is bytes
+abbrev pub SpellingIsBytes : Type 0
+SpellingIsBytes = (value : Contents) → IsContents value → AreBytes (spelling value)

@@ -1,5 +1,5 @@
 -- The bytes of a value.
-use Rattle.std.specs.Prelude.{◌≡◌, ℕ, List, ◌∷◌, ◌++◌, length, All, Option, Some, None}
+use Rattle.std.specs.Prelude.{◌≡◌, ◌≤◌, ℕ, List, ◌∷◌, ◌++◌, length, All, Option, Some, None}
 use Rattle.std.specs.declared.cmp.Ordering.TheVariants.{Less}
 use Rattle.std.specs.List.{flat_map}
 use Rattle.std.specs.Int.{w16, w32, to_be_bytes}
@@ -10,7 +10,7 @@ use Rattle.value_core.specs.declared.kind.Elem.{Elem}
 use Rattle.value_core.specs.declared.kind.Elem.TheVariants as elem
 use Rattle.value_core.specs.declared.kind.Kind.{Kind}
 use Rattle.value_core.specs.declared.kind.Kind.TheVariants as kind
-use Rattle.value_core.specs.Limits.{spelled_length}
+use Rattle.value_core.specs.Limits.{spelled_length, most_elements}
 use Rattle.value_core.specs.Contents.{Contents, array, queue, table, kind_of, IsContents, IsRow}
 use Rattle.value_core.specs.Datum.{IsElement}
 use Rattle.value_core.specs.TextOrder.{text_cmp}
@@ -40,6 +40,16 @@ code_of (kind.Table elem.Text) = 6
 -- format 1, the kind, and the number of elements in two bytes, the highest first
 abbrev pub header : Kind → ℕ → List ℕ
 header k count = 1 ∷ code_of k ∷ to_be_bytes w16 count
+
+-- the numbers of elements that a value of this kind can have
+abbrev pub IsCountOf : Kind → ℕ → Type 0
+IsCountOf (kind.Array n e) count = (count ≡ n) × (count ≤ most_elements)
+IsCountOf (kind.Queue e) count = count ≤ most_elements
+IsCountOf (kind.Table e) count = count ≤ most_elements
+
+-- at the front of these bytes stands the header of a value of this kind
+abbrev pub BeginsAs : Kind → List ℕ → Type 0
+BeginsAs k bytes = (count : ℕ) × (rest : List ℕ) × IsCountOf k count × (bytes ≡ header k count ++ rest)
 
 -- the bytes of a value: the header, and its elements, a table's in the order of their keys
 abbrev pub spelling : Contents → List ℕ

@@ -121,6 +121,17 @@ impl Cells {
         }
     }
 
+    /// The same elements, in memory of their own.
+    pub fn copy(&self, alloc: Global) -> Result<Cells, AllocError>
+        ensures sort { IfOk result (λ copy. cells_sort copy ≡ cells_sort self.now) }
+        ensures data { IfOk result (λ copy. cells_data copy ≡ cells_data self.now) }
+    {
+        match self {
+            Cells::Integers(all) => Ok(Cells::Integers(Vec::from_slice(alloc, all)?)),
+            Cells::Texts(all) => Ok(Cells::Texts(Vec::from_slice(alloc, all)?)),
+        }
+    }
+
     /// The elements, in order.
     pub fn list(&self, alloc: Global) -> Result<Vec<Datum>, AllocError>
         ensures { IfOk result (λ list. list.items ≡ cells_data self.now) }

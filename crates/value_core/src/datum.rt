@@ -1,6 +1,6 @@
 //! What stands at a place of a value.
 
-ghost use Rattle.std.specs.Prelude.{◌≡◌};
+ghost use Rattle.std.specs.Prelude.{◌≡◌, ◌↔◌, IsTrue};
 ghost use Rattle.value_core.specs.Datum.{elem_of, IsDatum};
 
 use crate::kind::Elem;
@@ -30,6 +30,17 @@ impl Datum {
                 let _bytes = text.bytes();
                 Elem::Text
             }
+        }
+    }
+
+    /// Whether both are the same integer or the same text.
+    pub fn is_same(&self, other: &Datum) -> bool
+        ensures { IsTrue result ↔ (self.now ≡ other.now) }
+    {
+        match (self, other) {
+            (Datum::Integer(first), Datum::Integer(second)) => *first == *second,
+            (Datum::Text(first), Datum::Text(second)) => first.is_same(second),
+            _ => false,
         }
     }
 }

@@ -4,7 +4,7 @@ ghost use Rattle.std.specs.Prelude.{◌≡◌, ◌≤◌, List, IfOk, IsErrOf, I
 ghost use Rattle.value_core.specs.declared.datum.Datum.{Datum};
 ghost use Rattle.value_core.specs.Limits.{most_elements};
 ghost use Rattle.value_core.specs.Contents.{Contents};
-ghost use Rattle.value_core.specs.Spelling.{Spells, SpellElements, SpellRows, IsAfter, header};
+ghost use Rattle.value_core.specs.Spelling.{Spells, SpellElements, SpellRows, IsAfter, header, IsCountOf, BeginsAs};
 ghost use Rattle.value_core.specs.Rows.{rows_sort, rows_map};
 ghost use Rattle.value_core.specs.TextOrder.{text_cmp};
 ghost use Rattle.std.specs.FinMap as map;
@@ -134,6 +134,7 @@ fn decode_elements(
     requires { count ≤ most_elements }
     ensures found { IfOk result (λ value. Spells (header kind count ++ bytes.now) kind value) }
     ensures damaged { IsErrOf result DecodeFault.Damaged → (value : Contents) → Spells (header kind count ++ bytes.now) kind value → ⊥ }
+    ensures header { (IsCountOf kind count → ⊥) → IsErrOf result DecodeFault.Damaged }
 {
     let many = count as usize;
     match kind {
@@ -155,11 +156,13 @@ fn decode_elements(
     }
 }
 
-/// The value of this kind that the bytes spell. `Damaged` where they spell none, whatever memory there
-/// is; `Memory` where it was refused before that was seen.
+/// The value of this kind that the bytes spell. `Damaged` where they spell none; where no header of this
+/// kind stands at their front, whatever memory there is. `Memory` where it was refused before another damage
+/// was seen.
 pub fn decode(alloc: Global, kind: Kind, bytes: &[u8]) -> Result<Value, DecodeFault>
     ensures found { IfOk result (λ value. Spells bytes.now kind value) }
     ensures damaged { IsErrOf result DecodeFault.Damaged → (value : Contents) → Spells bytes.now kind value → ⊥ }
+    ensures header { (BeginsAs kind bytes.now → ⊥) → IsErrOf result DecodeFault.Damaged }
 {
     let Some((code, count, rest)) = read_header(bytes) else {
         return Err(DecodeFault::Damaged);

@@ -1,6 +1,6 @@
 //! Laws of the bytes of values, over the definitions alone.
 
-ghost use Rattle.value_core.specs.Laws.{SpellingUnique, IntegersStandInPlace};
+ghost use Rattle.value_core.specs.Laws.{SpellingUnique, IntegersStandInPlace, SpellingIsBytes};
 
 /// No two values share a spelling.
 pub fn spelling_unique()
@@ -10,4 +10,9 @@ pub fn spelling_unique()
 /// The integers of an array stand at fixed places of its bytes.
 pub fn integers_stand_in_place()
     ensures { IntegersStandInPlace }
+{}
+
+/// A spelling is bytes.
+pub fn spelling_is_bytes()
+    ensures { SpellingIsBytes }
 {}

@@ -118,6 +118,17 @@ impl Line {
         }
     }
 
+    /// The same elements, in memory of their own.
+    pub fn copy(&self, alloc: Global) -> Result<Line, AllocError>
+        ensures sort { IfOk result (λ copy. line_sort copy ≡ line_sort self.now) }
+        ensures data { IfOk result (λ copy. line_data copy ≡ line_data self.now) }
+    {
+        match self {
+            Line::Integers(all) => Ok(Line::Integers(copied(alloc, all)?)),
+            Line::Texts(all) => Ok(Line::Texts(copied(alloc, all)?)),
+        }
+    }
+
     /// The elements, in order.
     pub fn list(&self, alloc: Global) -> Result<Vec<Datum>, AllocError>
         ensures { IfOk result (λ list. list.items ≡ line_data self.now) }
@@ -130,4 +141,15 @@ impl Line {
         }
         Ok(list)
     }
+}
+
+// The same elements, made in one growth.
+fn copied<T: Copy>(alloc: Global, all: &VecDeque<T>) -> Result<VecDeque<T>, AllocError>
+    ensures { IfOk result (λ copy. copy.items ≡ all.now.items) }
+{
+    let (older, newer) = all.as_slices();
+    let mut copy = Vec::with_capacity(alloc, all.len())?;
+    copy.extend_from_slice(older)?;
+    copy.extend_from_slice(newer)?;
+    Ok(VecDeque::from(copy))
 }

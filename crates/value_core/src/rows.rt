@@ -135,6 +135,17 @@ impl Rows {
         total
     }
 
+    /// The same rows, in memory of their own.
+    pub fn copy(&self) -> Result<Rows, AllocError>
+        ensures sort { IfOk result (λ copy. rows_sort copy ≡ rows_sort self.now) }
+        ensures data { IfOk result (λ copy. rows_map copy ≡ rows_map self.now) }
+    {
+        match self {
+            Rows::Integers(all) => Ok(Rows::Integers(all.clone()?)),
+            Rows::Texts(all) => Ok(Rows::Texts(all.clone()?)),
+        }
+    }
+
     /// The keys and what stands under them, keys rising.
     pub fn list(&self, alloc: Global) -> Result<Vec<(Text, Datum)>, AllocError>
         ensures { IfOk result (λ list. list.items ≡ map.entries (rows_map self.now)) }

@@ -81,6 +81,13 @@ impl Text {
         self.bytes().is_empty()
     }
 
+    /// Whether both have the same bytes.
+    pub fn is_same(&self, other: &Text) -> bool
+        ensures { IsTrue result ↔ (self.now ≡ other.now) }
+    {
+        self.bytes() == other.bytes()
+    }
+
     /// The bytes.
     pub fn bytes(&self) -> &[u8]
         ensures bytes { result.now ≡ self.now }

@@ -88,6 +88,18 @@ impl Value {
         Ok(Value { body })
     }
 
+    /// The same value, in memory of its own.
+    pub fn copy(&self, alloc: Global) -> Result<Value, AllocError>
+        ensures { IfOk result (λ copy. copy ≡ self.now) }
+    {
+        let body = match &self.body {
+            Body::Array(cells) => Body::Array(cells.copy(alloc)?),
+            Body::Queue(line) => Body::Queue(line.copy(alloc)?),
+            Body::Table(rows) => Body::Table(rows.copy()?),
+        };
+        Ok(Value { body })
+    }
+
     /// Its kind: an array's with its length.
     pub fn kind(&self) -> Kind
         ensures kind { result ≡ kind_of self.now }

@@ -1,10 +1,11 @@
 //! A line that begins with `path`.
 
-ghost use Rattle.std.specs.Prelude.{◌≡◌, ◌≢◌, ◌<◌, ◌≤◌, ◌++◌, ◌↔◌, ℕ, IsTrue, IfOk, OnOk, MatchOption, length, drop, codes, decimal};
-ghost use Rattle.path_tree.specs.Lexeme.{lexemes, lexeme_of, symbol, end_mark};
+ghost use Rattle.std.specs.Prelude.{◌≡◌, ◌≢◌, ◌<◌, ◌≤◌, ◌++◌, ◌↔◌, ℕ, IsTrue, IfOk, OnOk, IfSome, MatchOption, length, drop, codes, decimal};
+ghost use Rattle.path_tree.specs.Lexeme.{lexemes, lexeme_of, symbol};
+ghost use Rattle.path_tree.specs.Tokens.{placed_tokens};
 ghost use Rattle.path_tree.specs.declared.token.Symbol.TheVariants.{Semicolon};
-ghost use Rattle.path_count.specs.PathLine.{IsPathEnd};
-ghost use Rattle.path_count.specs.ReadLine.{IsReadLine, IsReadTokens, line_fault_text};
+ghost use Rattle.path_count.specs.PathLine.{IsPathEnd, StandsBehind};
+ghost use Rattle.path_count.specs.ReadLine.{EndsInMark, IsReadLine, IsReadTokens, line_fault_text};
 
 use line_core::reply::{push_fault, push_number};
 use path_tree::lex::fault::LexFault;
@@ -30,7 +31,9 @@ pub enum PathLine {
     Refused(LineFault),
 }
 
-/// The path of a line, alone or before one semicolon, or the fault that it is told.
+/// The path of a line, alone or before one semicolon, or the fault that it is told: never a want of
+/// memory, which is an `AllocError`. Where a path stands, it is `Expected` at the first token behind it,
+/// or behind the semicolon there.
 pub fn read_path_line(alloc: Global, line: &[u8], names: &[Name]) -> Result<PathLine, AllocError>
     requires { length names.now ≤ 32 }
     ensures { IfOk result (IsReadLine names.now line.now) }
@@ -52,7 +55,8 @@ fn read_tokens(alloc: Global, tokens: &[Token], names: &[Name]) -> Result<PathLi
     requires few { length names.now ≤ 32 }
     requires some { 0 < length tokens.now }
     requires bounded { length tokens.now ≤ 65537 }
-    ensures { IfOk result (IsReadTokens names.now (lexemes tokens.now)) }
+    requires marked { EndsInMark (lexemes tokens.now) }
+    ensures { IfOk result (IsReadTokens names.now (placed_tokens tokens.now)) }
 {
     match parse_path(alloc, tokens, 0, &[], names) {
         Ok((tree, to)) => match fault_behind(tokens_from(tokens, to)) {
@@ -89,22 +93,25 @@ fn syntax_fault(fault: PathFault) -> Result<LineFault, AllocError>
 // The tokens from a place on.
 fn tokens_from(tokens: &[Token], at: usize) -> &[Token]
     requires { at ≤ length tokens.now }
-    ensures { lexemes result.now ≡ drop at (lexemes tokens.now) }
+    ensures lexemes { lexemes result.now ≡ drop at (lexemes tokens.now) }
+    ensures places { placed_tokens result.now ≡ drop at (placed_tokens tokens.now) }
 {
     let (_, rest) = tokens.split_at(at);
     rest
 }
 
-// Where the first token stands that may not stand behind a path.
+// Where a token stands that may not stand behind a path.
 fn fault_behind(rest: &[Token]) -> Option<usize>
-    ensures { MatchOption result (IsPathEnd (lexemes rest.now)) (λ _. IsPathEnd (lexemes rest.now) → ⊥) }
+    requires { EndsInMark (lexemes rest.now) }
+    ensures end { MatchOption result (IsPathEnd (lexemes rest.now)) (λ _. IsPathEnd (lexemes rest.now) → ⊥) }
+    ensures at { IfSome result (StandsBehind (placed_tokens rest.now)) }
 {
     match rest {
-        [] => Some(0),
-        [only] => fault_at_end(only),
-        [first, second] => {
+        // the end mark alone
+        [] | [_] => None,
+        [first, _] => {
             if is_semicolon(first) {
-                fault_at_end(second)
+                None
             } else {
                 Some(first.start)
             }
@@ -116,16 +123,6 @@ fn fault_behind(rest: &[Token]) -> Option<usize>
                 Some(first.start)
             }
         }
-    }
-}
-
-// Where a token stands that is no end mark.
-fn fault_at_end(token: &Token) -> Option<usize>
-    ensures { MatchOption result (lexeme_of token.now.kind ≡ end_mark) (λ _. lexeme_of token.now.kind ≡ end_mark → ⊥) }
-{
-    match &token.kind {
-        Kind::EndMark => None,
-        _ => Some(token.start),
     }
 }
 

@@ -1,6 +1,4 @@
-use Rattle.std.proofs.Common.{length, ◌≡◌, ◌↔◌, IsTrue, map, ℕ, ◌+◌, ◌-◌, ◌*◌, ◌<◌, ◌≤◌}
-use Rattle.value_core.specs.Datum.{elem_of}
-use Rattle.body_core.specs.Calls.{ArgumentsFit, HasPins}
+use Rattle.std.proofs.Common.{length}
 use Rattle.body_core.proofs.fits.+are_of.Given as goal
 
 abbrev pub decreases-are_of : goal.decreases-are_of

@@ -1,4 +1,4 @@
-use Rattle.std.specs.Prelude.{◌≡◌, ◌≢◌, ℕ, ◌<◌, ◌≤◌, length}
+use Rattle.std.specs.Prelude.{◌≢◌, ℕ, ◌<◌, ◌≤◌, length}
 use Rattle.std.specs.Int.{bit_at}
 use Rattle.body_core.proofs.fits.pins_fit.Given as goal
 

@@ -1,4 +1,4 @@
-use Rattle.std.proofs.Common.{List, sym, subst}
+use Rattle.std.proofs.Common.{List, subst}
 use Rattle.value_core.specs.Contents.{Contents}
 use Rattle.body_core.specs.Truths.{AreChanges}
 use Rattle.body_core.specs.Verdicts.{MayLeave}

@@ -1,8 +1,10 @@
-use Rattle.std.proofs.Common.{◌≡◌, ◌⊎◌, ◌≤◌, Some}
-use Rattle.shelf_core.specs.Device.{Assignment, Failed as DeviceFailed}
+use Rattle.std.proofs.Common.{◌≡◌, ◌⊎◌, ◌<◌, ◌≤◌, Some, None}
+use Rattle.shelf_core.specs.declared.hand.Stamp.{Stamp}
+use Rattle.shelf_core.specs.Device.{Assignment, Always, Failed as DeviceFailed}
 use Rattle.body_core.specs.declared.reply.Failure.TheVariants as failures
 use Rattle.body_core.specs.declared.reply.Reply.TheVariants as replies
-use Rattle.body_core.specs.Runs.{run_call, run_ending, run_work, PenHolds, SoFar}
+use Rattle.body_core.specs.Runs.{run_call, run_ending, run_place, run_work, PenHolds, SoFar}
+use Rattle.body_core.specs.Steps.{Place, Leads, PinsServed}
 use Rattle.body_core.proofs.perform.perform.Given as goal
 
 -- the steps so far are as one step
@@ -11,11 +13,18 @@ invariant-loop-outcome g l =
     let agrees = g.H.Hand.agrees in
     let failed = g.H.Hand.failed in
     let pending = g.H.Hand.pending in
+    let readable = g.H.Hand.serves in
+    let works_for = g.H.Hand.works_for in
     record {
       call : run_call l.run ≡ run_call l.fn.run;
+      steps : (last : Place) → Leads (run_call l.fn.run) (run_place l.run) last → Leads (run_call l.fn.run) (run_place l.fn.run) last;
       kept : (a : Assignment) → agrees l.hand a → agrees l.fn.hand a;
       pen : PenHolds (pending l.fn.hand) l.fn.run → PenHolds (pending l.hand) l.run;
       found : PenHolds (pending l.fn.hand) l.fn.run → (a : Assignment) → agrees l.hand a → SoFar a l.fn.run → SoFar a l.run;
+      serves : (s : Stamp) → readable l.fn.hand s → readable l.hand s;
+      works : Always (works_for l.fn.hand) → Always (works_for l.hand);
+      in_order : Always (works_for l.fn.hand) → PenHolds (pending l.fn.hand) l.fn.run → PinsServed (readable l.fn.hand) (run_call l.fn.run) → run_ending l.fn.run ≡ None → run_ending l.run ≡ Some (replies.Failed failures.Device) → ⊥;
+      rises : failed l.fn.hand < failed l.hand → run_ending l.run ≡ Some (replies.Failed failures.Device);
       counted : failed l.fn.hand ≤ failed l.hand;
       cause : run_ending l.run ≡ Some (replies.Failed failures.Device) → (run_ending l.fn.run ≡ Some (replies.Failed failures.Device)) ⊎ DeviceFailed (failed l.fn.hand) (failed l.hand);
     }

@@ -1,4 +1,4 @@
-use Rattle.std.proofs.Common.{◌≡◌, ◌∙◌, inl, arith, ap, length}
+use Rattle.std.proofs.Common.{◌∙◌, inl, arith, ap, length}
 use Rattle.shelf_core.specs.declared.hand.HandFault.TheVariants.{Memory}
 use Rattle.body_core.specs.Steps.{reads_last}
 use Rattle.body_core.specs.Tasks.{task_call}

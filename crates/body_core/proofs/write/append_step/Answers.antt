@@ -1,4 +1,5 @@
-use Rattle.std.proofs.Common.{◌≡◌, ◌+◌, ℕ, List, arith, refl, ap, length, take, sym, subst, ◌∙◌}
+use Rattle.std.proofs.Common.{◌≡◌, ◌+◌, ℕ, List, arith, refl, ap, length, take, sym, subst, ◌∙◌, inr}
+use Rattle.std.specs.Prelude.{Err}
 use Rattle.body_core.specs.declared.judge.Change.{Change}
 use Rattle.body_core.specs.Steps.{appends_last}
 use Rattle.body_core.proofs.Stepping.{failed_there, appends_first, append_on, some_same, chunk_appended}
@@ -25,3 +26,6 @@ returns-else-end-len-clause-steps g c = λ call. appends_last c.current.ensures 
 
 pub returns-in-Err-clause-steps : goal.returns-in-Err-clause-steps
 returns-in-Err-clause-steps g c = λ call. failed_there call _ c.in-Err.fault c.failed.result _ appends_first refl c.failed.ensures
+
+pub returns-in-Err-clause-makes : goal.returns-in-Err-clause-makes
+returns-in-Err-clause-makes g c = (_, Err c.in-Err.fault, inr (refl, (c.append.new.self, c.append.new.pen, c.in-Err.ensures.number, c.in-Err.ensures.makes, c.discard.ensures.makes)))

@@ -1,3 +1,4 @@
+use Rattle.std.proofs.Common.{inl}
 use Rattle.std.specs.Map.{values_of}
 use Rattle.exclude_core.proofs.Reports.{check_counted, check_faulty, count_only, told_fault}
 use Rattle.exclude_core.proofs.report.report.Goals as goal
@@ -20,4 +21,4 @@ returns-in_ok-report-in-Err-clause-is c =
 
 pub returns-in_ok-report-in-Err-clause-only : goal.returns-in_ok-report-in-Err-clause-only
 returns-in_ok-report-in-Err-clause-only c objects are =
-    absurd (c.in_ok-report-in-Err.ensures.0 (c.in-Err.ensures.only objects are))
+    absurd (c.in_ok-report-in-Err.ensures.0 (inl (c.in-Err.ensures.only objects are)))

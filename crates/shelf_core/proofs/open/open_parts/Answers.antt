@@ -1,16 +1,15 @@
 use Rattle.std.proofs.Common.{◌≡◌, ◌+◌, ◌<◌, [], ◌∷◌, ◌++◌, Some, length, take, sym, ap, subst, ◌∙◌, refl, arith, rules}
 use Rattle.std.specs.Prelude.{slice_get, map}
-use Rattle.shelf_core.specs.Device.{Assignment}
-use Rattle.shelf_core.specs.Papers.{Papers}
-use Rattle.shelf_core.specs.Opened.{AreOpened}
+use Rattle.shelf_core.specs.Device.{AreServed}
+use Rattle.shelf_core.specs.Opened.{AreLoaded, ArePinned}
 use Rattle.std.proofs.lemmas.List.{take_more, take_all}
 use Rattle.std.proofs.lemmas.Option.{slice_get_read}
 use Rattle.decl_core.specs.declared.object.Part.{Part}
-use Rattle.shelf_core.proofs.Opening.{start, next, since}
+use Rattle.shelf_core.proofs.Opening.{start, next, since, shelf_since}
 use Rattle.shelf_core.proofs.open.open_parts.Goals as goal
 
 pub loop-number-init : goal.loop-number-init
-loop-number-init g c = rw (c.in_ok-stamps.ensures.items, c.in_ok-values.ensures.items) (start _ _ _ _ _)
+loop-number-init g c = rw (c.in_ok-stamps.ensures.items, c.in_ok-values.ensures.items) (start _ _ _ _ _ _ _)
 
 pub returns-in-Err-clause-papers : goal.returns-in-Err-clause-papers
 returns-in-Err-clause-papers g c = λ p is. c.loop-number.invariant.papers p (c.open_part.ensures.papers p is)
@@ -30,7 +29,7 @@ returns-in-Err-clause-cause g c =
     let part = c.index-part.result.now in
     let within : c.loop-number.number < length all = omega (arith, c.loop-number-test.true, c.len-count.ensures, c.args.object.now.parts.ok.0) in
     let there : slice_get all c.loop-number.number ≡ Some part = slice_get_read all (length all) c.loop-number.number part refl within c.index-part.ensures in
-    since _ all part c.loop-number.number there c.loop-number.invariant c.open_part.ensures.counted_shelf c.open_part.ensures.counted_hand _ c.in-Err.ensures.cause
+    since _ all part c.loop-number.number there c.loop-number.invariant c.open_part.ensures.papers c.open_part.ensures.counted_shelf c.open_part.ensures.counted_hand _ c.in-Err.ensures.cause
 
 pub returns-in_err-add-clause-papers : goal.returns-in_err-add-clause-papers
 returns-in_err-add-clause-papers g c = λ p is. c.loop-number.invariant.papers p (c.open_part.ensures.papers p is)
@@ -51,7 +50,7 @@ loop-number-preserved g c =
     let within : c.loop-number.number < length all = omega (arith, c.loop-number-test.true, c.len-count.ensures, c.args.object.now.parts.ok.0) in
     let longer : take (c.loop-number.number + 1) all ≡ take c.loop-number.number all ++ part ∷ [] = take_more all c.loop-number.number part within ∙ ap (λ (p : Part). take c.loop-number.number all ++ p ∷ []) (sym c.index-part.ensures) in
     rw (longer, c.in_ok-add.ensures.stamps, c.in_ok-add.ensures.values)
-    (next part _ _ c.loop-number.invariant c.in-Ok.ensures.ok c.in-Ok.ensures.kind c.open_part.ensures.papers c.open_part.ensures.files c.open_part.ensures.counted_shelf c.open_part.ensures.counted_hand)
+    (next part _ _ c.loop-number.invariant c.in-Ok.ensures.loaded c.in-Ok.ensures.pinned c.in-Ok.ensures.served c.in-Ok.ensures.kind c.open_part.ensures.papers c.open_part.ensures.files c.open_part.ensures.serves c.open_part.ensures.works c.open_part.ensures.counted_shelf c.open_part.ensures.counted_hand)
 
 pub new-requires : goal.new-requires
 new-requires g c =
@@ -60,11 +59,42 @@ new-requires g c =
     let stamps : c.deref.result.now ≡ c.loop-number.stamps.items = search rules in
     rw stamps (omega (arith, many, c.args.object.now.few))
 
-pub returns-clause-ok : goal.returns-clause-ok
-returns-clause-ok g c =
+pub returns-clause-loaded : goal.returns-clause-loaded
+returns-clause-loaded g c = λ papers is.
+    let whole : take c.loop-number.number c.args.object.now.parts.items ≡ c.args.object.now.parts.items = take_all c.loop-number.number c.args.object.now.parts.items (omega (arith, c.loop-number-test.false, c.len-count.ensures, c.args.object.now.parts.ok.0)) in
+    subst (λ ps. AreLoaded papers c.args.object.now.name ps c.loop-number.values.items) whole (c.loop-number.invariant.loaded papers is)
+
+pub returns-clause-pinned : goal.returns-clause-pinned
+returns-clause-pinned g c = λ a so.
     let whole : take c.loop-number.number c.args.object.now.parts.items ≡ c.args.object.now.parts.items = take_all c.loop-number.number c.args.object.now.parts.items (omega (arith, c.loop-number-test.false, c.len-count.ensures, c.args.object.now.parts.ok.0)) in
     let pins : c.new.result ≡ c.loop-number.stamps.items = search rules in
-    rw pins (subst (λ parts. (papers : Papers) → g.S.Shelf.holds c.loop-number.shelf papers → (a : Assignment) → g.H.Hand.agrees c.loop-number.hand a → AreOpened papers a c.args.object.now.name parts c.loop-number.stamps.items c.loop-number.values.items) whole c.loop-number.invariant.opened)
+    subst (λ ss. ArePinned a c.args.object.now.parts.items ss c.loop-number.values.items) (sym pins) (subst (λ ps. ArePinned a ps c.loop-number.stamps.items c.loop-number.values.items) whole (c.loop-number.invariant.pinned a so))
+
+pub returns-clause-served : goal.returns-clause-served
+returns-clause-served g c =
+    let pins : c.new.result ≡ c.loop-number.stamps.items = search rules in
+    subst (λ ss. AreServed (g.H.Hand.serves c.loop-number.hand) ss) (sym pins) c.loop-number.invariant.served
+
+pub returns-clause-serves : goal.returns-clause-serves
+returns-clause-serves g c = c.loop-number.invariant.kept
+
+pub returns-clause-works : goal.returns-clause-works
+returns-clause-works g c = c.loop-number.invariant.works
+
+pub returns-in-Err-clause-serves : goal.returns-in-Err-clause-serves
+returns-in-Err-clause-serves g c = λ s is. c.open_part.ensures.serves s (c.loop-number.invariant.kept s is)
+
+pub returns-in-Err-clause-works : goal.returns-in-Err-clause-works
+returns-in-Err-clause-works g c = λ always. c.open_part.ensures.works (c.loop-number.invariant.works always)
+
+pub returns-in_err-add-clause-serves : goal.returns-in_err-add-clause-serves
+returns-in_err-add-clause-serves g c = λ s is. c.open_part.ensures.serves s (c.loop-number.invariant.kept s is)
+
+pub returns-in_err-add-clause-works : goal.returns-in_err-add-clause-works
+returns-in_err-add-clause-works g c = λ always. c.open_part.ensures.works (c.loop-number.invariant.works always)
+
+pub returns-in-Err-clause-in_order : goal.returns-in-Err-clause-in_order
+returns-in-Err-clause-in_order g c = λ always is. shelf_since c.loop-number.invariant c.open_part.ensures.counted_shelf (c.in-Err.ensures.in_order (c.loop-number.invariant.works always) is)
 
 pub returns-clause-many : goal.returns-clause-many
 returns-clause-many g c =

@@ -7,11 +7,11 @@ use Rattle.shelf_core.specs.declared.hand.Stamp.{Stamp}
 use Rattle.shelf_core.specs.Papers.{Papers}
 use Rattle.shelf_core.specs.Pins.{no_stamp}
 use Rattle.shelf_core.specs.Saved.{AreFetched, with_parts}
-use Rattle.shelf_core.proofs.Saving.{start, next, since, leaves}
+use Rattle.shelf_core.proofs.Saving.{start, next, since, leaves, shelf_since}
 use Rattle.shelf_core.proofs.save.save_parts.Goals as goal
 
 pub loop-number-init : goal.loop-number-init
-loop-number-init g c = start _ _ _ _ _
+loop-number-init g c = start _ _ _ _ _ _ _
 
 pub loop-number-preserved : goal.loop-number-preserved
 loop-number-preserved g c =
@@ -23,7 +23,7 @@ loop-number-preserved g c =
     let same : slice_index_or c.args.pins.now n no_stamp ≡ pin = ap (λ (ps : List Stamp). slice_index_or ps n no_stamp) (sym c.as_slice-stamps.ensures.stamps) in
     let longer : take (n + 1) parts ≡ take n parts ++ part ∷ [] = take_more parts n part within ∙ ap (λ (p : Part). take n parts ++ p ∷ []) (sym c.index-part.ensures) in
     let further : take (n + 1) c.args.pins.now ≡ take n c.args.pins.now ++ pin ∷ [] = take_more c.args.pins.now n no_stamp (omega (arith, within, c.requires)) ∙ ap (λ (p : Stamp). take n c.args.pins.now ++ p ∷ []) same in
-    rw (longer, further) (next _ _ part pin c.loop-number.invariant c.in-Ok.ensures.ok c.save_part.ensures.files c.save_part.ensures.counted_shelf c.save_part.ensures.counted_hand)
+    rw (longer, further) (next _ _ _ _ part pin c.loop-number.invariant c.in-Ok.ensures.ok c.save_part.ensures.files c.save_part.ensures.serves c.save_part.ensures.works c.save_part.ensures.counted_shelf c.save_part.ensures.counted_hand)
 
 pub returns-in-Err-clause-files : goal.returns-in-Err-clause-files
 returns-in-Err-clause-files g c = λ a is. c.loop-number.invariant.files a (c.save_part.ensures.files a is)
@@ -80,3 +80,24 @@ returns-in-Err-clause-left g c =
     let longer : take (n + 1) parts ≡ take n parts ++ part ∷ [] = take_more parts n part within ∙ ap (λ (p : Part). take n parts ++ p ∷ []) (sym c.index-part.ensures) in
     let further : take (n + 1) c.args.pins.now ≡ take n c.args.pins.now ++ pin ∷ [] = take_more c.args.pins.now n no_stamp (omega (arith, within, c.requires)) ∙ ap (λ (p : Stamp). take n c.args.pins.now ++ p ∷ []) same in
     leaves _ _ _ parts c.args.pins.now part pin n longer further c.loop-number.invariant c.save_part.ensures.files _ c.in-Err.ensures.cause c.in-Err.ensures.left
+
+pub returns-clause-serves : goal.returns-clause-serves
+returns-clause-serves g c = c.loop-number.invariant.kept
+
+pub returns-clause-works : goal.returns-clause-works
+returns-clause-works g c = c.loop-number.invariant.works
+
+pub returns-in-Err-clause-serves : goal.returns-in-Err-clause-serves
+returns-in-Err-clause-serves g c = λ s is. c.save_part.ensures.serves s (c.loop-number.invariant.kept s is)
+
+pub returns-in-Err-clause-works : goal.returns-in-Err-clause-works
+returns-in-Err-clause-works g c = λ always. c.save_part.ensures.works (c.loop-number.invariant.works always)
+
+pub returns-in-Err-clause-in_order : goal.returns-in-Err-clause-in_order
+returns-in-Err-clause-in_order g c = λ always served k is.
+    let n = c.loop-number.number in
+    let within : n < length c.args.object.now.parts.items = omega (arith, c.loop-number-test.true, c.len-number-end.ensures, c.args.object.now.parts.ok.0) in
+    let pin : Stamp = slice_index_or c.as_slice-stamps.result.now n no_stamp in
+    let same : slice_index_or c.args.pins.now n no_stamp ≡ pin = ap (λ (ps : List Stamp). slice_index_or ps n no_stamp) (sym c.as_slice-stamps.ensures.stamps) in
+    let under : slice_get c.args.pins.now n ≡ Some pin = slice_get-get_or c.args.pins.now n no_stamp (omega (arith, within, c.requires)) ∙ ap (λ (p : Stamp). Some p) same in
+    shelf_since c.loop-number.invariant c.save_part.ensures.counted_shelf (c.in-Err.ensures.in_order (c.loop-number.invariant.works always) (c.loop-number.invariant.kept pin (served n pin under)) k is)

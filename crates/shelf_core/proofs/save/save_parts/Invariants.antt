@@ -8,4 +8,4 @@ invariant-loop-number g l =
     let agrees = g.H.Hand.agrees in
     let shelf = g.S.Shelf.failed in
     let hand = g.H.Hand.failed in
-    Saving (holds l.fn.shelf) (holds l.shelf) (agrees l.fn.hand) (agrees l.hand) (shelf l.fn.shelf) (shelf l.shelf) (hand l.fn.hand) (hand l.hand) l.object.name (take l.number l.object.parts.items) (take l.number l.pins)
+    Saving (holds l.fn.shelf) (holds l.shelf) (agrees l.fn.hand) (agrees l.hand) (g.H.Hand.serves l.fn.hand) (g.H.Hand.serves l.hand) (g.H.Hand.works_for l.fn.hand) (g.H.Hand.works_for l.hand) (shelf l.fn.shelf) (shelf l.shelf) (hand l.fn.hand) (hand l.hand) l.object.name (take l.number l.object.parts.items) (take l.number l.pins)

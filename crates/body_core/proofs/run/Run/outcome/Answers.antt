@@ -1,7 +1,28 @@
-use Rattle.std.proofs.Common.{sym, subst}
-use Rattle.body_core.specs.Phases.{Touches}
-use Rattle.body_core.proofs.Touching.{written}
+use Rattle.std.proofs.Common.{subst}
+use Rattle.std.specs.Arc.{arc_value}
+use Rattle.decl_core.specs.Bodies.{body_of}
+use Rattle.body_core.specs.Phases.{FoundBy}
+use Rattle.body_core.specs.Steps.{place_in, parts_at}
+use Rattle.body_core.specs.Tasks.{task_call}
+use Rattle.body_core.specs.Written.{WritesInOrder, parts_of}
+use Rattle.body_core.proofs.Ordering.{in_order, has_written}
+use Rattle.body_core.proofs.Telling.{pins_told}
 use Rattle.body_core.proofs.run.Run.outcome.Goals as goal
 
+pub invariant_of-result : goal.invariant_of-result
+invariant_of-result c =
+    let all = (body_of (arc_value c.args.self.task.operation)).statements in
+    record { inside = subst (λ phase. (WritesInOrder all 0 (parts_at (place_in phase)) → ⊥) → ⊥) c.in-Ended.is c.args.self.inside }
+
+pub returns-clause-rising : goal.returns-clause-rising
+returns-clause-rising c =
+    let all = (body_of (arc_value c.args.self.task.operation)).statements in
+    in_order all (parts_of c.in-Ended.news) (subst (λ phase. (WritesInOrder all 0 (parts_at (place_in phase)) → ⊥) → ⊥) c.in-Ended.is c.args.self.inside)
+
 pub returns-clause-writes : goal.returns-clause-writes
-returns-clause-writes c = λ p has. written _ p (c.args.self.inside p (subst (λ phase. Touches phase p) (sym c.in-Ended.is) has))
+returns-clause-writes c = λ p has.
+    let all = (body_of (arc_value c.args.self.task.operation)).statements in
+    has_written all 0 c.in-Ended.news p (in_order all (parts_of c.in-Ended.news) (subst (λ phase. (WritesInOrder all 0 (parts_at (place_in phase)) → ⊥) → ⊥) c.in-Ended.is c.args.self.inside)) has
+
+pub returns-clause-told : goal.returns-clause-told
+returns-clause-told c = λ a so whole. pins_told a (task_call c.args.self.task) c.in-Ended.reply c.in-Ended.news (subst (λ phase. FoundBy a (task_call c.args.self.task) phase) c.in-Ended.is so.found)

@@ -1,8 +1,15 @@
-use Rattle.std.proofs.Common.{◌≤◌, length, Ok, Err, refl, ap}
-use Rattle.path_count.proofs.PathLines.{read_line, lexical_line, ok_is_no_err, same_err}
+use Rattle.std.proofs.Common.{◌≤◌, List, length, Ok, Err, refl, ap, sym, subst}
+use Rattle.path_tree.specs.Lexeme.{lexemes}
+use Rattle.path_count.specs.ReadLine.{EndsInMark}
+use Rattle.path_count.proofs.PathLines.{read_line, tokens_marked, lexical_line, ok_is_no_err, same_err}
 use Rattle.path_tree.specs.declared.lex.fault.LexFault.TheVariants.{TooLong}
 use Rattle.path_count.proofs.Calling.{not_below}
+use Rattle.path_tree.specs.declared.token.Token.{Token}
 use Rattle.path_count.proofs.paths.path_line.read_path_line.Goals as goal
+
+pub read_tokens-requires-clause-marked : goal.read_tokens-requires-clause-marked
+read_tokens-requires-clause-marked c =
+    subst (λ (ts : List Token). EndsInMark (lexemes ts)) (sym c.deref.ensures.value) (tokens_marked c.args.line.now c.in-Ok.tokens.items c.in-Ok.ensures.tokens)
 
 pub returns-in_ok-read-in-Ok : goal.returns-in_ok-read-in-Ok
 returns-in_ok-read-in-Ok c =

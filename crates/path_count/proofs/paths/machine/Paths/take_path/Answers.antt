@@ -40,5 +40,5 @@ returns-in_ok-push_line_fault-in-Refused c =
       λ told stands is.
           fault_told told c.args.number c.args.line.now c.in-Refused.fault c.args.self.now stands
           (some_told told c.args.self.now c.names.result.now stands c.names.ensures.names (λ h. grind (arith, nat_tests)))
-          c.if-self.false (grind (arith, common_steps)) is (rw c.names-2.ensures.names at read.0) read.1,
+          c.if-self.false (grind (arith, common_steps)) is (rw c.names-2.ensures.names at read.0) (rw c.names-2.ensures.names at read.1),
     )

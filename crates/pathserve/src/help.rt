@@ -1,0 +1,63 @@
+//! The texts of `--help`, for someone who meets the program for the first time.
+
+/// What the program is for.
+pub const PROGRAM: &str =
+    "Says which operations of a shared object may run at the same time, by path expressions";
+
+/// What stands below the list of subcommands.
+pub const PROGRAM_MORE: &str =
+    "A path expression is a rule of use: `path 1:(get, put) end` lets one `get` or `put` run at a time.
+Try `pathserve paths` to play with paths by hand, and `pathserve check FILE` on a file of objects.
+`pathserve SUBCOMMAND --help` says what a subcommand reads and writes, with an example.
+
+Exit status: 0 accepted, 1 refused, 2 a wrong command line or a request for help, 3 a read or a write
+failed, 4 out of memory.";
+
+/// What `paths` does.
+pub const PATHS: &str =
+    "Says which operations may start: reads paths, starts and finishes, and answers line by line";
+
+/// What `paths` reads and writes.
+pub const PATHS_MORE: &str =
+    "Reads standard input: line 1 names the operations, the next lines give paths, then operations start
+and finish. Writes the answer to each line to standard output before it waits for more.
+
+Example: at most one of `get` and `put` runs at a time.
+
+  $ printf 'ops get put\\npath 1:(get, put) end\\nstart get\\nstart put\\nfinish get\\n' | pathserve paths
+  ops 2
+  path 1:(get, put) end
+  started get
+  blocked put
+  finished get
+
+Exit status: 0 each line was answered, 1 a line was refused and ended the run.";
+
+/// What `check` does.
+pub const CHECK: &str =
+    "Checks the objects of a file: do their paths keep apart the operations that conflict?";
+
+/// What the argument of `check` is.
+pub const CHECK_FILE: &str = "The file with the objects, one after the other, at most 65536 bytes";
+
+/// What `check` reads and writes.
+pub const CHECK_MORE: &str =
+    "Reads FILE, and writes a report to standard output: of each object whether it is accepted, and of each
+two operations that conflict the path and its node that keep them apart, or the first two that none does.
+
+Example: `box.pp` holds one object, in which a write excludes each other call.
+
+  $ cat box.pp
+  object box;
+    path 1:(set, [get]) end;
+    var v : array [1] of integer;
+    entry procedure set(x : integer); begin v[0] := x end;
+    entry function get : integer; begin get := v[0] end;
+  end;
+  $ pathserve check box.pp
+  object box accepted
+  pair set set path 1 node 0
+  pair set get path 1 node 0
+  1 objects, 0 refused
+
+Exit status: 0 no object is refused, 1 one is, or the file is no file of objects.";

@@ -1,7 +1,0 @@
-//! What no clause of values says: the rows of bytes from outside, sizes at the limits, and wants of memory.
-
-mod bytes;
-mod helpers;
-mod limits;
-mod memory;
-mod model;

@@ -1,0 +1,9 @@
+pub mod Quoting
+pub mod Spaces
+pub mod Cutting
+pub mod Written
+pub mod Numerals
+pub mod Lines
+pub mod Shown
+pub mod Clear
+pub mod Endings
