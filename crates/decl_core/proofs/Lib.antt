@@ -4,3 +4,7 @@ pub mod Examples
 pub mod Touched
 pub mod Footprints
 pub mod KindsStay
+pub mod LastTerms
+pub mod Weights
+pub mod SameBlocks
+pub mod SameForms

@@ -16,3 +16,4 @@ pub mod PartKinds
 pub mod Touched
 pub mod FootprintLaws
 pub mod KindLaws
+pub mod SumRows

@@ -11,8 +11,11 @@ use Rattle.decl_core.specs.declared.object.Object.{Object}
 use Rattle.decl_core.specs.ObjectForm.{OperationForm, ObjectForm}
 use Rattle.decl_core.specs.View.{all_of}
 
+abbrev pub param_of : Param → List ℕ × Elem
+param_of p = (p.name, p.kind)
+
 abbrev pub params_of : List Param → List (List ℕ × Elem)
-params_of params = map (λ p. (p.name, p.kind)) params
+params_of params = map param_of params
 
 abbrev pub parts_of : List Part → List (List ℕ × Kind)
 parts_of parts = map (λ p. (p.name, p.kind)) parts

@@ -5,7 +5,7 @@ use crate::id::PartId;
 use crate::word::Word;
 
 /// How two integers compare.
-#[derive(Clone, Copy, Debug)]
+#[derive(Clone, Copy, Debug, PartialEq, Eq)]
 pub enum Relation {
     /// `=`
     Equal,
