@@ -10,6 +10,7 @@ pub mod KindsKept
 pub mod Leading
 pub mod NewPinRows
 pub mod Ordering
+pub mod Pens
 pub mod SameRuns
 pub mod Sealing
 pub mod Serving

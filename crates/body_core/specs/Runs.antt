@@ -1,5 +1,5 @@
 -- What a run is, to its callers: its call, how it ended, what it has sealed, and what it has found, by an assignment.
-use Rattle.std.specs.Prelude.{◌≡◌, ℕ, List, Option, None}
+use Rattle.std.specs.Prelude.{◌≡◌, ◌≢◌, ℕ, List, Option, Some, None}
 use Rattle.std.proofs.Common.{refl}
 use Rattle.shelf_core.specs.Device.{Assignment}
 use Rattle.shelf_core.specs.Made.{Made}
@@ -28,6 +28,10 @@ run_sealed run = sealed_in run.phase
 -- the number of the file that a run writes, if it writes one
 abbrev pub run_pen : Run → Option ℕ
 run_pen run = pen_in run.phase
+
+-- two runs write no file together
+abbrev pub AreApart : Run → Run → Type 0
+AreApart one other = (n : ℕ) → run_pen one ≡ Some n → run_pen other ≢ Some n
 
 -- a number that falls with each step of a run that has not ended
 abbrev pub run_work : Run → ℕ

@@ -42,6 +42,7 @@ pub(crate) fn advance<H: Hand>(
     ensures steps { Follows (task_call task.now) (place_in phase) (place_in result.0) }
     ensures pen { PenHoldsIn (H.pending hand.old) phase → PenHoldsIn (H.pending hand.new) result.0 }
     ensures others { (n : ℕ) (b : List ℕ) → pen_in phase ≢ Some n → H.pending hand.old n b → H.pending hand.new n b }
+    ensures earlier { (n : ℕ) (b : List ℕ) → pen_in phase ≢ Some n → H.pending hand.new n b → H.pending hand.old n b ⊎ (pen_in result.0 ≡ Some n) }
     ensures unused { (n : ℕ) → pen_in result.0 ≡ Some n → (pen_in phase ≡ Some n) ⊎ IsFree (H.agrees hand.new) (H.pending hand.old) n }
     ensures serves { (s : Stamp) → H.serves hand.old s → H.serves hand.new s }
     ensures works { (n : ℕ) → H.works_for hand.old n → H.works_for hand.old (n + 1) → H.works_for hand.new n }

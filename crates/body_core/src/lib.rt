@@ -9,6 +9,7 @@
 mod act;
 mod advance;
 pub mod apply;
+pub mod beside;
 mod conclude;
 mod eval;
 mod evaluate;

@@ -30,6 +30,7 @@ fn read_end<H: Hand>(hand: &mut H, pin: Stamp, at: usize, bytes: &mut [u8]) -> R
     ensures front { take at bytes.new ≡ take at bytes.old }
     ensures len { length bytes.new ≡ length bytes.old }
     ensures others { (n : ℕ) (b : List ℕ) → H.pending hand.old n b → H.pending hand.new n b }
+    ensures earlier { (n : ℕ) (b : List ℕ) → H.pending hand.new n b → H.pending hand.old n b }
     ensures serves { (s : Stamp) → H.serves hand.old s → H.serves hand.new s }
     ensures works { (n : ℕ) → H.works_for hand.old (n + 1) → H.works_for hand.new n }
     ensures in_order { H.works_for hand.old 1 → H.serves hand.old pin → IsDeviceErr result → ⊥ }
@@ -53,6 +54,7 @@ fn read_chunk<H: Hand>(hand: &mut H, pin: Stamp, got: &mut Vec<u8>) -> Result<()
     ensures within { length got.new.items ≤ pin.len }
     ensures grows { OnOk result (length got.new.items ≡ length got.old.items + min 4096 (pin.len - length got.old.items)) }
     ensures others { (n : ℕ) (b : List ℕ) → H.pending hand.old n b → H.pending hand.new n b }
+    ensures earlier { (n : ℕ) (b : List ℕ) → H.pending hand.new n b → H.pending hand.old n b }
     ensures serves { (s : Stamp) → H.serves hand.old s → H.serves hand.new s }
     ensures works { (n : ℕ) → H.works_for hand.old n → H.works_for hand.old (n + 1) → H.works_for hand.new n }
     ensures in_order { H.works_for hand.old 1 → H.serves hand.old pin → IsDeviceErr result → ⊥ }
@@ -127,6 +129,7 @@ pub(crate) fn read_step<H: Hand>(alloc: Global, hand: &mut H, task: &Task, r: Re
     ensures steps { Follows (task_call task.now) (place_in (Phase.Reading r)) (place_in result) }
     ensures pen { HasNoPen result }
     ensures others { (n : ℕ) (b : List ℕ) → H.pending hand.old n b → H.pending hand.new n b }
+    ensures earlier { (n : ℕ) (b : List ℕ) → H.pending hand.new n b → H.pending hand.old n b }
     ensures falls { work_in result < work_in (Phase.Reading r) }
     ensures serves { (s : Stamp) → H.serves hand.old s → H.serves hand.new s }
     ensures works { (n : ℕ) → H.works_for hand.old n → H.works_for hand.old (n + 1) → H.works_for hand.new n }

@@ -114,6 +114,8 @@ impl Run {
         // The number of a file that it begins is that of no other file that is being written, and what was appended to those stays.
         ensures unused { (n : ℕ) → run_pen self.new ≡ Some n → (run_pen self.old ≡ Some n) ⊎ IsFree (H.agrees hand.new) (H.pending hand.old) n }
         ensures others { (n : ℕ) (b : List ℕ) → run_pen self.old ≢ Some n → H.pending hand.old n b → H.pending hand.new n b }
+        // Of other files than its own none is begun.
+        ensures earlier { (n : ℕ) (b : List ℕ) → run_pen self.old ≢ Some n → H.pending hand.new n b → H.pending hand.old n b ⊎ (run_pen self.new ≡ Some n) }
         // A file that it writes no longer is sealed or given up.
         ensures released { (n : ℕ) → run_pen self.old ≡ Some n → run_pen self.new ≢ Some n → IsFree (H.agrees hand.new) (H.pending hand.new) n }
         // What could be read can be read, and at most one call counts.

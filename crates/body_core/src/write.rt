@@ -1,6 +1,6 @@
 //! The steps of a run that writes what its body changed.
 
-ghost use Rattle.std.specs.Prelude.{◌≡◌, ◌≢◌, ◌+◌, ◌-◌, ◌*◌, ◌^◌, ◌<◌, ◌≤◌, [], ℕ, List, length, Some, Option};
+ghost use Rattle.std.specs.Prelude.{◌≡◌, ◌≢◌, ◌+◌, ◌-◌, ◌*◌, ◌^◌, ◌<◌, ◌≤◌, ◌⊎◌, [], ℕ, List, length, Some, Option};
 ghost use Rattle.shelf_core.specs.declared.hand.Stamp.{Stamp};
 ghost use Rattle.shelf_core.specs.Device.{Assignment, IsFree, Failed as DeviceFailed};
 ghost use Rattle.body_core.specs.declared.reply.Failure.TheVariants as failures;
@@ -78,6 +78,7 @@ pub(crate) fn create_step<H: Hand>(hand: &mut H, plan: Plan) -> Phase
     ensures unused { (n : ℕ) → pen_in result ≡ Some n → IsFree (H.agrees hand.new) (H.pending hand.old) n }
     ensures makes { MakesCreate H.makes hand.old hand.new }
     ensures others { (n : ℕ) (b : List ℕ) → H.pending hand.old n b → H.pending hand.new n b }
+    ensures earlier { (n : ℕ) (b : List ℕ) → H.pending hand.new n b → H.pending hand.old n b ⊎ (pen_in result ≡ Some n) }
     ensures falls { work_in result < work_in (Phase.Creating plan) }
     ensures serves { (s : Stamp) → H.serves hand.old s → H.serves hand.new s }
     ensures works { (n : ℕ) → H.works_for hand.old (n + 1) → H.works_for hand.new n }
@@ -101,6 +102,7 @@ pub(crate) fn append_step<H: Hand>(hand: &mut H, plan: Plan, pen: Pen, done: usi
     ensures pen { PenHoldsIn (H.pending hand.old) (Phase.Appending plan pen done) → PenHoldsIn (H.pending hand.new) result }
     ensures same { (n : ℕ) → pen_in result ≡ Some n → pen.number ≡ n }
     ensures others { (n : ℕ) (b : List ℕ) → n ≢ pen.number → H.pending hand.old n b → H.pending hand.new n b }
+    ensures earlier { (n : ℕ) (b : List ℕ) → n ≢ pen.number → H.pending hand.new n b → H.pending hand.old n b }
     ensures falls { work_in result < work_in (Phase.Appending plan pen done) }
     ensures serves { (s : Stamp) → H.serves hand.old s → H.serves hand.new s }
     ensures works { (n : ℕ) → H.works_for hand.old (n + 1) → H.works_for hand.new n }
@@ -139,6 +141,7 @@ pub(crate) fn seal_step<H: Hand>(hand: &mut H, plan: Plan, pen: Pen) -> Phase
     ensures steps { (call : Call) → Follows call (place_in (Phase.Sealing plan pen)) (place_in result) }
     ensures pen { HasNoPen result }
     ensures others { (n : ℕ) (b : List ℕ) → n ≢ pen.number → H.pending hand.old n b → H.pending hand.new n b }
+    ensures earlier { (n : ℕ) (b : List ℕ) → n ≢ pen.number → H.pending hand.new n b → H.pending hand.old n b }
     ensures falls { work_in result < work_in (Phase.Sealing plan pen) }
     ensures serves { (s : Stamp) → H.serves hand.old s → H.serves hand.new s }
     ensures works { (n : ℕ) → H.works_for hand.old (n + 1) → H.works_for hand.new n }

@@ -186,6 +186,7 @@ pub(crate) fn discard(files: &mut Vec<File>, number: u64)
     ensures agrees { (a : Assignment) → HasFiles files.new.items a ↔ HasFiles files.old.items a }
     ensures others { (n : ℕ) (b : List ℕ) → n ≢ number → IsOpen files.old.items n b → IsOpen files.new.items n b }
     ensures length { length files.new.items ≡ length files.old.items }
+    ensures earlier { (n : ℕ) (b : List ℕ) → n ≢ number → IsOpen files.new.items n b → IsOpen files.old.items n b }
     ensures ends { (b : List ℕ) → IsOpen files.old.items number b → Becomes files.old.items files.new.items number State.Discarded b }
     ensures same { ((b : List ℕ) → IsOpen files.old.items number b → ⊥) → files.new.items ≡ files.old.items }
 {

@@ -59,7 +59,7 @@ pub struct Stamp {
 /// agrees with the hand after a call exactly where it agreed before and agrees with that call. They say too
 /// when a device is in order, so that a call does not fail for it, and what it can read then.
 pub trait Hand {
-    ghost use Rattle.std.specs.Prelude.{◌≡◌, ◌≢◌, ◌↔◌, ◌+◌, ◌<◌, ◌≤◌, ◌++◌, [], List, ℕ, length, IfOk, OnOk, OnErr, IfErr};
+    ghost use Rattle.std.specs.Prelude.{◌≡◌, ◌≢◌, ◌↔◌, ◌⊎◌, ◌+◌, ◌<◌, ◌≤◌, ◌++◌, [], List, ℕ, length, IfOk, IsOkAnd, OnOk, OnErr, IfErr};
     ghost use Rattle.shelf_core.specs.Device.{Assignment, SealAgrees, ReadAgrees, FaultCause, IsFree};
     ghost use Rattle.shelf_core.specs.Made.{Made, creates, appends, seals, discards, reads, retires, IsDeviceErr, IsSealErr};
     ghost use Rattle.shelf_core.specs.declared.hand.Stamp.{Stamp};
@@ -91,6 +91,7 @@ pub trait Hand {
         ensures pen { IfOk result (λ pen. pending self.new pen.number []) }
         ensures unused { IfOk result (λ pen. IsFree (agrees self.new) (pending self.old) pen.number) }
         ensures others { (n : ℕ) (b : List ℕ) → pending self.old n b → pending self.new n b }
+        ensures earlier { (n : ℕ) (b : List ℕ) → pending self.new n b → pending self.old n b ⊎ IsOkAnd result (λ pen. pen.number ≡ n) }
         ensures agrees { (a : Assignment) → agrees self.new a ↔ agrees self.old a }
         ensures serves { (s : Stamp) → serves self.old s → serves self.new s }
         ensures works { (n : ℕ) → works_for self.old (n + 1) → works_for self.new n }
@@ -106,6 +107,7 @@ pub trait Hand {
         ensures number { pen.new.number ≡ pen.old.number }
         ensures pen { OnOk result ((b : List ℕ) → pending self.old pen.old.number b → pending self.new pen.old.number (b ++ bytes.now)) }
         ensures others { (n : ℕ) (b : List ℕ) → n ≢ pen.old.number → pending self.old n b → pending self.new n b }
+        ensures earlier { (n : ℕ) (b : List ℕ) → n ≢ pen.old.number → pending self.new n b → pending self.old n b }
         ensures agrees { (a : Assignment) → agrees self.new a ↔ agrees self.old a }
         ensures serves { (s : Stamp) → serves self.old s → serves self.new s }
         ensures works { (n : ℕ) → works_for self.old (n + 1) → works_for self.new n }
@@ -120,6 +122,7 @@ pub trait Hand {
     fn seal(&mut self, pen: Pen) -> Result<Stamp, (Pen, HandFault)>
         ensures number { IfErr result (λ e. e.0.number ≡ pen.number) }
         ensures others { (n : ℕ) (b : List ℕ) → n ≢ pen.number → pending self.old n b → pending self.new n b }
+        ensures earlier { (n : ℕ) (b : List ℕ) → n ≢ pen.number → pending self.new n b → pending self.old n b }
         ensures agrees { (b : List ℕ) → pending self.old pen.number b → (a : Assignment) → agrees self.new a ↔ agrees self.old a × SealAgrees a b result }
         ensures kept { (a : Assignment) → agrees self.new a → agrees self.old a }
         ensures failing { OnErr result ((a : Assignment) → agrees self.new a ↔ agrees self.old a) }
@@ -137,6 +140,7 @@ pub trait Hand {
     /// Gives up a file. It takes no memory.
     fn discard(&mut self, pen: Pen)
         ensures others { (n : ℕ) (b : List ℕ) → n ≢ pen.number → pending self.old n b → pending self.new n b }
+        ensures earlier { (n : ℕ) (b : List ℕ) → n ≢ pen.number → pending self.new n b → pending self.old n b }
         ensures agrees { (a : Assignment) → agrees self.new a ↔ agrees self.old a }
         ensures given_up { IsFree (agrees self.new) (pending self.new) pen.number }
         ensures serves { (s : Stamp) → serves self.old s → serves self.new s }
@@ -148,6 +152,7 @@ pub trait Hand {
     fn read(&mut self, stamp: &Stamp, at: usize, into: &mut [u8]) -> Result<(), HandFault>
         requires { at + length into.old ≤ stamp.now.len }
         ensures others { (n : ℕ) (b : List ℕ) → pending self.old n b → pending self.new n b }
+        ensures earlier { (n : ℕ) (b : List ℕ) → pending self.new n b → pending self.old n b }
         ensures agrees { (a : Assignment) → agrees self.new a ↔ agrees self.old a × ReadAgrees a stamp.now.number at into.new result }
         ensures serves { (s : Stamp) → serves self.old s → serves self.new s }
         ensures works { (n : ℕ) → works_for self.old (n + 1) → works_for self.new n }
@@ -161,6 +166,7 @@ pub trait Hand {
     /// Says that a file is read no more. After a failure it may be left.
     fn retire(&mut self, stamp: &Stamp) -> Result<(), HandFault>
         ensures others { (n : ℕ) (b : List ℕ) → pending self.old n b → pending self.new n b }
+        ensures earlier { (n : ℕ) (b : List ℕ) → pending self.new n b → pending self.old n b }
         ensures agrees { (a : Assignment) → agrees self.new a ↔ agrees self.old a }
         ensures serves { (s : Stamp) → s.number ≢ stamp.now.number → serves self.old s → serves self.new s }
         ensures works { (n : ℕ) → works_for self.old (n + 1) → works_for self.new n }

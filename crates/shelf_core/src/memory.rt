@@ -52,7 +52,7 @@ impl MemHand {
 }
 
 impl Hand for MemHand {
-    ghost use Rattle.std.specs.Prelude.{◌≡◌, ◌≢◌, ◌↔◌, ◌+◌, ◌^◌, ◌<◌, ◌≤◌, ◌++◌, [], List, ℕ, length, IfOk, OnOk, OnErr, IfErr};
+    ghost use Rattle.std.specs.Prelude.{◌≡◌, ◌≢◌, ◌↔◌, ◌⊎◌, ◌+◌, ◌^◌, ◌<◌, ◌≤◌, ◌++◌, [], List, ℕ, length, IfOk, IsOkAnd, OnOk, OnErr, IfErr};
     ghost use Rattle.std.specs.Result.{IsErrOf, IsErr};
     ghost use Rattle.shelf_core.specs.declared.file.State.TheVariants.{Open, Sealed, Retired, Discarded};
     ghost use Rattle.shelf_core.specs.Device.{Assignment, SealAgrees, ReadAgrees, FaultCause, IsFree};
@@ -80,6 +80,7 @@ impl Hand for MemHand {
         ensures pen { IfOk result (λ pen. IsOpen (files_of self.new) pen.number []) }
         ensures unused { IfOk result (λ pen. IsFree (HasFiles (files_of self.new)) (IsOpen (files_of self.old)) pen.number) }
         ensures others { (n : ℕ) (b : List ℕ) → IsOpen (files_of self.old) n b → IsOpen (files_of self.new) n b }
+        ensures earlier { (n : ℕ) (b : List ℕ) → IsOpen (files_of self.new) n b → IsOpen (files_of self.old) n b ⊎ IsOkAnd result (λ pen. pen.number ≡ n) }
         ensures agrees { (a : Assignment) → HasFiles (files_of self.new) a ↔ HasFiles (files_of self.old) a }
         ensures serves { (s : Stamp) → Serves (files_of self.old) s → Serves (files_of self.new) s }
         ensures works { (n : ℕ) → Unit {0} → Unit {0} }
@@ -113,6 +114,7 @@ impl Hand for MemHand {
         ensures number { pen.new.number ≡ pen.old.number }
         ensures pen { OnOk result ((b : List ℕ) → IsOpen (files_of self.old) pen.old.number b → IsOpen (files_of self.new) pen.old.number (b ++ bytes.now)) }
         ensures others { (n : ℕ) (b : List ℕ) → n ≢ pen.old.number → IsOpen (files_of self.old) n b → IsOpen (files_of self.new) n b }
+        ensures earlier { (n : ℕ) (b : List ℕ) → n ≢ pen.old.number → IsOpen (files_of self.new) n b → IsOpen (files_of self.old) n b }
         ensures agrees { (a : Assignment) → HasFiles (files_of self.new) a ↔ HasFiles (files_of self.old) a }
         ensures serves { (s : Stamp) → Serves (files_of self.old) s → Serves (files_of self.new) s }
         ensures works { (n : ℕ) → Unit {0} → Unit {0} }
@@ -143,6 +145,7 @@ impl Hand for MemHand {
     fn seal(&mut self, pen: Pen) -> Result<Stamp, (Pen, HandFault)>
         ensures number { IfErr result (λ e. e.0.number ≡ pen.number) }
         ensures others { (n : ℕ) (b : List ℕ) → n ≢ pen.number → IsOpen (files_of self.old) n b → IsOpen (files_of self.new) n b }
+        ensures earlier { (n : ℕ) (b : List ℕ) → n ≢ pen.number → IsOpen (files_of self.new) n b → IsOpen (files_of self.old) n b }
         ensures agrees { (b : List ℕ) → IsOpen (files_of self.old) pen.number b → (a : Assignment) → HasFiles (files_of self.new) a ↔ HasFiles (files_of self.old) a × SealAgrees a b result }
         ensures kept { (a : Assignment) → HasFiles (files_of self.new) a → HasFiles (files_of self.old) a }
         ensures failing { OnErr result ((a : Assignment) → HasFiles (files_of self.new) a ↔ HasFiles (files_of self.old) a) }
@@ -179,6 +182,7 @@ impl Hand for MemHand {
     /// A pen that is not open changes nothing.
     fn discard(&mut self, pen: Pen)
         ensures others { (n : ℕ) (b : List ℕ) → n ≢ pen.number → IsOpen (files_of self.old) n b → IsOpen (files_of self.new) n b }
+        ensures earlier { (n : ℕ) (b : List ℕ) → n ≢ pen.number → IsOpen (files_of self.new) n b → IsOpen (files_of self.old) n b }
         ensures agrees { (a : Assignment) → HasFiles (files_of self.new) a ↔ HasFiles (files_of self.old) a }
         ensures serves { (s : Stamp) → Serves (files_of self.old) s → Serves (files_of self.new) s }
         ensures works { (n : ℕ) → Unit {0} → Unit {0} }
@@ -197,6 +201,7 @@ impl Hand for MemHand {
     fn read(&mut self, stamp: &Stamp, at: usize, into: &mut [u8]) -> Result<(), HandFault>
         requires { at + length into.old ≤ stamp.now.len }
         ensures others { (n : ℕ) (b : List ℕ) → IsOpen (files_of self.old) n b → IsOpen (files_of self.new) n b }
+        ensures earlier { (n : ℕ) (b : List ℕ) → IsOpen (files_of self.new) n b → IsOpen (files_of self.old) n b }
         ensures agrees { (a : Assignment) → HasFiles (files_of self.new) a ↔ HasFiles (files_of self.old) a × ReadAgrees a stamp.now.number at into.new result }
         ensures serves { (s : Stamp) → Serves (files_of self.old) s → Serves (files_of self.new) s }
         ensures works { (n : ℕ) → Unit {0} → Unit {0} }
@@ -221,6 +226,7 @@ impl Hand for MemHand {
     /// `Device` exactly where a read of the stamp has it. The bytes stay.
     fn retire(&mut self, stamp: &Stamp) -> Result<(), HandFault>
         ensures others { (n : ℕ) (b : List ℕ) → IsOpen (files_of self.old) n b → IsOpen (files_of self.new) n b }
+        ensures earlier { (n : ℕ) (b : List ℕ) → IsOpen (files_of self.new) n b → IsOpen (files_of self.old) n b }
         ensures agrees { (a : Assignment) → HasFiles (files_of self.new) a ↔ HasFiles (files_of self.old) a }
         ensures serves { (s : Stamp) → s.number ≢ stamp.now.number → Serves (files_of self.old) s → Serves (files_of self.new) s }
         ensures works { (n : ℕ) → Unit {0} → Unit {0} }

@@ -1,6 +1,6 @@
 //! Whole files over any hand.
 
-ghost use Rattle.std.specs.Prelude.{◌≡◌, ◌↔◌, ◌≤◌, ℕ, Some, length, IfOk, OnErr, IfErr};
+ghost use Rattle.std.specs.Prelude.{◌≡◌, ◌↔◌, ◌≤◌, ℕ, List, Some, length, IfOk, OnErr, IfErr};
 ghost use Rattle.shelf_core.specs.Device.{Assignment, FaultCause, Holds, Always, bytes_of};
 ghost use Rattle.shelf_core.specs.Made.{IsDeviceErr};
 
@@ -13,6 +13,8 @@ use std::alloc::{AllocError, Global};
 pub fn put<H: Hand>(hand: &mut H, bytes: &[u8]) -> Result<Stamp, HandFault>
     ensures ok { IfOk result (λ stamp. (a : Assignment) → H.agrees hand.new a ↔ H.agrees hand.old a × Holds a stamp bytes.now) }
     ensures err { OnErr result ((a : Assignment) → H.agrees hand.new a ↔ H.agrees hand.old a) }
+    // It leaves no file that is being written.
+    ensures closed { (a : Assignment) → H.agrees hand.new a → (n : ℕ) (b : List ℕ) → H.pending hand.new n b → H.pending hand.old n b }
     ensures served { IfOk result (λ stamp. H.serves hand.new stamp) }
     ensures serves { (s : Stamp) → H.serves hand.old s → H.serves hand.new s }
     ensures works { Always (H.works_for hand.old) → Always (H.works_for hand.new) }

@@ -1,4 +1,4 @@
-use Rattle.std.proofs.Common.{◌≡◌, ◌⊎◌, Some, rules, ap, sym, subst, ◌∙◌}
+use Rattle.std.proofs.Common.{◌≡◌, ◌⊎◌, inl, inr, Some, rules, ap, sym, subst, ◌∙◌}
 use Rattle.shelf_core.specs.Device.{IsFree}
 use Rattle.body_core.specs.Phases.{ending_of, pen_in, PenHoldsIn}
 use Rattle.body_core.specs.Calling.{StepMakes}
@@ -28,6 +28,12 @@ pub returns-clause-others : goal.returns-clause-others
 returns-clause-others g c = λ n b other is.
     let before : c.replace-phase.result ≡ c.args.self.now.phase = search rules in
     c.advance-phase.ensures.others n b (λ e. other (ap pen_in (sym before) ∙ e)) is
+
+pub returns-clause-earlier : goal.returns-clause-earlier
+returns-clause-earlier g c = λ n b other is.
+    let before : c.replace-phase.result ≡ c.args.self.now.phase = search rules in
+    let after : c.replace-old.new.dest ≡ c.advance-phase.result.0 = search rules in
+    elim (c.advance-phase.ensures.earlier n b (λ e. other (ap pen_in (sym before) ∙ e)) is) [ inl was ↦ inl was | inr own ↦ inr (ap pen_in after ∙ own) ]
 
 pub returns-clause-makes : goal.returns-clause-makes
 returns-clause-makes g c =
