@@ -4,6 +4,7 @@ pub mod Changes
 pub mod DecodedParts
 pub mod Fronts
 pub mod HeldReads
+pub mod Histories
 pub mod Judged
 pub mod Judging
 pub mod KindsKept

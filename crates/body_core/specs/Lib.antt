@@ -1,6 +1,8 @@
 pub mod Calling
 pub mod Calls
 pub mod Fitting
+pub mod History
+pub mod HistoryLaws
 pub mod NewPins
 pub mod Outcomes
 pub mod Phases

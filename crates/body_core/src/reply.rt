@@ -1,5 +1,7 @@
 //! What a call replies.
 
+ghost use Rattle.std.specs.Prelude.{◌≡◌, ◌↔◌, IsTrue};
+
 use thiserror::Error;
 use value_core::datum::Datum;
 use value_core::text::Text;
@@ -27,4 +29,29 @@ pub enum Reply {
     Refused(Text),
     /// The call failed. Its parts are as they were.
     Failed(Failure),
+}
+
+impl Reply {
+    /// Whether both are the same reply.
+    pub fn is_same(&self, other: &Reply) -> bool
+        ensures { IsTrue result ↔ (self.now ≡ other.now) }
+    {
+        match (self, other) {
+            (Reply::Done(first), Reply::Done(second)) => is_same_result(first, second),
+            (Reply::Refused(first), Reply::Refused(second)) => first.is_same(second),
+            (Reply::Failed(first), Reply::Failed(second)) => *first == *second,
+            _ => false,
+        }
+    }
+}
+
+// Whether both reply the same datum, or both none.
+fn is_same_result(first: &Option<Datum>, second: &Option<Datum>) -> bool
+    ensures { IsTrue result ↔ (first.now ≡ second.now) }
+{
+    match (first, second) {
+        (Some(first), Some(second)) => first.is_same(second),
+        (None, None) => true,
+        _ => false,
+    }
 }
