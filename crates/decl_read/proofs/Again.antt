@@ -10,7 +10,7 @@ use Rattle.value_core.specs.declared.kind.Kind.{Kind}
 use Rattle.value_core.specs.Plain.{IsText}
 use Rattle.decl_core.specs.Form.{element, oldest, under, Integers, number, count, Texts, literal, Form, an_integer, a_text}
 use Rattle.decl_read.specs.Reader.{Reader}
-use Rattle.decl_read.specs.Reading.{Names, found_in, of_sort, value_named, combined, sign_at, level_of, part_in, first_in, count_in, lookup_in, group_in, worded_in, named_in, term_in, with_more, more_at, summed, expr_in, nested_at}
+use Rattle.decl_read.specs.Reading.{Names, found_in, of_sort, value_named, combined, sign_at, level_of, part_in, first_in, count_in, lookup_in, group_in, by_symbol_in, named_in, term_in, with_more, more_at, summed, expr_in, nested_at}
 use Rattle.decl_core.specs.Sorts.{array_sort, queue_sort, table_sort}
 use Rattle.decl_read.specs.Grammar.{ExprText, terms, MoreText, no_more, and_more, TermText, a_number, a_string, a_name, an_element, a_first, a_lookup, a_count, in_parens, sign_symbol, expr_lexemes, more_lexemes, term_lexemes, IsExpr, AddsUp, IsTerm, EndsExpr}
 use Rattle.decl_read.proofs.Sums.{nested_step}
@@ -78,22 +78,22 @@ unfolding term_in
 number_read names nested depth n rest = refl
 
 parens_read : (names : Names) (nested : Reader Form) (depth : ℕ) (ws rest : List Lexeme) (x : Form) → nested ws ≡ Some (x, symbol CloseParen ∷ rest) → term_in names nested depth (symbol OpenParen ∷ ws) ≡ Some (x, rest)
-unfolding term_in worded_in group_in
+unfolding term_in by_symbol_in group_in
 parens_read names nested depth ws rest x read = rw read refl
 
 first_read : (names : Names) (nested : Reader Form) (depth p : ℕ) (kind : Kind) (s : Elem) (bytes : List ℕ) (rest : List Lexeme) → 0 < depth → found_in names.parts bytes ≡ Some (p, kind) → queue_sort kind ≡ Some s →
     term_in names nested depth (symbol First ∷ symbol OpenParen ∷ identifier bytes ∷ symbol CloseParen ∷ rest) ≡ Some (of_sort s (oldest p), rest)
-unfolding term_in worded_in first_in
+unfolding term_in by_symbol_in first_in
 first_read names nested depth p kind s bytes rest deep found sort = rw (part_again names depth p kind bytes (symbol CloseParen ∷ rest) deep found, sort) refl
 
 count_read : (names : Names) (nested : Reader Form) (depth p : ℕ) (kind : Kind) (bytes : List ℕ) (rest : List Lexeme) → 0 < depth → found_in names.parts bytes ≡ Some (p, kind) →
     term_in names nested depth (symbol Count ∷ symbol OpenParen ∷ identifier bytes ∷ symbol CloseParen ∷ rest) ≡ Some (an_integer (count p), rest)
-unfolding term_in worded_in count_in
+unfolding term_in by_symbol_in count_in
 count_read names nested depth p kind bytes rest deep found = rw (part_again names depth p kind bytes (symbol CloseParen ∷ rest) deep found) refl
 
 lookup_read : (names : Names) (nested : Reader Form) (depth p : ℕ) (kind : Kind) (s : Elem) (bytes : List ℕ) (ws rest : List Lexeme) (k : Texts) → 0 < depth → found_in names.parts bytes ≡ Some (p, kind) → table_sort kind ≡ Some s →
     nested ws ≡ Some (a_text k, symbol CloseParen ∷ rest) → term_in names nested depth (symbol Lookup ∷ symbol OpenParen ∷ identifier bytes ∷ symbol Comma ∷ ws) ≡ Some (of_sort s (under p k), rest)
-unfolding term_in worded_in lookup_in
+unfolding term_in by_symbol_in lookup_in
 lookup_read names nested depth p kind s bytes ws rest k deep found sort read = rw (part_again names depth p kind bytes (symbol Comma ∷ ws) deep found, sort, read) refl
 
 -- an expression and a rest, along an equation

@@ -5,7 +5,7 @@ use Rattle.path_tree.specs.declared.token.Symbol.TheVariants as symbols
 use Rattle.path_tree.specs.Lexeme.{Lexeme, lexemes, symbol, number, identifier, string, end_mark}
 use Rattle.path_tree.specs.Reading.{symbol_at}
 use Rattle.path_tree.proofs.Found.{symbol_found}
-use Rattle.decl_read.specs.declared.collect.Met.TheVariants as met_words
+use Rattle.decl_read.specs.declared.collect.Opening.TheVariants as openings
 use Rattle.decl_core.specs.declared.object.Object.{Object}
 use Rattle.decl_core.specs.ObjectMap.{object_of, objects_of, object_names}
 use Rattle.decl_read.specs.Reading.{is_among, name_at}
@@ -30,7 +30,7 @@ module _ (most : ℕ) where
   contents_found : (bytes : List ℕ) (ws : List Lexeme) (x : ObjectForm) (rest : List Lexeme) → contents_in most bytes ws ≡ Some (x, rest) → ContentsRead bytes ws x rest
   unfolding contents_in
   contents_found bytes ws x rest h =
-      let names : List (List ℕ) = entry_names met_words.Nothing ws in
+      let names : List (List ℕ) = entry_names openings.Nothing ws in
       let few = bind_some _ _ (x, rest) h in
       let c = bind_some _ _ (x, rest) few.2 in
       let q = bind_some _ _ (x, rest) c.2 in
@@ -53,7 +53,7 @@ module _ (most : ℕ) where
   object_shorter : (ws : List Lexeme) (x : ObjectForm) (rest : List Lexeme) → IsObject ws x rest → length rest ≤ length ws
   object_shorter ws x rest (object {constants = constants} {paths = paths} {parts = parts} {operations = operations} {ws = inside} {us = us} {vs = vs} {ys = ys} few cs qs ps os) =
       let a = (constants_exact most 16 []).shorter inside constants us cs in
-      let b = (paths_exact constants (entry_names met_words.Nothing inside) most 16 []).shorter us paths vs qs in
+      let b = (paths_exact constants (entry_names openings.Nothing inside) most 16 []).shorter us paths vs qs in
       let c = (parts_exact most constants 16 []).shorter vs parts ys ps in
       let d = (entries_exact most constants parts 32 []).shorter ys operations (symbol symbols.End ∷ symbol symbols.Semicolon ∷ rest) os in
       omega arith
@@ -62,9 +62,9 @@ module _ (most : ℕ) where
   unfolding contents_in
   contents_read bytes ws x rest long (object {constants = constants} {paths = paths} {parts = parts} {operations = operations} {us = us} {vs = vs} {ys = ys} few cs qs ps os) =
       let a = (constants_exact most 16 []).shorter ws constants us cs in
-      let b = (paths_exact constants (entry_names met_words.Nothing ws) most 16 []).shorter us paths vs qs in
+      let b = (paths_exact constants (entry_names openings.Nothing ws) most 16 []).shorter us paths vs qs in
       let c = (parts_exact most constants 16 []).shorter vs parts ys ps in
-      rw (is_at_most (length (entry_names met_words.Nothing ws)) 32 few, (constants_exact most 16 []).read ws constants us long cs, (paths_exact constants (entry_names met_words.Nothing ws) most 16 []).read us paths vs (omega arith) qs, (parts_exact most constants 16 []).read vs parts ys (omega arith) ps, (entries_exact most constants parts 32 []).read ys operations (symbol symbols.End ∷ symbol symbols.Semicolon ∷ rest) (omega arith) os) refl
+      rw (is_at_most (length (entry_names openings.Nothing ws)) 32 few, (constants_exact most 16 []).read ws constants us long cs, (paths_exact constants (entry_names openings.Nothing ws) most 16 []).read us paths vs (omega arith) qs, (parts_exact most constants 16 []).read vs parts ys (omega arith) ps, (entries_exact most constants parts 32 []).read ys operations (symbol symbols.End ∷ symbol symbols.Semicolon ∷ rest) (omega arith) os) refl
 
   next_found : (before : List ObjectForm) (ws : List Lexeme) (x : List ObjectForm) (rest : List Lexeme) → next_object_in most before ws ≡ Some (x, rest) → IsNextObject before ws x rest
   unfolding next_object_in

@@ -13,7 +13,7 @@ use Rattle.value_core.specs.declared.kind.Kind.{Kind}
 use Rattle.decl_read.specs.declared.text_fault.TextFault.{TextFault}
 use Rattle.decl_core.specs.Form.{element, oldest, under, Integers, number, count, Texts, Form, an_integer, a_text}
 use Rattle.decl_read.specs.Reader.{◌>>=◌, Reader, Gives}
-use Rattle.decl_read.specs.Reading.{Names, found_in, of_sort, integer_form, text_form, value_named, combined, name_at, sign_at, literal_of, level_of, part_in, first_in, count_in, lookup_in, group_in, worded_in, named_in, term_in, with_more, more_at, summed, expr_in, nested_at}
+use Rattle.decl_read.specs.Reading.{Names, found_in, of_sort, integer_form, text_form, value_named, combined, name_at, sign_at, literal_of, level_of, part_in, first_in, count_in, lookup_in, group_in, by_symbol_in, named_in, term_in, with_more, more_at, summed, expr_in, nested_at}
 use Rattle.decl_core.specs.Sorts.{array_sort, queue_sort, table_sort}
 use Rattle.decl_read.specs.Grammar.{ExprText, terms, MoreText, no_more, and_more, TermText, a_number, a_string, a_name, an_element, a_first, a_lookup, a_count, in_parens, sign_symbol, expr_lexemes, more_lexemes, term_lexemes, IsExpr, AddsUp, IsTerm, IsExprBefore, EndsExpr}
 use Rattle.decl_read.proofs.Literals.{literal_found}
@@ -200,17 +200,17 @@ term_named names depth nested finds (Some opened) bytes ws x rest next h =
       is = (a.0.0, b.0, n.0, record { kind = a.0.1; found = a.1; fits = b.1 }, g.deep, subst (IsExpr names (depth - 1) g.spelt) (integer_is i.0.0 n.0 n.1) g.is, sym k.0);
     }
 
-worded_found : (names : Names) (depth : ℕ) (nested : Reader Form) → NestedFinds names depth nested → (s : Symbol) (paren first counted looked : Bool) (ws : List Lexeme) (x : Form) (rest : List Lexeme) →
+by_symbol_found : (names : Names) (depth : ℕ) (nested : Reader Form) → NestedFinds names depth nested → (s : Symbol) (paren first counted looked : Bool) (ws : List Lexeme) (x : Form) (rest : List Lexeme) →
     (paren ≡ true → s ≡ OpenParen) → (first ≡ true → s ≡ First) → (counted ≡ true → s ≡ Count) → (looked ≡ true → s ≡ Lookup) →
     cond paren (group_in nested ws) (cond first (first_in names depth ws) (cond counted (count_in names depth ws) (cond looked (lookup_in names nested depth ws) None))) ≡ Some (x, rest) → TermRead names depth (symbol s ∷ ws) x rest
-worded_found names depth nested finds s true first counted looked ws x rest p f c l h = rw (p refl) (term_group names depth nested finds ws x rest h)
-worded_found names depth nested finds s false true counted looked ws x rest p f c l h = rw (f refl) (term_first names depth ws x rest h)
-worded_found names depth nested finds s false false true looked ws x rest p f c l h = rw (c refl) (term_count names depth ws x rest h)
-worded_found names depth nested finds s false false false true ws x rest p f c l h = rw (l refl) (term_lookup names depth nested finds ws x rest h)
-worded_found names depth nested finds s false false false false ws x rest p f c l h = absurd cc
+by_symbol_found names depth nested finds s true first counted looked ws x rest p f c l h = rw (p refl) (term_group names depth nested finds ws x rest h)
+by_symbol_found names depth nested finds s false true counted looked ws x rest p f c l h = rw (f refl) (term_first names depth ws x rest h)
+by_symbol_found names depth nested finds s false false true looked ws x rest p f c l h = rw (c refl) (term_count names depth ws x rest h)
+by_symbol_found names depth nested finds s false false false true ws x rest p f c l h = rw (l refl) (term_lookup names depth nested finds ws x rest h)
+by_symbol_found names depth nested finds s false false false false ws x rest p f c l h = absurd cc
 
 pub term_found : (names : Names) (depth : ℕ) (nested : Reader Form) → NestedFinds names depth nested → TermFinds names depth (term_in names nested depth)
-unfolding term_in worded_in
+unfolding term_in by_symbol_in
 term_found names depth nested finds [] x rest h = absurd cc
 term_found names depth nested finds (number_lexeme n ∷ ws) x rest h =
     let k = read_is (an_integer (number n), ws) (x, rest) h in
@@ -222,7 +222,7 @@ term_found names depth nested finds (string bytes ∷ ws) x rest h =
     record { spelt = a_string bytes; stands = ap (λ w. string bytes ∷ w) k.1; is = (f.0, sym k.0 ∙ f.1) }
 term_found names depth nested finds (identifier bytes ∷ ws) x rest h = term_named names depth nested finds (symbol_at OpenBracket ws) bytes ws x rest refl h
 term_found names depth nested finds (symbol s ∷ ws) x rest h =
-    worded_found names depth nested finds s (same_symbol s OpenParen) (same_symbol s First) (same_symbol s Count) (same_symbol s Lookup) ws x rest (symbols_same s OpenParen) (symbols_same s First) (symbols_same s Count) (symbols_same s Lookup) h
+    by_symbol_found names depth nested finds s (same_symbol s OpenParen) (same_symbol s First) (same_symbol s Count) (same_symbol s Lookup) ws x rest (symbols_same s OpenParen) (symbols_same s First) (symbols_same s Count) (symbols_same s Lookup) h
 term_found names depth nested finds (end_mark ∷ ws) x rest h = absurd cc
 
 more_next : (names : Names) (depth : ℕ) (term : Reader Form) → TermFinds names depth term → (others : Integers → Reader Integers) →

@@ -12,7 +12,7 @@ use Rattle.value_core.specs.declared.kind.Elem.TheVariants as elem
 use Rattle.value_core.specs.declared.kind.Kind.{Kind}
 use Rattle.value_core.specs.declared.kind.Kind.TheVariants as kind
 use Rattle.decl_read.specs.Declarations.{IsSize, by_number, by_constant, IsElem, integer, text, IsKind, an_array, a_queue, a_table}
-use Rattle.decl_read.specs.DeclarationReading.{allowed, size_at, size_in, elem_of, elem_at, of_elem_in, array_in, queue_in, table_in, worded_kind, kind_in}
+use Rattle.decl_read.specs.DeclarationReading.{allowed, size_at, size_in, elem_of, elem_at, of_elem_in, array_in, queue_in, table_in, kind_by_symbol, kind_in}
 use Rattle.decl_read.proofs.Exact.{Exact, bind_some, read_is}
 use Rattle.decl_read.proofs.Fronts.{provided_is, both_are, at_most, is_at_most, along}
 
@@ -128,27 +128,27 @@ module _ (constants : List (List ℕ × ℕ)) where
   word_is : (s t : Symbol) (ws : List Lexeme) (k : Kind) (rest : List Lexeme) → s ≡ t → IsKind constants (symbol t ∷ ws) k rest → IsKind constants (symbol s ∷ ws) k rest
   word_is s t ws k rest e is = subst (λ v. IsKind constants (symbol v ∷ ws) k rest) (sym e) is
 
-  worded_by : (s : Symbol) (is_array is_queue is_table : Bool) (ws : List Lexeme) (k : Kind) (rest : List Lexeme) →
+  symbol_by : (s : Symbol) (is_array is_queue is_table : Bool) (ws : List Lexeme) (k : Kind) (rest : List Lexeme) →
       (is_array ≡ true → s ≡ symbols.Array) → (is_queue ≡ true → s ≡ symbols.Queue) → (is_table ≡ true → s ≡ symbols.Table) →
       cond {A = Option (Kind × List Lexeme)} is_array (array_in constants ws) (cond {A = Option (Kind × List Lexeme)} is_queue (queue_in ws) (cond {A = Option (Kind × List Lexeme)} is_table (table_in ws) None)) ≡ Some (k, rest) →
       IsKind constants (symbol s ∷ ws) k rest
-  worded_by s true is_queue is_table ws k rest p q r h = word_is s symbols.Array ws k rest (p refl) (array_found ws k rest h)
-  worded_by s false true is_table ws k rest p q r h = word_is s symbols.Queue ws k rest (q refl) (queue_found ws k rest h)
-  worded_by s false false true ws k rest p q r h = word_is s symbols.Table ws k rest (r refl) (table_found ws k rest h)
-  worded_by s false false false ws k rest p q r h = absurd cc
+  symbol_by s true is_queue is_table ws k rest p q r h = word_is s symbols.Array ws k rest (p refl) (array_found ws k rest h)
+  symbol_by s false true is_table ws k rest p q r h = word_is s symbols.Queue ws k rest (q refl) (queue_found ws k rest h)
+  symbol_by s false false true ws k rest p q r h = word_is s symbols.Table ws k rest (r refl) (table_found ws k rest h)
+  symbol_by s false false false ws k rest p q r h = absurd cc
 
   kind_found : (ws : List Lexeme) (k : Kind) (rest : List Lexeme) → kind_in constants ws ≡ Some (k, rest) → IsKind constants ws k rest
-  unfolding kind_in worded_kind
+  unfolding kind_in kind_by_symbol
   kind_found [] k rest h = absurd cc
   kind_found (symbol s ∷ ws) k rest h =
-      worded_by s (same_symbol s symbols.Array) (same_symbol s symbols.Queue) (same_symbol s symbols.Table) ws k rest (symbols_same s symbols.Array) (symbols_same s symbols.Queue) (symbols_same s symbols.Table) h
+      symbol_by s (same_symbol s symbols.Array) (same_symbol s symbols.Queue) (same_symbol s symbols.Table) ws k rest (symbols_same s symbols.Array) (symbols_same s symbols.Queue) (symbols_same s symbols.Table) h
   kind_found (number_lexeme n ∷ ws) k rest h = absurd cc
   kind_found (identifier bytes ∷ ws) k rest h = absurd cc
   kind_found (string bytes ∷ ws) k rest h = absurd cc
   kind_found (end_mark ∷ ws) k rest h = absurd cc
 
   kind_read : (ws : List Lexeme) (k : Kind) (rest : List Lexeme) → IsKind constants ws k rest → kind_in constants ws ≡ Some (k, rest)
-  unfolding kind_in worded_kind array_in queue_in table_in size_in
+  unfolding kind_in kind_by_symbol array_in queue_in table_in size_in
   kind_read ws k rest (an_array {w = w} {n = n} {s = s} {e = e} size low high is) =
       rw (size_at_read w n (symbol symbols.CloseBracket ∷ symbol symbols.Of ∷ symbol s ∷ rest) size, is_at_most 1 n low, is_at_most n 1024 high, of_elem_read s e rest is) refl
   kind_read ws k rest (a_queue {s = s} {e = e} is) = rw (of_elem_read s e rest is) refl

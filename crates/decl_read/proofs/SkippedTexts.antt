@@ -3,7 +3,7 @@ use Rattle.std.proofs.Common.{◌≡◌, ℕ, Bool, true, false, List, [], ◌�
 use Rattle.path_tree.specs.declared.token.Symbol.TheVariants as symbols
 use Rattle.path_tree.specs.Lexeme.{Lexeme, symbol}
 use Rattle.path_tree.specs.Grammar.{Limit, a_number as number_limit, a_constant, ListText, last_seq, seq_and, SeqText, last_item, item_and, ItemText, operation, limited, in_burst, in_group, limit_lexeme, list_lexemes, seq_lexemes, item_lexemes}
-use Rattle.decl_read.specs.declared.collect.Met.TheVariants as met_words
+use Rattle.decl_read.specs.declared.collect.Opening.TheVariants as openings
 use Rattle.decl_core.specs.Form.{Form}
 use Rattle.decl_read.specs.Reading.{Names}
 use Rattle.decl_read.specs.Grammar.{ExprText, terms, MoreText, no_more, and_more, TermText, a_number, a_string, a_name, an_element, a_first, a_lookup, a_count, in_parens, sign_symbol, expr_lexemes, more_lexemes, term_lexemes, IsExprBefore}
@@ -11,7 +11,7 @@ use Rattle.decl_read.specs.Declarations.{entry_names}
 
 -- the names of the entries that stand in these lexemes, up to the next object
 abbrev pub names_in : List Lexeme → List (List ℕ)
-names_in ws = entry_names met_words.Nothing ws
+names_in ws = entry_names openings.Nothing ws
 
 sign_skipped : (plus : Bool) (rest : List Lexeme) → names_in (symbol (sign_symbol plus) ∷ rest) ≡ names_in rest
 sign_skipped true rest = refl

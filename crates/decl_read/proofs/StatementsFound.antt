@@ -16,7 +16,7 @@ use Rattle.decl_core.specs.Sorts.{array_sort, queue_sort, table_sort}
 use Rattle.decl_read.specs.Grammar.{IsPart}
 use Rattle.decl_core.specs.Sorts.{sort_of_form}
 use Rattle.decl_read.specs.Statements.{IsCond, IsStmt, no_statement, a_block, an_element, a_result, an_append, a_take, a_store, an_erase, an_if, an_if_else, a_refuse, IsStmts, last, and_more}
-use Rattle.decl_read.specs.StatementReading.{expr_at, condition_at, sorted, result_sort, element_in, result_in, assigned_in, append_in, take_in, store_in, erase_in, word_of_refusal, string_at, refuse_in, other_in, if_in, and_then, statements_by, statements_at, block_in, worded_statement, statement_in, inner_at, body_in}
+use Rattle.decl_read.specs.StatementReading.{expr_at, condition_at, sorted, result_sort, element_in, result_in, assigned_in, append_in, take_in, store_in, erase_in, word_of_refusal, string_at, refuse_in, other_in, if_in, and_then, statements_by, statements_at, block_in, statement_by_symbol, statement_in, inner_at, body_in}
 use Rattle.decl_read.proofs.Found.{part_found, integer_is, text_is}
 use Rattle.decl_read.proofs.Refusals.{word_found}
 use Rattle.decl_read.proofs.Conditions.{expr_is_found, nested_is_found, expr_as, cond_found}
@@ -266,25 +266,25 @@ empty_found names depth ws s rest h =
     let z = read_is (block nothing, ws) (s, rest) h in
     stmt_as names depth ws rest s (block nothing) rest no_statement z.1 z.0
 
-worded_found : (names : Names) (most depth : ℕ) (inner : Reader Statement) → InnerFinds names depth inner → (w : Symbol) (begins ifs appends takes stores erases refuses : Bool) (ws : List Lexeme) (s : Statement) (rest : List Lexeme) →
+by_symbol_found : (names : Names) (most depth : ℕ) (inner : Reader Statement) → InnerFinds names depth inner → (w : Symbol) (begins ifs appends takes stores erases refuses : Bool) (ws : List Lexeme) (s : Statement) (rest : List Lexeme) →
     (begins ≡ true → w ≡ symbols.Begin) → (ifs ≡ true → w ≡ symbols.If) → (appends ≡ true → w ≡ symbols.Append) → (takes ≡ true → w ≡ symbols.Take) → (stores ≡ true → w ≡ symbols.Store) → (erases ≡ true → w ≡ symbols.Erase) → (refuses ≡ true → w ≡ symbols.Refuse) →
     cond begins (block_in inner most depth ws) (cond ifs (if_in names most inner depth ws) (cond appends (append_in names most ws) (cond takes (take_in names ws) (cond stores (store_in names most ws) (cond erases (erase_in names most ws) (cond refuses (refuse_in ws) (Some (block nothing, symbol w ∷ ws)))))))) ≡ Some (s, rest) →
     IsStmt names depth (symbol w ∷ ws) s rest
-worded_found names most depth inner finds w true ifs appends takes stores erases refuses ws s rest a b c d e f g h = rw (a refl) (block_found names most depth inner finds ws s rest h)
-worded_found names most depth inner finds w false true appends takes stores erases refuses ws s rest a b c d e f g h = rw (b refl) (if_found names most depth inner finds ws s rest h)
-worded_found names most depth inner finds w false false true takes stores erases refuses ws s rest a b c d e f g h = rw (c refl) (append_found names most depth ws s rest h)
-worded_found names most depth inner finds w false false false true stores erases refuses ws s rest a b c d e f g h = rw (d refl) (take_found names depth ws s rest h)
-worded_found names most depth inner finds w false false false false true erases refuses ws s rest a b c d e f g h = rw (e refl) (store_found names most depth ws s rest h)
-worded_found names most depth inner finds w false false false false false true refuses ws s rest a b c d e f g h = rw (f refl) (erase_found names most depth ws s rest h)
-worded_found names most depth inner finds w false false false false false false true ws s rest a b c d e f g h = rw (g refl) (refuse_found names depth ws s rest h)
-worded_found names most depth inner finds w false false false false false false false ws s rest a b c d e f g h = empty_found names depth (symbol w ∷ ws) s rest h
+by_symbol_found names most depth inner finds w true ifs appends takes stores erases refuses ws s rest a b c d e f g h = rw (a refl) (block_found names most depth inner finds ws s rest h)
+by_symbol_found names most depth inner finds w false true appends takes stores erases refuses ws s rest a b c d e f g h = rw (b refl) (if_found names most depth inner finds ws s rest h)
+by_symbol_found names most depth inner finds w false false true takes stores erases refuses ws s rest a b c d e f g h = rw (c refl) (append_found names most depth ws s rest h)
+by_symbol_found names most depth inner finds w false false false true stores erases refuses ws s rest a b c d e f g h = rw (d refl) (take_found names depth ws s rest h)
+by_symbol_found names most depth inner finds w false false false false true erases refuses ws s rest a b c d e f g h = rw (e refl) (store_found names most depth ws s rest h)
+by_symbol_found names most depth inner finds w false false false false false true refuses ws s rest a b c d e f g h = rw (f refl) (erase_found names most depth ws s rest h)
+by_symbol_found names most depth inner finds w false false false false false false true ws s rest a b c d e f g h = rw (g refl) (refuse_found names depth ws s rest h)
+by_symbol_found names most depth inner finds w false false false false false false false ws s rest a b c d e f g h = empty_found names depth (symbol w ∷ ws) s rest h
 
 statement_found : (names : Names) (most depth : ℕ) (inner : Reader Statement) → InnerFinds names depth inner → StatementFinds names depth (statement_in names most inner depth)
-unfolding statement_in worded_statement
+unfolding statement_in statement_by_symbol
 statement_found names most depth inner finds [] s rest h = empty_found names depth [] s rest h
 statement_found names most depth inner finds (identifier bytes ∷ ws) s rest h = assigned_found names most depth (symbol_at symbols.OpenBracket ws) bytes ws s rest refl h
 statement_found names most depth inner finds (symbol w ∷ ws) s rest h =
-    worded_found names most depth inner finds w (same_symbol w symbols.Begin) (same_symbol w symbols.If) (same_symbol w symbols.Append) (same_symbol w symbols.Take) (same_symbol w symbols.Store) (same_symbol w symbols.Erase) (same_symbol w symbols.Refuse) ws s rest
+    by_symbol_found names most depth inner finds w (same_symbol w symbols.Begin) (same_symbol w symbols.If) (same_symbol w symbols.Append) (same_symbol w symbols.Take) (same_symbol w symbols.Store) (same_symbol w symbols.Erase) (same_symbol w symbols.Refuse) ws s rest
     (symbols_same w symbols.Begin) (symbols_same w symbols.If) (symbols_same w symbols.Append) (symbols_same w symbols.Take) (symbols_same w symbols.Store) (symbols_same w symbols.Erase) (symbols_same w symbols.Refuse) h
 statement_found names most depth inner finds (number_lexeme n ∷ ws) s rest h = empty_found names depth (number_lexeme n ∷ ws) s rest h
 statement_found names most depth inner finds (string bytes ∷ ws) s rest h = empty_found names depth (string bytes ∷ ws) s rest h

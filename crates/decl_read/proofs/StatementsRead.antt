@@ -14,7 +14,7 @@ use Rattle.decl_core.specs.Sorts.{array_sort, queue_sort, table_sort}
 use Rattle.decl_read.specs.Grammar.{EndsExpr}
 use Rattle.decl_core.specs.Sorts.{sort_of_form}
 use Rattle.decl_read.specs.Statements.{IsStmt, no_statement, a_block, an_element, a_result, an_append, a_take, a_store, an_erase, an_if, an_if_else, a_refuse, IsStmts, last, and_more}
-use Rattle.decl_read.specs.StatementReading.{expr_at, condition_at, sorted, result_sort, element_in, result_in, assigned_in, append_in, take_in, store_in, erase_in, word_of_refusal, refuse_in, other_in, if_in, and_then, statements_by, statements_at, block_in, worded_statement, statement_in, inner_at, body_in}
+use Rattle.decl_read.specs.StatementReading.{expr_at, condition_at, sorted, result_sort, element_in, result_in, assigned_in, append_in, take_in, store_in, erase_in, word_of_refusal, refuse_in, other_in, if_in, and_then, statements_by, statements_at, block_in, statement_by_symbol, statement_in, inner_at, body_in}
 use Rattle.decl_read.proofs.Again.{part_again}
 use Rattle.decl_read.proofs.Found.{is_read}
 use Rattle.decl_read.proofs.Refusals.{word_some}
@@ -32,7 +32,7 @@ ends_expr rest at_end = record { no_sign = refl; no_index = refl }
 ends_expr rest at_else = record { no_sign = refl; no_index = refl }
 
 empty_read : (names : Names) (most depth : ℕ) (inner : Reader Statement) (rest : List Lexeme) → EndsStatement rest → statement_in names most inner depth rest ≡ Some (block nothing, rest)
-unfolding statement_in worded_statement
+unfolding statement_in statement_by_symbol
 empty_read names most depth inner rest at_semicolon = refl
 empty_read names most depth inner rest at_end = refl
 empty_read names most depth inner rest at_else = refl
@@ -63,43 +63,43 @@ result_read names most depth inner sort bytes ws rest x own value same = rw (own
 append_read : (names : Names) (most depth p : ℕ) (inner : Reader Statement) (kind : Kind) (sort : Elem) (bytes : List ℕ) (ws rest : List Lexeme) (x : Form) → found_in names.parts bytes ≡ Some (p, kind) → queue_sort kind ≡ Some sort →
     nested_at names most 32 ws ≡ Some (x, symbol symbols.CloseParen ∷ rest) → sorted sort x ≡ Some x →
     statement_in names most inner depth (symbol symbols.Append ∷ symbol symbols.OpenParen ∷ identifier bytes ∷ symbol symbols.Comma ∷ ws) ≡ Some (append p x, rest)
-unfolding statement_in worded_statement append_in
+unfolding statement_in statement_by_symbol append_in
 append_read names most depth p inner kind sort bytes ws rest x found fits value same = rw (part_again names 32 p kind bytes (symbol symbols.Comma ∷ ws) (omega arith) found, fits, value, same) refl
 
 take_read : (names : Names) (most depth p : ℕ) (inner : Reader Statement) (kind : Kind) (sort : Elem) (bytes : List ℕ) (rest : List Lexeme) → found_in names.parts bytes ≡ Some (p, kind) → queue_sort kind ≡ Some sort →
     statement_in names most inner depth (symbol symbols.Take ∷ symbol symbols.OpenParen ∷ identifier bytes ∷ symbol symbols.CloseParen ∷ rest) ≡ Some (take p, rest)
-unfolding statement_in worded_statement take_in
+unfolding statement_in statement_by_symbol take_in
 take_read names most depth p inner kind sort bytes rest found fits = rw (part_again names 32 p kind bytes (symbol symbols.CloseParen ∷ rest) (omega arith) found, fits) refl
 
 store_read : (names : Names) (most depth p : ℕ) (inner : Reader Statement) (kind : Kind) (sort : Elem) (bytes : List ℕ) (ws vs rest : List Lexeme) (k : Texts) (x : Form) → found_in names.parts bytes ≡ Some (p, kind) → table_sort kind ≡ Some sort →
     nested_at names most 32 ws ≡ Some (a_text k, symbol symbols.Comma ∷ vs) → nested_at names most 32 vs ≡ Some (x, symbol symbols.CloseParen ∷ rest) → sorted sort x ≡ Some x →
     statement_in names most inner depth (symbol symbols.Store ∷ symbol symbols.OpenParen ∷ identifier bytes ∷ symbol symbols.Comma ∷ ws) ≡ Some (store p k x, rest)
-unfolding statement_in worded_statement store_in
+unfolding statement_in statement_by_symbol store_in
 store_read names most depth p inner kind sort bytes ws vs rest k x found fits key value same = rw (part_again names 32 p kind bytes (symbol symbols.Comma ∷ ws) (omega arith) found, fits, key, value, same) refl
 
 erase_read : (names : Names) (most depth p : ℕ) (inner : Reader Statement) (kind : Kind) (sort : Elem) (bytes : List ℕ) (ws rest : List Lexeme) (k : Texts) → found_in names.parts bytes ≡ Some (p, kind) → table_sort kind ≡ Some sort →
     nested_at names most 32 ws ≡ Some (a_text k, symbol symbols.CloseParen ∷ rest) →
     statement_in names most inner depth (symbol symbols.Erase ∷ symbol symbols.OpenParen ∷ identifier bytes ∷ symbol symbols.Comma ∷ ws) ≡ Some (erase p k, rest)
-unfolding statement_in worded_statement erase_in
+unfolding statement_in statement_by_symbol erase_in
 erase_read names most depth p inner kind sort bytes ws rest k found fits key = rw (part_again names 32 p kind bytes (symbol symbols.Comma ∷ ws) (omega arith) found, fits, key) refl
 
 refuse_read : (names : Names) (most depth : ℕ) (inner : Reader Statement) (word : List ℕ) (rest : List Lexeme) → word_of_refusal word ≡ Some word →
     statement_in names most inner depth (symbol symbols.Refuse ∷ symbol symbols.OpenParen ∷ string word ∷ symbol symbols.CloseParen ∷ rest) ≡ Some (refuse word, rest)
-unfolding statement_in worded_statement refuse_in
+unfolding statement_in statement_by_symbol refuse_in
 refuse_read names most depth inner word rest is = rw is refl
 
 block_read : (names : Names) (most depth : ℕ) (inner : Reader Statement) (ws rest : List Lexeme) (all : Statements) → statements_at inner most nothing ws ≡ Some (all, rest) → statement_in names most inner (suc depth) (symbol symbols.Begin ∷ ws) ≡ Some (block all, rest)
-unfolding statement_in worded_statement block_in
+unfolding statement_in statement_by_symbol block_in
 block_read names most depth inner ws rest all read = rw read refl
 
 if_read : (names : Names) (most depth : ℕ) (inner : Reader Statement) (ws vs rest : List Lexeme) (c : Condition) (s : Statement) → condition_at names most 32 ws ≡ Some (c, symbol symbols.Then ∷ vs) → inner vs ≡ Some (s, rest) → symbol_at symbols.Else rest ≡ None →
     statement_in names most inner (suc depth) (symbol symbols.If ∷ ws) ≡ Some (choose c s (block nothing), rest)
-unfolding statement_in worded_statement if_in other_in
+unfolding statement_in statement_by_symbol if_in other_in
 if_read names most depth inner ws vs rest c s test first none = rw (test, first, none) refl
 
 if_else_read : (names : Names) (most depth : ℕ) (inner : Reader Statement) (ws vs us rest : List Lexeme) (c : Condition) (s t : Statement) → condition_at names most 32 ws ≡ Some (c, symbol symbols.Then ∷ vs) →
     inner vs ≡ Some (s, symbol symbols.Else ∷ us) → inner us ≡ Some (t, rest) → statement_in names most inner (suc depth) (symbol symbols.If ∷ ws) ≡ Some (choose c s t, rest)
-unfolding statement_in worded_statement if_in other_in
+unfolding statement_in statement_by_symbol if_in other_in
 if_else_read names most depth inner ws vs us rest c s t test first other = rw (test, first, other) refl
 
 -- a statement is not longer than what it stands before

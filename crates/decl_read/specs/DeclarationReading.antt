@@ -10,7 +10,7 @@ use Rattle.value_core.specs.declared.kind.Elem.{Elem}
 use Rattle.value_core.specs.declared.kind.Elem.TheVariants as elem
 use Rattle.value_core.specs.declared.kind.Kind.{Kind}
 use Rattle.value_core.specs.declared.kind.Kind.TheVariants as kind
-use Rattle.decl_read.specs.declared.collect.Met.TheVariants as met_words
+use Rattle.decl_read.specs.declared.collect.Opening.TheVariants as openings
 use Rattle.decl_read.specs.Reader.{◌>>=◌, Reader}
 use Rattle.decl_read.specs.Reading.{Names, is_among, is_known, name_at}
 use Rattle.decl_read.specs.StatementReading.{body_in}
@@ -106,14 +106,14 @@ table_in ws = do
   e ← of_elem_in ws
   Some (kind.Table e.0, e.1)
 
-unfoldable pub worded_kind : List (List ℕ × ℕ) → Symbol → Reader Kind
-worded_kind constants s ws =
+unfoldable pub kind_by_symbol : List (List ℕ × ℕ) → Symbol → Reader Kind
+kind_by_symbol constants s ws =
     if same_symbol s symbols.Array then array_in constants ws else if same_symbol s symbols.Queue then queue_in ws
     else if same_symbol s symbols.Table then table_in ws else None
 
 unfoldable pub kind_in : List (List ℕ × ℕ) → Reader Kind
 kind_in constants [] = None
-kind_in constants (symbol s ∷ ws) = worded_kind constants s ws
+kind_in constants (symbol s ∷ ws) = kind_by_symbol constants s ws
 kind_in constants (number_lexeme n ∷ ws) = None
 kind_in constants (identifier bytes ∷ ws) = None
 kind_in constants (string bytes ∷ ws) = None
@@ -228,9 +228,9 @@ entry_in most constants parts before ws = do
 -- an object behind its name and the semicolon
 unfoldable pub contents_in : ℕ → List ℕ → Reader ObjectForm
 contents_in most bytes ws = do
-  few ← provided (nat_le (length (entry_names met_words.Nothing ws)) 32) bytes
+  few ← provided (nat_le (length (entry_names openings.Nothing ws)) 32) bytes
   c ← series_at consts_in (begins symbols.Const) 16 [] ws
-  q ← series_at (path_item_in c.0 (entry_names met_words.Nothing ws)) (begins symbols.Path) 16 [] c.1
+  q ← series_at (path_item_in c.0 (entry_names openings.Nothing ws)) (begins symbols.Path) 16 [] c.1
   p ← series_at (var_in c.0) (begins symbols.Var) 16 [] q.1
   o ← series_at (entry_in most c.0 p.0) (begins symbols.Entry) 32 [] p.1
   end ← symbol_at symbols.End o.1

@@ -11,8 +11,8 @@ use Rattle.value_core.specs.declared.kind.Elem.{Elem}
 use Rattle.value_core.specs.declared.kind.Elem.TheVariants as elem
 use Rattle.value_core.specs.declared.kind.Kind.{Kind}
 use Rattle.value_core.specs.declared.kind.Kind.TheVariants as kind
-use Rattle.decl_read.specs.declared.collect.Met.{Met}
-use Rattle.decl_read.specs.declared.collect.Met.TheVariants as met_words
+use Rattle.decl_read.specs.declared.collect.Opening.{Opening}
+use Rattle.decl_read.specs.declared.collect.Opening.TheVariants as openings
 use Rattle.decl_core.specs.Form.{Statements}
 use Rattle.decl_read.specs.Reading.{Names, found_in, is_among, is_known}
 use Rattle.decl_read.specs.Series.{IsSeries}
@@ -151,30 +151,30 @@ pub data IsEntry (constants : List (List ℕ × ℕ)) (parts : List (List ℕ ×
       IsStmts (names_in_function (with_params (names_within constants parts before own) params) own e) 31 vs all (symbol symbols.Semicolon ∷ rest) →
       IsEntry constants parts before (symbol symbols.Entry ∷ symbol symbols.Function ∷ identifier own ∷ ws) (before ++ operation_with parts own params (Some e) all ∷ []) rest
 
-abbrev pub is_entry : Met → Bool
-is_entry met_words.Nothing = false
-is_entry met_words.Entry = true
-is_entry met_words.Operation = false
+abbrev pub is_entry : Opening → Bool
+is_entry openings.Nothing = false
+is_entry openings.Entry = true
+is_entry openings.Operation = false
 
 -- what follows a lexeme: `entry`, or one of the two words behind it
-abbrev pub met_after : Met → Lexeme → Met
-met_after met (symbol s) =
-    if same_symbol s symbols.Entry then met_words.Entry
-    else if is_entry met && (same_symbol s symbols.Procedure || same_symbol s symbols.Function) then met_words.Operation else met_words.Nothing
-met_after met (number n) = met_words.Nothing
-met_after met (identifier bytes) = met_words.Nothing
-met_after met (string bytes) = met_words.Nothing
-met_after met end_mark = met_words.Nothing
+abbrev pub opening_after : Opening → Lexeme → Opening
+opening_after opening (symbol s) =
+    if same_symbol s symbols.Entry then openings.Entry
+    else if is_entry opening && (same_symbol s symbols.Procedure || same_symbol s symbols.Function) then openings.Operation else openings.Nothing
+opening_after opening (number n) = openings.Nothing
+opening_after opening (identifier bytes) = openings.Nothing
+opening_after opening (string bytes) = openings.Nothing
+opening_after opening end_mark = openings.Nothing
 
 -- the name that stands directly behind `entry procedure` or `entry function`
-abbrev pub name_behind : Met → Lexeme → List (List ℕ)
-name_behind met_words.Nothing w = []
-name_behind met_words.Entry w = []
-name_behind met_words.Operation (identifier bytes) = bytes ∷ []
-name_behind met_words.Operation (symbol s) = []
-name_behind met_words.Operation (number n) = []
-name_behind met_words.Operation (string bytes) = []
-name_behind met_words.Operation end_mark = []
+abbrev pub name_behind : Opening → Lexeme → List (List ℕ)
+name_behind openings.Nothing w = []
+name_behind openings.Entry w = []
+name_behind openings.Operation (identifier bytes) = bytes ∷ []
+name_behind openings.Operation (symbol s) = []
+name_behind openings.Operation (number n) = []
+name_behind openings.Operation (string bytes) = []
+name_behind openings.Operation end_mark = []
 
 abbrev pub is_object_word : Lexeme → Bool
 is_object_word (symbol s) = same_symbol s symbols.Object
@@ -184,16 +184,16 @@ is_object_word (string bytes) = false
 is_object_word end_mark = false
 
 -- The names that a path may use: the identifiers that directly follow `entry procedure` or `entry function`, up to the next word `object`.
-abbrev pub entry_names : Met → List Lexeme → List (List ℕ)
-entry_names met [] = []
-entry_names met (w ∷ ws) = if is_object_word w then [] else name_behind met w ++ entry_names (met_after met w) ws
+abbrev pub entry_names : Opening → List Lexeme → List (List ℕ)
+entry_names opening [] = []
+entry_names opening (w ∷ ws) = if is_object_word w then [] else name_behind opening w ++ entry_names (opening_after opening w) ws
 
 -- object = "object" name ";" { consts } { path ";" } { parts } { entry } "end" ";"
 pub data IsObject : List Lexeme → ObjectForm → List Lexeme → Type 0 where
   object : {bytes : List ℕ} {constants : List (List ℕ × ℕ)} {paths : List Path} {parts : List (List ℕ × Kind)} {operations : List OperationForm} {ws us vs ys rest : List Lexeme} →
-      length (entry_names met_words.Nothing ws) ≤ 32 →
+      length (entry_names openings.Nothing ws) ≤ 32 →
       IsSeries IsConsts (begins symbols.Const) 16 [] ws constants us →
-      IsSeries (IsPathItem constants (entry_names met_words.Nothing ws)) (begins symbols.Path) 16 [] us paths vs →
+      IsSeries (IsPathItem constants (entry_names openings.Nothing ws)) (begins symbols.Path) 16 [] us paths vs →
       IsSeries (IsVar constants) (begins symbols.Var) 16 [] vs parts ys →
       IsSeries (IsEntry constants parts) (begins symbols.Entry) 32 [] ys operations (symbol symbols.End ∷ symbol symbols.Semicolon ∷ rest) →
       IsObject (symbol symbols.Object ∷ identifier bytes ∷ symbol symbols.Semicolon ∷ ws) (record { name = bytes; parts = parts; paths = paths; operations = operations }) rest

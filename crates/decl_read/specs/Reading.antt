@@ -143,8 +143,8 @@ group_in nested ws = do
   Some (x.0, rest)
 
 -- behind a symbol
-unfoldable pub worded_in : Names → Reader Form → ℕ → Symbol → Reader Form
-worded_in names nested depth s ws =
+unfoldable pub by_symbol_in : Names → Reader Form → ℕ → Symbol → Reader Form
+by_symbol_in names nested depth s ws =
     if same_symbol s OpenParen then group_in nested ws else if same_symbol s First then first_in names depth ws
     else if same_symbol s Count then count_in names depth ws else if same_symbol s Lookup then lookup_in names nested depth ws else None
 
@@ -153,7 +153,7 @@ term_in names nested depth [] = None
 term_in names nested depth (number_lexeme n ∷ ws) = Some (an_integer (number n), ws)
 term_in names nested depth (string bytes ∷ ws) = literal_of bytes >>= λ f. Some (f, ws)
 term_in names nested depth (identifier bytes ∷ ws) = named_in names nested bytes ws (symbol_at OpenBracket ws)
-term_in names nested depth (symbol s ∷ ws) = worded_in names nested depth s ws
+term_in names nested depth (symbol s ∷ ws) = by_symbol_in names nested depth s ws
 term_in names nested depth (end_mark ∷ ws) = None
 
 abbrev pub combined : Bool → Integers → Integers → Integers

@@ -33,9 +33,9 @@ use Rattle.decl_read.specs.Reading.{Names, nested_at, term_in}
 use Rattle.decl_read.specs.StatementReading.{condition_at, deeper_condition, inner_at, statement_in}
 
 -- the name of the operation itself, before those of others
-abbrev pub own_and : Option (Bor (List ℕ)) → List (List ℕ) → List (List ℕ)
-own_and None names = names
-own_and (Some own) names = own.now ∷ names
+abbrev pub with_own : Option (Bor (List ℕ)) → List (List ℕ) → List (List ℕ)
+with_own None names = names
+with_own (Some own) names = own.now ∷ names
 
 -- the function itself, and what it replies
 abbrev pub function_of : Option (Bor (List ℕ)) → Option Elem → Option (List ℕ × Elem)
@@ -44,7 +44,7 @@ function_of (Some own) None = None
 function_of (Some own) (Some e) = Some (own.now, e)
 
 abbrev pub names_of : Scope → Names
-names_of s = record { constants = constants_of s.constants.now; params = params_of s.params.now; parts = parts_of s.parts.now; operations = own_and s.own (operation_names (operations_of s.operations.now)); function = function_of s.own s.result }
+names_of s = record { constants = constants_of s.constants.now; params = params_of s.params.now; parts = parts_of s.parts.now; operations = with_own s.own (operation_names (operations_of s.operations.now)); function = function_of s.own s.result }
 
 -- an expression one level deeper, and a term, where so many levels are left
 abbrev pub nested_in : Scope → ℕ → Reader Form

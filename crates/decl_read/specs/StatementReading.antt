@@ -247,8 +247,8 @@ block_in inner most depth ws = do
   Some (block x.0, x.1)
 
 -- what begins with a symbol; where none of these stands, the statement is empty, and all that was there stands behind it
-unfoldable pub worded_statement : Names → ℕ → Reader Statement → ℕ → List Lexeme → Symbol → Reader Statement
-worded_statement names most inner depth all s ws =
+unfoldable pub statement_by_symbol : Names → ℕ → Reader Statement → ℕ → List Lexeme → Symbol → Reader Statement
+statement_by_symbol names most inner depth all s ws =
     if same_symbol s symbols.Begin then block_in inner most depth ws else if same_symbol s symbols.If then if_in names most inner depth ws
     else if same_symbol s symbols.Append then append_in names most ws else if same_symbol s symbols.Take then take_in names ws
     else if same_symbol s symbols.Store then store_in names most ws else if same_symbol s symbols.Erase then erase_in names most ws
@@ -258,7 +258,7 @@ worded_statement names most inner depth all s ws =
 unfoldable pub statement_in : Names → ℕ → Reader Statement → ℕ → Reader Statement
 statement_in names most inner depth [] = Some (block nothing, [])
 statement_in names most inner depth (identifier bytes ∷ ws) = assigned_in names most bytes ws (symbol_at symbols.OpenBracket ws)
-statement_in names most inner depth (symbol s ∷ ws) = worded_statement names most inner depth (symbol s ∷ ws) s ws
+statement_in names most inner depth (symbol s ∷ ws) = statement_by_symbol names most inner depth (symbol s ∷ ws) s ws
 statement_in names most inner depth (number_lexeme n ∷ ws) = Some (block nothing, number_lexeme n ∷ ws)
 statement_in names most inner depth (string bytes ∷ ws) = Some (block nothing, string bytes ∷ ws)
 statement_in names most inner depth (end_mark ∷ ws) = Some (block nothing, end_mark ∷ ws)

@@ -10,7 +10,7 @@ ghost use Rattle.path_tree.specs.declared.token.Symbol.TheVariants.{OpenBracket,
 ghost use Rattle.decl_core.specs.Form.{block as block_form, choose, nothing};
 ghost use Rattle.decl_core.specs.View.{form_of, condition_of, statement_of, all_of};
 ghost use Rattle.decl_read.specs.Reader.{Gives};
-ghost use Rattle.decl_read.specs.StatementReading.{sorted as sorted_form, result_sort as result_sort_in, string_at, word_of_refusal, element_in, result_in, assigned_in, append_in, take_in, store_in, erase_in, refuse_in, other_in, if_in, block_in, worded_statement, statements_at, body_in};
+ghost use Rattle.decl_read.specs.StatementReading.{sorted as sorted_form, result_sort as result_sort_in, string_at, word_of_refusal, element_in, result_in, assigned_in, append_in, take_in, store_in, erase_in, refuse_in, other_in, if_in, block_in, statement_by_symbol, statements_at, body_in};
 ghost use Rattle.decl_read.specs.Scopes.{names_of, function_of, inner_in, statement_by, string_read, statement_read, statements_read};
 
 use crate::condition::condition;
@@ -382,8 +382,8 @@ fn block<'t>(
 
 /// What begins with a symbol.
 #[cycle(statements)]
-#[tactic(auto, unfolding(crate::specs::StatementReading::worded_statement))]
-fn worded<'t>(
+#[tactic(auto, unfolding(crate::specs::StatementReading::statement_by_symbol))]
+fn by_symbol<'t>(
     alloc: Global,
     scope: &Scope,
     all: &'t [Token],
@@ -391,7 +391,7 @@ fn worded<'t>(
     tokens: &'t [Token],
     depth: u8,
 ) -> Read<'t, Stmt>
-    ensures { Gives statement_read result (worded_statement (names_of scope.now) scope.now.most (inner_in scope.now depth) depth (lexemes all.now) symbol (lexemes tokens.now)) }
+    ensures { Gives statement_read result (statement_by_symbol (names_of scope.now) scope.now.most (inner_in scope.now depth) depth (lexemes all.now) symbol (lexemes tokens.now)) }
 {
     if is_same_symbol(symbol, Symbol::Begin) {
         block(alloc, scope, start_of(all), tokens, depth)
@@ -422,7 +422,7 @@ fn statement<'t>(alloc: Global, scope: &Scope, tokens: &'t [Token], depth: u8) -
         [] => Ok((empty(alloc), tokens)),
         [token, rest @ ..] => match &token.kind {
             Kind::Name(name) => assigned(alloc, scope, name.as_bytes(), token.start, rest),
-            Kind::Symbol(s) => worded(alloc, scope, tokens, *s, rest, depth),
+            Kind::Symbol(s) => by_symbol(alloc, scope, tokens, *s, rest, depth),
             Kind::Number(_) => Ok((empty(alloc), tokens)),
             Kind::Text(_) => Ok((empty(alloc), tokens)),
             Kind::EndMark => Ok((empty(alloc), tokens)),

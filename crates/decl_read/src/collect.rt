@@ -3,8 +3,8 @@
 ghost use Rattle.std.specs.Prelude.{◌≡◌, ◌++◌, Some};
 ghost use Rattle.path_tree.specs.Lexeme.{lexeme_of, lexemes};
 ghost use Rattle.decl_read.specs.Reader.{Gives};
-ghost use Rattle.decl_read.specs.Declarations.{entry_names, is_entry, is_object_word, met_after, name_behind};
-ghost use Rattle.decl_read.specs.declared.collect.Met.TheVariants.{Nothing};
+ghost use Rattle.decl_read.specs.Declarations.{entry_names, is_entry, is_object_word, opening_after, name_behind};
+ghost use Rattle.decl_read.specs.declared.collect.Opening.TheVariants.{Nothing};
 
 use crate::text_fault::TextFault;
 use path_tree::name::Name;
@@ -13,7 +13,7 @@ use std::alloc::Global;
 
 /// What stands directly before a token.
 #[derive(Clone, Copy)]
-pub(crate) enum Met {
+pub(crate) enum Opening {
     /// None of these words.
     Nothing,
     /// `entry`
@@ -36,46 +36,51 @@ fn opens_object(kind: &Kind) -> bool
 }
 
 /// Whether `entry` stands before.
-fn is_behind_entry(met: Met) -> bool
-    ensures { result ≡ is_entry met }
+fn is_behind_entry(opening: Opening) -> bool
+    ensures { result ≡ is_entry opening }
 {
-    match met {
-        Met::Nothing => false,
-        Met::Entry => true,
-        Met::Operation => false,
+    match opening {
+        Opening::Nothing => false,
+        Opening::Entry => true,
+        Opening::Operation => false,
     }
 }
 
 /// What stands before the next token.
-fn met_behind(met: Met, kind: &Kind) -> Met
-    ensures { result ≡ met_after met (lexeme_of kind.now) }
+fn opening_behind(opening: Opening, kind: &Kind) -> Opening
+    ensures { result ≡ opening_after opening (lexeme_of kind.now) }
 {
     match kind {
         Kind::Symbol(s) => if is_same_symbol(*s, Symbol::Entry) {
-            Met::Entry
-        } else if is_behind_entry(met)
+            Opening::Entry
+        } else if is_behind_entry(opening)
             && (is_same_symbol(*s, Symbol::Procedure) || is_same_symbol(*s, Symbol::Function))
         {
-            Met::Operation
+            Opening::Operation
         } else {
-            Met::Nothing
+            Opening::Nothing
         },
-        Kind::Number(_) => Met::Nothing,
-        Kind::Name(_) => Met::Nothing,
-        Kind::Text(_) => Met::Nothing,
-        Kind::EndMark => Met::Nothing,
+        Kind::Number(_) => Opening::Nothing,
+        Kind::Name(_) => Opening::Nothing,
+        Kind::Text(_) => Opening::Nothing,
+        Kind::EndMark => Opening::Nothing,
     }
 }
 
 /// The names so far, with a name that stands directly behind the two words.
-fn noted(alloc: Global, so_far: Vec<Name>, met: Met, kind: &Kind) -> Result<Vec<Name>, TextFault>
-    ensures { Gives (λ v. v.items) result (Some (so_far.items ++ name_behind met (lexeme_of kind.now))) }
+fn noted(
+    alloc: Global,
+    so_far: Vec<Name>,
+    opening: Opening,
+    kind: &Kind,
+) -> Result<Vec<Name>, TextFault>
+    ensures { Gives (λ v. v.items) result (Some (so_far.items ++ name_behind opening (lexeme_of kind.now))) }
 {
     let mut all = so_far;
-    match met {
-        Met::Nothing => Ok(all),
-        Met::Entry => Ok(all),
-        Met::Operation => match kind {
+    match opening {
+        Opening::Nothing => Ok(all),
+        Opening::Entry => Ok(all),
+        Opening::Operation => match kind {
             Kind::Symbol(_) => Ok(all),
             Kind::Number(_) => Ok(all),
             Kind::Name(name) => {
@@ -94,14 +99,14 @@ pub(crate) fn operation_names(alloc: Global, tokens: &[Token]) -> Result<Vec<Nam
     ensures { Gives (λ v. v.items) result (Some (entry_names Nothing (lexemes tokens.now))) }
 {
     let mut all = Vec::new(alloc);
-    let mut met = Met::Nothing;
+    let mut opening = Opening::Nothing;
     let mut rest = tokens;
     'tokens: while let [token, tail @ ..] = rest {
         if opens_object(&token.kind) {
             return Ok(all);
         }
-        all = noted(alloc, all, met, &token.kind)?;
-        met = met_behind(met, &token.kind);
+        all = noted(alloc, all, opening, &token.kind)?;
+        opening = opening_behind(opening, &token.kind);
         rest = tail;
     }
     Ok(all)

@@ -3,7 +3,7 @@
 ghost use Rattle.std.specs.Prelude.{◌≡◌};
 ghost use Rattle.path_tree.specs.Known.{constants_of};
 ghost use Rattle.path_tree.specs.Lexeme.{lexemes};
-ghost use Rattle.decl_read.specs.DeclarationReading.{allowed as allowed_of, size_in, elem_of, elem_at, of_elem_in, array_in, queue_in, table_in, worded_kind, kind_in};
+ghost use Rattle.decl_read.specs.DeclarationReading.{allowed as allowed_of, size_in, elem_of, elem_at, of_elem_in, array_in, queue_in, table_in, kind_by_symbol, kind_in};
 ghost use Rattle.decl_read.specs.Reader.{Gives};
 
 use crate::front::{behind, start_of};
@@ -62,7 +62,7 @@ fn size<'t>(scope: &Scope, group: &[Name], tokens: &'t [Token]) -> Read<'t, u16>
 }
 
 /// What the elements are that this word says.
-fn worded_elem(symbol: Symbol, at: usize) -> Result<Elem, TextFault>
+fn elem_by_symbol(symbol: Symbol, at: usize) -> Result<Elem, TextFault>
     ensures { Gives (λ e. e) result (elem_of symbol) }
 {
     if is_same_symbol(symbol, Symbol::Integer) {
@@ -82,7 +82,7 @@ pub(crate) fn elem<'t>(tokens: &'t [Token]) -> Read<'t, Elem>
         [] => Err(TextFault::Syntax(0)),
         [token, rest @ ..] => match &token.kind {
             Kind::Symbol(s) => {
-                let e = worded_elem(*s, token.start)?;
+                let e = elem_by_symbol(*s, token.start)?;
                 Ok((e, rest))
             }
             Kind::Number(_) => Err(TextFault::Syntax(token.start)),
@@ -134,15 +134,15 @@ fn table<'t>(tokens: &'t [Token]) -> Read<'t, PartKind>
 }
 
 /// What begins with a symbol.
-#[tactic(auto, unfolding(crate::specs::DeclarationReading::worded_kind))]
-fn worded<'t>(
+#[tactic(auto, unfolding(crate::specs::DeclarationReading::kind_by_symbol))]
+fn by_symbol<'t>(
     scope: &Scope,
     group: &[Name],
     symbol: Symbol,
     at: usize,
     tokens: &'t [Token],
 ) -> Read<'t, PartKind>
-    ensures { Gives (λ x. (x.0, lexemes x.1.now)) result (worded_kind (constants_of scope.now.constants.now) symbol (lexemes tokens.now)) }
+    ensures { Gives (λ x. (x.0, lexemes x.1.now)) result (kind_by_symbol (constants_of scope.now.constants.now) symbol (lexemes tokens.now)) }
 {
     if is_same_symbol(symbol, Symbol::Array) {
         array(scope, group, tokens)
@@ -163,7 +163,7 @@ pub(crate) fn kind<'t>(scope: &Scope, group: &[Name], tokens: &'t [Token]) -> Re
     match tokens {
         [] => Err(TextFault::Syntax(0)),
         [token, rest @ ..] => match &token.kind {
-            Kind::Symbol(s) => worded(scope, group, *s, token.start, rest),
+            Kind::Symbol(s) => by_symbol(scope, group, *s, token.start, rest),
             Kind::Number(_) => Err(TextFault::Syntax(token.start)),
             Kind::Name(_) => Err(TextFault::Syntax(token.start)),
             Kind::Text(_) => Err(TextFault::Syntax(token.start)),

@@ -5,7 +5,7 @@ ghost use Rattle.path_tree.specs.Known.{value_of, constants_of};
 ghost use Rattle.decl_read.specs.Reading.{found_in};
 ghost use Rattle.decl_read.specs.Reading.{is_among, is_known as is_known_in};
 ghost use Rattle.decl_read.specs.Declarations.{operation_names};
-ghost use Rattle.decl_read.specs.Scopes.{names_of, own_and};
+ghost use Rattle.decl_read.specs.Scopes.{names_of, with_own};
 ghost use Rattle.decl_core.specs.ObjectMap.{operations_of, params_of, parts_of};
 
 use crate::scope::Scope;
@@ -93,7 +93,7 @@ pub(crate) fn is_operation(operations: &[Arc<Operation>], text: &[u8]) -> bool
 
 /// Whether this is the name of the operation itself.
 fn is_own(own: Option<&Name>, operations: &[Arc<Operation>], text: &[u8]) -> bool
-    ensures { result ≡ is_among (own_and own.entry (operation_names (operations_of operations.now))) text.now }
+    ensures { result ≡ is_among (with_own own.entry (operation_names (operations_of operations.now))) text.now }
 {
     match own {
         None => is_operation(operations, text),

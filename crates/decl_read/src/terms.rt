@@ -8,7 +8,7 @@ ghost use Rattle.path_tree.specs.Lexeme.{lexemes};
 ghost use Rattle.path_tree.specs.Reading.{symbol_at};
 ghost use Rattle.decl_core.specs.View.{form_of, integers_of};
 ghost use Rattle.decl_read.specs.Reader.{Gives};
-ghost use Rattle.decl_read.specs.Reading.{value_named, part_in, first_in, count_in, lookup_in, group_in, worded_in, named_in, expr_in, more_at};
+ghost use Rattle.decl_read.specs.Reading.{value_named, part_in, first_in, count_in, lookup_in, group_in, by_symbol_in, named_in, expr_in, more_at};
 ghost use Rattle.path_tree.specs.Known.{value_of};
 ghost use Rattle.decl_read.specs.Scopes.{names_of, nested_in, terms_in, form_read, integers_read, part_read};
 
@@ -181,8 +181,8 @@ fn named<'t>(
 
 /// What begins with a symbol.
 #[cycle(expressions)]
-#[tactic(auto, unfolding(crate::specs::Reading::worded_in))]
-fn worded<'t>(
+#[tactic(auto, unfolding(crate::specs::Reading::by_symbol_in))]
+fn by_symbol<'t>(
     alloc: Global,
     scope: &Scope,
     symbol: Symbol,
@@ -190,7 +190,7 @@ fn worded<'t>(
     tokens: &'t [Token],
     depth: u8,
 ) -> Read<'t, Expr>
-    ensures { Gives form_read result (worded_in (names_of scope.now) (nested_in scope.now depth) depth symbol (lexemes tokens.now)) }
+    ensures { Gives form_read result (by_symbol_in (names_of scope.now) (nested_in scope.now depth) depth symbol (lexemes tokens.now)) }
 {
     if is_same_symbol(symbol, Symbol::OpenParen) {
         group(alloc, scope, at, tokens, depth)
@@ -222,7 +222,7 @@ fn term<'t>(alloc: Global, scope: &Scope, tokens: &'t [Token], depth: u8) -> Rea
                     Ok((e, rest))
                 }
                 Kind::Name(name) => named(alloc, scope, name.as_bytes(), at, rest, depth),
-                Kind::Symbol(s) => worded(alloc, scope, *s, at, rest, depth),
+                Kind::Symbol(s) => by_symbol(alloc, scope, *s, at, rest, depth),
                 Kind::EndMark => Err(TextFault::Syntax(at)),
             }
         }

@@ -9,8 +9,8 @@ use Rattle.decl_read.proofs.block.+statements.Given as goal
 abbrev pub decreases-statement : goal.decreases-statement
 decreases-statement l = l.depth * 8 + 7
 
-abbrev pub decreases-worded : goal.decreases-worded
-decreases-worded l = l.depth * 8 + 6
+abbrev pub decreases-by_symbol : goal.decreases-by_symbol
+decreases-by_symbol l = l.depth * 8 + 6
 
 abbrev pub decreases-block : goal.decreases-block
 decreases-block l = l.depth * 8 + 5

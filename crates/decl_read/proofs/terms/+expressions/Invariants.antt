@@ -14,8 +14,8 @@ decreases-more l = l.depth * 8 + 5
 abbrev pub decreases-term : goal.decreases-term
 decreases-term l = l.depth * 8 + 4
 
-abbrev pub decreases-worded : goal.decreases-worded
-decreases-worded l = l.depth * 8 + 3
+abbrev pub decreases-by_symbol : goal.decreases-by_symbol
+decreases-by_symbol l = l.depth * 8 + 3
 
 abbrev pub decreases-named : goal.decreases-named
 decreases-named l = l.depth * 8 + 2

@@ -4,10 +4,10 @@
 //! of these names.
 
 use crate::constants::constants;
-use crate::crowd_path::behind_path;
 use crate::entry::entries;
 use crate::front::{after, behind, start_of};
 use crate::parts::parts;
+use crate::path_end::behind_path;
 use crate::paths::MOST_PATHS;
 use crate::text_fault::TextFault;
 use indexmap::IndexSet;
@@ -71,7 +71,7 @@ fn behind_object<'t>(
 }
 
 /// The first fault of an object with so many names.
-pub(crate) fn fault_of_crowd(alloc: Global, names: &[Name], tokens: &[Token]) -> TextFault {
+pub(crate) fn fault_of_many(alloc: Global, names: &[Name], tokens: &[Token]) -> TextFault {
     match behind_object(alloc, names, tokens) {
         Err(fault) => fault,
         Ok(rest) => TextFault::Syntax(start_of(rest)),
