@@ -72,34 +72,6 @@ impl Operations {
         &self.names
     }
 
-    /// The slot of a word, which its case does not change: for letters, the bit 32 is the case.
-    fn slot_of(word: &[u8]) -> usize
-        ensures { result < SLOTS }
-    {
-        let (before, last) = match word {
-            [.., before, last] => (*before | 32, *last | 32),
-            [last] => (0, *last | 32),
-            [] => (0, 0),
-        };
-        let len = (word.len() % 64) as u8;
-        let mixed = before
-            .wrapping_mul(10)
-            .wrapping_add(last)
-            .wrapping_add(len.wrapping_mul(37));
-        mixed as usize
-    }
-
-    // For each slot the last of these operations whose name has it.
-    fn hints_of(names: &[Name]) -> [OpId; SLOTS]
-        requires { length names.now ≤ 32 }
-    {
-        let mut hints = [0; SLOTS];
-        for (op, name) in names.iter().enumerate() {
-            hints[slot_of(name.as_bytes())] = op as OpId;
-        }
-        hints
-    }
-
     // The operation that a word names, in any case.
     pub fn find(&self, word: &[u8]) -> Option<OpId>
         ensures { MatchOption result (IsUnnamed self.now word.now) (λ op. IsNamed self.now op word.now) }
