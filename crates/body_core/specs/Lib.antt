@@ -1,6 +1,7 @@
 pub mod Calling
 pub mod Calls
 pub mod Fitting
+pub mod Held
 pub mod History
 pub mod HistoryLaws
 pub mod NewPins

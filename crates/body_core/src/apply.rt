@@ -1,10 +1,10 @@
 //! Bodies of operations on whole values.
 
-ghost use Rattle.std.specs.Prelude.{◌≡◌, ◌++◌, map, [], IfOk, OnOk};
+ghost use Rattle.std.specs.Prelude.{◌≡◌, ◌++◌, map, [], IfOk, OnOk, OnErr};
 ghost use Rattle.value_core.specs.Contents.{kind_of};
 ghost use Rattle.decl_core.specs.Bodies.{body_of};
 ghost use Rattle.decl_core.specs.Meaning.{apply_body};
-ghost use Rattle.body_core.specs.Calls.{ArgumentsFit};
+ghost use Rattle.body_core.specs.Calls.{ArgumentsFit, HoldsReads};
 ghost use Rattle.body_core.specs.declared.act.Stop.TheVariants.{Refused};
 ghost use Rattle.body_core.specs.Spread.{if_read, held_by, behind_it, gather as gathered, spread as spread_over, FitReads, all_parts, parts_read, ReplyTells};
 
@@ -15,8 +15,6 @@ use decl_core::footprint::reads;
 use decl_core::object::Operation;
 use std::alloc::{AllocError, Global};
 use value_core::datum::Datum;
-use value_core::decode::{DecodeFault, decode};
-use value_core::encode::encode;
 use value_core::kind::{Elem, Kind};
 use value_core::text::Text;
 use value_core::value::Value;
@@ -50,6 +48,38 @@ pub fn apply(
             let word = word_by(stop)?;
             let left = copies(alloc, values)?;
             Ok((Reply::Refused(word), left))
+        }
+    }
+}
+
+/// Does the body of an operation on the values of all parts, in place: that of part p stands at place p. It
+/// answers the reply, which is never `Failed`. A refused body leaves each value as it was, and so does an
+/// error.
+///
+/// The arguments have to be as many as the parameters, each of its parameter's sort; each part that is read
+/// has to be there, and to be of its kind. An error where memory was refused.
+pub fn apply_all(
+    alloc: Global,
+    operation: &Operation,
+    args: &[Datum],
+    parts: &mut Vec<Value>,
+) -> Result<Reply, AllocError>
+    requires fits { ArgumentsFit operation.now args.now }
+    requires held { HoldsReads operation.now parts.old.items }
+    ensures reply { IfOk result (λ reply. ReplyTells reply (apply_body (body_of operation.now) args.now parts.old.items).0) }
+    ensures parts { OnOk result (parts.new.items ≡ (apply_body (body_of operation.now) args.now parts.old.items).1) }
+    ensures unchanged { OnErr result (parts.new.items ≡ parts.old.items) }
+    ensures kinds { map kind_of parts.new.items ≡ map kind_of parts.old.items }
+{
+    let mut left = copies(alloc, parts)?;
+    match evaluate(operation, args, &mut left) {
+        Ok(reply) => {
+            *parts = left;
+            Ok(Reply::Done(reply))
+        }
+        Err(stop) => {
+            let word = word_by(stop)?;
+            Ok(Reply::Refused(word))
         }
     }
 }
@@ -91,7 +121,7 @@ fn value_for(alloc: Global, read: bool, values: &[Value]) -> Result<Value, Alloc
     ensures { IfOk result (λ value. value ≡ held_by read values.now) }
 {
     match values {
-        [value, ..] if read => copy(alloc, value),
+        [value, ..] if read => value.copy(alloc),
         _ => Value::opening(alloc, Kind::Array(0, Elem::Integer)),
     }
 }
@@ -129,25 +159,13 @@ fn keep(values: &mut Vec<Value>, read: bool, value: Value) -> Result<(), AllocEr
     Ok(())
 }
 
-// A value of the same contents.
-fn copy(alloc: Global, value: &Value) -> Result<Value, AllocError>
-    ensures { IfOk result (λ copy. copy ≡ value.now) }
-{
-    let bytes = encode(alloc, value)?;
-    match decode(alloc, value.kind(), &bytes) {
-        Ok(copy) => Ok(copy),
-        Err(DecodeFault::Damaged) => unreachable!(),
-        Err(DecodeFault::Memory) => Err(AllocError),
-    }
-}
-
 // Values of the same contents, in order.
 fn copies(alloc: Global, values: &[Value]) -> Result<Vec<Value>, AllocError>
     ensures { IfOk result (λ copies. copies.items ≡ values.now) }
 {
     let mut all = Vec::new(alloc);
     for value in values {
-        let value = copy(alloc, value)?;
+        let value = value.copy(alloc)?;
         all.push(value)?;
     }
     Ok(all)

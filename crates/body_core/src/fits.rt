@@ -4,7 +4,8 @@ ghost use Rattle.std.specs.Prelude.{◌≡◌, ◌↔◌, ◌<◌, IsTrue, Some,
 ghost use Rattle.std.specs.Int.{bit_at};
 ghost use Rattle.value_core.specs.Datum.{elem_of};
 ghost use Rattle.value_core.specs.Contents.{kind_of};
-ghost use Rattle.body_core.specs.Calls.{ArgumentsFit, HasPins};
+ghost use Rattle.body_core.specs.Calls.{ArgumentsFit, HasPins, HoldsReads};
+ghost use Rattle.body_core.specs.Held.{HoldsItsKind};
 ghost use Rattle.body_core.specs.Spread.{FitReads, gather};
 
 use decl_core::footprint::reads;
@@ -84,4 +85,31 @@ pub fn pins_fit(operation: &Operation, pins: &Pins) -> bool
         }
     }
     true
+}
+
+/// Whether each part that the operation reads has a value of its kind, that of part p at place p. It takes no
+/// memory.
+pub fn parts_fit(operation: &Operation, parts: &[Value]) -> bool
+    ensures { IsTrue result ↔ HoldsReads operation.now parts.now }
+{
+    let read = reads(operation);
+    for part in 0..MOST_PARTS {
+        if has(read, part) && !is_held(part, &operation.kinds, parts) {
+            return false;
+        }
+    }
+    true
+}
+
+// Whether a part has a value of its kind, or its kind is not known.
+fn is_held(part: usize, kinds: &[Option<Kind>], parts: &[Value]) -> bool
+    ensures { IsTrue result ↔ HoldsItsKind parts.now kinds.now part }
+{
+    if part >= kinds.len() {
+        return true;
+    }
+    match kinds[part] {
+        Some(kind) => part < parts.len() && parts[part].kind() == kind,
+        None => true,
+    }
 }

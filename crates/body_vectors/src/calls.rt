@@ -1,8 +1,10 @@
 //! Calls of operations, as the tests make them.
 
-use body_core::fits::{arguments_fit, pins_fit};
+use body_core::apply::apply_all;
+use body_core::fits::{arguments_fit, parts_fit, pins_fit};
 use body_core::outcome::Outcome;
 use body_core::perform::perform;
+use body_core::reply::Reply;
 use body_core::run::Run;
 use body_core::step::Need;
 use body_core::ticket::Ticket;
@@ -16,6 +18,7 @@ use std::process::Abort;
 use std::sync::Arc;
 use value_core::datum::Datum;
 use value_core::text::Text;
+use value_core::value::Value;
 
 /// An object with one part.
 pub const CELL: &[u8] = b"object cell;
@@ -82,6 +85,19 @@ pub fn run_of(
         panic!(rt; "{name}: no such call");
     }
     Run::new(alloc, Ticket::new(1, operation, args, pins))
+}
+
+/// What a body on all parts, in place, replies: none where the call may not be made, or memory was refused.
+pub fn reply_in_place(
+    alloc: Global,
+    operation: &Operation,
+    args: &[Datum],
+    parts: &mut Vec<Value>,
+) -> Option<Reply> {
+    if !arguments_fit(operation, args) || !parts_fit(operation, parts) {
+        return None;
+    }
+    apply_all(alloc, operation, args, parts).ok()
 }
 
 // So many steps are kept.

@@ -4,7 +4,7 @@ use crate::calls::object;
 use crate::rows::Want::{Nothing, Refused, Value};
 use crate::rows::Word::{Number, Text};
 use crate::rows::{Line, Row, play_over};
-use crate::wholes::assert_whole;
+use crate::wholes::{assert_in_place, assert_whole};
 use shelf_core::memory::MemHand;
 use std::alloc::Global;
 use std::process::Abort;
@@ -55,7 +55,7 @@ pub const PARTS: [&[u8]; 5] = [
 ];
 
 // Asserts of each call of a table, over the parts as they are before, that it replies and changes what it should,
-// step by step over files and on whole values.
+// step by step over files, on whole values, and on all values in place.
 fn assert_rows(rt: &impl Abort, alloc: Global, rows: &[Row]) {
     let forms = object(rt, alloc, FORMS);
     let mut hand = MemHand::new(alloc);
@@ -63,6 +63,7 @@ fn assert_rows(rt: &impl Abort, alloc: Global, rows: &[Row]) {
         let lines = [Line::Files(&PARTS), Line::Call(*row)];
         play_over(rt, alloc, &forms, &mut hand, &lines);
         assert_whole(rt, alloc, &forms, row);
+        assert_in_place(rt, alloc, &forms, row);
     }
 }
 

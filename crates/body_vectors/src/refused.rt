@@ -4,7 +4,7 @@
 //! `tools/refuse_memory` runs each test whose name begins with `refused_` with the first, the second,
 //! .. growth refused. With no growth refused they are happy paths.
 
-use crate::calls::{CELL, SEVEN, ZERO, operation};
+use crate::calls::{CELL, SEVEN, ZERO, operation, reply_in_place};
 use body_core::apply::apply;
 use body_core::fits::{arguments_fit, pins_fit, values_fit};
 use body_core::outcome::Outcome;
@@ -12,8 +12,8 @@ use body_core::perform::perform;
 use body_core::reply::{Failure, Reply};
 use body_core::run::Run;
 use body_core::ticket::Ticket;
-use decl_read::fault::DeclFault;
 use decl_core::object::Object;
+use decl_read::fault::DeclFault;
 use decl_read::read::read_objects;
 use shelf_core::hand::{Hand, HandFault};
 use shelf_core::memory::MemHand;
@@ -57,6 +57,16 @@ fn zero_twice(rt: &impl Abort, alloc: Global) -> Vec<Value> {
     values
 }
 
+// Whether the first value has these bytes, where there is memory for them at the first or at the second try.
+fn first_is(rt: &impl Abort, alloc: Global, values: &[Value], want: &[u8]) -> bool {
+    let value = values.first().expect(rt, "a value");
+    let bytes = match encode(alloc, value) {
+        Ok(bytes) => bytes,
+        Err(_) => encode(alloc, value).expect(rt, "memory"),
+    };
+    bytes.as_slice() == want
+}
+
 #[test]
 fn refused_apply(rt: HostRuntime) {
     let alloc = rt.alloc();
@@ -72,12 +82,22 @@ fn refused_apply(rt: HostRuntime) {
         Err(_) => apply(alloc, &bump, &args, &values).expect(&rt, "memory"),
     };
     assert!(rt; reply == Reply::Done(None));
-    let value = left.first().expect(&rt, "a value");
-    let bytes = match encode(alloc, value) {
-        Ok(bytes) => bytes,
-        Err(_) => encode(alloc, value).expect(&rt, "memory"),
+    assert!(rt; first_is(&rt, alloc, &left, SEVEN));
+}
+
+#[test]
+fn refused_apply_all(rt: HostRuntime) {
+    let alloc = rt.alloc();
+    let cell = object_twice(&rt, alloc, CELL);
+    let bump = operation(&rt, &cell, "bump");
+    let args = [Datum::Integer(7)];
+    let mut parts = zero_twice(&rt, alloc);
+    // A call without memory changes nothing: the second one adds to 0 as well.
+    let reply = match reply_in_place(alloc, &bump, &args, &mut parts) {
+        Some(reply) => reply,
+        None => reply_in_place(alloc, &bump, &args, &mut parts).expect(&rt, "memory"),
     };
-    assert!(rt; bytes.as_slice() == SEVEN);
+    assert!(rt; reply == Reply::Done(None) && first_is(&rt, alloc, &parts, SEVEN));
 }
 
 // `put 7` of a cell, once.

@@ -1,6 +1,6 @@
 //! Bodies on whole values.
 
-use crate::calls::{object, operation};
+use crate::calls::{object, operation, reply_in_place};
 use crate::forms::{FORMS, PARTS};
 use crate::rows::{Bytes, New, Row, data, reply};
 use body_core::apply::apply;
@@ -78,6 +78,27 @@ pub fn assert_whole(rt: &impl Abort, alloc: Global, forms: &Object, row: &Row) {
     let (told, left) = apply(alloc, &operation, &args, &values).expect(rt, "memory");
     let is_right = told == reply(rt, want) && are_left(alloc, &parts, &left, new);
     assert!(rt; is_right, "{name}: another body");
+}
+
+// The values of all parts.
+fn all_values(rt: &impl Abort, alloc: Global, forms: &Object) -> Vec<Value> {
+    let mut values = Vec::new(alloc);
+    for (part, bytes) in forms.parts.iter().zip(&PARTS) {
+        let value = decode(alloc, part.kind, bytes).expect(rt, "a value");
+        values.push(value).expect(rt, "memory");
+    }
+    values
+}
+
+/// Asserts the same of the body on all parts, in place.
+pub fn assert_in_place(rt: &impl Abort, alloc: Global, forms: &Object, row: &Row) {
+    let Row(_, name, args, want, new) = *row;
+    let operation = operation(rt, forms, name);
+    let args = data(rt, alloc, args);
+    let mut parts = all_values(rt, alloc, forms);
+    let told = reply_in_place(alloc, &operation, &args, &mut parts);
+    let is_right = told == Some(reply(rt, want)) && are_left(alloc, &[0, 1, 2, 3, 4], &parts, new);
+    assert!(rt; is_right, "{name}: another body in place");
 }
 
 #[test]
