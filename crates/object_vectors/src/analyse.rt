@@ -2,8 +2,8 @@
 
 use crate::certificates::entries_of;
 use crate::texts::{CELL, LOOSE, SOLO, only_object};
-use decl_read::fault::DeclFault;
 use decl_core::object::Object;
+use decl_read::fault::DeclFault;
 use decl_read::read::read_objects;
 use exclude_core::analyse::{Refusal, analyse};
 use exclude_core::certificate::check_certificate;

@@ -3,8 +3,8 @@
 use crate::texts::{BOOK, BUFFER, CELL, LOOSE, SOLO, TWO, only_object};
 use decl_core::expr::{Expr, IntegerExpr};
 use decl_core::object::{Object, Operation, Param};
-use decl_read::read::read_objects;
 use decl_core::stmt::Stmt;
+use decl_read::read::read_objects;
 use line_core::reply::push_number;
 use path_count::counters::{Counters, compile};
 use path_tree::name::Name;

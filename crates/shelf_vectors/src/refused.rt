@@ -6,8 +6,8 @@
 
 use crate::part_calls::{NEW_Q, NEW_T, NEW_V, OLD_Q, OLD_T, OLD_V, THREE};
 use crate::shelf_calls::Bytes;
-use decl_read::fault::DeclFault;
 use decl_core::object::Object;
+use decl_read::fault::DeclFault;
 use decl_read::read::read_objects;
 use shelf_core::hand::{Hand, HandFault, Stamp};
 use shelf_core::mem_shelf::MemShelf;

@@ -15,7 +15,9 @@ const PAIR: (Kind, &[u8]) = (
     Kind::Array(2, Elem::Integer),
     b"\x01\x01\0\x02\0\0\0\x0a\0\0\0\x0b",
 );
+
 const QUEUE: (Kind, &[u8]) = (Kind::Queue(Elem::Text), b"\x01\x04\0\x02\x02it\x01s");
+
 const TABLE: (Kind, &[u8]) = (
     Kind::Table(Elem::Integer),
     b"\x01\x05\0\x02\x01a\0\0\0\x0a\x01b\0\0\0\x0b",
