@@ -83,7 +83,8 @@ impl Outcome {
 
     /// The files that the run sealed before the call failed, in order. They belong to nobody, and are no pins.
     pub fn sealed(&self) -> &[NewPin]
-        ensures { result.now ≡ outcome_files self.now }
+        ensures files { result.now ≡ outcome_files self.now }
+        ensures rising { WritesInOrder (body_of (outcome_call self.now).operation).statements 0 (parts_of result.now) }
     {
         match self.reply {
             Reply::Done(_) => &[],

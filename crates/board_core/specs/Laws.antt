@@ -1,0 +1,39 @@
+-- Laws of boards.
+use Rattle.std.specs.Prelude.{◌≡◌, ◌≢◌, ℕ, List, [], slice_get}
+use Rattle.decl_core.specs.Bodies.{body_of}
+use Rattle.decl_core.specs.Touched.{Reads, Writes, Conflict}
+use Rattle.shelf_core.specs.declared.hand.Stamp.{Stamp}
+use Rattle.shelf_core.specs.Device.{Assignment}
+use Rattle.body_core.specs.declared.new_pins.NewPin.{NewPin}
+use Rattle.body_core.specs.declared.reply.Reply.{Reply}
+use Rattle.body_core.specs.Calls.{Call}
+use Rattle.body_core.specs.Truths.{IsTrueOf}
+use Rattle.board_core.specs.Lists.{Every, Among}
+use Rattle.board_core.specs.Calls.{WaitingCall, RunningCall}
+use Rattle.board_core.specs.Board.{Board, Admits, entry_of}
+use Rattle.board_core.specs.Started.{HasStarted}
+use Rattle.board_core.specs.Outcomes.{IsOf}
+use Rattle.board_core.specs.Chain.{IsTrueEntry}
+use Rattle.board_core.specs.Free.{IsNeeded, Picks}
+use Rattle.board_core.specs.Sound.{IsSound}
+
+-- Two calls that run at once have operations that do not conflict.
+abbrev pub RunningNeverConflict : Type 0
+RunningNeverConflict = (b : Board) → IsSound b → (r s : RunningCall) → Among r b.running → Among s b.running → r.number ≢ s.number → Conflict (body_of r.call.operation).statements (body_of s.call.operation).statements → ⊥
+
+-- The published pin of each part that a running call reads or writes is the one that it took.
+abbrev pub PinsStay : Type 0
+PinsStay = (b : Board) → IsSound b → (r : RunningCall) → Among r b.running → (p : ℕ) →
+    (Reads (body_of r.call.operation).statements p → slice_get b.pins p ≡ slice_get r.pins p) × (Writes (body_of r.call.operation).statements p → slice_get b.pins p ≡ slice_get r.pins p)
+
+-- No file that is picked is needed.
+abbrev pub PickedAreFree : Type 0
+PickedAreFree = (pins stamps all : List Stamp) (running : List RunningCall) → Picks (IsNeeded pins running) [] stamps all → Every (λ s. IsNeeded pins running s.number → ⊥) all
+
+-- An outcome is true only if the entry made of it is.
+abbrev pub TruthIsNoted : Type 0
+TruthIsNoted = (a : Assignment) (call : Call) (r : RunningCall) (reply : Reply) (news : List NewPin) → IsOf call r → IsTrueOf a call reply news → IsTrueEntry a (entry_of r reply news)
+
+-- Admission starts calls that waited, and changes nothing else.
+abbrev pub AdmissionStarts : Type 0
+AdmissionStarts = (b after : Board) → Admits b after → (ones : List WaitingCall) × HasStarted b ones after

@@ -1,0 +1,11 @@
+pub mod Lists
+pub mod Calls
+pub mod ReadPins
+pub mod Rooms
+pub mod Board
+pub mod Started
+pub mod Chain
+pub mod Free
+pub mod Sound
+pub mod Outcomes
+pub mod Laws

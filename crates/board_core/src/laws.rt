@@ -1,0 +1,34 @@
+//! Laws of boards and of entries, over the definitions alone.
+
+ghost use Rattle.board_core.specs.Chain.{ChainedAreLegal};
+ghost use Rattle.board_core.specs.Laws.{RunningNeverConflict, PinsStay, PickedAreFree, TruthIsNoted, AdmissionStarts};
+
+/// Chained entries of which each is true are a legal history, and it leads to what the last pins spell.
+pub fn chained_are_legal()
+    ensures { ChainedAreLegal }
+{}
+
+/// Two calls that run at once have operations that do not conflict.
+pub fn running_never_conflict()
+    ensures { RunningNeverConflict }
+{}
+
+/// The published pin of each part that a running call reads or writes is the one that it took.
+pub fn pins_stay()
+    ensures { PinsStay }
+{}
+
+/// No file that a receipt frees is published, or read by a running call.
+pub fn picked_are_free()
+    ensures { PickedAreFree }
+{}
+
+/// Where an outcome is true, so is the entry that is made of it.
+pub fn truth_is_noted()
+    ensures { TruthIsNoted }
+{}
+
+/// Admission starts calls that waited, and changes nothing else.
+pub fn admission_starts()
+    ensures { AdmissionStarts }
+{}

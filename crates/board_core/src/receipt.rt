@@ -1,0 +1,78 @@
+//! What a finish gives.
+
+ghost use Rattle.std.specs.Prelude.{◌≡◌};
+ghost use Rattle.std.specs.Arc.{arc_value};
+ghost use Rattle.body_core.specs.Outcomes.{outcome_call, outcome_reply, outcome_pins};
+
+use body_core::outcome::{NewPin, Outcome};
+use body_core::reply::Reply;
+use decl_core::object::Operation;
+use shelf_core::hand::Stamp;
+use shelf_core::pins::Pins;
+use std::sync::Arc;
+use value_core::datum::Datum;
+
+/// The entry of a call that finished: its session, and the very outcome that was handed in.
+#[derive(Drop)]
+pub struct NotedOutcome {
+    /// The session that made the call.
+    pub session: u32,
+    /// How it ended.
+    pub outcome: Outcome,
+}
+
+impl NotedOutcome {
+    /// The number of the call.
+    pub fn number(&self) -> u32
+        ensures { result ≡ (outcome_call self.now.outcome).number }
+    {
+        self.outcome.number()
+    }
+
+    /// The operation that was called.
+    pub fn operation(&self) -> &Arc<Operation>
+        ensures { arc_value result.now ≡ (outcome_call self.now.outcome).operation }
+    {
+        self.outcome.operation()
+    }
+
+    /// The arguments, in order.
+    pub fn args(&self) -> &[Datum]
+        ensures { result.now ≡ (outcome_call self.now.outcome).arguments }
+    {
+        self.outcome.args()
+    }
+
+    /// What the call replied.
+    pub fn reply(&self) -> Reply
+        ensures { result ≡ outcome_reply self.now.outcome }
+    {
+        self.outcome.reply()
+    }
+
+    /// The pins that were published at the call's start, one for each part of the object.
+    pub fn pins(&self) -> Pins
+        ensures { result ≡ (outcome_call self.now.outcome).pins }
+    {
+        self.outcome.pins()
+    }
+
+    /// The new pins that were published, for the parts that the call changed, in the order of the parts.
+    pub fn new_pins(&self) -> &[NewPin]
+        ensures { result.now ≡ outcome_pins self.now.outcome }
+    {
+        self.outcome.new_pins()
+    }
+}
+
+/// What a finish gives. It takes no memory.
+#[derive(Drop)]
+pub struct Receipt {
+    /// The place of the entry in the history, from 1.
+    pub place: usize,
+    /// The entry.
+    pub noted: NotedOutcome,
+    /// The files that nobody needs any more, each once, in the order of the parts: those that the outcome
+    /// replaced, or those that its run sealed where the call failed. They may be retired.
+    pub free: Vec<Stamp>,
+}

@@ -1,0 +1,92 @@
+-- Places of entries by the numbers of their calls.
+use Rattle.std.proofs.Common.{◌≡◌, ◌≢◌, ℕ, zero, suc, ◌+◌, ◌-◌, ◌<◌, ◌≤◌, ◌⊎◌, inl, inr, Bool, true, false, not, ◌||◌, ◌==◌, List, [], ◌∷◌, ◌++◌, length, Option, Some, None, refl, sym, ◌∙◌, ap, subst, arith, rules, length-append}
+use Rattle.std.specs.Prelude.{slice_get, slice_set, unwrap_or}
+use Rattle.std.specs.List.{list_any}
+use Rattle.std.proofs.Math.ListN.{length-set}
+use Rattle.std.proofs.lemmas.Bool.{eq-eqb}
+use Rattle.std.proofs.lemmas.Bool.Decides.{eqb_tells}
+use Rattle.board_core.specs.Lists.{Every}
+use Rattle.board_core.specs.Calls.{Noted}
+use Rattle.board_core.proofs.Lists.{Every-map, Every-snoc}
+use Rattle.desk_core.specs.Kept.{IsPlaceOf, ArePlaces}
+
+-- an item of a longer list
+get_more : {X : Type 0} (xs : List X) (y : X) (k : ℕ) (x : X) → slice_get (xs ++ y ∷ []) k ≡ Some x → (slice_get xs k ≡ Some x) ⊎ ((k ≡ length xs) × (y ≡ x))
+get_more [] y zero x is = inr (refl, ap (λ o. unwrap_or o y) is)
+get_more [] y (suc k) x is = absurd cc
+get_more (z ∷ xs) y zero x is = inl is
+get_more (z ∷ xs) y (suc k) x is = elim (get_more xs y k x is) [ inl h ↦ inl h | inr h ↦ inr (omega (arith, h.0), h.1) ]
+
+-- an item of a list in which one was set
+get_set : {X : Type 0} (xs : List X) (j : ℕ) (y : X) (k : ℕ) (x : X) → slice_get (slice_set xs j y) k ≡ Some x → ((k ≡ j) × (y ≡ x)) ⊎ ((k ≢ j) × (slice_get xs k ≡ Some x))
+get_set [] j y k x is = absurd cc
+get_set (z ∷ xs) zero y zero x is = inl (refl, ap (λ o. unwrap_or o y) is)
+get_set (z ∷ xs) zero y (suc k) x is = inr (λ same. absurd (omega (arith, same)), is)
+get_set (z ∷ xs) (suc j) y zero x is = inr (λ same. absurd (omega (arith, same)), is)
+get_set (z ∷ xs) (suc j) y (suc k) x is = elim (get_set xs j y k x is) [ inl h ↦ inl (omega (arith, h.0), h.1) | inr h ↦ inr (λ same. h.0 (omega (arith, same)), h.1) ]
+
+get_front : {X : Type 0} (xs ys : List X) (k : ℕ) (x : X) → slice_get xs k ≡ Some x → slice_get (xs ++ ys) k ≡ Some x
+get_front [] ys k x is = absurd cc
+get_front (y ∷ xs) ys zero x is = is
+get_front (y ∷ xs) ys (suc k) x is = get_front xs ys k x is
+
+get_last : {X : Type 0} (xs : List X) (x : X) → slice_get (xs ++ x ∷ []) (length xs) ≡ Some x
+get_last [] x = refl
+get_last (y ∷ xs) x = get_last xs x
+
+-- without calls there are no places
+pub no_places : (history : List Noted) → ArePlaces history 0 []
+no_places history = record { each = refl; at = λ k place is. absurd cc }
+
+-- a new call has no entry
+pub places_joined : (history : List Noted) (count : ℕ) (places : List ℕ) → ArePlaces history count places → Every (λ e. e.number ≤ count) history → ArePlaces history (count + 1) (places ++ 0 ∷ [])
+places_joined history count places h below = record {
+  each = omega (arith, length-append places (0 ∷ []), h.each);
+  at = λ k place is. elim (get_more places 0 k place is) [
+    | inl there ↦ h.at k place there
+    | inr new ↦ subst (IsPlaceOf history (suc k)) new.1 (Every-map (λ (e : Noted). e.number ≤ count) (λ e. e.number ≢ suc k) (λ e less same. absurd (omega (arith, less, same, new.0, h.each))) history below)
+  ];
+}
+
+place_more : (history : List Noted) (e : Noted) (n place : ℕ) → e.number ≢ n → IsPlaceOf history n place → IsPlaceOf (history ++ e ∷ []) n place
+place_more history e n zero other is = Every-snoc (λ (x : Noted). x.number ≢ n) history e is other
+place_more history e n (suc k) other is = (is.0, get_front history (e ∷ []) k is.0 is.1, is.2)
+
+place_last : (history : List Noted) (e : Noted) (n place : ℕ) → e.number ≡ n → place ≡ length history + 1 → IsPlaceOf (history ++ e ∷ []) n place
+place_last history e n zero same is = absurd (omega (arith, is))
+place_last history e n (suc k) same is = (e, subst (λ i. slice_get (history ++ e ∷ []) i ≡ Some e) (last (omega (arith, is))) (get_last history e), same)
+  where
+    last : length history ≡ k → length history ≡ k
+    last h = h
+
+-- a call that ended has the last entry
+pub places_ended : (history : List Noted) (e : Noted) (count : ℕ) (places : List ℕ) (last : ℕ) → ArePlaces history count places → 0 < e.number → last ≡ length history + 1 → ArePlaces (history ++ e ∷ []) count (slice_set places (e.number - 1) last)
+places_ended history e count places last h above is_last = record {
+  each = length-set places (e.number - 1) last ∙ h.each;
+  at = λ k place is. elim (get_set places (e.number - 1) last k place is) [
+    | inl here ↦ place_last history e (suc k) place (omega (arith, here.0, above)) (sym here.1 ∙ is_last)
+    | inr other ↦ place_more history e (suc k) place (λ same. other.0 (omega (arith, same))) (h.at k place other.1)
+  ];
+}
+
+none_any : (history : List Noted) (n : ℕ) → Every (λ e. e.number ≢ n) history → list_any (λ (e : Noted). e.number == n) history ≡ false
+none_any [] n none = refl
+none_any (e ∷ history) n none = elim (eqb_tells e.number n) [
+  | inl x ↦ absurd (none.0 x.1)
+  | inr x ↦ ap (λ b. b || list_any (λ (y : Noted). y.number == n) history) x.0 ∙ none_any history n none.1
+]
+
+or_true : (b : Bool) → b || true ≡ true
+or_true true = refl
+or_true false = refl
+
+some_any : (history : List Noted) (n k : ℕ) (e : Noted) → slice_get history k ≡ Some e → e.number ≡ n → list_any (λ (x : Noted). x.number == n) history ≡ true
+some_any [] n k e is same = absurd cc
+some_any (x ∷ history) n zero e is same =
+    ap (λ b. b || list_any (λ (y : Noted). y.number == n) history) (eq-eqb x.number n (ap (λ (o : Option Noted). (unwrap_or o e).number) is ∙ same))
+some_any (x ∷ history) n (suc k) e is same = ap (λ b. (x.number == n) || b) (some_any history n k e is same) ∙ or_true (x.number == n)
+
+-- a place tells whether a call has finished
+pub place_tells : (history : List Noted) (n place : ℕ) → IsPlaceOf history n place → list_any (λ (e : Noted). e.number == n) history ≡ not (place == 0)
+place_tells history n zero is = none_any history n is
+place_tells history n (suc k) is = some_any history n k is.0 is.1 is.2

@@ -1,0 +1,33 @@
+use Rattle.std.proofs.Common.{rules, arith, ap, length, subst, sym, map, []}
+use Rattle.decl_core.specs.ObjectMap.{object_of}
+use Rattle.std.specs.Arc.{arc_value}
+use Rattle.path_count.specs.Stands.{StandsFor}
+use Rattle.board_core.specs.Board.{past_of}
+use Rattle.board_core.specs.Sound.{IsSound}
+use Rattle.board_core.proofs.Sound.{sound-opened}
+use Rattle.board_core.specs.Lists.{Every}
+use Rattle.desk_core.specs.Kept.{IsMarkIn, ArePlaces}
+use Rattle.desk_core.proofs.Marks.{events_are}
+use Rattle.desk_core.proofs.Places.{no_places}
+use Rattle.desk_core.proofs.Tables.{opened_is}
+use Rattle.desk_core.proofs.roster.Roster.open.Goals as goal
+
+pub invariant_of-result : goal.invariant_of-result
+invariant_of-result c =
+    let made = opened_is c.args.accepted c.args.pins (ap (map (λ x. arc_value x)) c.new.ensures.items) (events_are c.new-4.ensures.items c.new-3.ensures.items) c.new-4.ensures.items c.new-5.ensures.items c.new-6.ensures.items (search rules) in
+    let stands : StandsFor c.in_ok-counters.counters (length c.args.accepted.operations.items) (object_of c.args.accepted).paths [] = subst (λ o. StandsFor c.in_ok-counters.counters (length o.operations.items) (object_of o).paths []) c.object.ensures.same c.in_ok-counters.ensures in
+    let t = ap length c.new-3.ensures.items in
+    let h = ap length c.new-4.ensures.items in
+    let w = ap length c.new-5.ensures.items in
+    let r = ap length c.new-6.ensures.items in
+    record {
+      marks = subst (Every (IsMarkIn _)) (sym c.new-3.ensures.items) tt;
+      places = subst (λ ps. ArePlaces _ _ ps) (sym c.new-2.ensures.items) (subst (λ cs. ArePlaces _ (length cs) []) (sym c.new.ensures.items) (no_places _));
+      sound = subst IsSound (sym made) (sound-opened c.args.accepted c.args.pins c.object.ensures.exclusive c.requires stands.satisfied);
+      stands = subst (StandsFor c.in_ok-counters.counters (length c.args.accepted.operations.items) (object_of c.args.accepted).paths) (sym (ap past_of made)) stands;
+      room = record { marks = omega (arith, t, w, r); history = omega (arith, h, w, r); running = omega (arith, w, r) };
+    }
+
+pub returns : goal.returns
+returns c =
+    opened_is c.args.accepted c.args.pins (ap (map (λ x. arc_value x)) c.new.ensures.items) (events_are c.new-4.ensures.items c.new-3.ensures.items) c.new-4.ensures.items c.new-5.ensures.items c.new-6.ensures.items (search rules)

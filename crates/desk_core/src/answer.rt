@@ -1,0 +1,60 @@
+//! What a desk answers.
+
+use body_core::outcome::Outcome;
+use body_core::ticket::Ticket;
+use thiserror::Error;
+
+/// Why a call is refused. The first that applies is told.
+#[derive(Clone, Copy, Debug, PartialEq, Eq, Error)]
+pub enum SubmitFault {
+    /// The session has left, or has no number from 1 to 1,024.
+    #[error("Gone")]
+    Gone,
+    /// No operation of the object has this name.
+    #[error("UnknownOp")]
+    UnknownOp,
+    /// The arguments do not fit the operation.
+    #[error("BadArgs")]
+    BadArgs,
+    /// A call of the session waits or runs.
+    #[error("SessionBusy")]
+    SessionBusy,
+    /// 256 calls wait or run.
+    #[error("Full")]
+    Full,
+    /// 65,536 numbers were given out.
+    #[error("HistoryFull")]
+    HistoryFull,
+    /// Memory was refused.
+    #[error("Memory")]
+    Memory,
+}
+
+/// What became of a cancel.
+#[derive(Clone, Copy, Debug, PartialEq, Eq)]
+pub enum Cancelled {
+    /// The call waited, and is cancelled.
+    Cancelled,
+    /// The call runs, and goes on.
+    Running,
+    /// The call has finished, or was cancelled before.
+    Ended,
+    /// There is no such call.
+    Unknown,
+}
+
+/// An outcome of no call that runs here, handed back.
+#[derive(Drop)]
+pub struct Stranger(pub Outcome);
+
+/// What a call's submitter finds.
+pub enum Collected {
+    /// The call runs, and this is its ticket. It is given once.
+    Ticket(Ticket),
+    /// The call waits.
+    Waiting,
+    /// The call was cancelled.
+    Cancelled,
+    /// There is no such call, its ticket was taken, or it has finished.
+    Unknown,
+}

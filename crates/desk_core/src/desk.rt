@@ -1,0 +1,252 @@
+//! A desk: its tables, in which no waiting call may start.
+
+ghost use Rattle.std.specs.Prelude.{◌≡◌, ℕ, ◌+◌, ◌<◌, ◌≤◌, ◌⊎◌, ◌↔◌, length, IfOk, IfErr, OnOk, IfSome, IfNone, IsTrue, Some, None, slice_get};
+ghost use Rattle.body_core.specs.Outcomes.{outcome_call};
+ghost use Rattle.board_core.specs.Lists.{Every};
+ghost use Rattle.board_core.specs.Calls.{AcceptedCall};
+ghost use Rattle.board_core.specs.Board.{opened, joined, released, marked, call_at, Rests};
+ghost use Rattle.board_core.specs.Started.{Settles};
+ghost use Rattle.board_core.specs.Sound.{IsSound};
+ghost use Rattle.board_core.specs.Outcomes.{IsOf};
+ghost use Rattle.desk_core.specs.Answers.{IsTaken, IsRefused, Cancels, Collects, Finishes, waits_in, runs_in};
+
+use crate::answer::{Cancelled, Collected, Stranger, SubmitFault};
+use crate::roster::{Ended, MOST_SESSIONS, Roster};
+use board_core::call::Call;
+use board_core::entry::Entry;
+use board_core::event::TraceEvent;
+use board_core::receipt::{NotedOutcome, Receipt};
+use body_core::outcome::Outcome;
+use exclude_core::analyse::Accepted;
+use shelf_core::pins::Pins;
+use std::alloc::{AllocError, Global};
+use std::marker::Model;
+use value_core::datum::Datum;
+
+/// The calls of an object: those that wait, those that run, and the history of those that finished.
+///
+/// A contract sees it as a `Board`. No waiting call may start between the calls of a desk.
+#[derive(Drop)]
+pub struct Desk {
+    roster: Roster,
+}
+
+impl Model for Desk {
+    ghost use Rattle.board_core.specs.Board.{Board, Rests};
+    ghost use Rattle.decl_core.specs.contracts.object.Object as o;
+    ghost use Rattle.decl_core.specs.contracts.object.Operation as e;
+    ghost use Rattle.std.specs.Coded.{codes};
+
+    ghost Value = { Board };
+
+    ghost coded = { Prim.hlevel (codes, o.the_row.coded, e.the_row.coded) };
+
+    ghost view = { λ d. d.roster };
+
+    ghost invariant = { λ d. Rests d.roster };
+}
+
+impl Desk {
+    /// The desk of an object whose parts stand under these pins, one for each part, without calls. The error is
+    /// that memory was refused.
+    pub fn open(alloc: Global, accepted: Accepted, pins: Pins) -> Result<Desk, AllocError>
+        requires { length pins ≡ length accepted.parts.items }
+        ensures { IfOk result (λ d. d ≡ opened accepted pins) }
+    {
+        let roster = Roster::open(alloc, accepted, pins)?;
+        Ok(Desk { roster })
+    }
+
+    /// Takes a call of a session, of the operation of this name, in any case: it gets the next number, from 1,
+    /// waits, and starts as soon as every path admits it.
+    ///
+    /// The errors, of which the first that applies is told, are those of [`SubmitFault`]; a refused submission
+    /// takes no number and changes nothing. All the memory that the call will need is taken here.
+    pub fn submit(&mut self, session: u32, op: &str, args: &[Datum]) -> Result<u32, SubmitFault>
+        ensures number { IfOk result (λ n. n ≡ length self.old.calls + 1) }
+        ensures board { OnOk result ((call : AcceptedCall) × IsTaken self.old (record { session = session; name = op.now; arguments = args.now }) call × Settles (joined self.old call) self.new) }
+        ensures refused { IfErr result (λ f. IsRefused self.old (record { session = session; name = op.now; arguments = args.now }) f × (self.new ≡ self.old)) }
+        ensures history { self.new.history ≡ self.old.history }
+        ensures pins { self.new.pins ≡ self.old.pins }
+    {
+        let place = match self.roster.asked(session, op.as_bytes(), args) {
+            Ok(place) => place,
+            Err(fault) => return Err(fault),
+        };
+        match self.roster.join(session, place, args) {
+            Ok(number) => {
+                self.roster.admit();
+                Ok(number)
+            }
+            Err(AllocError) => Err(SubmitFault::Memory),
+        }
+    }
+
+    /// The refusal that a submission of this would meet, want of memory aside.
+    pub fn refusal(&self, session: u32, op: &str, args: &[Datum]) -> Option<SubmitFault>
+        ensures some { IfSome result (λ f. IsRefused self.now (record { session = session; name = op.now; arguments = args.now }) f) }
+        ensures none { IfNone result ((call : AcceptedCall) × IsTaken self.now (record { session = session; name = op.now; arguments = args.now }) call) }
+    {
+        match self.roster.asked(session, op.as_bytes(), args) {
+            Ok(_) => None,
+            Err(fault) => Some(fault),
+        }
+    }
+
+    /// What became of a call: its ticket, once, with the pins that were published at its start.
+    pub fn collect(&mut self, number: u32) -> Collected
+        ensures board { Collects self.old number result self.new }
+        ensures history { self.new.history ≡ self.old.history }
+        ensures pins { self.new.pins ≡ self.old.pins }
+    {
+        if let Some(place) = self.roster.place_of_left(number) {
+            match self.roster.collect(place) {
+                Some(ticket) => return Collected::Ticket(ticket),
+                None => unreachable!(),
+            }
+        }
+        if self.roster.waits(number) {
+            return Collected::Waiting;
+        }
+        if self.roster.runs(number) {
+            return Collected::Unknown;
+        }
+        if self.roster.is_ended(number) {
+            return Collected::Unknown;
+        }
+        match self.roster.call(number) {
+            Some(_) => return Collected::Cancelled,
+            None => return Collected::Unknown,
+        }
+    }
+
+    /// Takes the outcome of a call that runs here: it has finished, what it staged is published if it was done,
+    /// and its entry is the history's last. The error hands back each other outcome, and nothing is changed.
+    ///
+    /// A running call is the outcome's if its number, its operation, by its whole declaration, its arguments
+    /// and its pins are.
+    pub fn finish(&mut self, outcome: Outcome) -> Result<Receipt, Stranger>
+        ensures board { IfOk result (λ receipt. Finishes self.old outcome receipt self.new) }
+        ensures stranger { IfErr result (λ s. (s.0 ≡ outcome) × (self.new ≡ self.old) × Every (λ r. IsOf (outcome_call outcome) r → ⊥) self.old.running) }
+    {
+        let Some(place) = self.roster.place_of_call(&outcome) else {
+            return Err(Stranger(outcome));
+        };
+        let reply = outcome.reply();
+        let ended = self.roster.end(place, &reply, outcome.new_pins(), outcome.sealed());
+        self.roster.admit();
+        let place = self.roster.history().len();
+        let Ended { session, free } = ended;
+        let noted = NotedOutcome { session, outcome };
+        Ok(Receipt { place, noted, free })
+    }
+
+    /// Takes a waiting call out. A running call goes on.
+    pub fn cancel(&mut self, number: u32) -> Cancelled
+        ensures board { Cancels self.old number result self.new }
+        ensures history { self.new.history ≡ self.old.history }
+        ensures pins { self.new.pins ≡ self.old.pins }
+    {
+        if self.roster.waits(number) {
+            self.roster.dismiss(number);
+            self.roster.admit();
+            return Cancelled::Cancelled;
+        }
+        if self.roster.runs(number) {
+            return Cancelled::Running;
+        }
+        match self.roster.call(number) {
+            Some(_) => return Cancelled::Ended,
+            None => return Cancelled::Unknown,
+        }
+    }
+
+    /// A session leaves: its waiting call is cancelled, its running call goes on, and its later submissions are
+    /// refused as Gone. What has no number from 1 to 1,024 is no session.
+    pub fn disconnect(&mut self, session: u32)
+        ensures left { 0 < session → session ≤ 1024 → Settles (marked (released self.old session) session) self.new }
+        ensures none { (session ≡ 0) ⊎ (1024 < session) → self.new ≡ self.old }
+        ensures history { self.new.history ≡ self.old.history }
+        ensures pins { self.new.pins ≡ self.old.pins }
+    {
+        if session == 0 || session as usize > MOST_SESSIONS {
+            return;
+        }
+        self.roster.release(session);
+        self.roster.mark(session);
+        self.roster.admit();
+    }
+
+    /// Whether the call of this number waits.
+    pub fn waits(&self, number: u32) -> bool
+        ensures { result ≡ waits_in self.now number }
+    {
+        self.roster.waits(number)
+    }
+
+    /// Whether the call of this number runs.
+    pub fn runs(&self, number: u32) -> bool
+        ensures { result ≡ runs_in self.now number }
+    {
+        self.roster.runs(number)
+    }
+
+    /// Whether no call waits or runs.
+    pub fn is_idle(&self) -> bool
+        ensures { IsTrue result ↔ (length self.now.waiting + length self.now.running ≡ 0) }
+    {
+        self.roster.open_calls() == 0
+    }
+
+    /// The object.
+    pub fn accepted(&self) -> &Accepted
+        ensures { result.now ≡ self.now.object }
+    {
+        self.roster.accepted()
+    }
+
+    /// How many events happened: starts and ends of calls.
+    pub fn trace_len(&self) -> usize
+        ensures { result ≡ length self.now.trace }
+    {
+        self.roster.trace_len()
+    }
+
+    /// What happened at this place of the trace, from 0, or `None` behind its end.
+    pub fn event(&self, place: usize) -> Option<TraceEvent>
+        ensures { result ≡ slice_get self.now.trace place }
+    {
+        self.roster.event(place)
+    }
+
+    /// The calls that have finished, in order.
+    pub fn history(&self) -> &[Entry]
+        ensures history { result.now ≡ self.now.history }
+        ensures sound { IsSound self.now }
+        ensures rests { Rests self.now }
+    {
+        self.roster.history()
+    }
+
+    /// The published pins.
+    pub fn pins(&self) -> Pins
+        ensures { result ≡ self.now.pins }
+    {
+        self.roster.pins()
+    }
+
+    /// The pins of the beginning.
+    pub fn opening_pins(&self) -> Pins
+        ensures { result ≡ self.now.opening }
+    {
+        self.roster.opening_pins()
+    }
+
+    /// The accepted call of this number, also where it was cancelled or has finished.
+    pub fn call(&self, number: u32) -> Option<&Call>
+        ensures some { IfSome result (λ x. call_at self.now.calls number ≡ Some x.now) }
+        ensures none { IfNone result (call_at self.now.calls number ≡ None) }
+    {
+        self.roster.call(number)
+    }
+}

@@ -1,0 +1,139 @@
+//! What is looked up of a desk.
+
+ghost use Rattle.std.specs.Prelude.{◌≡◌, ◌≢◌, ◌↔◌, ℕ, ◌+◌, ◌<◌, IsTrue, IfSome, IfNone, Some, false, slice_get, take, length, ◌==◌};
+ghost use Rattle.std.specs.List.{list_any};
+ghost use Rattle.decl_core.specs.declared.object.Operation.{Operation as AnOperation};
+ghost use Rattle.decl_core.specs.ObjectMap.{operation_of};
+ghost use Rattle.body_core.specs.Outcomes.{outcome_call};
+ghost use Rattle.board_core.specs.Lists.{Every, Among};
+ghost use Rattle.board_core.specs.Calls.{WaitingCall, RunningCall};
+ghost use Rattle.board_core.specs.Board.{bodies};
+ghost use Rattle.board_core.specs.Outcomes.{IsOf};
+ghost use Rattle.desk_core.specs.Answers.{HasName, IsNamedAt};
+
+use crate::open_call::{Running, Waiting};
+use body_core::outcome::Outcome;
+use decl_core::object::{Object, Operation};
+use decl_core::same::same_declaration;
+use shelf_core::hand::Stamp;
+use value_core::datum::Datum;
+
+// Whether an operation has this name.
+fn has_name(operation: &Operation, name: &[u8]) -> bool
+    ensures { IsTrue result ↔ HasName name.now operation.now }
+{
+    operation.name.is_spelled_by(name)
+}
+
+// The place of the first operation of this name.
+pub(crate) fn place_of(object: &Object, name: &[u8]) -> Option<usize>
+    ensures some { IfSome result (λ k. (operation : AnOperation) × IsNamedAt object.now k operation name.now) }
+    ensures none { IfNone result (Every (λ x. HasName name.now x → ⊥) (bodies object.now)) }
+{
+    for place in 0..object.operations.len() {
+        if has_name(&object.operations[place], name) {
+            return Some(place);
+        }
+    }
+    None
+}
+
+// Whether a call of this session waits.
+pub(crate) fn waits_for(waiting: &[Waiting], session: u32) -> bool
+    ensures { result ≡ list_any (λ w. w.call.session == session) waiting.now }
+{
+    waiting.iter().any(|w| w.session() == session)
+}
+
+// Whether a call of this session runs.
+pub(crate) fn runs_for(running: &[Running], session: u32) -> bool
+    ensures { result ≡ list_any (λ r. r.call.session == session) running.now }
+{
+    running.iter().any(|r| r.call().session() == session)
+}
+
+// Whether a call of this number waits.
+pub(crate) fn waits(waiting: &[Waiting], number: u32) -> bool
+    ensures { result ≡ list_any (λ w. w.number == number) waiting.now }
+{
+    waiting.iter().any(|w| w.number() == number)
+}
+
+// Whether a call of this number runs.
+pub(crate) fn runs(running: &[Running], number: u32) -> bool
+    ensures { result ≡ list_any (λ r. r.number == number) running.now }
+{
+    running.iter().any(|r| r.number() == number)
+}
+
+// Whether the data are the same.
+fn same_args(a: &[Datum], b: &[Datum]) -> bool
+    ensures { IsTrue result ↔ (a.now ≡ b.now) }
+{
+    match (a, b) {
+        ([], []) => true,
+        ([x, xs @ ..], [y, ys @ ..]) => x.is_same(y) && same_args(xs, ys),
+        _ => false,
+    }
+}
+
+// Whether two stamps are the same.
+fn same_stamp(a: &Stamp, b: &Stamp) -> bool
+    ensures { IsTrue result ↔ (a.now ≡ b.now) }
+{
+    *a == *b
+}
+
+// Whether the stamps are the same.
+fn same_stamps(a: &[Stamp], b: &[Stamp]) -> bool
+    ensures { IsTrue result ↔ (a.now ≡ b.now) }
+{
+    match (a, b) {
+        ([], []) => true,
+        ([x, xs @ ..], [y, ys @ ..]) => same_stamp(x, y) && same_stamps(xs, ys),
+        _ => false,
+    }
+}
+
+// Whether an outcome comes from this running call.
+fn is_of(outcome: &Outcome, running: &Running) -> bool
+    ensures { IsTrue result ↔ IsOf (outcome_call outcome.now) running.now }
+{
+    running.number() == outcome.number()
+        && same_declaration(running.call().operation(), outcome.operation())
+        && same_args(running.call().args(), outcome.args())
+        && same_stamps(running.pins().as_slice(), outcome.pins().as_slice())
+}
+
+// The place of the running call from which an outcome comes.
+pub(crate) fn place_of_call(running: &[Running], outcome: &Outcome) -> Option<usize>
+    ensures some { IfSome result (λ k. (r : RunningCall) × (slice_get running.now k ≡ Some r) × IsOf (outcome_call outcome.now) r) }
+    ensures none { IfNone result (Every (λ r. IsOf (outcome_call outcome.now) r → ⊥) running.now) }
+{
+    for place in 0..running.len() {
+        if is_of(outcome, &running[place]) {
+            return Some(place);
+        }
+    }
+    None
+}
+
+// Whether a running call is of this number, and its ticket was not taken.
+fn is_left(running: &Running, number: u32) -> bool
+    ensures { IsTrue result ↔ ((running.now.number ≡ number) × (running.now.taken ≡ false)) }
+{
+    running.number() == number && !running.is_taken()
+}
+
+// The place of the running call of this number whose ticket was not taken.
+pub(crate) fn place_of_left(running: &[Running], number: u32) -> Option<usize>
+    ensures some { IfSome result (λ k. (r : RunningCall) × (slice_get running.now k ≡ Some r) × (r.number ≡ number) × (r.taken ≡ false)) }
+    ensures none { IfNone result (Every (λ r. (r.number ≡ number) × (r.taken ≡ false) → ⊥) running.now) }
+{
+    for place in 0..running.len() {
+        if is_left(&running[place], number) {
+            return Some(place);
+        }
+    }
+    None
+}

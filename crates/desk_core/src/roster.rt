@@ -1,0 +1,581 @@
+//! The tables of a desk.
+
+ghost use Rattle.std.specs.Prelude.{◌≡◌, ℕ, ◌+◌, ◌*◌, ◌<◌, ◌≤◌, [], ◌∷◌, ◌++◌, List, length, IfOk, IfErr, OnOk, OnErr, IfSome, IfNone, Some, None, true, false, IsTrue, ◌↔◌, slice_get, slice_set, map, take, drop, filter, not, ◌==◌, vec_capacity};
+ghost use Rattle.std.specs.Arc.{arc_value};
+ghost use Rattle.path_tree.specs.Path.{Path};
+ghost use Rattle.path_tree.specs.Trace.{Event};
+ghost use Rattle.path_count.specs.Stands.{StandsFor};
+ghost use Rattle.decl_core.specs.declared.object.Operation.{Operation};
+ghost use Rattle.decl_core.specs.ObjectMap.{object_of};
+ghost use Rattle.body_core.specs.Calls.{ArgumentsFit, HasPins, call_of};
+ghost use Rattle.body_core.specs.Tickets.{ticket_call};
+ghost use Rattle.board_core.specs.Lists.{Every};
+ghost use Rattle.board_core.specs.Calls.{AcceptedCall, WaitingCall, RunningCall, noted_of};
+ghost use Rattle.decl_core.specs.Bodies.{body_of};
+ghost use Rattle.decl_core.specs.Touched.{Writes};
+ghost use Rattle.body_core.specs.Outcomes.{new_if_done, left_if_failed};
+ghost use Rattle.body_core.specs.Phases.{HasPart};
+ghost use Rattle.board_core.specs.Board.{Board, bodies, call_at, opened, joined, dismissed, released, taken_at, marked, started, ended, entry_of, published as with_new, IsNext, Rests, Admits};
+ghost use Rattle.body_core.specs.Outcomes.{outcome_call};
+ghost use Rattle.desk_core.specs.Answers.{IsGone, is_busy, waits_in, runs_in, ended_in, IsLeft, NoneIsLeft, IsTaken, IsRefused};
+ghost use Rattle.board_core.specs.Free.{IsNeeded, Picks, left_behind};
+ghost use Rattle.desk_core.specs.Kept.{IsFirst, CanStart, OpCanStart, AreRefused, IsMarkIn, event_of as told_by};
+ghost use Rattle.board_core.specs.Outcomes.{IsOf};
+ghost use Rattle.board_core.specs.ReadPins.{read_pins};
+ghost use Rattle.board_core.specs.declared.event.TraceEvent.TheVariants.{End};
+ghost use Rattle.body_core.specs.Written.{WritesInOrder, parts_of};
+ghost use Rattle.body_core.specs.declared.new_pins.NewPin.{NewPin as ANewPin};
+ghost use Rattle.board_core.specs.Sound.{IsSound};
+
+use crate::answer::SubmitFault;
+use crate::find::{place_of, place_of_call, place_of_left, runs, runs_for, waits, waits_for};
+use crate::free::freed;
+use crate::marks::{Mark, note, note_end, note_start};
+use crate::open_call::{Left, Running, Waiting};
+use board_core::call::Call;
+use board_core::entry::Entry;
+use board_core::event::TraceEvent;
+use body_core::fits::arguments_fit;
+use body_core::outcome::{NewPin, Outcome};
+use body_core::reply::Reply;
+use body_core::ticket::Ticket;
+use decl_core::object::Object;
+use exclude_core::analyse::Accepted;
+use path_count::counters::{Counters, compile};
+use path_tree::node::OpId;
+use shelf_core::hand::Stamp;
+use shelf_core::pins::Pins;
+use std::alloc::{AllocError, Global};
+use std::marker::Model;
+use std::sync::Arc;
+use value_core::datum::Datum;
+
+/// Sessions have the numbers from 1 to this one.
+pub(crate) const MOST_SESSIONS: usize = 1024;
+
+/// The most calls that wait and run.
+const MOST_OPEN: usize = 256;
+
+/// The most numbers of calls.
+const MOST_CALLS: usize = 65_536;
+
+/// The most operations of an object.
+const MOST_OPERATIONS: usize = 32;
+
+// The tables of a desk. Between its calls a waiting call may start.
+#[derive(Drop)]
+pub(crate) struct Roster {
+    alloc: Global,
+    accepted: Accepted,
+    counters: Counters,
+    calls: Vec<Arc<Call>>,
+    places: Vec<usize>,
+    marks: Vec<Mark>,
+    history: Vec<Entry>,
+    waiting: Vec<Waiting>,
+    running: Vec<Running>,
+    left: Vec<bool>,
+    opening: Pins,
+    pins: Pins,
+}
+
+impl Model for Roster {
+    ghost use Rattle.board_core.specs.Board.{Board};
+    ghost use Rattle.decl_core.specs.contracts.object.Object as o;
+    ghost use Rattle.decl_core.specs.contracts.object.Operation as e;
+    ghost use Rattle.std.specs.Coded.{codes};
+
+    ghost Value = { Board };
+
+    ghost coded = { Prim.hlevel (codes, o.the_row.coded, e.the_row.coded) };
+
+    ghost use Rattle.desk_core.specs.Kept.{board_of, IsKept};
+
+    ghost view = { board_of };
+
+    ghost invariant = { IsKept };
+}
+
+// What is handed out of a call that has ended: its session, and the files that nobody needs any more.
+#[derive(Drop)]
+pub(crate) struct Ended {
+    pub(crate) session: u32,
+    pub(crate) free: Vec<Stamp>,
+}
+
+// Whether a call of this operation can start. An operation that was refused is not asked again.
+fn asks(counters: &Counters, refused: &mut [bool], op: OpId) -> bool
+    ensures answer { (n : ℕ) (paths : List Path) (t : List Event) → StandsFor counters.now n paths t → AreRefused n paths t refused.old → (IsTrue result ↔ OpCanStart n paths t op) }
+    ensures refused { (n : ℕ) (paths : List Path) (t : List Event) → StandsFor counters.now n paths t → AreRefused n paths t refused.old → AreRefused n paths t refused.new }
+{
+    let place = op as usize;
+    if place >= refused.len() {
+        return counters.can_start(op);
+    }
+    if refused[place] {
+        return false;
+    }
+    let can = counters.can_start(op);
+    refused[place] = !can;
+    can
+}
+
+// The place of the first waiting call that can start.
+fn first_to_start(counters: &Counters, waiting: &[Waiting]) -> Option<usize>
+    ensures some { (n : ℕ) (paths : List Path) (t : List Event) → StandsFor counters.now n paths t → IfSome result (IsFirst n paths t waiting.now) }
+    ensures none { (n : ℕ) (paths : List Path) (t : List Event) → StandsFor counters.now n paths t → IfNone result (Every (λ w. CanStart n paths t w → ⊥) waiting.now) }
+{
+    let mut refused = [false; MOST_OPERATIONS];
+    for place in 0..waiting.len() {
+        if asks(counters, &mut refused, waiting[place].op()) {
+            return Some(place);
+        }
+    }
+    None
+}
+
+// Whether arguments fit the operation at this place.
+fn fits(object: &Object, place: usize, args: &[Datum]) -> bool
+    requires { place < length object.now.operations.items }
+    ensures { (operation : Operation) → slice_get (bodies object.now) place ≡ Some operation → (IsTrue result ↔ ArgumentsFit operation args.now) }
+{
+    arguments_fit(&object.operations[place], args)
+}
+
+// The counters of an object, before any call.
+fn counters_of(alloc: Global, object: &Object) -> Result<Counters, AllocError>
+    ensures { IfOk result (λ c. StandsFor c (length object.now.operations.items) (object_of object.now).paths []) }
+{
+    compile(alloc, &object.paths, object.operations.len() as OpId)
+}
+
+// The number and the operation of the call at this place.
+fn asked_at(waiting: &[Waiting], place: usize) -> (u32, OpId)
+    requires { place < length waiting.now }
+    ensures { (w : WaitingCall) → slice_get waiting.now place ≡ Some w → (result.0 ≡ w.number) × (result.1 ≡ w.call.op) }
+{
+    let asked = &waiting[place];
+    (asked.number(), asked.op())
+}
+
+// Moves the call at this place to those that run.
+fn start_at(waiting: &mut Vec<Waiting>, running: &mut Vec<Running>, place: usize, pins: Pins)
+    requires there { place < length waiting.old.items }
+    requires room { length running.old.items < vec_capacity running.old }
+    ensures waiting { waiting.new.items ≡ take place waiting.old.items ++ drop (place + 1) waiting.old.items }
+    ensures running { (w : WaitingCall) → slice_get waiting.old.items place ≡ Some w → running.new.items ≡ running.old.items ++ (record { number = w.number; call = w.call; pins = pins; taken = false }) ∷ [] }
+    ensures waiting_room { vec_capacity waiting.new ≡ vec_capacity waiting.old }
+    ensures running_room { vec_capacity running.new ≡ vec_capacity running.old }
+{
+    let asked = waiting.remove(place);
+    running.push_reserved(asked.start(pins));
+}
+
+// A waiting call of the operation at this place of an object.
+fn asked_of(
+    alloc: Global,
+    object: &Object,
+    number: u32,
+    session: u32,
+    place: usize,
+    args: &[Datum],
+) -> Result<Waiting, AllocError>
+    requires place { place < length object.now.operations.items }
+    requires fits { (operation : Operation) → slice_get (bodies object.now) place ≡ Some operation → ArgumentsFit operation args.now }
+    ensures { IfOk result (λ w. (operation : Operation) → slice_get (bodies object.now) place ≡ Some operation → w ≡ record { number = number; call = record { session = session; op = place; operation = operation; arguments = args.now } }) }
+{
+    let operation = &object.operations[place];
+    Waiting::new(alloc, number, session, place as OpId, operation, args)
+}
+
+// Takes out the waiting call of this number.
+fn leave(waiting: &mut Vec<Waiting>, number: u32)
+    ensures items { waiting.new.items ≡ filter (λ w. not (w.number == number)) waiting.old.items }
+    ensures room { vec_capacity waiting.new ≡ vec_capacity waiting.old }
+{
+    waiting.retain(|w| w.number() != number);
+}
+
+// Takes out the waiting calls of this session.
+fn leave_of(waiting: &mut Vec<Waiting>, session: u32)
+    ensures items { waiting.new.items ≡ filter (λ w. not (w.call.session == session)) waiting.old.items }
+    ensures room { vec_capacity waiting.new ≡ vec_capacity waiting.old }
+{
+    waiting.retain(|w| w.session() != session);
+}
+
+// The ticket of the running call at this place.
+fn ticket_at(running: &mut Vec<Running>, place: usize) -> Option<Ticket>
+    requires place { place < length running.old.items }
+    requires pins { (r : RunningCall) → slice_get running.old.items place ≡ Some r → HasPins r.call.operation r.pins }
+    ensures some { IfSome result (λ t. (r : RunningCall) → slice_get running.old.items place ≡ Some r → (r.taken ≡ false) × (ticket_call t ≡ call_of r.number r.call.operation r.call.arguments r.pins)) }
+    ensures none { IfNone result ((r : RunningCall) → slice_get running.old.items place ≡ Some r → r.taken ≡ true) }
+    ensures items { (r : RunningCall) → slice_get running.old.items place ≡ Some r → running.new.items ≡ slice_set running.old.items place (record r { taken = true }) }
+    ensures room { vec_capacity running.new ≡ vec_capacity running.old }
+{
+    running[place].ticket()
+}
+
+// The pins with new ones in place of those of their parts.
+fn published(pins: &Pins, news: &[NewPin]) -> Pins
+    requires { (p : ℕ) → HasPart news.now p → p < length pins.now }
+    ensures { result ≡ with_new pins.now news.now }
+{
+    match news.split_first() {
+        None => *pins,
+        Some((new, rest)) => published(pins, rest).with(new.part, new.stamp),
+    }
+}
+
+// The number, the session and the operation of the running call at this place.
+fn running_at(running: &[Running], place: usize) -> (u32, u32, OpId)
+    requires { place < length running.now }
+    ensures { (r : RunningCall) → slice_get running.now place ≡ Some r → (result.0 ≡ r.number) × (result.1 ≡ r.call.session) × (result.2 ≡ r.call.op) }
+{
+    let asked = &running[place];
+    (asked.number(), asked.call().session(), asked.call().op())
+}
+
+// Takes out the running call at this place, which has ended.
+fn end_at(running: &mut Vec<Running>, place: usize, reply: &Reply, news: &[NewPin]) -> Left
+    requires place { place < length running.old.items }
+    requires call { (r : RunningCall) → slice_get running.old.items place ≡ Some r → (length r.pins ≤ 16) × WritesInOrder (body_of r.call.operation).statements 0 (parts_of news.now) }
+    ensures running { running.new.items ≡ take place running.old.items ++ drop (place + 1) running.old.items }
+    ensures room { vec_capacity running.new ≡ vec_capacity running.old }
+    ensures kept { (r : RunningCall) → slice_get running.old.items place ≡ Some r → result.kept ≡ noted_of r.number r.call reply.now (read_pins r.call.operation r.pins) news.now }
+    ensures free { (result.free.items ≡ []) × (16 ≤ vec_capacity result.free) }
+{
+    let asked = running.remove(place);
+    asked.end(reply, news)
+}
+
+// The event of an entry that ended.
+fn end_event(entry: &Entry) -> TraceEvent
+    ensures { result ≡ End entry.now.number entry.now.reply }
+{
+    TraceEvent::End(entry.number(), entry.reply())
+}
+
+// What a mark tells.
+fn event_of(history: &[Entry], mark: Mark) -> TraceEvent
+    requires { IsMarkIn (length history.now) mark }
+    ensures { result ≡ told_by history.now mark }
+{
+    match mark {
+        Mark::Start(number) => TraceEvent::Start(number),
+        Mark::End(place) => end_event(&history[place]),
+    }
+}
+
+impl Roster {
+    pub(crate) fn open(alloc: Global, accepted: Accepted, pins: Pins) -> Result<Roster, AllocError>
+        requires each { length pins ≡ length accepted.parts.items }
+        ensures { IfOk result (λ r. r ≡ opened accepted pins) }
+    {
+        let counters = counters_of(alloc, accepted.object())?;
+        let left = vec![in alloc; false; MOST_SESSIONS]?;
+        Ok(Roster {
+            alloc,
+            accepted,
+            counters,
+            calls: Vec::new(alloc),
+            places: Vec::new(alloc),
+            marks: Vec::new(alloc),
+            history: Vec::new(alloc),
+            waiting: Vec::new(alloc),
+            running: Vec::new(alloc),
+            left,
+            opening: pins,
+            pins,
+        })
+    }
+
+    // The place of the waiting call that is next to start.
+    fn next_start(&self) -> Option<usize>
+        ensures some { IfSome result (λ k. (w : WaitingCall) × (slice_get self.now.waiting k ≡ Some w) × IsNext self.now w) }
+        ensures none { IfNone result (Rests self.now) }
+    {
+        first_to_start(&self.counters, &self.waiting)
+    }
+
+    // Starts the call at this place, which is next.
+    fn begin(&mut self, place: usize)
+        requires { (w : WaitingCall) × (slice_get self.old.waiting place ≡ Some w) × IsNext self.old w }
+        ensures { (w : WaitingCall) → slice_get self.old.waiting place ≡ Some w → self.new ≡ started self.old w }
+    {
+        let (number, op) = asked_at(&self.waiting, place);
+        self.counters.start(op);
+        note_start(&mut self.marks, number);
+        let pins = self.pins;
+        start_at(&mut self.waiting, &mut self.running, place, pins);
+    }
+
+    // Starts calls as long as one may start.
+    pub(crate) fn admit(&mut self)
+        ensures { Admits self.old self.new }
+    {
+        let turns = self.waiting.len();
+        for turn in 0..turns {
+            match self.next_start() {
+                None => return,
+                Some(place) => self.begin(place),
+            }
+        }
+    }
+
+    // Adds a waiting call of the operation at this place, with the next number.
+    pub(crate) fn join(
+        &mut self,
+        session: u32,
+        place: usize,
+        args: &[Datum],
+    ) -> Result<u32, AllocError>
+        requires place { place < length self.old.object.operations.items }
+        requires fits { (operation : Operation) → slice_get (bodies self.old.object) place ≡ Some operation → ArgumentsFit operation args.now }
+        requires few { length self.old.calls < 65536 }
+        requires open_few { length self.old.waiting + length self.old.running < 256 }
+        requires free { is_busy self.old session ≡ false }
+        ensures number { IfOk result (λ n. n ≡ length self.old.calls + 1) }
+        ensures ok { OnOk result ((operation : Operation) → slice_get (bodies self.old.object) place ≡ Some operation → self.new ≡ joined self.old (record { session = session; op = place; operation = operation; arguments = args.now })) }
+        ensures err { OnErr result (self.new ≡ self.old) }
+    {
+        let waiting = self.waiting.len();
+        let running = self.running.len();
+        let number = self.calls.len() as u32 + 1;
+        let asked = asked_of(
+            self.alloc,
+            self.accepted.object(),
+            number,
+            session,
+            place,
+            args,
+        )?;
+        let call = asked.share()?;
+        self.calls.reserve(1)?;
+        self.waiting.reserve(1)?;
+        self.marks.reserve(2 * waiting + running + 2)?;
+        self.history.reserve(waiting + running + 1)?;
+        self.running.reserve(waiting + 1)?;
+        self.places.reserve(1)?;
+        self.places.push_reserved(0);
+        self.calls.push_reserved(call);
+        self.waiting.push_reserved(asked);
+        Ok(number)
+    }
+
+    // Takes a waiting call out.
+    pub(crate) fn dismiss(&mut self, number: u32)
+        ensures { self.new ≡ dismissed self.old number }
+    {
+        leave(&mut self.waiting, number);
+    }
+
+    // Takes out the waiting calls of a session.
+    pub(crate) fn release(&mut self, session: u32)
+        ensures { self.new ≡ released self.old session }
+    {
+        leave_of(&mut self.waiting, session);
+    }
+
+    // Marks a session as one that has left.
+    pub(crate) fn mark(&mut self, session: u32)
+        requires { (0 < session) × (session ≤ 1024) }
+        ensures { self.new ≡ marked self.old session }
+    {
+        self.left[session as usize - 1] = true;
+    }
+
+    // Ends the running call at this place: with these new pins, and these files that its run sealed where it
+    // failed.
+    pub(crate) fn end(
+        &mut self,
+        place: usize,
+        reply: &Reply,
+        news: &[NewPin],
+        sealed: &[NewPin],
+    ) -> Ended
+        requires there { (r : RunningCall) × (slice_get self.old.running place ≡ Some r) × WritesInOrder (body_of r.call.operation).statements 0 (parts_of news.now) × ((p : ℕ) → HasPart news.now p → Writes (body_of r.call.operation).statements p) }
+        requires news { news.now ≡ new_if_done reply.now news.now }
+        requires few { (length news.now ≤ 16) × (length sealed.now ≤ 16) }
+        ensures board { (r : RunningCall) → slice_get self.old.running place ≡ Some r → self.new ≡ ended self.old (entry_of r reply.now news.now) }
+        ensures session { (r : RunningCall) → slice_get self.old.running place ≡ Some r → result.session ≡ r.call.session }
+        ensures free { (all : List ANewPin) → (news.now ≡ new_if_done reply.now all) → (sealed.now ≡ left_if_failed reply.now all) → Picks (IsNeeded self.new.pins self.new.running) [] (left_behind self.old.pins reply.now all) result.free.items }
+    {
+        let (number, session, op) = running_at(&self.running, place);
+        let pins = published(&self.pins, news);
+        let Left { kept, free } = end_at(&mut self.running, place, reply, news);
+        self.counters.finish(op);
+        note_end(&mut self.marks, self.history.len());
+        note(&mut self.history, kept);
+        self.places[number as usize - 1] = self.history.len();
+        let free = freed(
+            free,
+            reply,
+            self.pins.as_slice(),
+            news,
+            sealed,
+            pins.as_slice(),
+            &self.running,
+        );
+        self.pins = pins;
+        Ended { session, free }
+    }
+
+    // The object.
+    pub(crate) fn accepted(&self) -> &Accepted
+        ensures { result.now ≡ self.now.object }
+    {
+        &self.accepted
+    }
+
+    // Whether the session has left, or has no number from 1 to 1,024.
+    fn is_gone(&self, session: u32) -> bool
+        ensures { IsTrue result ↔ IsGone self.now session }
+    {
+        session == 0 || session as usize > MOST_SESSIONS || self.left[session as usize - 1]
+    }
+
+    // Whether a call of the session waits or runs.
+    fn is_busy(&self, session: u32) -> bool
+        ensures { result ≡ is_busy self.now session }
+    {
+        waits_for(&self.waiting, session) || runs_for(&self.running, session)
+    }
+
+    // The place of the operation that is asked for, where nothing speaks against the call.
+    pub(crate) fn asked(
+        &self,
+        session: u32,
+        name: &[u8],
+        args: &[Datum],
+    ) -> Result<usize, SubmitFault>
+        ensures taken { IfOk result (λ k. (operation : Operation) × IsTaken self.now (record { session = session; name = name.now; arguments = args.now }) (record { session = session; op = k; operation = operation; arguments = args.now })) }
+        ensures refused { IfErr result (λ f. IsRefused self.now (record { session = session; name = name.now; arguments = args.now }) f) }
+    {
+        if self.is_gone(session) {
+            return Err(SubmitFault::Gone);
+        }
+        let object = self.accepted.object();
+        let Some(place) = place_of(object, name) else {
+            return Err(SubmitFault::UnknownOp);
+        };
+        if !fits(object, place, args) {
+            return Err(SubmitFault::BadArgs);
+        }
+        if self.is_busy(session) {
+            return Err(SubmitFault::SessionBusy);
+        }
+        if self.waiting.len() + self.running.len() >= MOST_OPEN {
+            return Err(SubmitFault::Full);
+        }
+        if self.calls.len() >= MOST_CALLS {
+            return Err(SubmitFault::HistoryFull);
+        }
+        Ok(place)
+    }
+
+    // The place of the running call from which an outcome comes.
+    pub(crate) fn place_of_call(&self, outcome: &Outcome) -> Option<usize>
+        ensures some { IfSome result (λ k. (r : RunningCall) × (slice_get self.now.running k ≡ Some r) × IsOf (outcome_call outcome.now) r) }
+        ensures none { IfNone result (Every (λ r. IsOf (outcome_call outcome.now) r → ⊥) self.now.running) }
+    {
+        place_of_call(&self.running, outcome)
+    }
+
+    // Whether a call of this number waits.
+    pub(crate) fn waits(&self, number: u32) -> bool
+        ensures { result ≡ waits_in self.now number }
+    {
+        waits(&self.waiting, number)
+    }
+
+    // Whether a call of this number runs.
+    pub(crate) fn runs(&self, number: u32) -> bool
+        ensures { result ≡ runs_in self.now number }
+    {
+        runs(&self.running, number)
+    }
+
+    // The call of this number.
+    pub(crate) fn call(&self, number: u32) -> Option<&Call>
+        ensures some { IfSome result (λ x. call_at self.now.calls number ≡ Some x.now) }
+        ensures none { IfNone result (call_at self.now.calls number ≡ None) }
+    {
+        if number == 0 || number as usize > self.calls.len() {
+            return None;
+        }
+        Some(&self.calls[number as usize - 1])
+    }
+
+    // How many calls wait or run.
+    pub(crate) fn open_calls(&self) -> usize
+        ensures { result ≡ length self.now.waiting + length self.now.running }
+    {
+        self.waiting.len() + self.running.len()
+    }
+
+    // How much happened.
+    pub(crate) fn trace_len(&self) -> usize
+        ensures { result ≡ length self.now.trace }
+    {
+        self.marks.len()
+    }
+
+    // What happened at this place of the trace, from 0.
+    pub(crate) fn event(&self, place: usize) -> Option<TraceEvent>
+        ensures { result ≡ slice_get self.now.trace place }
+    {
+        if place >= self.marks.len() {
+            return None;
+        }
+        Some(event_of(&self.history, self.marks[place]))
+    }
+
+    // The history.
+    pub(crate) fn history(&self) -> &[Entry]
+        ensures history { result.now ≡ self.now.history }
+        ensures sound { IsSound self.now }
+        ensures each { (length self.now.pins ≤ 16) × (length self.now.opening ≤ 16) }
+    {
+        &self.history
+    }
+
+    // The published pins.
+    pub(crate) fn pins(&self) -> Pins
+        ensures { result ≡ self.now.pins }
+    {
+        self.pins
+    }
+
+    // The pins of the beginning.
+    pub(crate) fn opening_pins(&self) -> Pins
+        ensures { result ≡ self.now.opening }
+    {
+        self.opening
+    }
+
+    // The place of the running call of this number whose ticket was not taken.
+    pub(crate) fn place_of_left(&self, number: u32) -> Option<usize>
+        ensures some { IfSome result (λ k. (r : RunningCall) × IsLeft self.now number k r) }
+        ensures none { IfNone result (NoneIsLeft self.now number) }
+    {
+        place_of_left(&self.running, number)
+    }
+
+    // Takes the ticket of the running call at this place, where it was not taken.
+    pub(crate) fn collect(&mut self, place: usize) -> Option<Ticket>
+        requires { (r : RunningCall) × (slice_get self.old.running place ≡ Some r) }
+        ensures some { IfSome result (λ t. (r : RunningCall) → slice_get self.old.running place ≡ Some r → (r.taken ≡ false) × (ticket_call t ≡ call_of r.number r.call.operation r.call.arguments r.pins)) }
+        ensures none { IfNone result ((r : RunningCall) → slice_get self.old.running place ≡ Some r → r.taken ≡ true) }
+        ensures board { (r : RunningCall) → slice_get self.old.running place ≡ Some r → self.new ≡ taken_at self.old place r }
+    {
+        ticket_at(&mut self.running, place)
+    }
+
+    // Whether a call of this number has finished.
+    pub(crate) fn is_ended(&self, number: u32) -> bool
+        ensures { result ≡ ended_in self.now number }
+    {
+        number != 0 && number as usize <= self.places.len() && self.places[number as usize - 1] != 0
+    }
+}
