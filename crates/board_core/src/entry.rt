@@ -1,19 +1,23 @@
 //! Entries of a history.
 
-ghost use Rattle.std.specs.Prelude.{◌≡◌, ◌+◌, ◌++◌, ◌≤◌, IfOk, length, vec_capacity};
+ghost use Rattle.std.specs.Prelude.{◌≡◌, ◌↔◌, ◌+◌, ◌++◌, ◌≤◌, IfOk, IsTrue, length, vec_capacity};
 ghost use Rattle.std.specs.Arc.{arc_value};
 ghost use Rattle.decl_core.specs.Bodies.{body_of};
 ghost use Rattle.body_core.specs.Written.{WritesInOrder, parts_of};
 ghost use Rattle.board_core.specs.Calls.{noted_of};
 ghost use Rattle.board_core.specs.ReadPins.{read_pins};
 ghost use Rattle.board_core.specs.Rooms.{IsRoomFor};
+ghost use Rattle.board_core.specs.Outcomes.{IsEntryOf};
 
 use crate::call::Call;
-use crate::part_pin::{PartPin, count, keep};
+use crate::part_pin::{PartPin, are_kept, count, keep};
+use crate::receipt::NotedOutcome;
+use crate::same::{same_args, same_news};
 use body_core::outcome::NewPin;
 use body_core::reply::Reply;
 use decl_core::footprint;
 use decl_core::object::Operation;
+use decl_core::same::same_declaration;
 use shelf_core::hand::Stamp;
 use std::alloc::{AllocError, Global};
 use std::marker::Model;
@@ -104,6 +108,33 @@ impl Entry {
             pins: kept,
             news: published,
         }
+    }
+
+    /// Whether this is the entry that a receipt tells of: it tells of the call all that the outcome tells, and of its
+    /// pins those of the parts that its operation reads. It takes no memory.
+    pub fn is_entry_of(&self, noted: &NotedOutcome) -> bool
+        ensures { IsTrue result ↔ IsEntryOf noted.now.session noted.now.outcome self.now }
+    {
+        if self.number != noted.number() {
+            return false;
+        }
+        if self.session() != noted.session {
+            return false;
+        }
+        if !same_declaration(self.operation(), noted.operation()) {
+            return false;
+        }
+        if !same_args(self.args(), noted.args()) {
+            return false;
+        }
+        if !self.reply.is_same(&noted.reply()) {
+            return false;
+        }
+        if !same_news(&self.news, noted.new_pins()) {
+            return false;
+        }
+        let reads = footprint::reads(self.operation());
+        are_kept(&self.pins, reads, 0, noted.pins().as_slice())
     }
 
     /// The number of the call.

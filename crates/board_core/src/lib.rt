@@ -11,3 +11,4 @@ pub mod event;
 pub mod laws;
 pub mod part_pin;
 pub mod receipt;
+pub mod same;

@@ -1,6 +1,6 @@
 //! Pins of single parts.
 
-ghost use Rattle.std.specs.Prelude.{◌≡◌, ◌+◌, ◌++◌, ◌∷◌, ◌≤◌, ◌<◌, [], length, vec_capacity};
+ghost use Rattle.std.specs.Prelude.{◌≡◌, ◌↔◌, ◌+◌, ◌++◌, ◌∷◌, ◌≤◌, ◌<◌, [], length, vec_capacity, IsTrue};
 ghost use Rattle.board_core.specs.ReadPins.{pins_in, count_in};
 
 use decl_core::footprint::is_in;
@@ -57,6 +57,34 @@ pub(crate) fn keep(out: &mut Vec<PartPin>, parts: u16, part: usize, pins: &[Stam
                 push(out, part, *pin);
             }
             keep(out, parts, part + 1, rest);
+        }
+    }
+}
+
+// Whether a pin of a part is this one.
+fn is_pin(kept: &PartPin, part: usize, stamp: &Stamp) -> bool
+    ensures { IsTrue result ↔ (kept.now ≡ record { part = part; stamp = stamp.now }) }
+{
+    kept.part == part && kept.stamp == *stamp
+}
+
+// Whether these are the pins of the parts in a set, of pins of which the first is of this part.
+pub(crate) fn are_kept(kept: &[PartPin], parts: u16, part: usize, pins: &[Stamp]) -> bool
+    requires { part + length pins.now ≤ 16 }
+    ensures { IsTrue result ↔ (kept.now ≡ pins_in parts part pins.now) }
+{
+    match pins.split_first() {
+        None => kept.is_empty(),
+        Some((pin, rest)) => {
+            if !is_in(part as u8, parts) {
+                return are_kept(kept, parts, part + 1, rest);
+            }
+            match kept.split_first() {
+                None => false,
+                Some((first, others)) => {
+                    is_pin(first, part, pin) && are_kept(others, parts, part + 1, rest)
+                }
+            }
         }
     }
 }

@@ -12,11 +12,10 @@ ghost use Rattle.board_core.specs.Outcomes.{IsOf};
 ghost use Rattle.desk_core.specs.Answers.{HasName, IsNamedAt};
 
 use crate::open_call::{Running, Waiting};
+use board_core::same::{same_args, same_stamps};
 use body_core::outcome::Outcome;
 use decl_core::object::{Object, Operation};
 use decl_core::same::same_declaration;
-use shelf_core::hand::Stamp;
-use value_core::datum::Datum;
 
 // Whether an operation has this name.
 fn has_name(operation: &Operation, name: &[u8]) -> bool
@@ -64,35 +63,6 @@ pub(crate) fn runs(running: &[Running], number: u32) -> bool
     ensures { result ≡ list_any (λ r. r.number == number) running.now }
 {
     running.iter().any(|r| r.number() == number)
-}
-
-// Whether the data are the same.
-fn same_args(a: &[Datum], b: &[Datum]) -> bool
-    ensures { IsTrue result ↔ (a.now ≡ b.now) }
-{
-    match (a, b) {
-        ([], []) => true,
-        ([x, xs @ ..], [y, ys @ ..]) => x.is_same(y) && same_args(xs, ys),
-        _ => false,
-    }
-}
-
-// Whether two stamps are the same.
-fn same_stamp(a: &Stamp, b: &Stamp) -> bool
-    ensures { IsTrue result ↔ (a.now ≡ b.now) }
-{
-    *a == *b
-}
-
-// Whether the stamps are the same.
-fn same_stamps(a: &[Stamp], b: &[Stamp]) -> bool
-    ensures { IsTrue result ↔ (a.now ≡ b.now) }
-{
-    match (a, b) {
-        ([], []) => true,
-        ([x, xs @ ..], [y, ys @ ..]) => same_stamp(x, y) && same_stamps(xs, ys),
-        _ => false,
-    }
 }
 
 // Whether an outcome comes from this running call.
