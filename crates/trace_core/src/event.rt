@@ -45,7 +45,7 @@ pub fn push_start(
 fn name_of(object: &Object, operation: OpId) -> &[u8]
     ensures { result.now ≡ operation_name (object_of object.now) operation }
 {
-    match object.operations.get(usize::from(operation)) {
+    match object.operations.get(operation as usize) {
         Some(found) => found.name.as_bytes(),
         None => &[],
     }
