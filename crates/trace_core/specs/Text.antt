@@ -10,7 +10,7 @@ use Rattle.body_core.specs.declared.reply.Failure.{Failure}
 use Rattle.body_core.specs.declared.reply.Failure.TheVariants.{Device, Memory, Damaged}
 use Rattle.body_core.specs.declared.reply.Reply.{Reply}
 use Rattle.body_core.specs.declared.reply.Reply.TheVariants.{Done, Refused, Failed}
-use Rattle.word_core.specs.Words.{Word, bare, words_text, line_of}
+use Rattle.word_core.specs.Words.{Word, bare, line_of}
 use Rattle.word_core.specs.Data.{datum_word, session_word}
 use Rattle.word_core.specs.Ending.{Ending, done, refused, failed, ending_words}
 use Rattle.trace_core.specs.Events.{Called, Happened, began, ended}

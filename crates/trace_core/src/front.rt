@@ -54,12 +54,7 @@ fn push_parts(
     }
 }
 
-fn push_part(
-    alloc: Global,
-    out: &mut Vec<u8>,
-    name: &[u8],
-    value: &Value,
-) -> Result<(), AllocError>
+fn push_part(alloc: Global, out: &mut Vec<u8>, name: &[u8], value: &Value) -> Result<(), AllocError>
     ensures { OnOk result (out.new.items ≡ out.old.items ++ line_of (part_words name.now value.now)) }
 {
     let bytes = encode(alloc, value)?;

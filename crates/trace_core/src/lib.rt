@@ -8,4 +8,5 @@
 
 pub mod event;
 pub mod front;
+pub mod laws;
 pub mod reply;
