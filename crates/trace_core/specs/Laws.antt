@@ -1,8 +1,10 @@
 -- Laws of traces.
-use Rattle.std.specs.Prelude.{◌≡◌, ℕ, ◌<◌, ◌^◌, List, [], ◌∷◌, ◌++◌, All, length, Some, None}
+use Rattle.std.specs.Prelude.{◌≡◌, ℕ, ◌<◌, ◌^◌, List, [], ◌∷◌, ◌++◌, All, length, Some, None, Ok}
 use Rattle.std.specs.Str.Lines.{lines}
+use Rattle.hex.specs.Hex.{encode_lower, decode_of}
 use Rattle.value_core.specs.Datum.{IsDatum}
 use Rattle.value_core.specs.Contents.{Contents, IsContents}
+use Rattle.value_core.specs.Spelling.{spelling}
 use Rattle.path_tree.specs.Identifier.{IsName}
 use Rattle.decl_core.specs.declared.object.Operation.{Operation}
 use Rattle.decl_core.specs.ObjectForm.{ObjectForm}
@@ -13,7 +15,7 @@ use Rattle.body_core.specs.declared.reply.Reply.{Reply}
 use Rattle.body_core.specs.declared.reply.Reply.TheVariants.{Done, Refused, Failed}
 use Rattle.word_core.specs.Words.{Word, AreWords, line_of}
 use Rattle.trace_core.specs.Events.{Called, form_body}
-use Rattle.trace_core.specs.Text.{TraceLine, call_started, call_ended, event_words, front_words, trace_words, trace_text, lines_of}
+use Rattle.trace_core.specs.Text.{TraceLine, call_started, call_ended, event_words, front_words, trace_words, trace_text, lines_of, reply_ending}
 
 -- an object, its parts and its operations have names
 pub record HasNames (o : ObjectForm) : Type 0 where
@@ -51,6 +53,14 @@ HaveWords (line ∷ others) (words ∷ more) = AreWords line words × HaveWords 
 abbrev pub TraceIsRead : Type 0
 TraceIsRead = (o : ObjectForm) (opening : List Contents) (events : List TraceLine) → HasNames o → All IsContents opening → All (IsTold o) events
     → HaveWords (lines (trace_text o opening events)) (trace_words o opening events)
+
+-- the bytes of a part are read from its line
+abbrev pub PartIsRead : Type 0
+PartIsRead = (value : Contents) → IsContents value → decode_of (encode_lower (spelling value)) ≡ Ok (spelling value)
+
+-- no two replies are told alike
+abbrev pub RepliesApart : Type 0
+RepliesApart = (first second : Reply) → reply_ending first ≡ reply_ending second → first ≡ second
 
 -- before any event the text of a trace is its front
 abbrev pub BeginsWithFront : Type 0

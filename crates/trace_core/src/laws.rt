@@ -1,10 +1,20 @@
 //! Laws of traces, over the definitions alone.
 
-ghost use Rattle.trace_core.specs.Laws.{TraceIsRead, BeginsWithFront, GrowsByLine, BodyIsSame};
+ghost use Rattle.trace_core.specs.Laws.{TraceIsRead, PartIsRead, RepliesApart, BeginsWithFront, GrowsByLine, BodyIsSame};
 
 /// The lines of the text of a trace have the words that were written.
 pub fn trace_is_read()
     ensures { TraceIsRead }
+{}
+
+/// The bytes of a part are read from its line.
+pub fn part_is_read()
+    ensures { PartIsRead }
+{}
+
+/// No two replies are told alike.
+pub fn replies_apart()
+    ensures { RepliesApart }
 {}
 
 /// Before any event the text of a trace is its front.
