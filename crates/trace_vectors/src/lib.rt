@@ -1,4 +1,4 @@
-//! Tests of the text of a trace: its lines, and wants of memory.
+//! Tests of the lines that end a call in a trace, and wants of memory.
 #![tactic(auto)]
 
 #[cfg(test)]
