@@ -3,3 +3,4 @@ pub mod Tables
 pub mod Busy
 pub mod Marking
 pub mod Places
+pub mod Telling

@@ -1,3 +1,4 @@
 pub mod Open
 pub mod Kept
 pub mod Answers
+pub mod Told

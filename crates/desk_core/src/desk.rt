@@ -8,6 +8,9 @@ ghost use Rattle.board_core.specs.Board.{opened, joined, released, marked, call_
 ghost use Rattle.board_core.specs.Started.{Settles};
 ghost use Rattle.board_core.specs.Sound.{IsSound};
 ghost use Rattle.board_core.specs.Outcomes.{IsOf};
+ghost use Rattle.decl_core.specs.ObjectMap.{object_of};
+ghost use Rattle.trace_core.specs.Text.{trace_text as text_of};
+ghost use Rattle.desk_core.specs.Told.{lines_told};
 ghost use Rattle.desk_core.specs.Answers.{IsTaken, IsRefused, Cancels, Collects, Finishes, waits_in, runs_in};
 
 use crate::answer::{Cancelled, Collected, Stranger, SubmitFault};
@@ -22,6 +25,7 @@ use shelf_core::pins::Pins;
 use std::alloc::{AllocError, Global};
 use std::marker::Model;
 use value_core::datum::Datum;
+use value_core::value::Value;
 
 /// The calls of an object: those that wait, those that run, and the history of those that finished.
 ///
@@ -217,6 +221,14 @@ impl Desk {
         ensures { result ≡ slice_get self.now.trace place }
     {
         self.roster.event(place)
+    }
+
+    /// The text of the trace (docs/LANGUAGE.md), with these opening values, one for each part, in order: what happened
+    /// to the calls, the oldest first. The error is that memory was refused.
+    pub fn trace_text(&self, opening: &[Value]) -> Result<Vec<u8>, AllocError>
+        ensures { IfOk result (λ text. text.items ≡ text_of (object_of self.now.object) opening.now (lines_told self.now)) }
+    {
+        self.roster.trace_text(opening)
     }
 
     /// The calls that have finished, in order.

@@ -13,3 +13,4 @@ mod free;
 mod marks;
 mod open_call;
 mod roster;
+mod text;

@@ -1,7 +1,12 @@
 //! What happened, in few bytes: an end is told by the place of its entry.
 
 ghost use Rattle.std.specs.Prelude.{◌≡◌, ◌<◌, ◌++◌, ◌∷◌, [], length, vec_capacity};
+ghost use Rattle.board_core.specs.declared.event.TraceEvent.TheVariants.{End as Ended};
 ghost use Rattle.desk_core.specs.declared.marks.Mark.TheVariants.{Start, End};
+ghost use Rattle.desk_core.specs.Kept.{IsMarkIn, event_of as told_by};
+
+use board_core::entry::Entry;
+use board_core::event::TraceEvent;
 
 /// What happened to a call.
 #[derive(Clone, Copy, Debug, PartialEq, Eq)]
@@ -37,4 +42,22 @@ pub(crate) fn note_end(marks: &mut Vec<Mark>, place: usize)
     ensures room { vec_capacity marks.new ≡ vec_capacity marks.old }
 {
     note(marks, Mark::End(place));
+}
+
+// The event of an entry that ended.
+fn end_event(entry: &Entry) -> TraceEvent
+    ensures { result ≡ Ended entry.now.number entry.now.reply }
+{
+    TraceEvent::End(entry.number(), entry.reply())
+}
+
+// What a mark tells.
+pub(crate) fn event_of(history: &[Entry], mark: Mark) -> TraceEvent
+    requires { IsMarkIn (length history.now) mark }
+    ensures { result ≡ told_by history.now mark }
+{
+    match mark {
+        Mark::Start(number) => TraceEvent::Start(number),
+        Mark::End(place) => end_event(&history[place]),
+    }
 }

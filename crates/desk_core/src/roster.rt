@@ -19,10 +19,11 @@ ghost use Rattle.board_core.specs.Board.{Board, bodies, call_at, opened, joined,
 ghost use Rattle.body_core.specs.Outcomes.{outcome_call};
 ghost use Rattle.desk_core.specs.Answers.{IsGone, is_busy, waits_in, runs_in, ended_in, IsLeft, NoneIsLeft, IsTaken, IsRefused};
 ghost use Rattle.board_core.specs.Free.{IsNeeded, Picks, left_behind};
-ghost use Rattle.desk_core.specs.Kept.{IsFirst, CanStart, OpCanStart, AreRefused, IsMarkIn, event_of as told_by};
+ghost use Rattle.desk_core.specs.Kept.{IsFirst, CanStart, OpCanStart, AreRefused};
 ghost use Rattle.board_core.specs.Outcomes.{IsOf};
 ghost use Rattle.board_core.specs.ReadPins.{read_pins};
-ghost use Rattle.board_core.specs.declared.event.TraceEvent.TheVariants.{End};
+ghost use Rattle.trace_core.specs.Text.{trace_text as text_of};
+ghost use Rattle.desk_core.specs.Told.{lines_told};
 ghost use Rattle.body_core.specs.Written.{WritesInOrder, parts_of};
 ghost use Rattle.body_core.specs.declared.new_pins.NewPin.{NewPin as ANewPin};
 ghost use Rattle.board_core.specs.Sound.{IsSound};
@@ -30,8 +31,9 @@ ghost use Rattle.board_core.specs.Sound.{IsSound};
 use crate::answer::SubmitFault;
 use crate::find::{place_of, place_of_call, place_of_left, runs, runs_for, waits, waits_for};
 use crate::free::freed;
-use crate::marks::{Mark, note, note_end, note_start};
+use crate::marks::{Mark, event_of, note, note_end, note_start};
 use crate::open_call::{Left, Running, Waiting};
+use crate::text::{call_of, push_marks};
 use board_core::call::Call;
 use board_core::entry::Entry;
 use board_core::event::TraceEvent;
@@ -48,7 +50,9 @@ use shelf_core::pins::Pins;
 use std::alloc::{AllocError, Global};
 use std::marker::Model;
 use std::sync::Arc;
+use trace_core::front::push_front;
 use value_core::datum::Datum;
+use value_core::value::Value;
 
 /// Sessions have the numbers from 1 to this one.
 pub(crate) const MOST_SESSIONS: usize = 1024;
@@ -286,24 +290,6 @@ fn end_at(running: &mut Vec<Running>, place: usize, reply: &Reply, news: &[NewPi
     asked.end(reply, news)
 }
 
-// The event of an entry that ended.
-fn end_event(entry: &Entry) -> TraceEvent
-    ensures { result ≡ End entry.now.number entry.now.reply }
-{
-    TraceEvent::End(entry.number(), entry.reply())
-}
-
-// What a mark tells.
-fn event_of(history: &[Entry], mark: Mark) -> TraceEvent
-    requires { IsMarkIn (length history.now) mark }
-    ensures { result ≡ told_by history.now mark }
-{
-    match mark {
-        Mark::Start(number) => TraceEvent::Start(number),
-        Mark::End(place) => end_event(&history[place]),
-    }
-}
-
 impl Roster {
     pub(crate) fn open(alloc: Global, accepted: Accepted, pins: Pins) -> Result<Roster, AllocError>
         requires each { length pins ≡ length accepted.parts.items }
@@ -538,10 +524,7 @@ impl Roster {
         ensures some { IfSome result (λ x. call_at self.now.calls number ≡ Some x.now) }
         ensures none { IfNone result (call_at self.now.calls number ≡ None) }
     {
-        if number == 0 || number as usize > self.calls.len() {
-            return None;
-        }
-        Some(&self.calls[number as usize - 1])
+        call_of(&self.calls, number)
     }
 
     // How many calls wait or run.
@@ -566,6 +549,17 @@ impl Roster {
             return None;
         }
         Some(event_of(&self.history, self.marks[place]))
+    }
+
+    // The text of the trace.
+    pub(crate) fn trace_text(&self, opening: &[Value]) -> Result<Vec<u8>, AllocError>
+        ensures { IfOk result (λ text. text.items ≡ text_of (object_of self.now.object) opening.now (lines_told self.now)) }
+    {
+        let object = self.accepted.object();
+        let mut out = Vec::new(self.alloc);
+        push_front(self.alloc, &mut out, object, opening)?;
+        push_marks(&mut out, object, &self.calls, &self.history, &self.marks)?;
+        Ok(out)
     }
 
     // The history.
