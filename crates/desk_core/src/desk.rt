@@ -50,6 +50,30 @@ impl Model for Desk {
     ghost invariant = { λ d. Rests d.roster };
 }
 
+/// What happened to the calls of a desk, in order: starts and ends.
+#[derive(Clone, Copy)]
+pub struct Trace<'a> {
+    desk: &'a Desk,
+}
+
+impl Trace<'_> {
+    /// How many events there are.
+    pub fn len(&self) -> usize
+        ensures { result ≡ length self.now.desk.now.trace }
+    {
+        let desk = self.desk;
+        desk.roster.trace_len()
+    }
+
+    /// The event at this place, from 0, or `None` behind the last.
+    pub fn get(&self, place: usize) -> Option<TraceEvent>
+        ensures { result ≡ slice_get self.now.desk.now.trace place }
+    {
+        let desk = self.desk;
+        desk.roster.event(place)
+    }
+}
+
 impl Desk {
     /// The desk of an object whose parts stand under these pins, one for each part, without calls. The error is
     /// that memory was refused.
@@ -209,18 +233,12 @@ impl Desk {
         self.roster.accepted()
     }
 
-    /// How many events happened: starts and ends of calls.
-    pub fn trace_len(&self) -> usize
-        ensures { result ≡ length self.now.trace }
+    /// What happened to the calls, in order. No event has to be looked for or copied: a desk keeps the reply of an end once,
+    /// in its entry.
+    pub fn trace(&self) -> Trace<'_>
+        ensures { result.desk.now ≡ self.now }
     {
-        self.roster.trace_len()
-    }
-
-    /// What happened at this place of the trace, from 0, or `None` behind its end.
-    pub fn event(&self, place: usize) -> Option<TraceEvent>
-        ensures { result ≡ slice_get self.now.trace place }
-    {
-        self.roster.event(place)
+        Trace { desk: self }
     }
 
     /// The text of the trace (docs/LANGUAGE.md), with these opening values, one for each part, in order: what happened
