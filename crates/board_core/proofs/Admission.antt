@@ -1,17 +1,14 @@
 -- What admission leaves as it is.
-use Rattle.std.proofs.Common.{◌≡◌, ℕ, ◌↔◌, ◌⊎◌, inl, inr, Bool, true, false, cond, not, ◌&&◌, ◌||◌, ◌==◌, List, [], ◌∷◌, ◌++◌, length, map, refl, sym, ◌∙◌, ap, subst, append_assoc}
+use Rattle.std.proofs.Common.{◌≡◌, ℕ, inl, inr, Bool, true, false, cond, not, ◌&&◌, ◌||◌, ◌==◌, List, [], ◌∷◌, ◌++◌, map, refl, sym, ◌∙◌, ap, subst, append_assoc}
 use Rattle.std.proofs.lemmas.List.{append-nil}
-use Rattle.std.specs.List.{filter, list_any}
+use Rattle.std.specs.List.{filter}
 use Rattle.shelf_core.specs.declared.hand.Stamp.{Stamp}
-use Rattle.body_core.specs.declared.reply.Reply.{Reply}
-use Rattle.body_core.specs.declared.new_pins.NewPin.{NewPin}
-use Rattle.board_core.specs.declared.event.TraceEvent.{TraceEvent}
-use Rattle.board_core.specs.declared.event.TraceEvent.TheVariants.{Start, End}
+use Rattle.board_core.specs.declared.event.TraceEvent.TheVariants.{Start}
 use Rattle.board_core.specs.Lists.{Among}
 use Rattle.board_core.specs.Calls.{AcceptedCall, WaitingCall, RunningCall, Noted}
 use Rattle.board_core.specs.Board.{Board, joined, dismissed, released, marked, taken_at, ended, started, Rests, Admits, rests, starts}
 use Rattle.board_core.specs.Chain.{pins_after}
-use Rattle.board_core.specs.Free.{IsIn, IsNeeded, Picks, no_more, needed, again, one_more}
+use Rattle.board_core.specs.Free.{IsNeeded, Picks, no_more, needed, again, one_more}
 use Rattle.board_core.specs.Started.{HasStarted, Settles, is_number_in, run_of}
 use Rattle.board_core.specs.Laws.{AdmissionStarts}
 use Rattle.board_core.proofs.Freed.{admission_needs}

@@ -1,16 +1,15 @@
 -- Laws of boards.
-use Rattle.std.proofs.Common.{◌≡◌, ◌≢◌, ℕ, ◌⊎◌, inl, inr, List, [], ◌∷◌, Option, Some, None, refl, sym, ◌∙◌, ap, subst}
+use Rattle.std.proofs.Common.{◌≡◌, ℕ, List, [], ◌∷◌, Some, refl, sym, ◌∙◌, ap, subst}
 use Rattle.std.specs.Prelude.{slice_get, map}
 use Rattle.value_core.specs.declared.kind.Kind.{Kind}
 use Rattle.value_core.specs.declared.kind.Elem.{Elem}
 use Rattle.value_core.specs.declared.datum.Datum.{Datum}
 use Rattle.value_core.specs.Contents.{Contents}
 use Rattle.decl_core.specs.Bodies.{body_of}
-use Rattle.decl_core.specs.Form.{Body}
 use Rattle.decl_core.specs.ObjectForm.{OperationForm}
 use Rattle.decl_core.specs.ObjectMap.{operation_of, params_of}
-use Rattle.decl_core.specs.Meaning.{apply_body, done, refused}
-use Rattle.decl_core.specs.Touched.{Reads, Writes}
+use Rattle.decl_core.specs.Meaning.{apply_body}
+use Rattle.decl_core.specs.Touched.{Reads}
 use Rattle.decl_core.specs.declared.object.Operation.{Operation}
 use Rattle.decl_core.specs.declared.object.Param.{Param}
 use Rattle.decl_core.proofs.Footprints.{writes_are_reads}
@@ -20,17 +19,12 @@ use Rattle.body_core.specs.declared.new_pins.NewPin.{NewPin}
 use Rattle.body_core.specs.declared.reply.Failure.TheVariants as failures
 use Rattle.body_core.specs.declared.reply.Reply.{Reply}
 use Rattle.body_core.specs.declared.reply.Reply.TheVariants.{Done, Refused, Failed}
-use Rattle.body_core.specs.Calls.{Call, IsNamed, call_of}
+use Rattle.body_core.specs.Calls.{IsNamed, call_of}
 use Rattle.body_core.specs.Outcomes.{new_if_done}
-use Rattle.body_core.specs.Truths.{IsTrueOf, IsTrueAt, IsDone, IsRefused, IsDamaged, AreSpelled, AreLeft, PinHolds, PinsAreWhole}
-use Rattle.board_core.specs.Lists.{Every, Among}
-use Rattle.board_core.specs.Calls.{RunningCall, Noted}
-use Rattle.board_core.specs.Board.{Board, entry_of}
-use Rattle.board_core.specs.Chain.{IsTrueEntry}
+use Rattle.body_core.specs.Truths.{IsTrueOf, IsTrueAt, AreSpelled, AreLeft, PinHolds}
 use Rattle.board_core.proofs.Kept.{kept_at}
-use Rattle.board_core.specs.Outcomes.{IsOf}
-use Rattle.board_core.specs.Free.{IsNeeded, Picks}
-use Rattle.board_core.specs.Sound.{IsSound, IsPinned}
+use Rattle.board_core.specs.Free.{IsNeeded}
+use Rattle.board_core.specs.Sound.{IsPinned}
 use Rattle.board_core.specs.Laws.{RunningNeverConflict, PinsStay, PickedAreFree, TruthIsNoted}
 use Rattle.board_core.proofs.Lists.{Every-among}
 use Rattle.board_core.proofs.Sound.{never_conflict}

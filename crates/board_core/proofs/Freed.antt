@@ -1,12 +1,12 @@
 -- What is picked is not needed.
-use Rattle.std.proofs.Common.{◌≡◌, ℕ, ◌⊎◌, inl, inr, List, [], ◌∷◌, ◌++◌, Option, Some, None, refl, sym, ◌∙◌, ap, subst}
-use Rattle.std.specs.Prelude.{slice_get, unwrap_or}
+use Rattle.std.proofs.Common.{◌≡◌, ℕ, inl, inr, List, [], ◌∷◌, ◌++◌, Some, ◌∙◌, ap, subst}
+use Rattle.std.specs.Prelude.{slice_get}
 use Rattle.shelf_core.specs.declared.hand.Stamp.{Stamp}
-use Rattle.board_core.specs.Lists.{Among, Every}
+use Rattle.board_core.specs.Lists.{Every}
 use Rattle.board_core.specs.Calls.{WaitingCall, RunningCall}
 use Rattle.board_core.specs.Board.{Board, Admits, rests, starts, started}
 use Rattle.std.specs.Int.{bit_at}
-use Rattle.board_core.specs.Free.{IsReadBy, IsIn, IsRead, IsNeeded, Picks, no_more, needed, again, one_more}
+use Rattle.board_core.specs.Free.{IsReadBy, IsNeeded, Picks, no_more, needed, again, one_more}
 use Rattle.board_core.proofs.Lists.{Every-snoc, among_snoc, among_at}
 
 -- what is picked is not needed

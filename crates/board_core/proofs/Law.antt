@@ -1,10 +1,8 @@
 -- Chained entries that are true are a legal history.
-use Rattle.std.proofs.Common.{◌≡◌, ◌≢◌, ℕ, zero, suc, ◌+◌, ◌<◌, ◌≤◌, ◌⊎◌, inl, inr, Bool, true, false, List, [], ◌∷◌, length, Option, Some, None, refl, sym, ◌∙◌, ap, subst, arith, rules, map}
-use Rattle.std.specs.Prelude.{slice_get, slice_set, ◌==◌, if◌then◌else◌, option_map}
+use Rattle.std.proofs.Common.{◌≡◌, ℕ, ◌⊎◌, inl, inr, List, [], ◌∷◌, Option, Some, None, refl, sym, ◌∙◌, ap, subst}
+use Rattle.std.specs.Prelude.{slice_get, option_map}
 use Rattle.std.specs.Int.{bit_at}
-use Rattle.std.proofs.Math.ListN.{length-set}
-use Rattle.std.proofs.lemmas.List.{take_all}
-use Rattle.std.proofs.lemmas.Bool.{cases_eq, eq-eqb}
+use Rattle.std.proofs.lemmas.Bool.{cases_eq}
 use Rattle.std.proofs.lemmas.Option.{slice_get_within, slice_get-map}
 use Rattle.value_core.specs.declared.kind.Kind.{Kind}
 use Rattle.value_core.specs.declared.datum.Datum.{Datum}
@@ -16,29 +14,27 @@ use Rattle.decl_core.specs.Bodies.{body_of}
 use Rattle.decl_core.specs.Form.{Body, Statements}
 use Rattle.decl_core.specs.Footprint.{named_in_all}
 use Rattle.decl_core.specs.FootprintLaws.{Agree}
-use Rattle.decl_core.specs.Meaning.{apply_body, done, refused}
+use Rattle.decl_core.specs.Meaning.{apply_body, refused}
 use Rattle.decl_core.specs.Touched.{Reads, Writes}
 use Rattle.decl_core.specs.Typed.{IsHeld}
 use Rattle.decl_core.proofs.Footprints.{apply_is_local, others_stay, writes_are_reads}
 use Rattle.decl_core.proofs.Touched.{reads_bits}
 use Rattle.shelf_core.specs.declared.hand.Stamp.{Stamp}
-use Rattle.shelf_core.specs.Device.{Assignment, Holds, IsWhole, bytes_of, front_of}
+use Rattle.shelf_core.specs.Device.{Assignment, IsWhole, bytes_of}
 use Rattle.body_core.specs.declared.new_pins.NewPin.{NewPin}
-use Rattle.body_core.specs.declared.reply.Failure.TheVariants as failures
 use Rattle.body_core.specs.declared.reply.Reply.{Reply}
 use Rattle.body_core.specs.declared.reply.Reply.TheVariants.{Done, Refused, Failed}
-use Rattle.body_core.specs.Calls.{Call, IsNamed, call_of}
+use Rattle.body_core.specs.Calls.{IsNamed, call_of}
 use Rattle.body_core.specs.History.{IsReplyOn, left_by}
 use Rattle.body_core.specs.Outcomes.{new_if_done}
 use Rattle.body_core.specs.Phases.{HasPart}
-use Rattle.body_core.specs.Truths.{IsDone, IsRefused, AreSpelled, PinHolds, IsLeft, AreLeft, IsTrueOf, IsTrueAt, PinsAreWhole, pin_for}
+use Rattle.body_core.specs.Truths.{AreSpelled, PinHolds, IsLeft, IsTrueAt, PinsAreWhole, pin_for}
 use Rattle.body_core.proofs.HeldReads.{reads_held}
 use Rattle.body_core.proofs.Spreading.{refused_leaves}
 use Rattle.body_core.proofs.Stepping.{some_same}
 use Rattle.board_core.specs.Calls.{Noted}
 use Rattle.board_core.specs.Board.{published}
-use Rattle.board_core.specs.Chain.{news_of, pins_after, Follows, IsChained, AreOf, Shows, ShowContents, IsTrueEntry, ChainedAreLegal}
-use Rattle.board_core.specs.Lists.{Every}
+use Rattle.board_core.specs.Chain.{pins_after, Follows, AreOf, Shows, ShowContents, IsTrueEntry, ChainedAreLegal}
 use Rattle.board_core.specs.ReadPins.{pin_at}
 use Rattle.decl_core.proofs.KindsStay.{kinds_stay}
 use Rattle.board_core.proofs.Published.{length-published, published_there, published_elsewhere, has_part}

@@ -1,11 +1,10 @@
 -- Calls are made of operations of the object.
-use Rattle.std.proofs.Common.{◌≡◌, ◌≢◌, ℕ, zero, suc, ◌-◌, ◌<◌, List, [], ◌∷◌, length, Option, Some, None, refl, sym, ◌∙◌, ap, subst, arith, rules, map}
+use Rattle.std.proofs.Common.{◌≡◌, ◌≢◌, ℕ, zero, suc, ◌-◌, ◌<◌, List, [], ◌∷◌, length, Some, refl, ap, subst, arith, map}
 use Rattle.std.specs.Prelude.{slice_get, unwrap_or}
 use Rattle.std.specs.declared.sync.Arc.{Arc}
 use Rattle.std.specs.Arc.{arc_value}
 use Rattle.decl_core.specs.declared.object.Object.{Object}
 use Rattle.decl_core.specs.declared.object.Operation.{Operation}
-use Rattle.decl_core.specs.ObjectMap.{object_of}
 use Rattle.decl_core.specs.PartKinds.{EachKindsOf}
 use Rattle.decl_core.specs.ObjectMap.{operation_of, operations_of}
 use Rattle.body_core.specs.Calls.{ArgumentsFit}
@@ -13,7 +12,6 @@ use Rattle.value_core.specs.declared.kind.Kind.{Kind}
 use Rattle.board_core.specs.Calls.{AcceptedCall}
 use Rattle.board_core.specs.Board.{bodies, call_at}
 use Rattle.board_core.specs.Chain.{AreOf}
-use Rattle.board_core.specs.Lists.{Every}
 use Rattle.board_core.specs.Sound.{IsMadeOf, kinds_of}
 
 -- at a place below their number there is an operation

@@ -1,24 +1,19 @@
 -- Each event keeps what holds of a board.
-use Rattle.std.proofs.Common.{◌≡◌, ◌≢◌, ℕ, zero, suc, ◌+◌, ◌-◌, ◌<◌, ◌≤◌, ◌⊎◌, inl, inr, Bool, true, false, cond, not, ◌&&◌, ◌==◌, List, [], ◌∷◌, ◌++◌, length, Option, Some, None, refl, sym, ◌∙◌, ap, subst, arith, rules, length-append, map, add-one}
+use Rattle.std.proofs.Common.{◌≡◌, ◌≢◌, ℕ, zero, suc, ◌+◌, ◌-◌, ◌<◌, ◌≤◌, ◌⊎◌, inl, inr, Bool, true, false, not, ◌==◌, List, [], ◌∷◌, ◌++◌, length, Option, Some, None, refl, sym, ◌∙◌, ap, subst, arith, length-append, map, add-one}
 use Rattle.std.specs.Prelude.{slice_get, slice_set}
 use Rattle.std.proofs.lemmas.List.{map-append}
 use Rattle.std.specs.List.{filter}
-use Rattle.std.specs.Arc.{arc_value}
 use Rattle.std.proofs.lemmas.Bool.{eq-eqb}
 use Rattle.std.proofs.lemmas.Option.{slice_get_within}
 use Rattle.std.proofs.Math.ListN.{length-set, length-replicate}
-use Rattle.std.proofs.lemmas.Bool.Decides.{eqb_tells}
-use Rattle.path_tree.specs.Path.{Path}
-use Rattle.path_tree.specs.Trace.{Event, IsTrace, IsFresh, IsAmong, running_calls, Start as Began, End as Ended}
-use Rattle.path_tree.specs.Satisfies.{Satisfies, SatisfiesAll}
+use Rattle.path_tree.specs.Trace.{IsTrace, IsFresh, IsAmong, running_calls, Start as Began, End as Ended}
+use Rattle.path_tree.specs.Satisfies.{SatisfiesAll}
 use Rattle.path_count.specs.Stands.{started_calls}
 use Rattle.decl_core.specs.declared.object.Object.{Object}
-use Rattle.decl_core.specs.declared.object.Operation.{Operation}
 use Rattle.decl_core.specs.Bodies.{body_of}
 use Rattle.decl_core.specs.ObjectMap.{object_of}
 use Rattle.decl_core.specs.ObjectMap.{operation_of}
-use Rattle.decl_core.specs.Touched.{Reads, Writes, ConflictAt}
-use Rattle.decl_core.proofs.Footprints.{writes_are_reads}
+use Rattle.decl_core.specs.Touched.{Writes, ConflictAt}
 use Rattle.exclude_core.specs.Exclusive.{IsExclusive, AreSeparated}
 use Rattle.exclude_core.proofs.NeverMeet.{separated_never_meet}
 use Rattle.shelf_core.specs.declared.hand.Stamp.{Stamp}
@@ -30,13 +25,13 @@ use Rattle.body_core.specs.Truths.{pin_for}
 use Rattle.board_core.specs.declared.event.TraceEvent.{TraceEvent}
 use Rattle.board_core.specs.declared.event.TraceEvent.TheVariants.{Start, End}
 use Rattle.board_core.specs.Lists.{Every, EachPair, Among}
-use Rattle.board_core.specs.Calls.{AcceptedCall, WaitingCall, RunningCall, Noted, noted_of}
-use Rattle.board_core.specs.Board.{most_sessions, opened, Board, call_at, path_trace, path_event, paths_of, past_of, MayStartNow, joined, dismissed, released, taken_at, marked, started, ended, entry_of, published, IsNext, Rests, Admits, rests, starts}
-use Rattle.board_core.specs.Chain.{IsChained, Follows, AreOf, news_of}
-use Rattle.board_core.specs.Sound.{IsSound, IsCounted, IsPinnedBoard, IsPinned, IsMadeOf, IsWaitingIn, IsRunningIn, IsNumbered, event_number, as_path, kinds_of, IsOpen, IsNoted, IsTold, ends_of}
+use Rattle.board_core.specs.Calls.{AcceptedCall, WaitingCall, RunningCall, Noted}
+use Rattle.board_core.specs.Board.{most_sessions, opened, Board, call_at, paths_of, past_of, joined, dismissed, released, taken_at, marked, started, ended, entry_of, published, IsNext}
+use Rattle.board_core.specs.Chain.{IsChained, Follows, news_of}
+use Rattle.board_core.specs.Sound.{IsSound, IsCounted, IsPinned, IsMadeOf, IsWaitingIn, IsRunningIn, event_number, as_path, IsOpen, IsNoted, IsTold, ends_of}
 use Rattle.board_core.proofs.Kept.{kept_at}
 use Rattle.board_core.proofs.Lists.{Every-snoc, Every-map, Every-both, Every-filter, Every-among, Every-at, filter_passes, every_from, EachPair-snoc, EachPair-filter, among_filter, among_snoc, among_at, filter_le, filter_less, eqb_same, Every-set, EachPair-set}
-use Rattle.board_core.proofs.Published.{done_twice, length-published, published_there, published_elsewhere, has_part}
+use Rattle.board_core.proofs.Published.{done_twice, length-published, published_elsewhere, has_part}
 use Rattle.board_core.proofs.Traces.{call_at-more, call_at-new, numbered-more, path_trace-more, path_trace-snoc, start_event, end_event, fresh_runs, among_without, end_satisfies_all, satisfies_at}
 
 true_not : (b : Bool) → not b ≡ true → b ≡ true → ⊥

@@ -1,11 +1,11 @@
 -- What happened, as paths see it.
-use Rattle.std.proofs.Common.{◌≡◌, ◌≢◌, ℕ, zero, suc, ◌+◌, ◌-◌, ◌<◌, ◌≤◌, ◌⊎◌, inl, inr, Bool, true, false, not, ◌&&◌, ◌==◌, List, [], ◌∷◌, ◌++◌, length, Option, Some, None, refl, sym, ◌∙◌, ap, subst, arith, rules}
+use Rattle.std.proofs.Common.{◌≡◌, ◌≢◌, ℕ, zero, suc, inl, inr, Bool, true, false, ◌&&◌, ◌==◌, List, [], ◌∷◌, ◌++◌, length, Some, refl, sym, ◌∙◌, ap, subst}
 use Rattle.std.specs.Prelude.{slice_get, if◌then◌else◌}
 use Rattle.std.specs.List.{fold}
 use Rattle.std.proofs.lemmas.List.Sums.{fold-append}
 use Rattle.std.proofs.lemmas.Bool.Decides.{eqb_tells}
 use Rattle.path_tree.specs.Path.{Path}
-use Rattle.path_tree.specs.Trace.{Event, IsTrace, IsFresh, IsAmong, running_calls, without, Start as Began, End as Ended}
+use Rattle.path_tree.specs.Trace.{Event, IsFresh, IsAmong, running_calls, without, Start as Began, End as Ended}
 use Rattle.path_tree.specs.Trace.{Call as PathCall}
 use Rattle.path_tree.specs.Satisfies.{Satisfies, SatisfiesAll}
 use Rattle.path_tree.proofs.CountLaws.{end_satisfies}

@@ -1,5 +1,5 @@
 -- Entries that follow one another, and what they say of contents.
-use Rattle.std.specs.Prelude.{◌≡◌, ℕ, List, [], ◌∷◌, length, map, slice_get, Option, Some, None}
+use Rattle.std.specs.Prelude.{◌≡◌, ℕ, List, [], ◌∷◌, length, map, slice_get, Some}
 use Rattle.value_core.specs.declared.kind.Kind.{Kind}
 use Rattle.value_core.specs.Contents.{Contents}
 use Rattle.value_core.specs.Spelling.{Spells}

@@ -9,8 +9,7 @@ use Rattle.body_core.specs.declared.reply.Reply.{Reply}
 use Rattle.body_core.specs.declared.reply.Reply.TheVariants.{Done, Refused, Failed}
 use Rattle.body_core.specs.Truths.{pin_for}
 use Rattle.board_core.specs.Calls.{RunningCall}
-use Rattle.board_core.specs.Board.{Board}
-use Rattle.board_core.specs.Lists.{Among, Every}
+use Rattle.board_core.specs.Lists.{Among}
 
 -- a pin is of the file of this number
 abbrev pub IsFileOf : ℕ → Stamp → Type 0

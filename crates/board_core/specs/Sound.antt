@@ -1,17 +1,16 @@
 -- What holds of each board that a desk has.
-use Rattle.std.specs.Prelude.{◌≡◌, ◌≢◌, ℕ, ◌+◌, ◌<◌, ◌≤◌, ◌⊎◌, List, [], ◌∷◌, ◌++◌, length, map, slice_get, Option, Some, None}
+use Rattle.std.specs.Prelude.{◌≡◌, ◌≢◌, ℕ, ◌+◌, ◌<◌, ◌≤◌, ◌⊎◌, List, [], ◌∷◌, length, map, slice_get, Some}
 use Rattle.value_core.specs.declared.kind.Kind.{Kind}
 use Rattle.path_tree.specs.Trace.{IsTrace, IsFresh, IsAmong, running_calls}
 use Rattle.path_tree.specs.Trace.{Call as PathCall}
 use Rattle.path_tree.specs.Satisfies.{SatisfiesAll}
 use Rattle.path_count.specs.Stands.{started_calls}
 use Rattle.decl_core.specs.declared.object.Object.{Object}
-use Rattle.decl_core.specs.declared.object.Operation.{Operation}
 use Rattle.decl_core.specs.declared.object.Part.{Part}
 use Rattle.decl_core.specs.Bodies.{body_of}
 use Rattle.decl_core.specs.ObjectMap.{object_of}
 use Rattle.decl_core.specs.ObjectMap.{operation_of}
-use Rattle.decl_core.specs.Touched.{Reads, ConflictAt}
+use Rattle.decl_core.specs.Touched.{Reads}
 use Rattle.exclude_core.specs.Exclusive.{IsExclusive}
 use Rattle.shelf_core.specs.declared.hand.Stamp.{Stamp}
 use Rattle.body_core.specs.Calls.{ArgumentsFit}

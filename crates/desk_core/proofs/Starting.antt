@@ -1,28 +1,19 @@
 -- Which call is next.
-use Rattle.std.proofs.Common.{add-one, ◌≡◌, ◌≢◌, ℕ, zero, suc, ◌+◌, ◌-◌, ◌<◌, ◌≤◌, ◌⊎◌, ◌↔◌, inl, inr, Bool, true, false, List, [], ◌∷◌, ◌++◌, length, Option, Some, None, refl, sym, ◌∙◌, ap, subst, arith, rules, take, drop, map, replicate, get_or}
-use Rattle.std.specs.Prelude.{slice_get, unwrap_or, IsTrue, IfSome, IfNone, not, ◌==◌}
+use Rattle.std.proofs.Common.{add-one, ◌≡◌, ◌≢◌, ℕ, zero, suc, ◌+◌, ◌<◌, ◌≤◌, ◌⊎◌, inl, inr, true, List, [], ◌∷◌, ◌++◌, length, Option, Some, None, refl, sym, ◌∙◌, ap, subst, arith, take, drop, map, get_or}
+use Rattle.std.specs.Prelude.{slice_get, unwrap_or, IfSome, IfNone, not, ◌==◌}
 use Rattle.std.specs.List.{filter}
 use Rattle.std.proofs.lemmas.Bool.Decides.{eqb_tells}
-use Rattle.board_core.specs.declared.event.TraceEvent.{TraceEvent}
-use Rattle.board_core.specs.declared.event.TraceEvent.TheVariants.{Start, End}
-use Rattle.std.specs.Arc.{arc_value}
 use Rattle.std.proofs.lemmas.List.{take_more}
-use Rattle.std.proofs.lemmas.Option.{slice_get_within, slice_get-get_or}
-use Rattle.path_tree.specs.Path.{Path}
-use Rattle.path_tree.specs.Trace.{Event}
-use Rattle.path_tree.specs.Satisfies.{MayStart}
-use Rattle.path_count.specs.Stands.{StandsFor}
-use Rattle.path_count.specs.State.{State}
+use Rattle.std.proofs.lemmas.Option.{slice_get_within}
 use Rattle.std.specs.declared.sync.Arc.{Arc}
-use Rattle.decl_core.specs.declared.object.Object.{Object}
 use Rattle.decl_core.specs.declared.object.Operation.{Operation}
 use Rattle.decl_core.specs.ObjectMap.{object_of}
-use Rattle.decl_core.specs.ObjectMap.{operations_of, operation_of}
+use Rattle.decl_core.specs.ObjectMap.{operations_of}
 use Rattle.board_core.specs.Lists.{Every, EachPair, Among}
-use Rattle.board_core.specs.Calls.{AcceptedCall, WaitingCall, RunningCall}
-use Rattle.board_core.specs.Board.{Board, paths_of, past_of, MayStartNow, IsNext, Rests, Admits, rests, starts, started}
+use Rattle.board_core.specs.Calls.{WaitingCall, RunningCall}
+use Rattle.board_core.specs.Board.{Board, paths_of, past_of, IsNext, Rests, started}
 use Rattle.desk_core.specs.Kept.{CanStart, IsFirst}
-use Rattle.board_core.specs.Sound.{IsSound, IsCounted, IsMadeOf, IsWaitingIn, IsRunningIn, kinds_of}
+use Rattle.board_core.specs.Sound.{IsSound, IsMadeOf, IsWaitingIn, IsRunningIn, kinds_of}
 use Rattle.decl_core.specs.declared.object.Part.{Part}
 use Rattle.decl_core.specs.Bodies.{body_of}
 use Rattle.decl_core.specs.Touched.{Writes}
@@ -30,7 +21,7 @@ use Rattle.decl_core.specs.Typed.{IsHeld}
 use Rattle.decl_core.proofs.Footprints.{writes_are_reads}
 use Rattle.body_core.proofs.HeldReads.{reads_held}
 use Rattle.body_core.specs.Calls.{HasPins}
-use Rattle.board_core.proofs.Lists.{Every-snoc, Every-map, Every-at, Every-among, among_at, filter_one, filter_le, filter_less, eqb_same}
+use Rattle.board_core.proofs.Lists.{Every-snoc, Every-map, Every-at, Every-among, among_at, filter_one, filter_less, eqb_same}
 use Rattle.board_core.proofs.Sound.{made_at}
 
 -- the first so many, and one more

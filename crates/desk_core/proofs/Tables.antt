@@ -1,5 +1,5 @@
 -- What the tables are after each event.
-use Rattle.std.proofs.Common.{◌≡◌, ℕ, ◌+◌, ◌<◌, ◌≤◌, Bool, true, false, not, ◌==◌, List, [], ◌∷◌, ◌++◌, length, Option, Some, None, refl, sym, ◌∙◌, ap, subst, arith, rules}
+use Rattle.std.proofs.Common.{◌≡◌, ℕ, ◌+◌, Bool, true, false, not, ◌==◌, List, [], ◌∷◌, ◌++◌, length, refl}
 use Rattle.std.specs.List.{filter}
 use Rattle.std.specs.Prelude.{replicate, slice_set, ◌-◌}
 use Rattle.decl_core.specs.declared.object.Object.{Object}

@@ -1,5 +1,5 @@
 -- The tables of a desk.
-use Rattle.std.specs.Prelude.{◌≡◌, ◌≢◌, ℕ, zero, suc, ◌+◌, ◌*◌, ◌≤◌, ◌<◌, Bool, true, List, [], ◌∷◌, length, map, take, slice_get, Option, Some, None, vec_capacity}
+use Rattle.std.specs.Prelude.{◌≡◌, ◌≢◌, ℕ, zero, suc, ◌+◌, ◌*◌, ◌≤◌, ◌<◌, Bool, true, List, length, map, take, slice_get, Option, Some, None, vec_capacity}
 use Rattle.std.specs.Arc.{arc_value}
 use Rattle.path_tree.specs.Path.{Path}
 use Rattle.path_tree.specs.Trace.{Event}

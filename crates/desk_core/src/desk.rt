@@ -161,7 +161,9 @@ impl Desk {
             return Err(Stranger(outcome));
         };
         let reply = outcome.reply();
-        let ended = self.roster.end(place, &reply, outcome.new_pins(), outcome.sealed());
+        let ended = self
+            .roster
+            .end(place, &reply, outcome.new_pins(), outcome.sealed());
         self.roster.admit();
         let place = self.roster.history().len();
         let Ended { session, free } = ended;

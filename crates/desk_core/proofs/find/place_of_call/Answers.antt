@@ -1,10 +1,5 @@
-use Rattle.std.proofs.Common.{rules, arith, ◌≡◌, ℕ, ◌<◌, ◌+◌, List, Some, sym, ap, subst, ◌∙◌}
+use Rattle.std.proofs.Common.{Some, sym, ap, ◌∙◌}
 use Rattle.std.proofs.lemmas.Option.{slice_get-get_or}
-use Rattle.body_core.specs.Outcomes.{outcome_call}
-use Rattle.board_core.specs.Calls.{RunningCall}
-use Rattle.board_core.specs.Outcomes.{IsOf}
-use Rattle.desk_core.proofs.Starting.{Every-more}
-use Rattle.board_core.proofs.Traces.{true_false}
 use Rattle.desk_core.proofs.find.place_of_call.Goals as goal
 
 pub returns-then-is_of-clause-some : goal.returns-then-is_of-clause-some

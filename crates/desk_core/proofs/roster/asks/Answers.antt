@@ -1,4 +1,4 @@
-use Rattle.std.proofs.Common.{◌≡◌, ◌∙◌, Bool, true, false, not, inl, inr, refl, sym, ap, subst}
+use Rattle.std.proofs.Common.{◌≡◌, Bool, true, false, not, inl, inr, refl, subst}
 use Rattle.desk_core.specs.Kept.{OpCanStart}
 use Rattle.desk_core.proofs.Places.{get_set}
 use Rattle.board_core.proofs.Traces.{true_false}

@@ -1,4 +1,4 @@
-use Rattle.std.proofs.Common.{◌≡◌, ◌∙◌, ◌<◌, ◌++◌, Some, ap, sym, map, length, arith, get_or}
+use Rattle.std.proofs.Common.{◌∙◌, ◌<◌, ◌++◌, ap, map, length, arith}
 use Rattle.std.specs.Arc.{arc_value}
 use Rattle.decl_core.specs.ObjectMap.{object_of}
 use Rattle.word_core.specs.Words.{line_of}

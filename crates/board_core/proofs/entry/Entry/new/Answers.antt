@@ -4,7 +4,7 @@ use Rattle.std.specs.Arc.{arc_value}
 use Rattle.std.proofs.lemmas.List.{length-map}
 use Rattle.decl_core.specs.declared.object.Operation.{Operation}
 use Rattle.decl_core.specs.Bodies.{body_of}
-use Rattle.decl_core.specs.Footprint.{reads_of, writes_of}
+use Rattle.decl_core.specs.Footprint.{reads_of}
 use Rattle.body_core.specs.Written.{parts_of}
 use Rattle.body_core.specs.declared.new_pins.NewPin.{NewPin}
 use Rattle.board_core.specs.Calls.{AcceptedCall}

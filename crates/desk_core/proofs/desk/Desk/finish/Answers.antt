@@ -1,5 +1,4 @@
-use Rattle.std.proofs.Common.{◌≡◌, ◌≤◌, ◌∙◌, ℕ, List, [], ◌∷◌, ◌++◌, Some, refl, sym, ap, subst, arith, length}
-use Rattle.std.specs.Prelude.{slice_get}
+use Rattle.std.proofs.Common.{◌≡◌, ◌∙◌, List, [], ◌∷◌, ◌++◌, refl, sym, ap, subst, arith, length}
 use Rattle.std.proofs.lemmas.List.{length-map}
 use Rattle.decl_core.specs.ObjectForm.{OperationForm}
 use Rattle.decl_core.specs.Bodies.{body_of}
@@ -8,7 +7,6 @@ use Rattle.decl_core.specs.Footprint.{writes_of}
 use Rattle.decl_core.specs.Touched.{Writes}
 use Rattle.body_core.specs.declared.new_pins.NewPin.{NewPin}
 use Rattle.body_core.specs.Outcomes.{outcome_call, outcome_reply, outcome_news, new_if_done, left_if_failed}
-use Rattle.body_core.specs.Phases.{HasPart}
 use Rattle.body_core.specs.Written.{WritesInOrder, parts_of}
 use Rattle.board_core.specs.Lists.{Among}
 use Rattle.board_core.specs.Calls.{RunningCall, Noted, noted_of}
@@ -18,12 +16,10 @@ use Rattle.body_core.specs.declared.reply.Reply.{Reply}
 use Rattle.board_core.specs.Board.{Board, ended, entry_of, Admits}
 use Rattle.board_core.specs.Chain.{pins_after}
 use Rattle.board_core.specs.Free.{IsNeeded, Picks, left_behind}
-use Rattle.board_core.specs.Outcomes.{IsOf}
 use Rattle.board_core.proofs.Kept.{news_few, count_few}
-use Rattle.board_core.proofs.Published.{done_twice, done_part}
+use Rattle.board_core.proofs.Published.{done_twice}
 use Rattle.board_core.proofs.Lists.{among_at}
 use Rattle.board_core.proofs.Admission.{rests_after, ended_history, picks_admitted, settled}
-use Rattle.desk_core.specs.Answers.{Finishes}
 use Rattle.desk_core.proofs.desk.Desk.finish.Goals as goal
 
 pub end-ended-requires : goal.end-ended-requires

@@ -1,7 +1,7 @@
-use Rattle.std.proofs.Common.{◌∙◌, refl, ap, subst}
+use Rattle.std.proofs.Common.{subst}
 use Rattle.board_core.specs.Calls.{AcceptedCall}
 use Rattle.board_core.specs.Board.{Board}
-use Rattle.desk_core.specs.Answers.{Asked, IsTaken, IsRefused}
+use Rattle.desk_core.specs.Answers.{IsTaken, IsRefused}
 use Rattle.desk_core.proofs.desk.Desk.refusal.Goals as goal
 
 pub returns-in-Ok-clause-none : goal.returns-in-Ok-clause-none

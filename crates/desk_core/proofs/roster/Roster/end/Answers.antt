@@ -1,4 +1,4 @@
-use Rattle.std.proofs.Common.{◌≡◌, ◌∙◌, ◌==◌, not, ℕ, ◌+◌, ◌-◌, ◌<◌, ◌≤◌, ◌∷◌, [], ◌++◌, sym, ap, subst, arith, length, length-append, Some}
+use Rattle.std.proofs.Common.{◌≡◌, ◌∙◌, ◌==◌, not, ℕ, ◌+◌, ◌-◌, ◌<◌, ◌∷◌, [], ◌++◌, sym, ap, subst, arith, length, length-append, Some}
 use Rattle.std.specs.Prelude.{slice_get, slice_set}
 use Rattle.std.specs.Arc.{arc_value}
 use Rattle.std.proofs.lemmas.List.{length-map}

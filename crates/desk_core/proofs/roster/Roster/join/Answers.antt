@@ -5,7 +5,7 @@ use Rattle.std.proofs.lemmas.List.{map-append, length-map}
 use Rattle.path_count.specs.Stands.{StandsFor}
 use Rattle.board_core.specs.Calls.{AcceptedCall, WaitingCall}
 use Rattle.board_core.specs.Board.{Board, joined, bodies, paths_of, past_of}
-use Rattle.desk_core.specs.Kept.{board_of, events_of, IsMarkIn, ArePlaces}
+use Rattle.desk_core.specs.Kept.{board_of, IsMarkIn, ArePlaces}
 use Rattle.board_core.specs.Sound.{IsSound}
 use Rattle.board_core.proofs.Sound.{sound-joined, past_joined}
 use Rattle.desk_core.specs.Answers.{is_busy}

@@ -1,4 +1,4 @@
-use Rattle.std.proofs.Common.{◌≡◌, ◌∙◌, ◌++◌, map, ap, sym}
+use Rattle.std.proofs.Common.{◌∙◌, ◌++◌, map, ap}
 use Rattle.std.specs.Arc.{arc_value}
 use Rattle.decl_core.specs.ObjectMap.{object_of}
 use Rattle.board_core.specs.Board.{Board}
