@@ -8,15 +8,13 @@ ghost use Rattle.body_core.specs.Calls.{ArgumentsFit, HasPins, HoldsReads};
 ghost use Rattle.body_core.specs.Held.{HoldsItsKind};
 ghost use Rattle.body_core.specs.Spread.{FitReads, gather};
 
-use decl_core::footprint::reads;
+use decl_core::footprint::{is_in, reads};
+use decl_core::id::MOST_PARTS;
 use decl_core::object::{Operation, Param};
 use shelf_core::pins::Pins;
 use value_core::datum::Datum;
 use value_core::kind::Kind;
 use value_core::value::Value;
-
-// An object has at most so many parts.
-const MOST_PARTS: usize = 16;
 
 /// Whether the arguments are as many as the operation's parameters, each an integer or a text as its parameter
 /// is. It takes no memory.
@@ -66,21 +64,13 @@ fn are_of_kinds(values: &[Value], bits: u16, kinds: &[Option<Kind>]) -> bool
     }
 }
 
-// Whether a set has this part.
-fn has(parts: u16, part: usize) -> bool
-    requires { part < 16 }
-    ensures { IsTrue result ↔ (bit_at parts part ≡ 1) }
-{
-    (parts >> part) & 1 == 1
-}
-
 /// Whether each part that the operation reads has a pin. It takes no memory.
 pub fn pins_fit(operation: &Operation, pins: &Pins) -> bool
     ensures { IsTrue result ↔ HasPins operation.now pins.now }
 {
     let parts = reads(operation);
     for part in pins.len()..MOST_PARTS {
-        if has(parts, part) {
+        if is_in(part, parts) {
             return false;
         }
     }
@@ -94,7 +84,7 @@ pub fn parts_fit(operation: &Operation, parts: &[Value]) -> bool
 {
     let read = reads(operation);
     for part in 0..MOST_PARTS {
-        if has(read, part) && !is_held(part, &operation.kinds, parts) {
+        if is_in(part, read) && !is_held(part, &operation.kinds, parts) {
             return false;
         }
     }

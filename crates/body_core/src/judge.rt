@@ -13,7 +13,7 @@ ghost use Rattle.body_core.specs.Calls.{ArgumentsFit};
 use crate::act::Stop;
 use crate::evaluate::evaluate;
 use crate::file_bytes::FileBytes;
-use decl_core::footprint::{reads, writes};
+use decl_core::footprint::{is_in, reads, writes};
 use decl_core::object::Operation;
 use std::alloc::{AllocError, Global};
 use value_core::datum::Datum;
@@ -48,14 +48,6 @@ pub(crate) enum Verdict {
 ghost use Rattle.body_core.specs.Truths.{AreSpelled, IsDamaged, AreChanges};
 ghost use Rattle.body_core.specs.Verdicts.{ReadAs, Judged, Rising, OnlyWrites, Settled, AreBits, ReadsNone, HasReads, IsPart, IsChangeOf, IsStep, MayLeave, verdict_of};
 
-// Whether the bit of a part is set.
-fn has(bits: u16, part: usize) -> bool
-    requires { part < 16 }
-    ensures { result ≡ (bit_at bits part == 1) }
-{
-    (bits >> part) & 1 == 1
-}
-
 // A value that takes no memory, in the place of a part that is not read.
 fn unread(alloc: Global) -> Result<Value, DecodeFault>
     ensures { IsErrOf result DecodeFault.Damaged → ⊥ }
@@ -78,7 +70,7 @@ fn decode_part(
     ensures found { IfOk result (IsPart operation.now read.now part) }
     ensures damaged { IsErrOf result DecodeFault.Damaged → IsDamaged (ReadAs read.now) operation.now }
 {
-    if !has(reads, part) {
+    if !is_in(part, reads) {
         return unread(alloc);
     }
     match operation.kinds[part] {
@@ -171,7 +163,7 @@ fn change_at(
     requires read { HasReads operation.now read.now }
     ensures { IfOk result (IsStep (body_of operation.now).statements read.now after.now part) }
 {
-    if !has(writes, part) {
+    if !is_in(part, writes) {
         return Ok(None);
     }
     let change = change_of(alloc, part, &read[part], &after[part])?;

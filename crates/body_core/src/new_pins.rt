@@ -2,11 +2,9 @@
 
 ghost use Rattle.std.specs.Prelude.{◌≡◌, ◌<◌, ◌≤◌, ◌++◌, ◌∷◌, [], length};
 
+use decl_core::id::MOST_PARTS;
 use shelf_core::hand::Stamp;
 use std::marker::Model;
-
-/// The most parts of an object.
-const MOST: usize = 16;
 
 /// A file that was sealed for a part.
 #[derive(Clone, Copy, Debug, PartialEq, Eq)]
@@ -26,7 +24,7 @@ const NO_PIN: NewPin = NewPin {
 /// At most 16 new pins, in the order in which they were sealed. They are copied without memory.
 #[derive(Clone, Copy, Drop)]
 pub(crate) struct NewPins {
-    row: [NewPin; MOST],
+    row: [NewPin; MOST_PARTS],
     len: u8,
 }
 
@@ -57,7 +55,7 @@ impl NewPins {
         ensures { result ≡ [] }
     {
         NewPins {
-            row: [NO_PIN; MOST],
+            row: [NO_PIN; MOST_PARTS],
             len: 0,
         }
     }

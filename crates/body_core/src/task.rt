@@ -8,15 +8,13 @@ ghost use Rattle.decl_core.specs.Touched.{Reads};
 ghost use Rattle.body_core.specs.Calls.{ArgumentsFit};
 
 use crate::ticket::Ticket;
-use decl_core::footprint;
+use decl_core::footprint::{is_in, reads};
+use decl_core::id::MOST_PARTS;
 use decl_core::object::Operation;
 use shelf_core::hand::Stamp;
 use shelf_core::pins::Pins;
 use std::sync::Arc;
 use value_core::datum::Datum;
-
-/// The most parts of an object.
-const MOST: usize = 16;
 
 /// A call that is run, and which parts it reads.
 #[derive(Drop)]
@@ -36,14 +34,6 @@ pub(crate) struct Task {
     ghost pinned: { (p : ℕ) → bit_at reads p ≡ 1 → p < length pins },
 }
 
-// Whether the bit of a part is set.
-fn is_set(bits: u16, part: usize) -> bool
-    requires { part < 16 }
-    ensures { result ≡ (bit_at bits part == 1) }
-{
-    (bits >> part) & 1 == 1
-}
-
 // The first part from this one on whose bit is set.
 fn next_bit(bits: u16, from: usize) -> Option<usize>
     ensures found { IfSome result (λ p. (from ≤ p) × (p < 16) × (bit_at bits p ≡ 1)) }
@@ -51,8 +41,8 @@ fn next_bit(bits: u16, from: usize) -> Option<usize>
     ensures none { IfNone result ((q : ℕ) → from ≤ q → bit_at bits q ≡ 1 → ⊥) }
 {
     let mut part = from;
-    while part < MOST {
-        if is_set(bits, part) {
+    while part < MOST_PARTS {
+        if is_in(part, bits) {
             return Some(part);
         }
         part += 1;
@@ -75,7 +65,7 @@ impl Task {
             args,
             pins,
         } = ticket;
-        let reads = footprint::reads(&operation);
+        let reads = reads(&operation);
         Task {
             number,
             operation,

@@ -33,7 +33,7 @@ pub fn writes(operation: &Operation) -> u16
 }
 
 /// Whether a part is among these.
-pub fn is_in(part: u8, parts: u16) -> bool
+pub fn is_in(part: usize, parts: u16) -> bool
     requires { part < 16 }
     ensures { result ≡ (bit_at parts part == 1) }
 {

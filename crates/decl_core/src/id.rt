@@ -5,7 +5,7 @@ ghost use Rattle.std.specs.Prelude.{◌≡◌, ◌<◌};
 use std::marker::Model;
 
 /// The most parts of an object.
-pub const MOST_PARTS: u8 = 16;
+pub const MOST_PARTS: usize = 16;
 
 /// The number of a part: its place among the parts of its object, from 0, below 16.
 #[derive(Clone, Copy, Drop)]

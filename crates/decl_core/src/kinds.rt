@@ -16,7 +16,7 @@ use std::alloc::{AllocError, Global};
 use value_core::kind::{Elem, Kind};
 
 /// What a part holds, where its bit is set.
-fn kind_of(named: u16, place: u8, part: &Part) -> Option<Kind>
+fn kind_of(named: u16, place: usize, part: &Part) -> Option<Kind>
     requires { place < 16 }
     ensures { result ≡ (if bit_at named place == 1 then Some part.now.kind else None) }
 {
@@ -32,7 +32,7 @@ fn kind_of(named: u16, place: u8, part: &Part) -> Option<Kind>
 fn kinds(
     so_far: Vec<Option<Kind>>,
     named: u16,
-    place: u8,
+    place: usize,
     parts: &[Part],
 ) -> Result<Vec<Option<Kind>>, AllocError>
     requires { place + length parts.now ≤ 16 }

@@ -1,5 +1,5 @@
 -- Objects and files are read exactly.
-use Rattle.std.proofs.Common.{◌≡◌, ℕ, ◌<◌, ◌≤◌, true, false, not, List, [], ◌∷◌, ◌++◌, length, map, Some, None, nat_le, refl, sym, ap, subst, ◌∙◌, arith}
+use Rattle.std.proofs.Common.{◌≡◌, ℕ, ◌<◌, ◌≤◌, true, false, not, List, [], ◌∷◌, ◌++◌, length, map, Some, None, refl, sym, ap, subst, ◌∙◌, arith}
 use Rattle.path_tree.specs.declared.token.Token.{Token}
 use Rattle.path_tree.specs.declared.token.Symbol.TheVariants as symbols
 use Rattle.path_tree.specs.Lexeme.{Lexeme, lexemes, symbol, number, identifier, string, end_mark}
@@ -14,7 +14,7 @@ use Rattle.decl_read.specs.Series.{IsSeries, series_at}
 use Rattle.decl_read.specs.Declarations.{IsEntry, IsObject, object, IsNextObject, next_object, IsFile, file, begins, entry_names}
 use Rattle.decl_read.specs.DeclarationReading.{contents_in, next_object_in, end_at, file_in}
 use Rattle.decl_read.proofs.Exact.{Exact, bind_some, read_is, series_exact}
-use Rattle.decl_read.proofs.Fronts.{name_front, provided_is, is_false, at_most, is_at_most, along}
+use Rattle.decl_read.proofs.Fronts.{name_front, provided_is, is_false, along}
 use Rattle.decl_read.proofs.ConstantsExact.{constants_exact}
 use Rattle.decl_read.proofs.PathItems.{paths_exact}
 use Rattle.decl_read.proofs.PartsExact.{parts_exact}
@@ -31,8 +31,7 @@ module _ (most : ℕ) where
   unfolding contents_in
   contents_found bytes ws x rest h =
       let names : List (List ℕ) = entry_names openings.Nothing ws in
-      let few = bind_some _ _ (x, rest) h in
-      let c = bind_some _ _ (x, rest) few.2 in
+      let c = bind_some _ _ (x, rest) h in
       let q = bind_some _ _ (x, rest) c.2 in
       let p = bind_some _ _ (x, rest) q.2 in
       let o = bind_some _ _ (x, rest) p.2 in
@@ -40,18 +39,17 @@ module _ (most : ℕ) where
       let last = bind_some _ _ (x, rest) end.2 in
       let form : ObjectForm = record { name = bytes; parts = p.0.0; paths = q.0.0; operations = o.0.0 } in
       let same = read_is (form, last.0) (x, rest) last.2 in
-      let room = provided_is (nat_le (length names) 32) bytes few.0 few.1 in
       let closing : o.0.1 ≡ symbol symbols.End ∷ symbol symbols.Semicolon ∷ last.0 = symbol_found symbols.End o.0.1 end.0 end.1 ∙ ap (λ r. symbol symbols.End ∷ r) (symbol_found symbols.Semicolon end.0 last.0 last.1) in
       let operations = (entries_exact most c.0.0 p.0.0 32 []).found p.0.1 o.0.0 o.0.1 o.1 in
       record {
         is = along IsObject _ _ x form rest last.0 refl same.0 same.1
-            (object (at_most (length names) 32 room.0) ((constants_exact most 16 []).found ws c.0.0 c.0.1 c.1) ((paths_exact c.0.0 names most 16 []).found c.0.1 q.0.0 q.0.1 q.1) ((parts_exact most c.0.0 16 []).found q.0.1 p.0.0 p.0.1 p.1)
+            (object ((constants_exact most 16 []).found ws c.0.0 c.0.1 c.1) ((paths_exact c.0.0 names most 16 []).found c.0.1 q.0.0 q.0.1 q.1) ((parts_exact most c.0.0 16 []).found q.0.1 p.0.0 p.0.1 p.1)
             (subst (λ r. IsSeries (IsEntry c.0.0 p.0.0) (begins symbols.Entry) 32 [] p.0.1 o.0.0 r) closing operations));
         named = ap (λ (o : ObjectForm). o.name) (sym same.0);
       }
 
   object_shorter : (ws : List Lexeme) (x : ObjectForm) (rest : List Lexeme) → IsObject ws x rest → length rest ≤ length ws
-  object_shorter ws x rest (object {constants = constants} {paths = paths} {parts = parts} {operations = operations} {ws = inside} {us = us} {vs = vs} {ys = ys} few cs qs ps os) =
+  object_shorter ws x rest (object {constants = constants} {paths = paths} {parts = parts} {operations = operations} {ws = inside} {us = us} {vs = vs} {ys = ys} cs qs ps os) =
       let a = (constants_exact most 16 []).shorter inside constants us cs in
       let b = (paths_exact constants (entry_names openings.Nothing inside) most 16 []).shorter us paths vs qs in
       let c = (parts_exact most constants 16 []).shorter vs parts ys ps in
@@ -60,11 +58,11 @@ module _ (most : ℕ) where
 
   contents_read : (bytes : List ℕ) (ws : List Lexeme) (x : ObjectForm) (rest : List Lexeme) → length ws < most → IsObject (symbol symbols.Object ∷ identifier bytes ∷ symbol symbols.Semicolon ∷ ws) x rest → contents_in most bytes ws ≡ Some (x, rest)
   unfolding contents_in
-  contents_read bytes ws x rest long (object {constants = constants} {paths = paths} {parts = parts} {operations = operations} {us = us} {vs = vs} {ys = ys} few cs qs ps os) =
+  contents_read bytes ws x rest long (object {constants = constants} {paths = paths} {parts = parts} {operations = operations} {us = us} {vs = vs} {ys = ys} cs qs ps os) =
       let a = (constants_exact most 16 []).shorter ws constants us cs in
       let b = (paths_exact constants (entry_names openings.Nothing ws) most 16 []).shorter us paths vs qs in
       let c = (parts_exact most constants 16 []).shorter vs parts ys ps in
-      rw (is_at_most (length (entry_names openings.Nothing ws)) 32 few, (constants_exact most 16 []).read ws constants us long cs, (paths_exact constants (entry_names openings.Nothing ws) most 16 []).read us paths vs (omega arith) qs, (parts_exact most constants 16 []).read vs parts ys (omega arith) ps, (entries_exact most constants parts 32 []).read ys operations (symbol symbols.End ∷ symbol symbols.Semicolon ∷ rest) (omega arith) os) refl
+      rw ((constants_exact most 16 []).read ws constants us long cs, (paths_exact constants (entry_names openings.Nothing ws) most 16 []).read us paths vs (omega arith) qs, (parts_exact most constants 16 []).read vs parts ys (omega arith) ps, (entries_exact most constants parts 32 []).read ys operations (symbol symbols.End ∷ symbol symbols.Semicolon ∷ rest) (omega arith) os) refl
 
   next_found : (before : List ObjectForm) (ws : List Lexeme) (x : List ObjectForm) (rest : List Lexeme) → next_object_in most before ws ≡ Some (x, rest) → IsNextObject before ws x rest
   unfolding next_object_in
@@ -88,8 +86,8 @@ module _ (most : ℕ) where
   read_inside before bytes ws o rest free read = rw (free, read) refl
 
   read_object : (before : List ObjectForm) (ws : List Lexeme) (o : ObjectForm) (rest : List Lexeme) → length ws < most → IsObject ws o rest → is_among (map (λ (o : ObjectForm). o.name) before) o.name ≡ false → next_object_in most before ws ≡ Some (before ++ o ∷ [], rest)
-  read_object before ws o rest long (object {bytes = bytes} {ws = us} few cs qs ps os) free =
-      read_inside before bytes us o rest free (contents_read bytes us o rest (omega arith) (object few cs qs ps os))
+  read_object before ws o rest long (object {bytes = bytes} {ws = us} cs qs ps os) free =
+      read_inside before bytes us o rest free (contents_read bytes us o rest (omega arith) (object cs qs ps os))
 
   next_read : (before : List ObjectForm) (ws : List Lexeme) (x : List ObjectForm) (rest : List Lexeme) → length ws < most → IsNextObject before ws x rest → next_object_in most before ws ≡ Some (x, rest)
   next_read before ws x rest long (next_object {o = o} is free) = read_object before ws o rest long is free

@@ -22,6 +22,7 @@ pub mod StatementsFound
 pub mod Refusals
 pub mod Limits
 pub mod KnownParts
+pub mod NameCounts
 pub mod Files
 pub mod Sources
 pub mod SkippedTexts

@@ -1,7 +1,7 @@
 -- The names that the paths of an object may use are those of its operations.
-use Rattle.std.proofs.Common.{◌≡◌, ℕ, suc, ◌≤◌, Bool, true, List, [], ◌∷◌, ◌++◌, Option, Some, None, refl, sym, ap, subst, ◌∙◌, append_assoc, append-nil, length, arith}
+use Rattle.std.proofs.Common.{◌≡◌, ℕ, suc, Bool, true, List, [], ◌∷◌, ◌++◌, Option, Some, None, refl, sym, ap, subst, ◌∙◌, append_assoc, append-nil}
 use Rattle.std.specs.Prelude.{◌↔◌, is_some}
-use Rattle.std.proofs.lemmas.List.{map-append, length-append, length-map}
+use Rattle.std.proofs.lemmas.List.{map-append}
 use Rattle.path_tree.specs.declared.token.Symbol.TheVariants as symbols
 use Rattle.path_tree.specs.Path.{Path}
 use Rattle.path_tree.specs.Lexeme.{Lexeme, symbol, end_mark}
@@ -43,15 +43,6 @@ series_keeps : {S : Type 0} (P : S → Type 0) (IsItem : S → List Lexeme → S
 series_keeps P IsItem begins keeps left s ws t rest (no_more is) p = p
 series_keeps P IsItem begins keeps (suc left) s ws t rest (and_another {t = u} {vs = vs} is one others) p = series_keeps P IsItem begins keeps left u vs t rest others (keeps s ws u vs one p)
 
--- an entry keeps that there are no more operations than are allowed
-entry_few : (constants : List (List ℕ × ℕ)) (parts : List (List ℕ × Kind)) (before : List OperationForm) (ws : List Lexeme) (after : List OperationForm) (rest : List Lexeme) → IsEntry constants parts before ws after rest → length before ≤ 32 → length after ≤ 32
-entry_few constants parts before ws after rest (a_procedure {own = own} {params = params} {all = all} unknown new room given body) few =
-    let lengths = length-append before (operation_with parts own params None all ∷ []) in
-    omega arith
-entry_few constants parts before ws after rest (a_function {own = own} {params = params} {all = all} {e = e} unknown new room given sort body) few =
-    let lengths = length-append before (operation_with parts own params (Some e) all ∷ []) in
-    omega arith
-
 -- In an object behind which no entry is found, those that are found are its operations, whatever names its paths may use.
 names_same : (constants : List (List ℕ × ℕ)) (names : List (List ℕ)) (paths : List Path) (parts : List (List ℕ × Kind)) (operations : List OperationForm) (ws us vs ys rest : List Lexeme) →
     IsSeries IsConsts (begins symbols.Const) 16 [] ws constants us → IsSeries (IsPathItem constants names) (begins symbols.Path) 16 [] us paths vs → IsSeries (IsVar constants) (begins symbols.Var) 16 [] vs parts ys →
@@ -64,17 +55,14 @@ names_same constants names paths parts operations ws us vs ys rest cs qs ps os n
     ∙ ap (λ xs. operation_names operations ++ xs) none ∙ append-nil (operation_names operations)
 
 object_to : (ws : List Lexeme) (o : ObjectForm) (rest : List Lexeme) → IsObject ws o rest → names_in rest ≡ [] → IsObjectByOperations ws o rest
-object_to ws o rest (object {constants = constants} {paths = paths} {parts = parts} {operations = operations} {ws = ts} {us = us} {vs = vs} {ys = ys} few cs qs ps os) none =
+object_to ws o rest (object {constants = constants} {paths = paths} {parts = parts} {operations = operations} {ws = ts} {us = us} {vs = vs} {ys = ys} cs qs ps os) none =
     let same = names_same constants (names_in ts) paths parts operations ts us vs ys rest cs qs ps os none in
     object_by cs (subst (λ names. IsSeries (IsPathItem constants names) (begins symbols.Path) 16 [] us paths vs) same qs) ps os
 
 object_from : (ws : List Lexeme) (o : ObjectForm) (rest : List Lexeme) → IsObjectByOperations ws o rest → names_in rest ≡ [] → IsObject ws o rest
 object_from ws o rest (object_by {constants = constants} {paths = paths} {parts = parts} {operations = operations} {ws = ts} {us = us} {vs = vs} {ys = ys} cs qs ps os) none =
     let same = names_same constants (operation_names operations) paths parts operations ts us vs ys rest cs qs ps os none in
-    let most = series_keeps (λ (xs : List OperationForm). length xs ≤ 32) (IsEntry constants parts) (begins symbols.Entry) (entry_few constants parts) 32 [] ys operations (symbol symbols.End ∷ symbol symbols.Semicolon ∷ rest) os (omega arith) in
-    let lengths = length-map operations (λ (p : OperationForm). p.name) in
-    let few : length (names_in ts) ≤ 32 = subst (λ names. length names ≤ 32) (sym same) (omega arith) in
-    object few cs (subst (λ names. IsSeries (IsPathItem constants names) (begins symbols.Path) 16 [] us paths vs) (sym same) qs) ps os
+    object cs (subst (λ names. IsSeries (IsPathItem constants names) (begins symbols.Path) 16 [] us paths vs) (sym same) qs) ps os
 
 next_to : (before : List ObjectForm) (ws : List Lexeme) (after : List ObjectForm) (rest : List Lexeme) → IsNextObject before ws after rest → names_in rest ≡ [] → IsNextByOperations before ws after rest
 next_to before ws after rest (next_object {o = o} is new) none = next_by (object_to ws o rest is none) new

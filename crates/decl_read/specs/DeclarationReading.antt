@@ -228,7 +228,6 @@ entry_in most constants parts before ws = do
 -- an object behind its name and the semicolon
 unfoldable pub contents_in : ℕ → List ℕ → Reader ObjectForm
 contents_in most bytes ws = do
-  few ← provided (nat_le (length (entry_names openings.Nothing ws)) 32) bytes
   c ← series_at consts_in (begins symbols.Const) 16 [] ws
   q ← series_at (path_item_in c.0 (entry_names openings.Nothing ws)) (begins symbols.Path) 16 [] c.1
   p ← series_at (var_in c.0) (begins symbols.Var) 16 [] q.1

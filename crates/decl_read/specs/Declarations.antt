@@ -191,7 +191,6 @@ entry_names opening (w ∷ ws) = if is_object_word w then [] else name_behind op
 -- object = "object" name ";" { consts } { path ";" } { parts } { entry } "end" ";"
 pub data IsObject : List Lexeme → ObjectForm → List Lexeme → Type 0 where
   object : {bytes : List ℕ} {constants : List (List ℕ × ℕ)} {paths : List Path} {parts : List (List ℕ × Kind)} {operations : List OperationForm} {ws us vs ys rest : List Lexeme} →
-      length (entry_names openings.Nothing ws) ≤ 32 →
       IsSeries IsConsts (begins symbols.Const) 16 [] ws constants us →
       IsSeries (IsPathItem constants (entry_names openings.Nothing ws)) (begins symbols.Path) 16 [] us paths vs →
       IsSeries (IsVar constants) (begins symbols.Var) 16 [] vs parts ys →

@@ -13,10 +13,9 @@ ghost use Rattle.decl_core.specs.ObjectMap.{objects_of};
 use crate::catalog::Catalog;
 use crate::collect::operation_names;
 use crate::constants::constants;
-use crate::entry::{MOST_OPERATIONS, entries};
+use crate::entry::entries;
 use crate::front::{after, behind, name, start_of};
 use crate::group::begins;
-use crate::many_operations::fault_of_many;
 use crate::parts::parts;
 use crate::paths::paths;
 use crate::terms::Read;
@@ -36,9 +35,6 @@ fn contents<'t>(alloc: Global, own: &Name, tokens: &'t [Token]) -> Read<'t, Obje
     ensures { Gives object_read result (contents_in 131072 own.now (lexemes tokens.now)) }
 {
     let names = operation_names(alloc, tokens)?;
-    if names.len() > MOST_OPERATIONS {
-        return Err(fault_of_many(alloc, &names, tokens));
-    }
     let (constants, rest) = constants(alloc, Vec::new(alloc), 16, tokens)?;
     let (paths, rest) = paths(alloc, &constants, &names, Vec::new(alloc), 16, rest)?;
     let (parts, rest) = parts(alloc, &constants, Vec::new(alloc), 16, rest)?;

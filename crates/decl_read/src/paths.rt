@@ -48,7 +48,7 @@ pub(crate) fn path<'t>(
     names: &[Name],
     tokens: &'t [Token],
 ) -> Read<'t, PathTree>
-    requires few { length names.now ≤ 32 }
+    requires few { length names.now ≤ 65535 }
     requires bounded { length tokens.now ≤ 65537 }
     ensures { Gives path_read result (read_path (known_with constants.now names.now) (length tokens.now + 1) (lexemes tokens.now)) }
 {
@@ -73,7 +73,7 @@ fn path_item<'t>(
     so_far: Vec<PathTree>,
     tokens: &'t [Token],
 ) -> Read<'t, Vec<PathTree>>
-    requires few { length names.now ≤ 32 }
+    requires few { length names.now ≤ 65535 }
     requires bounded { length tokens.now ≤ 65537 }
     ensures { Gives paths_read result (path_item_in (constants_of constants.now) names.now so_far.items (lexemes tokens.now)) }
 {
@@ -96,7 +96,7 @@ pub(crate) fn paths<'t>(
     left: u8,
     tokens: &'t [Token],
 ) -> Read<'t, Vec<PathTree>>
-    requires few { length names.now ≤ 32 }
+    requires few { length names.now ≤ 65535 }
     requires bounded { length tokens.now ≤ 65537 }
     ensures { Gives paths_read result (series_at (path_item_in (constants_of constants.now) names.now) (begins_with Path) left so_far.items (lexemes tokens.now)) }
 {

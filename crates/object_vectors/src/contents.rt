@@ -8,6 +8,7 @@ use decl_read::read::read_objects;
 use line_core::reply::push_number;
 use path_count::counters::{Counters, compile};
 use path_tree::name::Name;
+use path_tree::node::OpId;
 use std::alloc::{AllocError, Global};
 use std::process::Abort;
 use value_core::kind::{Elem, Kind};
@@ -244,7 +245,7 @@ fn objects_have_what_stands_in_them(rt: HostRuntime) {
 
 // Makes the call that a letter and a sign name: `+` is a start that is taken, `!` one that is not, `-` a finish.
 fn call(rt: &impl Abort, counters: &mut Counters, letter: u8, sign: u8) {
-    let op = letter.wrapping_sub(b'a');
+    let op = OpId::from(letter.wrapping_sub(b'a'));
     let is_right = match sign {
         b'+' => counters.start(op),
         b'!' => !counters.start(op),

@@ -1,6 +1,6 @@
 -- What is spelled so is read.
-use Rattle.std.proofs.Common.{◌≡◌, ℕ, ◌-◌, ◌^◌, ◌<◌, ◌≤◌, false, List, [], ◌∷◌, ◌++◌, length, Some, None, refl, ◌∙◌, append_assoc, arith}
-use Rattle.std.specs.Prelude.{unwrap_or, bit_or}
+use Rattle.std.proofs.Common.{◌≡◌, ℕ, ◌-◌, ◌<◌, ◌≤◌, false, List, [], ◌∷◌, ◌++◌, length, Some, None, refl, ◌∙◌, append_assoc, arith}
+use Rattle.std.specs.Prelude.{unwrap_or}
 use Rattle.std.proofs.lemmas.Bool.{le-leb}
 use Rattle.std.proofs.lemmas.List.{length-append}
 use Rattle.path_tree.specs.declared.token.Symbol.{Symbol}
@@ -28,36 +28,36 @@ pub record EndsList (rest : List Lexeme) : Type 0 where
   pub no_comma : symbol_at Comma rest ≡ None
 
 -- one member, and no separator behind it
-parts_end : (separator : Symbol) (member : Reader Path) (left seen : ℕ) (ws : List Lexeme) (e : Path) (after : ℕ) (rest : List Lexeme) → 0 < left → member seen ws ≡ Some (e, after, rest) → symbol_at separator rest ≡ None →
+parts_end : (separator : Symbol) (member : Reader Path) (left : ℕ) (seen : List ℕ) (ws : List Lexeme) (e : Path) (after : List ℕ) (rest : List Lexeme) → 0 < left → member seen ws ≡ Some (e, after, rest) → symbol_at separator rest ≡ None →
     parts_at separator member left seen ws ≡ Some (one e, after, rest)
 unfolding with_others
 parts_end separator member left seen ws e after rest lt h k = rw (parts_step separator member left seen ws lt, h, k) refl
 
 -- one member, a separator and others
-parts_more : (separator : Symbol) (member : Reader Path) (left seen : ℕ) (ws : List Lexeme) (e : Path) (after : ℕ) (behind others : List Lexeme) (p : SomePaths) (last : ℕ) (rest : List Lexeme) →
+parts_more : (separator : Symbol) (member : Reader Path) (left : ℕ) (seen : List ℕ) (ws : List Lexeme) (e : Path) (after : List ℕ) (behind others : List Lexeme) (p : SomePaths) (last : List ℕ) (rest : List Lexeme) →
     0 < left → member seen ws ≡ Some (e, after, behind) → symbol_at separator behind ≡ Some others → parts_at separator member (left - 1) after others ≡ Some (p, last, rest) →
     parts_at separator member left seen ws ≡ Some (several (put e p), last, rest)
 unfolding with_others
 parts_more separator member left seen ws e after behind others p last rest lt h k m = rw (parts_step separator member left seen ws lt, h, k, m) refl
 
-in_sequence : (item : Reader Path) (most seen : ℕ) (ws : List Lexeme) (p : SomePaths) (after : ℕ) (rest : List Lexeme) → parts_at Semicolon item most seen ws ≡ Some (p, after, rest) → sequence_in item most seen ws ≡ Some (as_sequence p, after, rest)
+in_sequence : (item : Reader Path) (most : ℕ) (seen : List ℕ) (ws : List Lexeme) (p : SomePaths) (after : List ℕ) (rest : List Lexeme) → parts_at Semicolon item most seen ws ≡ Some (p, after, rest) → sequence_in item most seen ws ≡ Some (as_sequence p, after, rest)
 unfolding sequence_in
 in_sequence item most seen ws p after rest h = rw h refl
 
-pub in_list : (item : Reader Path) (most seen : ℕ) (ws : List Lexeme) (p : SomePaths) (after : ℕ) (rest : List Lexeme) → parts_at Comma (sequence_in item most) most seen ws ≡ Some (p, after, rest) → list_in item most seen ws ≡ Some (as_list p, after, rest)
+pub in_list : (item : Reader Path) (most : ℕ) (seen : List ℕ) (ws : List Lexeme) (p : SomePaths) (after : List ℕ) (rest : List Lexeme) → parts_at Comma (sequence_in item most) most seen ws ≡ Some (p, after, rest) → list_in item most seen ws ≡ Some (as_list p, after, rest)
 unfolding list_in
 in_list item most seen ws p after rest h = rw h refl
 
-name_again : (known : Known) (nested : Reader Path) (seen op : ℕ) (bytes : List ℕ) (rest : List Lexeme) → place_of known.operations bytes ≡ Some op → was_seen seen op ≡ false → symbol_at Colon rest ≡ None →
-    item_in known nested seen (identifier bytes ∷ rest) ≡ Some (name op, bit_or seen (2 ^ op), rest)
+name_again : (known : Known) (nested : Reader Path) (seen : List ℕ) (op : ℕ) (bytes : List ℕ) (rest : List Lexeme) → place_of known.operations bytes ≡ Some op → was_seen seen op ≡ false → symbol_at Colon rest ≡ None →
+    item_in known nested seen (identifier bytes ∷ rest) ≡ Some (name op, seen ++ op ∷ [], rest)
 unfolding item_in named_in name_at
 name_again known nested seen op bytes rest known_name new ends = rw (ends, known_name, new) refl
 
-group_again : (nested : Reader Path) (seen : ℕ) (ws : List Lexeme) (e : Path) (after : ℕ) (rest : List Lexeme) → nested seen ws ≡ Some (e, after, symbol CloseParen ∷ rest) → group_in nested seen ws ≡ Some (e, after, rest)
+group_again : (nested : Reader Path) (seen : List ℕ) (ws : List Lexeme) (e : Path) (after : List ℕ) (rest : List Lexeme) → nested seen ws ≡ Some (e, after, symbol CloseParen ∷ rest) → group_in nested seen ws ≡ Some (e, after, rest)
 unfolding group_in
 group_again nested seen ws e after rest h = rw h refl
 
-burst_again : (nested : Reader Path) (seen : ℕ) (ws : List Lexeme) (e : Path) (after : ℕ) (rest : List Lexeme) → nested seen ws ≡ Some (e, after, symbol CloseBracket ∷ rest) → burst_in nested seen ws ≡ Some (burst e, after, rest)
+burst_again : (nested : Reader Path) (seen : List ℕ) (ws : List Lexeme) (e : Path) (after : List ℕ) (rest : List Lexeme) → nested seen ws ≡ Some (e, after, symbol CloseBracket ∷ rest) → burst_in nested seen ws ≡ Some (burst e, after, rest)
 unfolding burst_in
 burst_again nested seen ws e after rest h = rw h refl
 
@@ -65,7 +65,7 @@ limit_again : (n : ℕ) → 1 ≤ n → n ≤ 65535 → limit_of n ≡ Some n
 unfolding limit_of
 limit_again n low high = rw (le-leb 1 n low, le-leb n 65535 high) refl
 
-limited_again : (known : Known) (nested : Reader Path) (n : Limit) (value seen : ℕ) (ws : List Lexeme) (e : Path) (after : ℕ) (rest : List Lexeme) → limit_value known n ≡ Some value → 1 ≤ value → value ≤ 65535 →
+limited_again : (known : Known) (nested : Reader Path) (n : Limit) (value : ℕ) (seen : List ℕ) (ws : List Lexeme) (e : Path) (after : List ℕ) (rest : List Lexeme) → limit_value known n ≡ Some value → 1 ≤ value → value ≤ 65535 →
     nested seen ws ≡ Some (e, after, symbol CloseParen ∷ rest) → item_in known nested seen (limit_lexeme n ∷ symbol Colon ∷ symbol OpenParen ∷ ws) ≡ Some (bound value e, after, rest)
 unfolding item_in named_in bounded_in
 limited_again known nested (a_number n) value seen ws e after rest is low high h =
@@ -74,18 +74,18 @@ limited_again known nested (a_number n) value seen ws e after rest is low high h
 limited_again known nested (a_constant bytes) value seen ws e after rest is low high h =
     rw (is, limit_again value low high, group_again nested seen ws e after rest h) refl
 
-burst_step : (known : Known) (nested : Reader Path) (seen : ℕ) (ws : List Lexeme) → item_in known nested seen (symbol OpenBracket ∷ ws) ≡ burst_in nested seen ws
+burst_step : (known : Known) (nested : Reader Path) (seen : List ℕ) (ws : List Lexeme) → item_in known nested seen (symbol OpenBracket ∷ ws) ≡ burst_in nested seen ws
 unfolding item_in opened_in
 burst_step known nested seen ws = refl
 
-group_step : (known : Known) (nested : Reader Path) (seen : ℕ) (ws : List Lexeme) → item_in known nested seen (symbol OpenParen ∷ ws) ≡ group_in nested seen ws
+group_step : (known : Known) (nested : Reader Path) (seen : List ℕ) (ws : List Lexeme) → item_in known nested seen (symbol OpenParen ∷ ws) ≡ group_in nested seen ws
 unfolding item_in opened_in
 group_step known nested seen ws = refl
 
 regrouped : (a : List Lexeme) (s : Lexeme) (b rest : List Lexeme) → (a ++ s ∷ b) ++ rest ≡ a ++ (s ∷ (b ++ rest))
 regrouped a s b rest = append_assoc a (s ∷ b) rest
 
-nested_from : (known : Known) (most depth seen : ℕ) (l : ListText) (rest : List Lexeme) → 0 < depth →
+nested_from : (known : Known) (most depth : ℕ) (seen : List ℕ) (l : ListText) (rest : List Lexeme) → 0 < depth →
     parts_at Comma (sequence_in (item_in known (nested_at known most (depth - 1))) most) most seen (list_lexemes l ++ rest) ≡ Some (list_parts known l, seen_after_parts (list_parts known l) seen, rest) →
     nested_at known most depth seen (list_lexemes l ++ rest) ≡ Some (list_tree known l, seen_after (list_tree known l) seen, rest)
 nested_from known most depth seen l rest deep r =
@@ -94,7 +94,7 @@ nested_from known most depth seen l rest deep r =
     rw (nested_step known most depth seen (list_lexemes l ++ rest) deep, list_seen p seen) (in_list item most seen (list_lexemes l ++ rest) p (seen_after_parts p seen) rest r)
 
 mutual
-  pub list_again : (known : Known) (most depth left seen : ℕ) (l : ListText) (rest : List Lexeme) → ListFits known l depth → PartsNew (list_parts known l) seen → length (list_lexemes l) < left → left ≤ most → EndsList rest →
+  pub list_again : (known : Known) (most depth left : ℕ) (seen : List ℕ) (l : ListText) (rest : List Lexeme) → ListFits known l depth → PartsNew (list_parts known l) seen → length (list_lexemes l) < left → left ≤ most → EndsList rest →
       parts_at Comma (sequence_in (item_in known (nested_at known most depth)) most) left seen (list_lexemes l ++ rest) ≡ Some (list_parts known l, seen_after_parts (list_parts known l) seen, rest)
   list_again known most depth left seen (last_seq s) rest fits new short within ends =
       let item : Reader Path = item_in known (nested_at known most depth) in
@@ -116,7 +116,7 @@ mutual
       rw (regrouped (seq_lexemes s) (symbol Comma) (list_lexemes l) rest, put_seen e q seen)
       (parts_more Comma (sequence_in item most) left seen (seq_lexemes s ++ behind) e (seen_after e seen) behind (list_lexemes l ++ rest) q (seen_after_parts q (seen_after e seen)) rest (omega arith) r' refl others)
 
-  pub seq_again : (known : Known) (most depth left seen : ℕ) (s : SeqText) (rest : List Lexeme) → SeqFits known s depth → PartsNew (seq_parts known s) seen → length (seq_lexemes s) < left → left ≤ most → EndsSeq rest →
+  pub seq_again : (known : Known) (most depth left : ℕ) (seen : List ℕ) (s : SeqText) (rest : List Lexeme) → SeqFits known s depth → PartsNew (seq_parts known s) seen → length (seq_lexemes s) < left → left ≤ most → EndsSeq rest →
       parts_at Semicolon (item_in known (nested_at known most depth)) left seen (seq_lexemes s ++ rest) ≡ Some (seq_parts known s, seen_after_parts (seq_parts known s) seen, rest)
   seq_again known most depth left seen (last_item i) rest fits new short within ends =
       let item : Reader Path = item_in known (nested_at known most depth) in
@@ -135,7 +135,7 @@ mutual
       rw (regrouped (item_lexemes i) (symbol Semicolon) (seq_lexemes s) rest, put_seen e q seen)
       (parts_more Semicolon item left seen (item_lexemes i ++ behind) e (seen_after e seen) behind (seq_lexemes s ++ rest) q (seen_after_parts q (seen_after e seen)) rest (omega arith) r refl others)
 
-  pub item_again : (known : Known) (most depth seen : ℕ) (i : ItemText) (rest : List Lexeme) → ItemFits known i depth → IsNew (item_tree known i) seen → length (item_lexemes i) < most → EndsItem rest →
+  pub item_again : (known : Known) (most depth : ℕ) (seen : List ℕ) (i : ItemText) (rest : List Lexeme) → ItemFits known i depth → IsNew (item_tree known i) seen → length (item_lexemes i) < most → EndsItem rest →
       item_in known (nested_at known most depth) seen (item_lexemes i ++ rest) ≡ Some (item_tree known i, seen_after (item_tree known i) seen, rest)
   item_again known most depth seen (operation bytes) rest fits new short ends =
       let op : ℕ = fits.0 in

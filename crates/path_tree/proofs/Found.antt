@@ -1,6 +1,6 @@
 -- What is read is spelled so.
-use Rattle.std.proofs.Common.{◌≡◌, ℕ, zero, suc, ◌-◌, ◌^◌, ◌<◌, ◌≤◌, Bool, true, false, cond, List, [], ◌∷◌, ◌++◌, Option, Some, None, refl, sym, ap, subst, ◌∙◌, append_assoc, arith, inl, inr, ◌⊎◌}
-use Rattle.std.specs.Prelude.{unwrap_or, nat_le, ◌&&◌, bit_or}
+use Rattle.std.proofs.Common.{◌≡◌, ℕ, zero, suc, ◌-◌, ◌<◌, ◌≤◌, Bool, true, false, cond, List, [], ◌∷◌, ◌++◌, Option, Some, None, refl, sym, ap, subst, ◌∙◌, append_assoc, arith, inl, inr, ◌⊎◌}
+use Rattle.std.specs.Prelude.{unwrap_or, nat_le, ◌&&◌}
 use Rattle.std.proofs.lemmas.Bool.{leb-true}
 use Rattle.path_tree.specs.Lexeme.{same_symbol, Lexeme, symbol, number, identifier, string, end_mark}
 use Rattle.path_tree.specs.declared.token.Symbol.{Symbol}
@@ -18,15 +18,15 @@ bind_some (Some x) f y e = (x, refl, e)
 bind_some None f y e = absurd cc
 
 -- the parts of what was read
-pub record Same3 {A : Type 0} (x : A × ℕ × List Lexeme) (e : A) (after : ℕ) (rest : List Lexeme) : Type 0 where
+pub record Same3 {A : Type 0} (x : A × List ℕ × List Lexeme) (e : A) (after : List ℕ) (rest : List Lexeme) : Type 0 where
   pub first : x.0 ≡ e
   pub second : x.1 ≡ after
   pub third : x.2 ≡ rest
 
-pub same3 : {A : Type 0} (x : A × ℕ × List Lexeme) (e : A) (after : ℕ) (rest : List Lexeme) → Some x ≡ Some (e, after, rest) → Same3 x e after rest
+pub same3 : {A : Type 0} (x : A × List ℕ × List Lexeme) (e : A) (after : List ℕ) (rest : List Lexeme) → Some x ≡ Some (e, after, rest) → Same3 x e after rest
 same3 x e after rest h = let k : x ≡ (e, after, rest) = cc in record { first = ap (λ y. y.0) k; second = ap (λ y. y.1) k; third = ap (λ y. y.2) k }
 
-some3 : {A : Type 0} (x : A × ℕ × List Lexeme) (e : A) (after : ℕ) (rest : List Lexeme) → x.0 ≡ e → x.1 ≡ after → x.2 ≡ rest → Some x ≡ Some (e, after, rest)
+some3 : {A : Type 0} (x : A × List ℕ × List Lexeme) (e : A) (after : List ℕ) (rest : List Lexeme) → x.0 ≡ e → x.1 ≡ after → x.2 ≡ rest → Some x ≡ Some (e, after, rest)
 some3 (a, b, c) e after rest p q r = cc
 
 chosen : (b : Bool) (x y : Symbol) (ws rest : List Lexeme) → (b ≡ true → x ≡ y) → cond b (Some ws) None ≡ Some rest → (x ≡ y) × (ws ≡ rest)
@@ -41,7 +41,7 @@ symbol_found s (identifier bytes ∷ ws) rest h = absurd cc
 symbol_found s (string bytes ∷ ws) rest h = absurd cc
 symbol_found s (end_mark ∷ ws) rest h = absurd cc
 
-pub record NestedRead (known : Known) (depth seen : ℕ) (ws : List Lexeme) (e : Path) (after : ℕ) (rest : List Lexeme) : Type 0 where
+pub record NestedRead (known : Known) (depth : ℕ) (seen : List ℕ) (ws : List Lexeme) (e : Path) (after : List ℕ) (rest : List Lexeme) : Type 0 where
   pub spelt : ListText
   pub stands : ws ≡ list_lexemes spelt ++ rest
   pub deep : 0 < depth
@@ -50,7 +50,7 @@ pub record NestedRead (known : Known) (depth seen : ℕ) (ws : List Lexeme) (e :
   pub new : IsNew e seen
   pub counted : after ≡ seen_after e seen
 
-pub record ItemRead (known : Known) (depth seen : ℕ) (ws : List Lexeme) (e : Path) (after : ℕ) (rest : List Lexeme) : Type 0 where
+pub record ItemRead (known : Known) (depth : ℕ) (seen : List ℕ) (ws : List Lexeme) (e : Path) (after : List ℕ) (rest : List Lexeme) : Type 0 where
   pub spelt : ItemText
   pub stands : ws ≡ item_lexemes spelt ++ rest
   pub fits : ItemFits known spelt depth
@@ -58,7 +58,7 @@ pub record ItemRead (known : Known) (depth seen : ℕ) (ws : List Lexeme) (e : P
   pub new : IsNew e seen
   pub counted : after ≡ seen_after e seen
 
-pub record SeqRead (known : Known) (depth seen : ℕ) (ws : List Lexeme) (p : SomePaths) (after : ℕ) (rest : List Lexeme) : Type 0 where
+pub record SeqRead (known : Known) (depth : ℕ) (seen : List ℕ) (ws : List Lexeme) (p : SomePaths) (after : List ℕ) (rest : List Lexeme) : Type 0 where
   pub spelt : SeqText
   pub stands : ws ≡ seq_lexemes spelt ++ rest
   pub fits : SeqFits known spelt depth
@@ -66,7 +66,7 @@ pub record SeqRead (known : Known) (depth seen : ℕ) (ws : List Lexeme) (p : So
   pub new : PartsNew p seen
   pub counted : after ≡ seen_after_parts p seen
 
-pub record ListRead (known : Known) (depth seen : ℕ) (ws : List Lexeme) (p : SomePaths) (after : ℕ) (rest : List Lexeme) : Type 0 where
+pub record ListRead (known : Known) (depth : ℕ) (seen : List ℕ) (ws : List Lexeme) (p : SomePaths) (after : List ℕ) (rest : List Lexeme) : Type 0 where
   pub spelt : ListText
   pub stands : ws ≡ list_lexemes spelt ++ rest
   pub fits : ListFits known spelt depth
@@ -75,15 +75,15 @@ pub record ListRead (known : Known) (depth seen : ℕ) (ws : List Lexeme) (p : S
   pub counted : after ≡ seen_after_parts p seen
 
 abbrev pub NestedFinds : Known → ℕ → Reader Path → Type 0
-NestedFinds known depth nested = (seen : ℕ) (ws : List Lexeme) (e : Path) (after : ℕ) (rest : List Lexeme) → nested seen ws ≡ Some (e, after, rest) → NestedRead known depth seen ws e after rest
+NestedFinds known depth nested = (seen : List ℕ) (ws : List Lexeme) (e : Path) (after : List ℕ) (rest : List Lexeme) → nested seen ws ≡ Some (e, after, rest) → NestedRead known depth seen ws e after rest
 
 abbrev pub ItemFinds : Known → ℕ → Reader Path → Type 0
-ItemFinds known depth item = (seen : ℕ) (ws : List Lexeme) (e : Path) (after : ℕ) (rest : List Lexeme) → item seen ws ≡ Some (e, after, rest) → ItemRead known depth seen ws e after rest
+ItemFinds known depth item = (seen : List ℕ) (ws : List Lexeme) (e : Path) (after : List ℕ) (rest : List Lexeme) → item seen ws ≡ Some (e, after, rest) → ItemRead known depth seen ws e after rest
 
 closed : (a : List Lexeme) (s : Lexeme) (rest : List Lexeme) → a ++ (s ∷ rest) ≡ (a ++ s ∷ []) ++ rest
 closed a s rest = sym (append_assoc a (s ∷ []) rest)
 
-group_found : (known : Known) (depth : ℕ) (nested : Reader Path) → NestedFinds known depth nested → (seen : ℕ) (ws : List Lexeme) (e : Path) (after : ℕ) (rest : List Lexeme) → group_in nested seen ws ≡ Some (e, after, rest) →
+group_found : (known : Known) (depth : ℕ) (nested : Reader Path) → NestedFinds known depth nested → (seen : List ℕ) (ws : List Lexeme) (e : Path) (after : List ℕ) (rest : List Lexeme) → group_in nested seen ws ≡ Some (e, after, rest) →
     NestedRead known depth seen ws e after (symbol CloseParen ∷ rest)
 unfolding group_in
 group_found known depth nested finds seen ws e after rest h =
@@ -93,7 +93,7 @@ group_found known depth nested finds seen ws e after rest h =
     let behind : a.0.2 ≡ symbol CloseParen ∷ rest = symbol_found CloseParen a.0.2 b.0 b.1 ∙ ap (λ r. symbol CloseParen ∷ r) k.third in
     finds seen ws e after (symbol CloseParen ∷ rest) (a.1 ∙ some3 a.0 e after (symbol CloseParen ∷ rest) k.first k.second behind)
 
-item_burst : (known : Known) (depth : ℕ) (nested : Reader Path) → NestedFinds known depth nested → (seen : ℕ) (ws : List Lexeme) (e : Path) (after : ℕ) (rest : List Lexeme) → burst_in nested seen ws ≡ Some (e, after, rest) →
+item_burst : (known : Known) (depth : ℕ) (nested : Reader Path) → NestedFinds known depth nested → (seen : List ℕ) (ws : List Lexeme) (e : Path) (after : List ℕ) (rest : List Lexeme) → burst_in nested seen ws ≡ Some (e, after, rest) →
     ItemRead known depth seen (symbol OpenBracket ∷ ws) e after rest
 unfolding burst_in
 item_burst known depth nested finds seen ws e after rest h =
@@ -111,7 +111,7 @@ item_burst known depth nested finds seen ws e after rest h =
       counted = sym k.second ∙ f.counted ∙ ap (λ e. seen_after e seen) k.first;
     }
 
-item_group : (known : Known) (depth : ℕ) (nested : Reader Path) → NestedFinds known depth nested → (seen : ℕ) (ws : List Lexeme) (e : Path) (after : ℕ) (rest : List Lexeme) → group_in nested seen ws ≡ Some (e, after, rest) →
+item_group : (known : Known) (depth : ℕ) (nested : Reader Path) → NestedFinds known depth nested → (seen : List ℕ) (ws : List Lexeme) (e : Path) (after : List ℕ) (rest : List Lexeme) → group_in nested seen ws ≡ Some (e, after, rest) →
     ItemRead known depth seen (symbol OpenParen ∷ ws) e after rest
 item_group known depth nested finds seen ws e after rest h =
     let f = group_found known depth nested finds seen ws e after rest h in
@@ -133,7 +133,7 @@ limit_found : (n value : ℕ) → limit_of n ≡ Some value → (n ≡ value) ×
 unfolding limit_of
 limit_found n value h = let k = limit_chosen (nat_le 1 n) (nat_le n 65535) n value h in (k.2, leb-true 1 n k.0, leb-true n 65535 k.1)
 
-item_limited : (known : Known) (depth : ℕ) (nested : Reader Path) → NestedFinds known depth nested → (n : Limit) (value seen : ℕ) (ws : List Lexeme) (e : Path) (after : ℕ) (rest : List Lexeme) → limit_value known n ≡ Some value →
+item_limited : (known : Known) (depth : ℕ) (nested : Reader Path) → NestedFinds known depth nested → (n : Limit) (value : ℕ) (seen : List ℕ) (ws : List Lexeme) (e : Path) (after : List ℕ) (rest : List Lexeme) → limit_value known n ≡ Some value →
     bounded_in nested value seen ws ≡ Some (e, after, rest) → ItemRead known depth seen (limit_lexeme n ∷ ws) e after rest
 unfolding bounded_in
 item_limited known depth nested finds n value seen ws e after rest is h =
@@ -156,18 +156,18 @@ item_limited known depth nested finds n value seen ws e after rest is h =
       counted = sym k.second ∙ f.counted ∙ ap (λ e. seen_after e seen) k.first;
     }
 
-new_chosen : (b : Bool) (x y : Path × ℕ × List Lexeme) → cond b None (Some x) ≡ Some y → (b ≡ false) × (x ≡ y)
+new_chosen : (b : Bool) (x y : Path × List ℕ × List Lexeme) → cond b None (Some x) ≡ Some y → (b ≡ false) × (x ≡ y)
 new_chosen true x y h = absurd cc
 new_chosen false x y h = (refl, cc)
 
-item_named : (known : Known) (depth seen : ℕ) (bytes : List ℕ) (ws : List Lexeme) (e : Path) (after : ℕ) (rest : List Lexeme) → name_at known bytes seen ws ≡ Some (e, after, rest) → ItemRead known depth seen (identifier bytes ∷ ws) e after rest
+item_named : (known : Known) (depth : ℕ) (seen : List ℕ) (bytes : List ℕ) (ws : List Lexeme) (e : Path) (after : List ℕ) (rest : List Lexeme) → name_at known bytes seen ws ≡ Some (e, after, rest) → ItemRead known depth seen (identifier bytes ∷ ws) e after rest
 unfolding name_at
 item_named known depth seen bytes ws e after rest h =
-    let a = bind_some (place_of known.operations bytes) (λ op. cond (was_seen seen op) None (Some (name op, bit_or seen (2 ^ op), ws))) (e, after, rest) h in
-    let g = new_chosen (was_seen seen a.0) (name a.0, bit_or seen (2 ^ a.0), ws) (e, after, rest) a.2 in
+    let a = bind_some (place_of known.operations bytes) (λ op. cond (was_seen seen op) None (Some (name op, seen ++ op ∷ [], ws))) (e, after, rest) h in
+    let g = new_chosen (was_seen seen a.0) (name a.0, seen ++ a.0 ∷ [], ws) (e, after, rest) a.2 in
     let op_is : unwrap_or (place_of known.operations bytes) 0 ≡ a.0 = ap (λ o. unwrap_or o 0) a.1 in
     let first : name a.0 ≡ e = ap (λ y. y.0) g.1 in
-    let second : bit_or seen (2 ^ a.0) ≡ after = ap (λ y. y.1) g.1 in
+    let second : seen ++ a.0 ∷ [] ≡ after = ap (λ y. y.1) g.1 in
     let third : ws ≡ rest = ap (λ y. y.2) g.1 in
     record {
       spelt = operation bytes;
@@ -178,7 +178,7 @@ item_named known depth seen bytes ws e after rest h =
       counted = sym second ∙ ap (λ e. seen_after e seen) first;
     }
 
-named_found : (known : Known) (depth : ℕ) (nested : Reader Path) → NestedFinds known depth nested → (o : Option (List Lexeme)) (seen : ℕ) (bytes : List ℕ) (ws : List Lexeme) (e : Path) (after : ℕ) (rest : List Lexeme) →
+named_found : (known : Known) (depth : ℕ) (nested : Reader Path) → NestedFinds known depth nested → (o : Option (List Lexeme)) (seen : List ℕ) (bytes : List ℕ) (ws : List Lexeme) (e : Path) (after : List ℕ) (rest : List Lexeme) →
     symbol_at Colon ws ≡ o → named_in known nested bytes ws o seen ≡ Some (e, after, rest) → ItemRead known depth seen (identifier bytes ∷ ws) e after rest
 unfolding named_in
 named_found known depth nested finds None seen bytes ws e after rest next h = item_named known depth seen bytes ws e after rest h
@@ -186,7 +186,7 @@ named_found known depth nested finds (Some behind) seen bytes ws e after rest ne
     let a = bind_some (value_of known.constants bytes) (λ n. bounded_in nested n seen ws) (e, after, rest) h in
     item_limited known depth nested finds (a_constant bytes) a.0 seen ws e after rest a.1 a.2
 
-opened_found : (known : Known) (depth : ℕ) (nested : Reader Path) → NestedFinds known depth nested → (s : Symbol) (paren bracket : Bool) (seen : ℕ) (ws : List Lexeme) (e : Path) (after : ℕ) (rest : List Lexeme) →
+opened_found : (known : Known) (depth : ℕ) (nested : Reader Path) → NestedFinds known depth nested → (s : Symbol) (paren bracket : Bool) (seen : List ℕ) (ws : List Lexeme) (e : Path) (after : List ℕ) (rest : List Lexeme) →
     (paren ≡ true → s ≡ OpenParen) → (bracket ≡ true → s ≡ OpenBracket) → cond paren (group_in nested seen ws) (cond bracket (burst_in nested seen ws) None) ≡ Some (e, after, rest) → ItemRead known depth seen (symbol s ∷ ws) e after rest
 opened_found known depth nested finds s true bracket seen ws e after rest p b h = rw (p refl) (item_group known depth nested finds seen ws e after rest h)
 opened_found known depth nested finds s false true seen ws e after rest p b h = rw (b refl) (item_burst known depth nested finds seen ws e after rest h)
@@ -203,19 +203,19 @@ item_found known depth nested finds seen (string bytes ∷ ws) e after rest h = 
 item_found known depth nested finds seen (end_mark ∷ ws) e after rest h = absurd cc
 
 -- a member alone, or with others
-record Member (x : Path × ℕ × List Lexeme) (p : SomePaths) (after : ℕ) (rest : List Lexeme) : Type 0 where
+record Member (x : Path × List ℕ × List Lexeme) (p : SomePaths) (after : List ℕ) (rest : List Lexeme) : Type 0 where
   alone : p ≡ one x.0
   counted : after ≡ x.1
   ends : x.2 ≡ rest
 
-record Members (separator : Symbol) (others : Reader SomePaths) (x : Path × ℕ × List Lexeme) (p : SomePaths) (after : ℕ) (rest : List Lexeme) : Type 0 where
+record Members (separator : Symbol) (others : Reader SomePaths) (x : Path × List ℕ × List Lexeme) (p : SomePaths) (after : List ℕ) (rest : List Lexeme) : Type 0 where
   behind : List Lexeme
   next : SomePaths
   separated : x.2 ≡ symbol separator ∷ behind
   reads : others x.1 behind ≡ Some (next, after, rest)
   joined : p ≡ several (put x.0 next)
 
-parts_split : (separator : Symbol) (others : Reader SomePaths) (x : Path × ℕ × List Lexeme) (o : Option (List Lexeme)) (p : SomePaths) (after : ℕ) (rest : List Lexeme) → symbol_at separator x.2 ≡ o → with_others others x o ≡ Some (p, after, rest) →
+parts_split : (separator : Symbol) (others : Reader SomePaths) (x : Path × List ℕ × List Lexeme) (o : Option (List Lexeme)) (p : SomePaths) (after : List ℕ) (rest : List Lexeme) → symbol_at separator x.2 ≡ o → with_others others x o ≡ Some (p, after, rest) →
     Member x p after rest ⊎ Members separator others x p after rest
 unfolding with_others
 parts_split separator others x None p after rest next h =
@@ -226,7 +226,7 @@ parts_split separator others x (Some behind) p after rest next h =
     let k = same3 (several (put x.0 a.0.0), a.0.1, a.0.2) p after rest a.2 in
     inr (record { behind = behind; next = a.0.0; separated = symbol_found separator x.2 behind next; reads = a.1 ∙ some3 a.0 a.0.0 after rest refl k.second k.third; joined = sym k.first })
 
-seq_found : (known : Known) (depth : ℕ) (item : Reader Path) → ItemFinds known depth item → (left seen : ℕ) (ws : List Lexeme) (p : SomePaths) (after : ℕ) (rest : List Lexeme) → parts_at Semicolon item left seen ws ≡ Some (p, after, rest) → SeqRead known depth seen ws p after rest
+seq_found : (known : Known) (depth : ℕ) (item : Reader Path) → ItemFinds known depth item → (left : ℕ) (seen : List ℕ) (ws : List Lexeme) (p : SomePaths) (after : List ℕ) (rest : List Lexeme) → parts_at Semicolon item left seen ws ≡ Some (p, after, rest) → SeqRead known depth seen ws p after rest
 unfolding parts_at
 seq_found known depth item finds zero seen ws p after rest h = absurd cc
 seq_found known depth item finds (suc left) seen ws p after rest h =
@@ -253,7 +253,7 @@ seq_found known depth item finds (suc left) seen ws p after rest h =
           }
     ]
 
-pub list_found : (known : Known) (depth most : ℕ) (item : Reader Path) → ItemFinds known depth item → (left seen : ℕ) (ws : List Lexeme) (p : SomePaths) (after : ℕ) (rest : List Lexeme) → parts_at Comma (sequence_in item most) left seen ws ≡ Some (p, after, rest) → ListRead known depth seen ws p after rest
+pub list_found : (known : Known) (depth most : ℕ) (item : Reader Path) → ItemFinds known depth item → (left : ℕ) (seen : List ℕ) (ws : List Lexeme) (p : SomePaths) (after : List ℕ) (rest : List Lexeme) → parts_at Comma (sequence_in item most) left seen ws ≡ Some (p, after, rest) → ListRead known depth seen ws p after rest
 unfolding parts_at sequence_in
 list_found known depth most item finds zero seen ws p after rest h = absurd cc
 list_found known depth most item finds (suc left) seen ws p after rest h =

@@ -33,27 +33,27 @@ pub path_found : (known : Known) (most : ℕ) (ws : List Lexeme) (e : Path) (res
 unfolding path_at list_in
 path_found known most ws e rest h =
     let item : Reader Path = item_in known (nested_at known most 32) in
-    let o = bind_some (symbol_at PathWord ws) (λ opened. list_in item most 0 opened >>= λ x. symbol_at End x.2 >>= λ r. cond (nat_le (node_count x.0) 256) (Some (x.0, r)) None) (e, rest) h in
-    let a = bind_some (list_in item most 0 o.0) (λ x. symbol_at End x.2 >>= λ r. cond (nat_le (node_count x.0) 256) (Some (x.0, r)) None) (e, rest) o.2 in
+    let o = bind_some (symbol_at PathWord ws) (λ opened. list_in item most [] opened >>= λ x. symbol_at End x.2 >>= λ r. cond (nat_le (node_count x.0) 256) (Some (x.0, r)) None) (e, rest) h in
+    let a = bind_some (list_in item most [] o.0) (λ x. symbol_at End x.2 >>= λ r. cond (nat_le (node_count x.0) 256) (Some (x.0, r)) None) (e, rest) o.2 in
     let b = bind_some (symbol_at End a.0.2) (λ r. cond (nat_le (node_count a.0.0) 256) (Some (a.0.0, r)) None) (e, rest) a.2 in
     let g = few_chosen (nat_le (node_count a.0.0) 256) (a.0.0, b.0) (e, rest) b.2 in
-    let l = bind_some (parts_at Comma (sequence_in item most) most 0 o.0) (λ x. Some (as_list x.0, x.1, x.2)) a.0 a.1 in
+    let l = bind_some (parts_at Comma (sequence_in item most) most [] o.0) (λ x. Some (as_list x.0, x.1, x.2)) a.0 a.1 in
     let k = same3 (as_list l.0.0, l.0.1, l.0.2) a.0.0 a.0.1 a.0.2 l.2 in
-    let f = list_found known 32 most item (item_found known 32 (nested_at known most 32) (nested_found known most 32)) most 0 o.0 l.0.0 l.0.1 l.0.2 l.1 in
+    let f = list_found known 32 most item (item_found known 32 (nested_at known most 32) (nested_found known most 32)) most [] o.0 l.0.0 l.0.1 l.0.2 l.1 in
     let first : a.0.0 ≡ e = ap (λ y. y.0) g.1 in
     let last : b.0 ≡ rest = ap (λ y. y.1) g.1 in
     let behind : l.0.2 ≡ symbol End ∷ rest = k.third ∙ symbol_found End a.0.2 b.0 b.1 ∙ ap (λ r. symbol End ∷ r) last in
-    let new : IsNew e 0 = subst (λ e. IsNew e 0) (k.first ∙ first) (new_list l.0.0 0 f.new) in
+    let new : IsNew e [] = subst (λ e. IsNew e []) (k.first ∙ first) (new_list l.0.0 [] f.new) in
     record {
       spelt = f.spelt;
       stands = symbol_found PathWord ws o.0 o.1 ∙ ap (λ w. symbol PathWord ∷ w) (f.stands ∙ ap (λ r. list_lexemes f.spelt ++ r) behind);
       fits = f.fits;
       is = sym first ∙ sym k.first ∙ ap as_list f.is;
-      once = (new_once e 0 new).0;
+      once = (new_once e [] new).0;
       few = subst (λ e. node_count e ≤ 256) first (leb-true (node_count a.0.0) 256 g.0);
     }
 
-path_parts : (known : Known) (most : ℕ) (opened : List Lexeme) (e : Path) (after : ℕ) (rest : List Lexeme) → list_in (item_in known (nested_at known most 32)) most 0 opened ≡ Some (e, after, symbol End ∷ rest) → node_count e ≤ 256 →
+path_parts : (known : Known) (most : ℕ) (opened : List Lexeme) (e : Path) (after : List ℕ) (rest : List Lexeme) → list_in (item_in known (nested_at known most 32)) most [] opened ≡ Some (e, after, symbol End ∷ rest) → node_count e ≤ 256 →
     path_at known most (symbol PathWord ∷ opened) ≡ Some (e, rest)
 unfolding path_at
 path_parts known most opened e after rest h few = rw (h, le-leb (node_count e) 256 few) refl
@@ -63,9 +63,9 @@ pub path_again : (known : Known) (most : ℕ) (l : ListText) (rest : List Lexeme
 path_again known most l rest fits once few short =
     let item : Reader Path = item_in known (nested_at known most 32) in
     let p : SomePaths = list_parts known l in
-    let new : IsNew (as_list p) 0 = once_new (as_list p) 0 once (λ k h. none_seen k) in
-    let r = list_again known most 32 most 0 l (symbol End ∷ rest) fits (list_new p 0 new) short (omega arith) (record { no_colon = refl; no_semicolon = refl; no_comma = refl }) in
-    path_parts known most (list_lexemes l ++ symbol End ∷ rest) (as_list p) (seen_after_parts p 0) rest (in_list item most 0 (list_lexemes l ++ symbol End ∷ rest) p (seen_after_parts p 0) (symbol End ∷ rest) r) few
+    let new : IsNew (as_list p) [] = once_new (as_list p) [] once (λ k h. none_seen k) in
+    let r = list_again known most 32 most [] l (symbol End ∷ rest) fits (list_new p [] new) short (omega arith) (record { no_colon = refl; no_semicolon = refl; no_comma = refl }) in
+    path_parts known most (list_lexemes l ++ symbol End ∷ rest) (as_list p) (seen_after_parts p []) rest (in_list item most [] (list_lexemes l ++ symbol End ∷ rest) p (seen_after_parts p []) (symbol End ∷ rest) r) few
 
 -- what stands behind a front, by its length
 behind_front : (front rest ws : List Lexeme) (to : ℕ) → ws ≡ front ++ rest → to ≡ length ws - length rest → rest ≡ drop to ws

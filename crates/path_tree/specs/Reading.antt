@@ -1,6 +1,6 @@
 -- Reading a path from left to right, step by step, for the functions inside `parse_path`. That it reads the grammar is proved.
-use Rattle.std.specs.Prelude.{◌≡◌, ℕ, zero, suc, ◌^◌, List, [], ◌∷◌, Bool, Option, Some, None, Result, Ok, Err, nat_le, ◌==◌, ◌&&◌, if◌then◌else◌, bit_or}
-use Rattle.std.specs.Int.{bit_at}
+use Rattle.std.specs.Prelude.{◌≡◌, ℕ, zero, suc, List, [], ◌∷◌, ◌++◌, Bool, Option, Some, None, Result, Ok, Err, nat_le, ◌==◌, ◌&&◌, if◌then◌else◌}
+use Rattle.std.specs.List.{list_any}
 use Rattle.path_tree.specs.declared.path_fault.PathFault.{PathFault}
 use Rattle.path_tree.specs.declared.path_fault.PathFault.TheVariants as faults
 use Rattle.path_tree.specs.declared.token.Symbol.{Symbol}
@@ -32,11 +32,11 @@ Gives view (Ok x) read = read ≡ Some (view x)
 Gives view (Err e) read = Fails e read
 
 -- what was read, with the operations that were seen then and what stands behind
-abbrev pub node_read : Node × ℕ × Bor (List Token) → Path × ℕ × List Lexeme
-node_read x = (path_of x.0, x.1, lexemes x.2.now)
+abbrev pub node_read : List ℕ → Node × Bor (List Token) → Path × List ℕ × List Lexeme
+node_read seen x = (path_of x.0, seen, lexemes x.1.now)
 
-abbrev pub parts_read : Parts × ℕ × Bor (List Token) → SomePaths × ℕ × List Lexeme
-parts_read x = (parts_of x.0, x.1, lexemes x.2.now)
+abbrev pub parts_read : List ℕ → Parts × Bor (List Token) → SomePaths × List ℕ × List Lexeme
+parts_read seen x = (parts_of x.0, seen, lexemes x.1.now)
 
 infixl 10 ◌>>=◌
 abbrev pub ◌>>=◌ : {A B : Type 0} → Option A → (A → Option B) → Option B
@@ -54,16 +54,17 @@ symbol_at s (end_mark ∷ ws) = None
 
 -- a reader is given the names seen so far and the lexemes, and answers what it read, the names seen then and the lexemes after it.
 abbrev pub Reader : Type 0 → Type 0
-Reader A = ℕ → List Lexeme → Option (A × ℕ × List Lexeme)
+Reader A = List ℕ → List Lexeme → Option (A × List ℕ × List Lexeme)
 
-abbrev pub was_seen : ℕ → ℕ → Bool
-was_seen seen op = bit_at seen op == 1
+-- an operation is among those that were seen
+abbrev pub was_seen : List ℕ → ℕ → Bool
+was_seen seen op = list_any (λ o. o == op) seen
 
 -- an operation that was not seen before
 unfoldable pub name_at : Known → List ℕ → Reader Path
 name_at known bytes seen ws = do
   op ← place_of known.operations bytes
-  if was_seen seen op then None else Some (name op, bit_or seen (2 ^ op), ws)
+  if was_seen seen op then None else Some (name op, seen ++ op ∷ [], ws)
 
 unfoldable pub limit_of : ℕ → Option ℕ
 limit_of n = if nat_le 1 n && nat_le n 65535 then Some n else None
@@ -91,7 +92,7 @@ bounded_in nested n seen ws = do
   Some (bound limit x.0, x.1, x.2)
 
 -- behind a name: a constant's where a colon follows, else an operation's
-unfoldable pub named_in : Known → Reader Path → List ℕ → List Lexeme → Option (List Lexeme) → ℕ → Option (Path × ℕ × List Lexeme)
+unfoldable pub named_in : Known → Reader Path → List ℕ → List Lexeme → Option (List Lexeme) → List ℕ → Option (Path × List ℕ × List Lexeme)
 named_in known nested bytes ws (Some behind) seen = value_of known.constants bytes >>= λ n. bounded_in nested n seen ws
 named_in known nested bytes ws None seen = name_at known bytes seen ws
 
@@ -108,7 +109,7 @@ item_in known nested seen (string bytes ∷ ws) = None
 item_in known nested seen (end_mark ∷ ws) = None
 
 -- one member and, behind a separator, others
-unfoldable pub with_others : Reader SomePaths → Path × ℕ × List Lexeme → Option (List Lexeme) → Option (SomePaths × ℕ × List Lexeme)
+unfoldable pub with_others : Reader SomePaths → Path × List ℕ × List Lexeme → Option (List Lexeme) → Option (SomePaths × List ℕ × List Lexeme)
 with_others others x None = Some (one x.0, x.1, x.2)
 with_others others x (Some behind) = do
   y ← others x.1 behind
@@ -140,7 +141,7 @@ nested_at known most (suc depth) seen ws = list_in (item_in known (nested_at kno
 unfoldable pub path_at : Known → ℕ → List Lexeme → Option (Path × List Lexeme)
 path_at known most ws = do
   opened ← symbol_at PathWord ws
-  x ← list_in (item_in known (nested_at known most 32)) most 0 opened
+  x ← list_in (item_in known (nested_at known most 32)) most [] opened
   rest ← symbol_at End x.2
   if nat_le (node_count x.0) 256 then Some (x.0, rest) else None
 

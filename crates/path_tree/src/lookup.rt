@@ -1,10 +1,10 @@
-//! Names that are looked up, and operations that were seen.
+//! Names that are looked up.
 
-ghost use Rattle.std.specs.Prelude.{◌≡◌, ◌≤◌, ◌<◌, ◌^◌, length, bit_or, IfSome};
+ghost use Rattle.std.specs.Prelude.{◌≡◌, ◌≤◌, ◌<◌, length, IfSome};
 ghost use Rattle.path_tree.specs.Known.{place_of, value_of, constants_of};
-ghost use Rattle.path_tree.specs.Reading.{was_seen};
 
 use crate::name::Name;
+use crate::node::OpId;
 
 /// A constant and its value.
 #[derive(Debug, Drop)]
@@ -16,8 +16,8 @@ pub struct Constant {
 }
 
 /// The number of the operation of this name.
-pub(crate) fn operation_of(names: &[Name], text: &[u8]) -> Option<u8>
-    requires { length names.now ≤ 32 }
+pub(crate) fn operation_of(names: &[Name], text: &[u8]) -> Option<OpId>
+    requires { length names.now ≤ 65535 }
     ensures value { result ≡ place_of names.now text.now }
     ensures within { IfSome result (λ k. k < length names.now) }
 {
@@ -48,20 +48,4 @@ pub(crate) fn constant_of(constants: &[Constant], text: &[u8]) -> Option<u32>
             }
         }
     }
-}
-
-/// Whether an operation was seen.
-pub(crate) fn is_seen(seen: u32, op: u8) -> bool
-    requires { op < 32 }
-    ensures { result ≡ was_seen seen op }
-{
-    (seen >> op) & 1 == 1
-}
-
-/// One operation more.
-pub(crate) fn with(seen: u32, op: u8) -> u32
-    requires { op < 32 }
-    ensures { result ≡ bit_or seen (2 ^ op) }
-{
-    seen | (1 << op)
 }

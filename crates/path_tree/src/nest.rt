@@ -1,6 +1,7 @@
 //! The forms of the grammar, each read from the front of some tokens.
 //!
-//! Each function takes the operations that were seen and gives those that were seen then, as bits.
+//! Each function takes the operations that were seen, in the order in which they were named, and adds those that
+//! it reads. What it leaves there where it fails is not said.
 //! `depth` is the number of levels that may still be opened.
 
 ghost use Rattle.std.specs.Prelude.{◌≤◌};
@@ -10,16 +11,16 @@ ghost use Rattle.path_tree.specs.Known.{known_of};
 ghost use Rattle.path_tree.specs.Reading.{Gives, node_read, parts_read, group_in, burst_in, bounded_in, opened_in, named_in, name_at, limit_of, nested_in, items_in, parts_at, sequence_in, symbol_at};
 
 use crate::front::{after, behind, start_of};
-use crate::lookup::{constant_of, is_seen, operation_of, with};
-use crate::node::Node;
+use crate::lookup::{constant_of, operation_of};
+use crate::node::{Node, OpId};
 use crate::parts::{Parts, list_node, put, sequence_node};
 use crate::path_fault::PathFault;
 use crate::scope::Scope;
 use crate::token::{Kind, Symbol, Token, is_same_symbol};
 use std::alloc::Global;
 
-/// What was read, the operations that were seen then, and the tokens behind.
-pub(crate) type Read<'t, T> = Result<(T, u32, &'t [Token]), PathFault>;
+/// What was read, and the tokens behind.
+pub(crate) type Read<'t, T> = Result<(T, &'t [Token]), PathFault>;
 
 /// A number as a bound.
 #[tactic(auto, unfolding(crate::specs::Reading::limit_of))]
@@ -35,16 +36,23 @@ fn limit(n: u32, at: usize) -> Result<u16, PathFault>
 
 /// An operation that was not seen before.
 #[tactic(auto, unfolding(crate::specs::Reading::name_at))]
-fn name<'t>(scope: &Scope, text: &[u8], at: usize, tokens: &'t [Token], seen: u32) -> Read<'t, Node>
-    ensures { Gives node_read result (name_at (known_of scope.now) text.now seen (lexemes tokens.now)) }
+fn name<'t>(
+    scope: &Scope,
+    text: &[u8],
+    at: usize,
+    tokens: &'t [Token],
+    seen: &mut Vec<OpId>,
+) -> Read<'t, Node>
+    ensures { Gives (node_read seen.new.items) result (name_at (known_of scope.now) text.now seen.old.items (lexemes tokens.now)) }
 {
     match operation_of(scope.operations, text) {
         None => Err(PathFault::UnknownName(at)),
         Some(op) => {
-            if is_seen(seen, op) {
+            if seen.contains(&op) {
                 Err(PathFault::RepeatedName(at))
             } else {
-                Ok((Node::Name(op), with(seen, op), tokens))
+                seen.push(op)?;
+                Ok((Node::Name(op), tokens))
             }
         }
     }
@@ -58,16 +66,16 @@ fn nested<'t>(
     scope: &Scope,
     at: usize,
     tokens: &'t [Token],
-    seen: u32,
+    seen: &mut Vec<OpId>,
     depth: u8,
 ) -> Read<'t, Node>
-    ensures { Gives node_read result (nested_in scope.now depth seen (lexemes tokens.now)) }
+    ensures { Gives (node_read seen.new.items) result (nested_in scope.now depth seen.old.items (lexemes tokens.now)) }
 {
     if depth == 0 {
         return Err(PathFault::TooDeep(at));
     }
-    let (parts, seen, rest) = list(alloc, scope, tokens, seen, depth - 1, scope.most)?;
-    Ok((list_node(alloc, parts)?, seen, rest))
+    let (parts, rest) = list(alloc, scope, tokens, seen, depth - 1, scope.most)?;
+    Ok((list_node(alloc, parts)?, rest))
 }
 
 /// A list in parentheses, behind the symbol that opens.
@@ -78,14 +86,14 @@ fn group<'t>(
     scope: &Scope,
     at: usize,
     tokens: &'t [Token],
-    seen: u32,
+    seen: &mut Vec<OpId>,
     depth: u8,
 ) -> Read<'t, Node>
-    ensures { Gives node_read result (group_in (nested_in scope.now depth) seen (lexemes tokens.now)) }
+    ensures { Gives (node_read seen.new.items) result (group_in (nested_in scope.now depth) seen.old.items (lexemes tokens.now)) }
 {
-    let (inside, seen, rest) = nested(alloc, scope, at, tokens, seen, depth)?;
+    let (inside, rest) = nested(alloc, scope, at, tokens, seen, depth)?;
     let rest = behind(rest, Symbol::CloseParen)?;
-    Ok((inside, seen, rest))
+    Ok((inside, rest))
 }
 
 /// A list in brackets, behind the symbol that opens.
@@ -96,14 +104,14 @@ fn burst<'t>(
     scope: &Scope,
     at: usize,
     tokens: &'t [Token],
-    seen: u32,
+    seen: &mut Vec<OpId>,
     depth: u8,
 ) -> Read<'t, Node>
-    ensures { Gives node_read result (burst_in (nested_in scope.now depth) seen (lexemes tokens.now)) }
+    ensures { Gives (node_read seen.new.items) result (burst_in (nested_in scope.now depth) seen.old.items (lexemes tokens.now)) }
 {
-    let (inside, seen, rest) = nested(alloc, scope, at, tokens, seen, depth)?;
+    let (inside, rest) = nested(alloc, scope, at, tokens, seen, depth)?;
     let rest = behind(rest, Symbol::CloseBracket)?;
-    Ok((Node::Burst(Box::new(alloc, inside)?), seen, rest))
+    Ok((Node::Burst(Box::new(alloc, inside)?), rest))
 }
 
 /// What stands behind a number that bounds.
@@ -115,16 +123,16 @@ fn bounded<'t>(
     n: u32,
     at: usize,
     tokens: &'t [Token],
-    seen: u32,
+    seen: &mut Vec<OpId>,
     depth: u8,
 ) -> Read<'t, Node>
-    ensures { Gives node_read result (bounded_in (nested_in scope.now depth) n seen (lexemes tokens.now)) }
+    ensures { Gives (node_read seen.new.items) result (bounded_in (nested_in scope.now depth) n seen.old.items (lexemes tokens.now)) }
 {
     let limit = limit(n, at)?;
     let paren = behind(tokens, Symbol::Colon)?;
     let opened = behind(paren, Symbol::OpenParen)?;
-    let (inside, seen, rest) = group(alloc, scope, start_of(paren), opened, seen, depth)?;
-    Ok((Node::Bound(limit, Box::new(alloc, inside)?), seen, rest))
+    let (inside, rest) = group(alloc, scope, start_of(paren), opened, seen, depth)?;
+    Ok((Node::Bound(limit, Box::new(alloc, inside)?), rest))
 }
 
 /// What begins with a name.
@@ -136,10 +144,10 @@ fn named<'t>(
     text: &[u8],
     at: usize,
     tokens: &'t [Token],
-    seen: u32,
+    seen: &mut Vec<OpId>,
     depth: u8,
 ) -> Read<'t, Node>
-    ensures { Gives node_read result (named_in (known_of scope.now) (nested_in scope.now depth) text.now (lexemes tokens.now) (symbol_at Colon (lexemes tokens.now)) seen) }
+    ensures { Gives (node_read seen.new.items) result (named_in (known_of scope.now) (nested_in scope.now depth) text.now (lexemes tokens.now) (symbol_at Colon (lexemes tokens.now)) seen.old.items) }
 {
     match after(tokens, Symbol::Colon) {
         None => name(scope, text, at, tokens, seen),
@@ -159,10 +167,10 @@ fn opened<'t>(
     symbol: Symbol,
     at: usize,
     tokens: &'t [Token],
-    seen: u32,
+    seen: &mut Vec<OpId>,
     depth: u8,
 ) -> Read<'t, Node>
-    ensures { Gives node_read result (opened_in (nested_in scope.now depth) symbol seen (lexemes tokens.now)) }
+    ensures { Gives (node_read seen.new.items) result (opened_in (nested_in scope.now depth) symbol seen.old.items (lexemes tokens.now)) }
 {
     if is_same_symbol(symbol, Symbol::OpenParen) {
         group(alloc, scope, at, tokens, seen, depth)
@@ -180,10 +188,10 @@ fn item<'t>(
     alloc: Global,
     scope: &Scope,
     tokens: &'t [Token],
-    seen: u32,
+    seen: &mut Vec<OpId>,
     depth: u8,
 ) -> Read<'t, Node>
-    ensures { Gives node_read result (items_in scope.now depth seen (lexemes tokens.now)) }
+    ensures { Gives (node_read seen.new.items) result (items_in scope.now depth seen.old.items (lexemes tokens.now)) }
 {
     match tokens {
         [] => Err(PathFault::Expected(0)),
@@ -207,22 +215,22 @@ fn sequence<'t>(
     alloc: Global,
     scope: &Scope,
     tokens: &'t [Token],
-    seen: u32,
+    seen: &mut Vec<OpId>,
     depth: u8,
     left: u32,
 ) -> Read<'t, Parts>
     requires { left ≤ scope.now.most }
-    ensures { Gives parts_read result (parts_at Semicolon (items_in scope.now depth) left seen (lexemes tokens.now)) }
+    ensures { Gives (parts_read seen.new.items) result (parts_at Semicolon (items_in scope.now depth) left seen.old.items (lexemes tokens.now)) }
 {
     if left == 0 {
         return Err(PathFault::Expected(start_of(tokens)));
     }
-    let (first, seen, rest) = item(alloc, scope, tokens, seen, depth)?;
+    let (first, rest) = item(alloc, scope, tokens, seen, depth)?;
     match after(rest, Symbol::Semicolon) {
-        None => Ok((Parts::One(first), seen, rest)),
+        None => Ok((Parts::One(first), rest)),
         Some(rest) => {
-            let (others, seen, rest) = sequence(alloc, scope, rest, seen, depth, left - 1)?;
-            Ok((Parts::Several(put(alloc, first, others)?), seen, rest))
+            let (others, rest) = sequence(alloc, scope, rest, seen, depth, left - 1)?;
+            Ok((Parts::Several(put(alloc, first, others)?), rest))
         }
     }
 }
@@ -234,23 +242,23 @@ pub(crate) fn list<'t>(
     alloc: Global,
     scope: &Scope,
     tokens: &'t [Token],
-    seen: u32,
+    seen: &mut Vec<OpId>,
     depth: u8,
     left: u32,
 ) -> Read<'t, Parts>
     requires { left ≤ scope.now.most }
-    ensures { Gives parts_read result (parts_at Comma (sequence_in (items_in scope.now depth) scope.now.most) left seen (lexemes tokens.now)) }
+    ensures { Gives (parts_read seen.new.items) result (parts_at Comma (sequence_in (items_in scope.now depth) scope.now.most) left seen.old.items (lexemes tokens.now)) }
 {
     if left == 0 {
         return Err(PathFault::Expected(start_of(tokens)));
     }
-    let (parts, seen, rest) = sequence(alloc, scope, tokens, seen, depth, scope.most)?;
+    let (parts, rest) = sequence(alloc, scope, tokens, seen, depth, scope.most)?;
     let first = sequence_node(alloc, parts)?;
     match after(rest, Symbol::Comma) {
-        None => Ok((Parts::One(first), seen, rest)),
+        None => Ok((Parts::One(first), rest)),
         Some(rest) => {
-            let (others, seen, rest) = list(alloc, scope, rest, seen, depth, left - 1)?;
-            Ok((Parts::Several(put(alloc, first, others)?), seen, rest))
+            let (others, rest) = list(alloc, scope, rest, seen, depth, left - 1)?;
+            Ok((Parts::Several(put(alloc, first, others)?), rest))
         }
     }
 }

@@ -1,7 +1,7 @@
 //! The nodes of a path.
 
-/// The number of an operation: its place among the operations of its object, from 0, below 32.
-pub type OpId = u8;
+/// The number of an operation: its place among the names that its path was read with, from 0, below 65,535.
+pub type OpId = u16;
 
 /// A path expression: the name of an operation, or a form over path expressions
 /// (Campbell and Habermann, 1974).

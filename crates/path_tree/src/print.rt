@@ -9,7 +9,7 @@ ghost use Rattle.path_tree.specs.Written.{AreFreeNames};
 ghost use Rattle.path_tree.specs.TextLaws.{Derives};
 
 use crate::name::Name;
-use crate::node::{Members, Node};
+use crate::node::{Members, Node, OpId};
 use crate::tree::PathTree;
 use itoa::Buffer;
 use std::alloc::{AllocError, Global};
@@ -30,7 +30,7 @@ pub fn print_path(alloc: Global, path: &PathTree, names: &[Name]) -> Result<Vec<
 }
 
 // The name of an operation.
-fn write_name(out: &mut Vec<u8>, op: u8, names: &[Name]) -> Result<(), AllocError>
+fn write_name(out: &mut Vec<u8>, op: OpId, names: &[Name]) -> Result<(), AllocError>
     requires { op < length names.now }
     ensures { OnOk result (out.new.items ≡ out.old.items ++ name_of names.now op) }
 {

@@ -34,7 +34,8 @@ fn path<'t>(
     ensures { Gives (λ x. (path_of x.0, lexemes x.1.now)) result (path_at (known_of scope.now) scope.now.most (lexemes tokens.now)) }
 {
     let opened = behind(tokens, Symbol::Path)?;
-    let (parts, _seen, rest) = list(alloc, scope, opened, 0, MOST_LEVELS, scope.most)?;
+    let mut seen = Vec::new(alloc);
+    let (parts, rest) = list(alloc, scope, opened, &mut seen, MOST_LEVELS, scope.most)?;
     let root = list_node(alloc, parts)?;
     let rest = behind(rest, Symbol::End)?;
     if is_small(&root) {
@@ -59,7 +60,7 @@ pub fn parse_path(
     consts: &[Constant],
     names: &[Name],
 ) -> Result<(PathTree, usize), PathFault>
-    requires few { length names.now ≤ 32 }
+    requires few { length names.now ≤ 65535 }
     requires inside { from < length tokens.now }
     requires bounded { length tokens.now ≤ 65537 }
     // What is read is a path of the grammar, and this is its tree and its end.

@@ -14,6 +14,6 @@ pub(crate) struct Scope<'a> {
     pub constants: &'a [Constant],
     /// A number above that of the tokens, and so above that of the members of any list.
     pub most: u32,
-    ghost few: { length operations.now ≤ 32 },
+    ghost few: { length operations.now ≤ 65535 },
     ghost bounded: { most ≤ 131072 },
 }

@@ -3,12 +3,13 @@
 use crate::counters::paths;
 use crate::slow::{Happening, may_start};
 use path_count::counters::{Counters, compile};
+use path_tree::node::OpId;
 use path_tree::tree::PathTree;
 use std::alloc::{AllocError, Global};
 use std::process::Abort;
 
 // How many operations there are.
-const OPERATIONS: u8 = 5;
+const OPERATIONS: OpId = 5;
 
 // The next of a fixed row of drawn numbers (Marsaglia, 2003).
 fn draw(seed: &mut u32) -> u32 {
@@ -19,7 +20,7 @@ fn draw(seed: &mut u32) -> u32 {
 }
 
 // The place of the first call of this operation.
-fn first_of(running: &[(u32, u8)], op: u8) -> Option<usize> {
+fn first_of(running: &[(u32, OpId)], op: OpId) -> Option<usize> {
     for at in 0..running.len() {
         if running[at].1 == op {
             return Some(at);
@@ -29,7 +30,7 @@ fn first_of(running: &[(u32, u8)], op: u8) -> Option<usize> {
 }
 
 // How many calls of this operation run.
-fn count_of(running: &[(u32, u8)], op: u8) -> u32 {
+fn count_of(running: &[(u32, OpId)], op: OpId) -> u32 {
     let mut count = 0u32;
     for call in running {
         if call.1 == op {
@@ -43,19 +44,19 @@ fn count_of(running: &[(u32, u8)], op: u8) -> u32 {
 #[derive(Drop)]
 struct History {
     events: Vec<Happening>,
-    running: Vec<(u32, u8)>,
+    running: Vec<(u32, OpId)>,
 }
 
 impl History {
     // Notes the start of the call of this number.
-    fn start(&mut self, number: u32, op: u8) -> Result<(), AllocError> {
+    fn start(&mut self, number: u32, op: OpId) -> Result<(), AllocError> {
         self.events.insert(0, Happening::Started(number, op))?;
         self.running.push((number, op))?;
         Ok(())
     }
 
     // Notes the end of the first call of an operation, and says whether there is one.
-    fn end(&mut self, op: u8) -> Result<bool, AllocError> {
+    fn end(&mut self, op: OpId) -> Result<bool, AllocError> {
         match first_of(&self.running, op) {
             Some(at) if at < self.running.len() => {
                 let (number, _) = self.running.remove(at);
@@ -107,7 +108,7 @@ fn agree(
     number: u32,
     seed: &mut u32,
 ) -> Result<bool, AllocError> {
-    let op = (draw(seed) % OPERATIONS as u32) as u8;
+    let op = (draw(seed) % OPERATIONS as u32) as OpId;
     let may = may_start(alloc, trees, op, &history.events)?;
     let can = counters.can_start(op) == may;
     let does = if draw(seed) % 2 == 0 {

@@ -3,6 +3,7 @@
 use path_count::counters::{Counters, MOST_STARTS, compile};
 use path_tree::lex::lex;
 use path_tree::name::Name;
+use path_tree::node::OpId;
 use path_tree::read::parse_path;
 use path_tree::tree::PathTree;
 use std::alloc::{AllocError, Global};
@@ -40,18 +41,18 @@ pub(crate) fn paths(rt: &impl Abort, alloc: Global, sources: &[&str]) -> Vec<Pat
 }
 
 // The counters of one path.
-fn counters(rt: &impl Abort, alloc: Global, source: &str, operations: u8) -> Counters {
+fn counters(rt: &impl Abort, alloc: Global, source: &str, operations: OpId) -> Counters {
     let trees = paths(rt, alloc, &[source]);
     compile(alloc, &trees, operations).expect(rt, "memory")
 }
 
 // Whether an operation starts and finishes, and starts are left.
-fn has_a_turn(counters: &mut Counters, op: u8) -> bool {
+fn has_a_turn(counters: &mut Counters, op: OpId) -> bool {
     counters.start(op) && !counters.spent() && counters.finish(op)
 }
 
 // Whether a start of an operation is the last one.
-fn starts_last(counters: &mut Counters, op: u8) -> bool {
+fn starts_last(counters: &mut Counters, op: OpId) -> bool {
     counters.start(op) && counters.spent() && counters.can_start(op) && !counters.start(op)
 }
 
@@ -66,7 +67,7 @@ fn the_last_start_spends_them(rt: HostRuntime) {
 }
 
 // Whether an operation neither starts nor finishes.
-fn is_none(counters: &mut Counters, op: u8) -> bool {
+fn is_none(counters: &mut Counters, op: OpId) -> bool {
     !counters.can_start(op) && !counters.start(op) && !counters.finish(op)
 }
 

@@ -34,7 +34,7 @@ fn read_back(
     path: &PathTree,
     names: &[Name],
 ) -> Result<PathTree, PathFault>
-    requires few { length names.now ≤ 32 }
+    requires few { length names.now ≤ 65535 }
     requires named { NamesBelow path.now (length names.now) }
     requires distinct { AreDistinct names.now }
     requires free { AreFreeNames names.now }

@@ -4,10 +4,8 @@ ghost use Rattle.std.specs.Prelude.{◌≡◌, ◌<◌, ◌≤◌, ◌++◌, len
 ghost use Rattle.std.specs.List.{slice_get, slice_set};
 
 use crate::hand::Stamp;
+use decl_core::id::MOST_PARTS;
 use std::marker::Model;
-
-/// The most parts of an object.
-const MOST: usize = 16;
 
 /// What stands behind the pins in their row.
 const NO_STAMP: Stamp = Stamp { number: 0, len: 0 };
@@ -16,7 +14,7 @@ const NO_STAMP: Stamp = Stamp { number: 0, len: 0 };
 /// memory.
 #[derive(Clone, Copy, Drop)]
 pub struct Pins {
-    row: [Stamp; MOST],
+    row: [Stamp; MOST_PARTS],
     len: u8,
 }
 
@@ -47,7 +45,7 @@ impl Pins {
         requires { length stamps.now ≤ 16 }
         ensures { result ≡ stamps.now }
     {
-        let mut row = [NO_STAMP; MOST];
+        let mut row = [NO_STAMP; MOST_PARTS];
         write_front(&mut row, stamps);
         Pins {
             row,

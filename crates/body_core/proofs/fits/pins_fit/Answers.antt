@@ -1,4 +1,4 @@
-use Rattle.std.proofs.Common.{length, refl, arith}
+use Rattle.std.proofs.Common.{length, refl, eq-eqb, arith}
 use Rattle.body_core.proofs.Bits.{no_bit_behind, all_below}
 use Rattle.body_core.proofs.fits.pins_fit.Goals as goal
 
@@ -6,7 +6,7 @@ pub loop-part-init : goal.loop-part-init
 loop-part-init c = λ q from to. absurd (omega (arith, from, to, c.len-part.ensures.len))
 
 pub loop-part-preserved : goal.loop-part-preserved
-loop-part-preserved c = no_bit_behind c.reads-parts.result (length c.args.pins.now) c.loop-part.part c.loop-part.invariant (λ is. let yes = c.has.ensures.1 is in let no = c.if-has.false in absurd cc)
+loop-part-preserved c = no_bit_behind c.reads-parts.result (length c.args.pins.now) c.loop-part.part c.loop-part.invariant (λ is. let told = c.is_in.ensures in let yes = eq-eqb _ 1 is in let no = c.if-is_in.false in absurd cc)
 
 pub returns : goal.returns
 returns c = (

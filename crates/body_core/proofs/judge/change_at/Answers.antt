@@ -10,12 +10,12 @@ use Rattle.body_core.proofs.judge.change_at.Goals as goal
 
 pub bounds-read-part : goal.bounds-read-part
 bounds-read-part c =
-    let set : bit_at c.args.writes c.args.part ≡ 1 = eqb-true _ _ (sym c.has.ensures ∙ c.if-not-has.false) in
+    let set : bit_at c.args.writes c.args.part ≡ 1 = eqb-true _ _ (sym c.is_in.ensures ∙ c.if-not-is_in.false) in
     c.requires.read c.args.part (writes_are_reads (body_of c.args.operation.now) c.args.part ((c.requires.bits c.args.part).0 set))
 
 pub returns : goal.returns
 returns c =
-    let set : bit_at c.args.writes c.args.part ≡ 1 = eqb-true _ _ (sym c.has.ensures ∙ c.if-not-has.false) in
+    let set : bit_at c.args.writes c.args.part ≡ 1 = eqb-true _ _ (sym c.is_in.ensures ∙ c.if-not-is_in.false) in
     let written = (c.requires.bits c.args.part).0 set in
     let within : c.args.part < length c.args.read.now = c.requires.read c.args.part (writes_are_reads (body_of c.args.operation.now) c.args.part written) in
     let there : slice_get c.args.read.now c.args.part ≡ Some c.index-read-part.result = slice_get_read c.args.read.now (length c.args.read.now) c.args.part c.index-read-part.result refl within c.index-read-part.is in
