@@ -25,7 +25,7 @@ fn count_from(parts: u16, part: usize, left: usize) -> usize
         return 0;
     }
     let rest = count_from(parts, part + 1, left - 1);
-    if is_in(part as u8, parts) {
+    if is_in(part, parts) {
         rest + 1
     } else {
         rest
@@ -57,7 +57,7 @@ pub(crate) fn keep(out: &mut Vec<PartPin>, parts: u16, part: usize, pins: &[Stam
     match pins.split_first() {
         None => {}
         Some((pin, rest)) => {
-            if is_in(part as u8, parts) {
+            if is_in(part, parts) {
                 push(out, part, *pin);
             }
             keep(out, parts, part + 1, rest);
@@ -80,7 +80,7 @@ pub(crate) fn are_kept(kept: &[PartPin], parts: u16, part: usize, pins: &[Stamp]
     match pins.split_first() {
         None => kept.is_empty(),
         Some((pin, rest)) => {
-            if !is_in(part as u8, parts) {
+            if !is_in(part, parts) {
                 return are_kept(kept, parts, part + 1, rest);
             }
             match kept.split_first() {

@@ -38,7 +38,7 @@ fn is_set(bits: u16, part: usize) -> bool
     requires { part < 16 }
     ensures { IsTrue result ↔ (bit_at bits part ≡ 1) }
 {
-    footprint::is_in(part as u8, bits)
+    footprint::is_in(part, bits)
 }
 
 // Whether the pin of this part is of this file.

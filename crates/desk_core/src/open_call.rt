@@ -140,7 +140,7 @@ impl Waiting {
         let call = shared_call(alloc, session, op, operation, args)?;
         let ticket = ForTicket::new(alloc, operation, args)?;
         let room = EntryRoom::new(alloc, operation)?;
-        let free = Vec::with_capacity(alloc, MOST_PARTS as usize)?;
+        let free = Vec::with_capacity(alloc, MOST_PARTS)?;
         Ok(Waiting {
             number,
             call,
