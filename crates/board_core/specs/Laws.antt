@@ -10,7 +10,7 @@ use Rattle.body_core.specs.Calls.{Call}
 use Rattle.body_core.specs.Truths.{IsTrueOf}
 use Rattle.board_core.specs.Lists.{Every, Among}
 use Rattle.board_core.specs.Calls.{WaitingCall, RunningCall}
-use Rattle.board_core.specs.Board.{Board, Admits, entry_of}
+use Rattle.board_core.specs.Board.{Board, Rests, Admits, entry_of}
 use Rattle.board_core.specs.Started.{HasStarted}
 use Rattle.board_core.specs.Outcomes.{IsOf}
 use Rattle.board_core.specs.Chain.{IsTrueEntry}
@@ -37,3 +37,7 @@ TruthIsNoted = (a : Assignment) (call : Call) (r : RunningCall) (reply : Reply) 
 -- Admission starts calls that waited, and changes nothing else.
 abbrev pub AdmissionStarts : Type 0
 AdmissionStarts = (b after : Board) → Admits b after → (ones : List WaitingCall) × HasStarted b ones after
+
+-- After admission no waiting call may start.
+abbrev pub AdmissionRests : Type 0
+AdmissionRests = (b after : Board) → Admits b after → Rests after

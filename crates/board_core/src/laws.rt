@@ -1,7 +1,7 @@
 //! Laws of boards and of entries, over the definitions alone.
 
 ghost use Rattle.board_core.specs.Chain.{ChainedAreLegal};
-ghost use Rattle.board_core.specs.Laws.{RunningNeverConflict, PinsStay, PickedAreFree, TruthIsNoted, AdmissionStarts};
+ghost use Rattle.board_core.specs.Laws.{RunningNeverConflict, PinsStay, PickedAreFree, TruthIsNoted, AdmissionStarts, AdmissionRests};
 
 /// Chained entries of which each is true are a legal history, and it leads to what the last pins spell.
 pub fn chained_are_legal()
@@ -31,4 +31,9 @@ pub fn truth_is_noted()
 /// Admission starts calls that waited, and changes nothing else.
 pub fn admission_starts()
     ensures { AdmissionStarts }
+{}
+
+/// After admission no waiting call may start.
+pub fn admission_rests()
+    ensures { AdmissionRests }
 {}
