@@ -1,7 +1,7 @@
 -- The names that the paths of an object may use are those of its operations.
-use Rattle.std.proofs.Common.{◌≡◌, ℕ, suc, ◌≤◌, Bool, true, List, [], ◌∷◌, ◌++◌, Option, Some, None, refl, sym, ap, subst, ◌∙◌, append_assoc, append-nil, length, arith}
+use Rattle.std.proofs.Common.{◌≡◌, ℕ, suc, Bool, true, List, [], ◌∷◌, ◌++◌, Option, Some, None, refl, sym, ap, subst, ◌∙◌, append_assoc, append-nil}
 use Rattle.std.specs.Prelude.{◌↔◌, is_some}
-use Rattle.std.proofs.lemmas.List.{map-append, length-append, length-map}
+use Rattle.std.proofs.lemmas.List.{map-append}
 use Rattle.path_tree.specs.declared.token.Symbol.TheVariants as symbols
 use Rattle.path_tree.specs.Path.{Path}
 use Rattle.path_tree.specs.Lexeme.{Lexeme, symbol, end_mark}

@@ -36,7 +36,13 @@ fn limit(n: u32, at: usize) -> Result<u16, PathFault>
 
 /// An operation that was not seen before.
 #[tactic(auto, unfolding(crate::specs::Reading::name_at))]
-fn name<'t>(scope: &Scope, text: &[u8], at: usize, tokens: &'t [Token], seen: &mut Vec<OpId>) -> Read<'t, Node>
+fn name<'t>(
+    scope: &Scope,
+    text: &[u8],
+    at: usize,
+    tokens: &'t [Token],
+    seen: &mut Vec<OpId>,
+) -> Read<'t, Node>
     ensures { Gives (node_read seen.new.items) result (name_at (known_of scope.now) text.now seen.old.items (lexemes tokens.now)) }
 {
     match operation_of(scope.operations, text) {
