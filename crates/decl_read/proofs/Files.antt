@@ -13,13 +13,8 @@ use Rattle.decl_core.specs.ObjectForm.{ObjectForm}
 use Rattle.body_read.specs.Series.{IsSeries, series_at}
 use Rattle.decl_read.specs.Declarations.{IsEntry, IsObject, object, IsNextObject, next_object, IsFile, file, begins, entry_names}
 use Rattle.decl_read.specs.DeclarationReading.{contents_in, next_object_in, end_at, file_in}
-<<<<<<< HEAD
 use Rattle.body_read.proofs.Exact.{Exact, bind_some, read_is, series_exact}
-use Rattle.decl_read.proofs.Fronts.{name_front, provided_is, is_false, at_most, is_at_most, along}
-=======
-use Rattle.decl_read.proofs.Exact.{Exact, bind_some, read_is, series_exact}
 use Rattle.decl_read.proofs.Fronts.{name_front, provided_is, is_false, along}
->>>>>>> a92961a10326efa1e02703850851374ba7d7bd82
 use Rattle.decl_read.proofs.ConstantsExact.{constants_exact}
 use Rattle.decl_read.proofs.PathItems.{paths_exact}
 use Rattle.decl_read.proofs.PartsExact.{parts_exact}
