@@ -167,7 +167,7 @@ fn deeper<'t>(
 /// A condition.
 #[cycle(conditions)]
 #[tactic(auto, unfolding(crate::specs::StatementReading::condition_in, crate::specs::StatementReading::not_in))]
-pub fn condition<'t>(
+pub(crate) fn condition<'t>(
     alloc: Global,
     scope: &Scope,
     tokens: &'t [Token],

@@ -19,7 +19,7 @@ pub fn start_of(tokens: &[Token]) -> usize {
 }
 
 /// The byte where the second of these tokens starts, where there is one.
-pub fn start_of_second(tokens: &[Token]) -> usize {
+pub(crate) fn start_of_second(tokens: &[Token]) -> usize {
     match tokens {
         [_, token, ..] => token.start,
         [] | [_] => 0,
@@ -73,7 +73,7 @@ pub fn name<'t>(tokens: &'t [Token]) -> Result<(&'t Name, &'t [Token]), TextFaul
 }
 
 /// A plus or a minus, and the tokens behind it.
-pub fn operator<'t>(tokens: &'t [Token]) -> Option<(bool, &'t [Token])>
+pub(crate) fn operator<'t>(tokens: &'t [Token]) -> Option<(bool, &'t [Token])>
     ensures { MatchOption result (sign_at (lexemes tokens.now) ≡ None) (λ x. sign_at (lexemes tokens.now) ≡ Some (x.0, lexemes x.1.now)) }
 {
     match tokens {

@@ -14,7 +14,7 @@ use value_core::kind::{Elem, Kind};
 use value_core::text::Text;
 
 /// An expression that has to be an integer.
-pub fn integer(e: Expr, at: usize) -> Result<IntegerExpr, TextFault>
+pub(crate) fn integer(e: Expr, at: usize) -> Result<IntegerExpr, TextFault>
     ensures { Gives integers_of result (integer_form (form_of e)) }
 {
     match e {
@@ -24,7 +24,7 @@ pub fn integer(e: Expr, at: usize) -> Result<IntegerExpr, TextFault>
 }
 
 /// An expression that has to be a text.
-pub fn text(e: Expr, at: usize) -> Result<TextExpr, TextFault>
+pub(crate) fn text(e: Expr, at: usize) -> Result<TextExpr, TextFault>
     ensures { Gives texts_of result (text_form (form_of e)) }
 {
     match e {
@@ -34,7 +34,7 @@ pub fn text(e: Expr, at: usize) -> Result<TextExpr, TextFault>
 }
 
 /// What is taken from somewhere, as an expression of its kind.
-pub fn taken(alloc: Global, sort: Elem, source: Source) -> Result<Expr, TextFault>
+pub(crate) fn taken(alloc: Global, sort: Elem, source: Source) -> Result<Expr, TextFault>
     ensures { Gives form_of result (Some (of_sort sort (from_of source))) }
 {
     let source = Box::new(alloc, source)?;
@@ -45,7 +45,7 @@ pub fn taken(alloc: Global, sort: Elem, source: Source) -> Result<Expr, TextFaul
 }
 
 /// What the elements are of a part that has to be an array.
-pub fn array(kind: Kind, at: usize) -> Result<Elem, TextFault>
+pub(crate) fn array(kind: Kind, at: usize) -> Result<Elem, TextFault>
     ensures { Gives (λ e. e) result (array_sort kind) }
 {
     match kind {
@@ -56,7 +56,7 @@ pub fn array(kind: Kind, at: usize) -> Result<Elem, TextFault>
 }
 
 /// What the elements are of a part that has to be a queue.
-pub fn queue(kind: Kind, at: usize) -> Result<Elem, TextFault>
+pub(crate) fn queue(kind: Kind, at: usize) -> Result<Elem, TextFault>
     ensures { Gives (λ e. e) result (queue_sort kind) }
 {
     match kind {
@@ -67,7 +67,7 @@ pub fn queue(kind: Kind, at: usize) -> Result<Elem, TextFault>
 }
 
 /// What the elements are of a part that has to be a table.
-pub fn table(kind: Kind, at: usize) -> Result<Elem, TextFault>
+pub(crate) fn table(kind: Kind, at: usize) -> Result<Elem, TextFault>
     ensures { Gives (λ e. e) result (table_sort kind) }
 {
     match kind {
@@ -79,7 +79,7 @@ pub fn table(kind: Kind, at: usize) -> Result<Elem, TextFault>
 
 /// The content of a string as an expression.
 #[tactic(auto, using(crate::proofs::Literals::literal_some, crate::proofs::Literals::literal_none))]
-pub fn literal(alloc: Global, bytes: &[u8], at: usize) -> Result<Expr, TextFault>
+pub(crate) fn literal(alloc: Global, bytes: &[u8], at: usize) -> Result<Expr, TextFault>
     ensures { Gives form_of result (literal_of bytes.now) }
 {
     match Text::from_bytes(bytes) {
@@ -90,7 +90,7 @@ pub fn literal(alloc: Global, bytes: &[u8], at: usize) -> Result<Expr, TextFault
 
 /// The levels left behind a token that opens one.
 #[tactic(auto, using(crate::proofs::Literals::level_some, crate::proofs::Literals::level_none))]
-pub fn level(depth: u8, at: usize) -> Result<u8, TextFault>
+pub(crate) fn level(depth: u8, at: usize) -> Result<u8, TextFault>
     ensures { Gives (λ d. d) result (level_of depth) }
 {
     if depth == 0 {
@@ -101,7 +101,7 @@ pub fn level(depth: u8, at: usize) -> Result<u8, TextFault>
 }
 
 /// A term behind its sign.
-pub fn signed(is_plus: bool, e: IntegerExpr) -> Signed
+pub(crate) fn signed(is_plus: bool, e: IntegerExpr) -> Signed
     ensures { (f : Integers) → with_term f result ≡ combined is_plus f (integers_of e) }
 {
     if is_plus {

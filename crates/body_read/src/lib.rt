@@ -6,9 +6,9 @@
 #![tactic(auto)]
 
 pub mod block;
-pub mod condition;
+mod condition;
 pub mod front;
-pub mod kinds;
+mod kinds;
 pub mod lookup;
 pub mod scope;
 pub mod terms;

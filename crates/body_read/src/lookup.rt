@@ -71,7 +71,7 @@ pub fn place_of(parts: &[Part], text: &[u8]) -> Option<(u8, Kind)>
 }
 
 /// The number of the part of this name, and what it holds.
-pub fn part_of(parts: &[Part], text: &[u8]) -> Option<(PartId, Kind)>
+pub(crate) fn part_of(parts: &[Part], text: &[u8]) -> Option<(PartId, Kind)>
     requires { length parts.now ≤ 16 }
     ensures { result ≡ found_in (parts_of parts.now) text.now }
 {

@@ -49,7 +49,7 @@ fn value(alloc: Global, scope: &Scope, bytes: &[u8], at: usize) -> Result<Expr, 
 
 /// A part's name behind the parenthesis that opens.
 #[tactic(auto, unfolding(crate::specs::Reading::part_in))]
-pub fn part<'t>(
+pub(crate) fn part<'t>(
     scope: &Scope,
     tokens: &'t [Token],
     depth: u8,
@@ -95,7 +95,7 @@ fn count<'t>(scope: &Scope, tokens: &'t [Token], depth: u8) -> Read<'t, Expr>
 /// An expression, one level deeper.
 #[cycle(expressions)]
 #[tactic(auto, using(crate::proofs::Sums::nested_step))]
-pub fn nested<'t>(
+pub(crate) fn nested<'t>(
     alloc: Global,
     scope: &Scope,
     at: usize,
@@ -232,7 +232,7 @@ fn term<'t>(alloc: Global, scope: &Scope, tokens: &'t [Token], depth: u8) -> Rea
 /// Terms with plus and minus between them, or one alone.
 #[cycle(expressions)]
 #[tactic(auto, unfolding(crate::specs::Reading::expr_in, crate::specs::Reading::summed))]
-pub fn expr<'t>(
+pub(crate) fn expr<'t>(
     alloc: Global,
     scope: &Scope,
     tokens: &'t [Token],

@@ -10,8 +10,8 @@ ghost use Rattle.body_read.specs.Reader.{Gives};
 ghost use Rattle.decl_read.specs.Views.{constants_read};
 ghost use Rattle.body_read.specs.Series.{series_at};
 
-use body_read::front::{after, behind, name, start_of};
 use crate::group::{begins, begins_name};
+use body_read::front::{after, behind, name, start_of};
 use body_read::lookup::constant_of;
 use body_read::terms::Read;
 use body_read::text_fault::TextFault;

@@ -17,12 +17,12 @@ ghost use Rattle.decl_read.specs.DeclarationReading.{new_operation_in, procedure
 ghost use Rattle.decl_core.specs.ObjectMap.{operations_of, params_of, parts_of, operation_of};
 ghost use Rattle.decl_read.specs.Views.{operations_read};
 
-use body_read::block::body;
-use body_read::front::{after, behind, name, start_of};
 use crate::group::begins;
 use crate::kind_text::elem;
-use body_read::lookup::{constant_of, is_operation, param_of, place_of};
 use crate::params::params;
+use body_read::block::body;
+use body_read::front::{after, behind, name, start_of};
+use body_read::lookup::{constant_of, is_operation, param_of, place_of};
 use body_read::scope::Scope;
 use body_read::terms::Read;
 use body_read::text_fault::TextFault;

@@ -6,8 +6,8 @@ ghost use Rattle.path_tree.specs.Lexeme.{lexemes};
 ghost use Rattle.decl_read.specs.DeclarationReading.{allowed as allowed_of, size_in, elem_of, elem_at, of_elem_in, array_in, queue_in, table_in, kind_by_symbol, kind_in};
 ghost use Rattle.body_read.specs.Reader.{Gives};
 
-use body_read::front::{behind, start_of};
 use crate::group::is_among;
+use body_read::front::{behind, start_of};
 use body_read::lookup::{constant_of, is_known};
 use body_read::scope::Scope;
 use body_read::terms::Read;

@@ -12,9 +12,9 @@ ghost use Rattle.body_read.specs.Scopes.{names_of};
 ghost use Rattle.decl_core.specs.ObjectMap.{params_of};
 ghost use Rattle.body_read.specs.Series.{series_at};
 
-use body_read::front::{after, behind, start_of};
 use crate::group::{begins, names};
 use crate::kind_text::elem;
+use body_read::front::{after, behind, start_of};
 use body_read::scope::Scope;
 use body_read::terms::Read;
 use body_read::text_fault::TextFault;

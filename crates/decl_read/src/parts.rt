@@ -13,9 +13,9 @@ ghost use Rattle.body_read.specs.Scopes.{names_of};
 ghost use Rattle.decl_core.specs.ObjectMap.{parts_of};
 ghost use Rattle.body_read.specs.Series.{series_at};
 
-use body_read::front::{after, behind, name, start_of};
 use crate::group::{begins, begins_name, names};
 use crate::kind_text::kind;
+use body_read::front::{after, behind, name, start_of};
 use body_read::lookup::is_known;
 use body_read::scope::Scope;
 use body_read::terms::Read;

@@ -11,8 +11,8 @@ ghost use Rattle.decl_read.specs.Declarations.{begins as begins_with};
 ghost use Rattle.decl_read.specs.DeclarationReading.{path_item_in};
 ghost use Rattle.decl_read.specs.Views.{path_fault_told, path_read, paths_read};
 
-use body_read::front::{behind, start_of};
 use crate::group::begins;
+use body_read::front::{behind, start_of};
 use body_read::terms::Read;
 use body_read::text_fault::TextFault;
 use path_tree::lookup::Constant;
