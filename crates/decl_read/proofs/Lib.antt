@@ -1,8 +1,3 @@
-pub mod Literals
-pub mod Sums
-pub mod Again
-pub mod Found
-pub mod Exact
 pub mod PathItems
 pub mod Steps
 pub mod Entries
@@ -15,11 +10,6 @@ pub mod NamesExact
 pub mod PartsExact
 pub mod ParamsExact
 pub mod Lengths
-pub mod Conditions
-pub mod StatementSteps
-pub mod StatementsRead
-pub mod StatementsFound
-pub mod Refusals
 pub mod Limits
 pub mod KnownParts
 pub mod NameCounts
@@ -29,6 +19,3 @@ pub mod SkippedTexts
 pub mod SkippedStatements
 pub mod SkippedDeclarations
 pub mod OperationNames
-pub mod Typing
-pub mod Naming
-pub mod Operations

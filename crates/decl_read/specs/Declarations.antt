@@ -14,9 +14,10 @@ use Rattle.value_core.specs.declared.kind.Kind.TheVariants as kind
 use Rattle.decl_read.specs.declared.collect.Opening.{Opening}
 use Rattle.decl_read.specs.declared.collect.Opening.TheVariants as openings
 use Rattle.decl_core.specs.Form.{Statements}
-use Rattle.decl_read.specs.Reading.{Names, found_in, is_among, is_known}
-use Rattle.decl_read.specs.Series.{IsSeries}
-use Rattle.decl_read.specs.Statements.{IsStmts}
+use Rattle.body_read.specs.Scopes.{operation_names}
+use Rattle.body_read.specs.Reading.{Names, found_in, is_among, is_known}
+use Rattle.body_read.specs.Series.{IsSeries}
+use Rattle.body_read.specs.Statements.{IsStmts}
 use Rattle.decl_core.specs.ObjectForm.{OperationForm, ObjectForm, operation_with}
 
 -- whether a symbol stands in front, and whether a name does
@@ -114,10 +115,6 @@ pub data IsParams (names : Names) : List Lexeme → List (List ℕ × Elem) → 
   some_params : {one all : List (List ℕ × Elem)} {ws vs rest : List Lexeme} →
       IsGroup names [] ws one vs → IsSeries (IsNextGroup names) (begins symbols.Semicolon) 8 one vs all (symbol symbols.CloseParen ∷ rest) →
       IsParams names (symbol symbols.OpenParen ∷ ws) all rest
-
--- the names of operations
-abbrev pub operation_names : List OperationForm → List (List ℕ)
-operation_names operations = map (λ o. o.name) operations
 
 -- a parameter of one of these operations has this name
 abbrev pub is_parameter : List OperationForm → List ℕ → Bool

@@ -1,13 +1,6 @@
 pub mod DeclFaults
-pub mod Reader
-pub mod Reading
-pub mod Grammar
-pub mod Series
-pub mod Statements
-pub mod StatementReading
 pub mod Declarations
 pub mod DeclarationReading
-pub mod DeclaredTypes
-pub mod Scopes
 pub mod Sources
 pub mod ObjectLaws
+pub mod Views

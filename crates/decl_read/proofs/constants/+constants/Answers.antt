@@ -5,7 +5,7 @@ use Rattle.path_tree.specs.Known.{constants_of}
 use Rattle.path_tree.specs.Lexeme.{lexemes}
 use Rattle.decl_read.specs.Declarations.{begins}
 use Rattle.decl_read.specs.DeclarationReading.{consts_in}
-use Rattle.decl_read.specs.Scopes.{constants_read}
+use Rattle.decl_read.specs.Views.{constants_read}
 use Rattle.decl_read.proofs.Steps.{series_ends, none_left, item_fails, item_read}
 use Rattle.decl_read.proofs.constants.+constants.Goals as goal
 

@@ -4,7 +4,7 @@ use Rattle.path_tree.specs.Known.{constants_of}
 use Rattle.path_tree.specs.Lexeme.{lexemes}
 use Rattle.decl_read.specs.Declarations.{begins_name}
 use Rattle.decl_read.specs.DeclarationReading.{constant_in}
-use Rattle.decl_read.specs.Scopes.{constants_read}
+use Rattle.decl_read.specs.Views.{constants_read}
 use Rattle.decl_read.proofs.Steps.{series_ends, series_over, item_fails, item_read}
 use Rattle.decl_read.proofs.constants.+more_constants.Goals as goal
 

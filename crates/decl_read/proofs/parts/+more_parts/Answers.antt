@@ -5,7 +5,7 @@ use Rattle.path_tree.specs.Lexeme.{lexemes}
 use Rattle.decl_read.specs.Declarations.{begins_name}
 use Rattle.decl_read.specs.DeclarationReading.{part_group_in}
 use Rattle.decl_core.specs.ObjectMap.{parts_of}
-use Rattle.decl_read.specs.Scopes.{parts_read}
+use Rattle.decl_read.specs.Views.{parts_read}
 use Rattle.decl_read.proofs.Steps.{series_ends, series_over, item_fails, item_read}
 use Rattle.decl_read.proofs.parts.+more_parts.Goals as goal
 

@@ -6,7 +6,7 @@ use Rattle.path_tree.specs.Lexeme.{lexemes}
 use Rattle.decl_read.specs.Declarations.{begins}
 use Rattle.decl_read.specs.DeclarationReading.{var_in}
 use Rattle.decl_core.specs.ObjectMap.{parts_of}
-use Rattle.decl_read.specs.Scopes.{parts_read}
+use Rattle.decl_read.specs.Views.{parts_read}
 use Rattle.decl_read.proofs.Steps.{series_ends, none_left, item_fails, item_read}
 use Rattle.decl_read.proofs.parts.+parts.Goals as goal
 

@@ -5,7 +5,7 @@ use Rattle.path_tree.specs.Known.{constants_of}
 use Rattle.path_tree.specs.Lexeme.{lexemes}
 use Rattle.decl_read.specs.Declarations.{begins}
 use Rattle.decl_read.specs.DeclarationReading.{path_item_in}
-use Rattle.decl_read.specs.Scopes.{paths_read}
+use Rattle.decl_read.specs.Views.{paths_read}
 use Rattle.decl_read.proofs.Steps.{series_ends, series_over, item_fails, item_read}
 use Rattle.decl_read.proofs.PathItems.{shorter_behind}
 use Rattle.decl_read.proofs.paths.+paths.Goals as goal

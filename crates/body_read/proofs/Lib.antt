@@ -1,0 +1,13 @@
+pub mod Literals
+pub mod Sums
+pub mod Again
+pub mod Found
+pub mod Exact
+pub mod Conditions
+pub mod StatementSteps
+pub mod StatementsRead
+pub mod StatementsFound
+pub mod Refusals
+pub mod Typing
+pub mod Naming
+pub mod Operations
