@@ -3,3 +3,13 @@
 
 #[cfg(test)]
 mod desks;
+#[cfg(test)]
+mod make;
+#[cfg(test)]
+mod parts;
+#[cfg(test)]
+mod refusals;
+#[cfg(test)]
+mod rows;
+#[cfg(test)]
+mod strangers;
