@@ -1,17 +1,18 @@
 //! One desk at a time: who is admitted, what is published, what is handed out.
 
-use crate::make::{Bytes, CELL, ZERO};
+use crate::make::{Bytes, CELL, ZERO, pinned};
 use crate::rows::Happened::{End, Start};
 use crate::rows::Step;
 use crate::rows::Step::{Cancel, Finds, Finish, Leave, Open, Perform, Pins, Submit, Trace};
 use crate::rows::Want::{Failed, Nothing, Value, Word};
 use crate::rows::Word::Number;
-use crate::rows::{Found, play};
+use crate::rows::{Found, play, play_pinned};
 use body_core::reply::Failure::{Damaged, Device};
 use desk_core::answer::Cancelled::{Cancelled, Ended, Running, Unknown};
 use shelf_core::fuse::FuseHand;
 use shelf_core::memory::MemHand;
 use shelf_core::once::OnceHand;
+use shelf_core::pins::Pins as PartPins;
 
 const ONE_CALL: &[Step] = &[
     Submit(1, "PuT", &[Number(7)], 1),
@@ -246,4 +247,38 @@ const FAILS_FROM: &[Step] = &[
 fn what_was_done_before_the_device_failed_is_published(rt: HostRuntime) {
     let mut hand = FuseHand::new(MemHand::new(rt.alloc()), 10);
     play(&rt, rt.alloc(), PAIR, &[ZERO, ZERO], &mut hand, FAILS_FROM);
+}
+
+// Both parts begin with file 1. It is freed when no part has it any more, and nobody reads it,
+const SHARED_FILE: &[Step] = &[
+    Submit(1, "see", &[], 1),
+    Submit(2, "right", &[Number(2)], 2),
+    Submit(3, "left", &[Number(3)], 3),
+    Open(&[3], &[1, 2]),
+    Perform(2, Nothing),
+    Finish(2, 1, &[]),
+    Pins(&[1, 2]),
+    Perform(1, Value(0)),
+    Finish(1, 2, &[]),
+    Perform(3, Nothing),
+    Finish(3, 3, &[1]),
+    Pins(&[3, 2]),
+];
+
+// and it is freed once where one call replaces it in both.
+const FREED_ONCE: &[Step] = &[
+    Submit(1, "both", &[Number(1)], 1),
+    Perform(1, Nothing),
+    Finish(1, 1, &[1]),
+    Pins(&[2, 3]),
+];
+
+#[test]
+fn a_file_is_freed_once_and_when_nobody_needs_it(rt: HostRuntime) {
+    for steps in [SHARED_FILE, FREED_ONCE] {
+        let mut hand = MemHand::new(rt.alloc());
+        let first = pinned(&rt, &mut hand, &[ZERO]).get(0).expect(&rt, "a file");
+        let pins = PartPins::new(&[first, first]);
+        play_pinned(&rt, rt.alloc(), PAIR, pins, &mut hand, steps);
+    }
 }

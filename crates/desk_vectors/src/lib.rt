@@ -4,6 +4,8 @@
 #[cfg(test)]
 mod desks;
 #[cfg(test)]
+mod drawn;
+#[cfg(test)]
 mod make;
 #[cfg(test)]
 mod parts;
@@ -11,5 +13,7 @@ mod parts;
 mod refusals;
 #[cfg(test)]
 mod rows;
+#[cfg(test)]
+mod slow;
 #[cfg(test)]
 mod strangers;

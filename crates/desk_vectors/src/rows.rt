@@ -9,6 +9,7 @@ use body_core::run::Run;
 use desk_core::answer::{Cancelled, Collected, SubmitFault};
 use desk_core::desk::Desk;
 use shelf_core::hand::{Hand, Stamp};
+use shelf_core::pins::Pins;
 use std::alloc::Global;
 use std::process::Abort;
 use value_core::datum::Datum;
@@ -304,8 +305,27 @@ impl World {
     }
 }
 
-/// Does with the desk of an object, over this hand, what the steps say, and asserts that it comes out so. The parts
-/// have these bytes at first.
+/// Does with the desk of an object, over this hand and with these pins, what the steps say, and asserts that it
+/// comes out so.
+pub fn play_pinned<H: Hand>(
+    rt: &impl Abort,
+    alloc: Global,
+    object: &[u8],
+    pins: Pins,
+    hand: &mut H,
+    steps: &[Step],
+) {
+    let desk = desk_of(rt, alloc, object, pins);
+    let mut world = World {
+        desk,
+        held: Vec::new(alloc),
+    };
+    for (place, step) in steps.iter().enumerate() {
+        assert!(rt; world.does(rt, alloc, hand, *step), "step {place}");
+    }
+}
+
+/// The same, where the parts have new files of these bytes at first.
 pub fn play<H: Hand>(
     rt: &impl Abort,
     alloc: Global,
@@ -315,12 +335,5 @@ pub fn play<H: Hand>(
     steps: &[Step],
 ) {
     let pins = pinned(rt, hand, files);
-    let desk = desk_of(rt, alloc, object, pins);
-    let mut world = World {
-        desk,
-        held: Vec::new(alloc),
-    };
-    for (place, step) in steps.iter().enumerate() {
-        assert!(rt; world.does(rt, alloc, hand, *step), "step {place}");
-    }
+    play_pinned(rt, alloc, object, pins, hand, steps);
 }
