@@ -1,5 +1,6 @@
 -- What admission leaves as it is.
-use Rattle.std.proofs.Common.{◌≡◌, ℕ, ◌↔◌, ◌⊎◌, inl, inr, Bool, true, false, cond, not, ◌&&◌, ◌||◌, ◌==◌, List, [], ◌∷◌, ◌++◌, length, map, refl, sym, ◌∙◌, ap, subst, append-assoc, append-nil}
+use Rattle.std.proofs.Common.{◌≡◌, ℕ, ◌↔◌, ◌⊎◌, inl, inr, Bool, true, false, cond, not, ◌&&◌, ◌||◌, ◌==◌, List, [], ◌∷◌, ◌++◌, length, map, refl, sym, ◌∙◌, ap, subst, append_assoc}
+use Rattle.std.proofs.lemmas.List.{append-nil}
 use Rattle.std.specs.List.{filter, list_any}
 use Rattle.shelf_core.specs.declared.hand.Stamp.{Stamp}
 use Rattle.body_core.specs.declared.reply.Reply.{Reply}
@@ -122,8 +123,8 @@ none_started b = record {
 one_started : (b : Board) (w : WaitingCall) (ones : List WaitingCall) (after : Board) → HasStarted (started b w) ones after → HasStarted b (w ∷ ones) after
 unfolding started
 one_started b w ones after h = record {
-  trace = h.trace ∙ append-assoc b.trace (Start w.number ∷ []) (map (λ (x : WaitingCall). Start x.number) ones);
-  running = h.running ∙ append-assoc b.running (run_of b.pins w ∷ []) (map (run_of b.pins) ones);
+  trace = h.trace ∙ append_assoc b.trace (Start w.number ∷ []) (map (λ (x : WaitingCall). Start x.number) ones);
+  running = h.running ∙ append_assoc b.running (run_of b.pins w ∷ []) (map (run_of b.pins) ones);
   waiting = h.waiting ∙ filter_twice (λ (x : WaitingCall). not (x.number == w.number)) (λ x. not (is_number_in ones x.number)) (λ x. not (is_number_in (w ∷ ones) x.number))
       (λ x. not_or (x.number == w.number) (is_number_in ones x.number)) b.waiting;
   object = h.object;

@@ -41,7 +41,7 @@ kept_from parts p (pin ∷ pins) (suc k) q is set =
 
 -- of a part that an operation reads its pin is kept
 pub kept_at : (operation : Operation) (pins : List Stamp) (p : ℕ) → Reads (body_of operation).statements p → pin_at (read_pins operation pins) p ≡ slice_get pins p
-kept_at operation pins p reads = kept_from (reads_of (body_of operation)) 0 pins p p refl ((reads_bits (body_of operation).statements (reads_of (body_of operation)) refl p).1 reads)
+kept_at operation pins p reads = kept_from (reads_of (body_of operation)) 0 pins p p (omega arith) ((reads_bits (body_of operation).statements (reads_of (body_of operation)) refl p).1 reads)
 
 -- of more parts no fewer are in a set
 pub count_more : (parts p m n : ℕ) → m ≤ n → count_in parts p m ≤ count_in parts p n

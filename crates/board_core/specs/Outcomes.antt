@@ -15,9 +15,9 @@ pub record IsOf (c : Call) (r : RunningCall) : Type 0 where
   pub pins : r.pins ≡ c.pins
 
 -- An entry is that of this outcome of a call of this session: it tells of the call all that the outcome tells, and of its pins those of the parts that its operation reads.
-pub record IsEntryOf (session : ℕ) (o : Outcome) (e : Noted) : Type 0 where
+pub record IsEntryOf (from : ℕ) (o : Outcome) (e : Noted) : Type 0 where
   pub number : e.number ≡ (outcome_call o).number
-  pub session : e.session ≡ session
+  pub session : e.session ≡ from
   pub operation : operation_of e.operation ≡ operation_of (outcome_call o).operation
   pub arguments : e.arguments ≡ (outcome_call o).arguments
   pub reply : e.reply ≡ outcome_reply o

@@ -1,7 +1,6 @@
 //! Pins of single parts.
 
-ghost use Rattle.std.specs.Prelude.{◌≡◌, ◌+◌, ◌++◌, ◌≤◌, ◌==◌, length, vec_capacity};
-ghost use Rattle.std.specs.Int.{bit_at};
+ghost use Rattle.std.specs.Prelude.{◌≡◌, ◌+◌, ◌++◌, ◌∷◌, ◌≤◌, ◌<◌, [], length, vec_capacity};
 ghost use Rattle.board_core.specs.ReadPins.{pins_in, count_in};
 
 use decl_core::footprint::is_in;
