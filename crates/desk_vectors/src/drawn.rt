@@ -21,8 +21,8 @@ use std::process::Abort;
 use std::sync::Arc;
 use value_core::datum::Datum;
 
-// What calls are given.
-const ARGS: [Args; 5] = [&[], &[], &[1], &[7], &[1, 2]];
+/// The name of an operation, in any case, and what it is given. Some there are not, or are given too much.
+type Asks = &'static [(&'static str, Args)];
 
 // The next of a fixed row of drawn numbers: a linear congruential generator, of which the high bits are given.
 fn draw(seed: &mut u32, below: u32) -> u32 {
@@ -214,15 +214,11 @@ impl Pair {
     }
 
     // A session submits a call.
-    fn submits(&mut self, alloc: Global, names: &[&str]) -> Result<bool, AllocError> {
+    fn submits(&mut self, alloc: Global, asks: Asks) -> Result<bool, AllocError> {
         let session = self.some_session();
-        let name = match names.get(self.draw(names.len() as u32) as usize) {
-            Some(name) => *name,
-            None => "",
-        };
-        let args = match ARGS.get(self.draw(5) as usize) {
-            Some(args) => *args,
-            None => &[],
+        let (name, args) = match asks.get(self.draw(asks.len() as u32) as usize) {
+            Some(ask) => *ask,
+            None => return Ok(false),
         };
         let data = data_of(alloc, args)?;
         let told = self.desk.refusal(session, name, &data);
@@ -332,10 +328,10 @@ impl Pair {
         &mut self,
         alloc: Global,
         hand: &mut H,
-        names: &[&str],
+        asks: Asks,
     ) -> Result<bool, AllocError> {
         let is_right = match self.draw(16) {
-            0..=4 => self.submits(alloc, names)?,
+            0..=4 => self.submits(alloc, asks)?,
             5..=8 => self.collects(alloc, hand)?,
             9..=12 => self.finishes(alloc, hand)?,
             13 => self.cancels(alloc)?,
@@ -346,9 +342,9 @@ impl Pair {
     }
 }
 
-/// An object, the names of operations that are drawn, how many turns a run has, and how many runs there are.
+/// An object, the calls that are drawn, how many turns a run has, and how many runs there are.
 #[derive(Clone, Copy, Drop)]
-struct Drawn(Bytes, &'static [&'static str], u32, u32);
+struct Drawn(Bytes, Asks, u32, u32);
 
 const REGISTER: Bytes = b"object register;
   path 1:([read], write, add) end;
@@ -409,16 +405,41 @@ end;
 
 // A question takes the time of a power of the events: the higher the deeper bursts are nested.
 const RUNS: [Drawn; 5] = [
-    Drawn(REGISTER, &["read", "WRITE", "write", "Add", "read", "ad"], 160, 6),
-    Drawn(BUFFER, &["put", "put", "get", "GET", "size", "pu"], 160, 6),
-    Drawn(PARTS_OF, &["see", "peek", "set", "look", "Paint", "move", "moves"], 160, 8),
-    Drawn(NESTED, &["one", "one", "two", "three", "all", "ALL", "name"], 100, 10),
-    Drawn(TURNS, &["a", "A", "b", "b", "c", "d", "e", "f"], 300, 4),
+    Drawn(
+        REGISTER,
+        &[("read", &[]), ("write", &[7]), ("Add", &[1]), ("READ", &[]), ("add", &[2, 2]), ("ad", &[])],
+        120,
+        16,
+    ),
+    Drawn(
+        BUFFER,
+        &[("put", &[1]), ("Put", &[2]), ("get", &[]), ("GET", &[]), ("size", &[]), ("get", &[1])],
+        120,
+        16,
+    ),
+    Drawn(
+        PARTS_OF,
+        &[("see", &[]), ("peek", &[]), ("set", &[7]), ("look", &[]), ("PAINT", &[1, 2]), ("move", &[])],
+        120,
+        20,
+    ),
+    Drawn(
+        NESTED,
+        &[("one", &[]), ("one", &[]), ("two", &[]), ("Three", &[]), ("all", &[1]), ("name", &[1])],
+        100,
+        20,
+    ),
+    Drawn(
+        TURNS,
+        &[("a", &[1]), ("b", &[]), ("C", &[]), ("d", &[]), ("e", &[7]), ("e", &[1])],
+        400,
+        6,
+    ),
 ];
 
 // A run of drawn turns over a device that fails twice, and how many events it makes.
 fn compare(rt: &impl Abort, alloc: Global, drawn: Drawn, seed: u32) -> usize {
-    let Drawn(text, names, turns, _) = drawn;
+    let Drawn(text, asks, turns, _) = drawn;
     let object = accepted(rt, alloc, text).into_object();
     let all = [ZERO, ZERO, ZERO];
     let parts = object.parts.len();
@@ -434,7 +455,7 @@ fn compare(rt: &impl Abort, alloc: Global, drawn: Drawn, seed: u32) -> usize {
         seed,
     };
     for turn in 0..turns {
-        assert!(rt; pair.turn(alloc, &mut hand, names) == Ok(true), "seed {seed}, turn {turn}");
+        assert!(rt; pair.turn(alloc, &mut hand, asks) == Ok(true), "seed {seed}, turn {turn}");
     }
     pair.slow.past.len()
 }
@@ -444,10 +465,8 @@ fn the_desk_does_what_the_slow_one_does(rt: HostRuntime) {
     let mut events = 0usize;
     for drawn in RUNS {
         for seed in 0..drawn.3 {
-            let n = compare(&rt, rt.alloc(), drawn, seed);
-            let _x = eprintln!(rt; "turns {} seed {seed}: {n}", drawn.2).is_ok();
-            events = events.saturating_add(n);
+            events = events.saturating_add(compare(&rt, rt.alloc(), drawn, seed));
         }
     }
-    assert!(rt; events >= 2_000 && events == 0, "{events}");
+    assert!(rt; events >= 1_500, "{events} events");
 }

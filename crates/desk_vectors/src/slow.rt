@@ -198,14 +198,19 @@ impl Slow {
         may_start(alloc, &self.object.paths, op, &self.past)
     }
 
-    // The waiting call with the least number of those that may start.
+    // The waiting call with the least number of those that may start. The question takes long, so an operation
+    // that may not is not asked for again.
     fn first_to_start(&self, alloc: Global) -> Result<Option<(u32, OpId)>, AllocError> {
+        let mut refused = Vec::new(alloc);
         for number in 1..self.next() {
             if let Some(call) = self.call(number)
                 && self.waits(number)
-                && self.may(alloc, call.op)?
+                && !refused.contains(&call.op)
             {
-                return Ok(Some((number, call.op)));
+                if self.may(alloc, call.op)? {
+                    return Ok(Some((number, call.op)));
+                }
+                refused.push(call.op)?;
             }
         }
         Ok(None)
