@@ -12,7 +12,7 @@ use Rattle.board_core.specs.Calls.{AcceptedCall, WaitingCall, RunningCall, Noted
 use Rattle.board_core.specs.Board.{Board, joined, dismissed, released, marked, taken_at, ended, started, Rests, Admits, rests, starts}
 use Rattle.board_core.specs.Chain.{pins_after}
 use Rattle.board_core.specs.Free.{IsIn, IsNeeded, Picks, no_more, needed, again, one_more}
-use Rattle.board_core.specs.Started.{HasStarted, is_number_in, run_of}
+use Rattle.board_core.specs.Started.{HasStarted, Settles, is_number_in, run_of}
 use Rattle.board_core.specs.Laws.{AdmissionStarts}
 use Rattle.board_core.proofs.Freed.{admission_needs}
 use Rattle.board_core.proofs.Lists.{Every-all, all_pass}
@@ -140,3 +140,9 @@ admission_starts b after (rests r) = ([], none_started b)
 admission_starts b after (starts w next more) =
     let rest = admission_starts (started b w) after more in
     (w ∷ rest.0, one_started b w rest.0 after rest.1)
+
+-- admission follows, and what became of each call stands beside it
+pub settled : (b after : Board) → Admits b after → Settles b after
+settled b after admits =
+    let ones = admission_starts b after admits in
+    record { admits = admits; ones = ones.0; started = ones.1 }

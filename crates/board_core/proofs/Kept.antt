@@ -74,3 +74,12 @@ news_few operation qs order =
       (writes_bits (body_of operation).statements (writes_of (body_of operation)) refl q).1 writes,
       omega (arith, slice_get_within operation.kinds.items q _ (reads_held operation q (writes_are_reads (body_of operation) q writes)).held, operation.few_parts),
     )
+
+-- no more than there are
+pub count_few : (parts p n : ℕ) → count_in parts p n ≤ n
+count_few parts p zero = omega arith
+count_few parts p (suc n) = omega (arith, one_or_none (bit_at parts p == 1), count_few parts (p + 1) n)
+  where
+    one_or_none : (b : Bool) → (if b then 1 else 0) ≤ 1
+    one_or_none true = omega arith
+    one_or_none false = omega arith

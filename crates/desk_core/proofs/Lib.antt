@@ -1,5 +1,5 @@
 pub mod Starting
 pub mod Tables
 pub mod Busy
-pub mod Marks
+pub mod Marking
 pub mod Places

@@ -8,6 +8,9 @@ use Rattle.std.proofs.lemmas.Bool.Decides.{eqb_tells}
 use Rattle.board_core.specs.Lists.{Every}
 use Rattle.board_core.specs.Calls.{Noted}
 use Rattle.board_core.proofs.Lists.{Every-map, Every-snoc}
+use Rattle.board_core.specs.Board.{Board}
+use Rattle.board_core.specs.Sound.{IsSound, IsNoted}
+use Rattle.board_core.proofs.Sound.{call_number}
 use Rattle.desk_core.specs.Kept.{IsPlaceOf, ArePlaces}
 
 -- an item of a longer list
@@ -18,7 +21,7 @@ get_more (z ∷ xs) y zero x is = inl is
 get_more (z ∷ xs) y (suc k) x is = elim (get_more xs y k x is) [ inl h ↦ inl h | inr h ↦ inr (omega (arith, h.0), h.1) ]
 
 -- an item of a list in which one was set
-get_set : {X : Type 0} (xs : List X) (j : ℕ) (y : X) (k : ℕ) (x : X) → slice_get (slice_set xs j y) k ≡ Some x → ((k ≡ j) × (y ≡ x)) ⊎ ((k ≢ j) × (slice_get xs k ≡ Some x))
+pub get_set : {X : Type 0} (xs : List X) (j : ℕ) (y : X) (k : ℕ) (x : X) → slice_get (slice_set xs j y) k ≡ Some x → ((k ≡ j) × (y ≡ x)) ⊎ ((k ≢ j) × (slice_get xs k ≡ Some x))
 get_set [] j y k x is = absurd cc
 get_set (z ∷ xs) zero y zero x is = inl (refl, ap (λ o. unwrap_or o y) is)
 get_set (z ∷ xs) zero y (suc k) x is = inr (λ same. absurd (omega (arith, same)), is)
@@ -34,9 +37,15 @@ get_last : {X : Type 0} (xs : List X) (x : X) → slice_get (xs ++ x ∷ []) (le
 get_last [] x = refl
 get_last (y ∷ xs) x = get_last xs x
 
+none_at : (k place : ℕ) → slice_get [] k ≡ Some place → ⊥
+none_at k place is = absurd cc
+
 -- without calls there are no places
-pub no_places : (history : List Noted) → ArePlaces history 0 []
-no_places history = record { each = refl; at = λ k place is. absurd cc }
+pub no_places : (history : List Noted) (count : ℕ) (places : List ℕ) → count ≡ 0 → places ≡ [] → ArePlaces history count places
+no_places history count places none empty = record {
+  each = ap length empty ∙ sym none;
+  at = λ k place is. absurd (none_at k place (subst (λ ps. slice_get ps k ≡ Some place) empty is));
+}
 
 -- a new call has no entry
 pub places_joined : (history : List Noted) (count : ℕ) (places : List ℕ) → ArePlaces history count places → Every (λ e. e.number ≤ count) history → ArePlaces history (count + 1) (places ++ 0 ∷ [])
@@ -86,7 +95,18 @@ some_any (x ∷ history) n zero e is same =
     ap (λ b. b || list_any (λ (y : Noted). y.number == n) history) (eq-eqb x.number n (ap (λ (o : Option Noted). (unwrap_or o e).number) is ∙ same))
 some_any (x ∷ history) n (suc k) e is same = ap (λ b. (x.number == n) || b) (some_any history n k e is same) ∙ or_true (x.number == n)
 
+not_none : (k : ℕ) → (suc k == 0) ≡ false
+not_none k = elim (eqb_tells (suc k) 0) [ inl x ↦ absurd (omega (arith, x.1)) | inr x ↦ x.0 ]
+
 -- a place tells whether a call has finished
 pub place_tells : (history : List Noted) (n place : ℕ) → IsPlaceOf history n place → list_any (λ (e : Noted). e.number == n) history ≡ not (place == 0)
 place_tells history n zero is = none_any history n is
-place_tells history n (suc k) is = some_any history n k is.0 is.1 is.2
+place_tells history n (suc k) is = some_any history n k is.0 is.1 is.2 ∙ sym (ap not (not_none k))
+
+-- a number of no call has no entry
+pub none_beyond : (history : List Noted) (n : ℕ) → Every (λ e. e.number ≢ n) history → list_any (λ (e : Noted). e.number == n) history ≡ false
+none_beyond history n none = none_any history n none
+
+-- the numbers of entries are numbers of calls
+pub noted_below : (b : Board) → IsSound b → Every (λ e. e.number ≤ length b.calls) b.history
+noted_below b h = Every-map (IsNoted b.calls) (λ e. e.number ≤ length b.calls) (λ e is. (call_number b.calls e.number is.call is.there).1) b.history h.told.noted

@@ -51,3 +51,9 @@ released_is b session waiting e = rw e refl
 pub taken_is : (b : Board) (k : ℕ) (r : RunningCall) (running : List RunningCall) → running ≡ slice_set b.running k (record r { taken = true }) → let made : Board = record b { running = running } in made ≡ taken_at b k r
 unfolding taken_at
 taken_is b k r running e = rw e refl
+
+-- tables that are the same make the same board
+pub same_is : (b : Board) (calls : List AcceptedCall) (waiting : List WaitingCall) (trace : List TraceEvent) (history : List Noted) (running : List RunningCall)
+    → calls ≡ b.calls → waiting ≡ b.waiting → trace ≡ b.trace → history ≡ b.history → running ≡ b.running
+    → let made : Board = record b { calls = calls; waiting = waiting; trace = trace; history = history; running = running } in made ≡ b
+same_is b calls waiting trace history running e1 e2 e3 e4 e5 = rw (e1, e2, e3, e4, e5) refl

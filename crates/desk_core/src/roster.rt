@@ -188,6 +188,43 @@ fn asked_of(
     Waiting::new(alloc, number, session, place as OpId, operation, args)
 }
 
+// Makes room for one call more that waits, and for all that the calls which wait or run will add.
+fn make_room(
+    calls: &mut Vec<Arc<Call>>,
+    places: &mut Vec<usize>,
+    marks: &mut Vec<Mark>,
+    history: &mut Vec<Entry>,
+    waiting: &mut Vec<Waiting>,
+    running: &mut Vec<Running>,
+) -> Result<(), AllocError>
+    requires { length waiting.old.items + length running.old.items < 256 }
+    ensures calls { calls.new.items ≡ calls.old.items }
+    ensures places { places.new.items ≡ places.old.items }
+    ensures marks { marks.new.items ≡ marks.old.items }
+    ensures history { history.new.items ≡ history.old.items }
+    ensures waiting { waiting.new.items ≡ waiting.old.items }
+    ensures running { running.new.items ≡ running.old.items }
+    ensures marks_kept { vec_capacity marks.old ≤ vec_capacity marks.new }
+    ensures history_kept { vec_capacity history.old ≤ vec_capacity history.new }
+    ensures running_kept { vec_capacity running.old ≤ vec_capacity running.new }
+    ensures calls_room { OnOk result (length calls.old.items < vec_capacity calls.new) }
+    ensures places_room { OnOk result (length places.old.items < vec_capacity places.new) }
+    ensures waiting_room { OnOk result (length waiting.old.items < vec_capacity waiting.new) }
+    ensures marks_room { OnOk result (length marks.old.items + 2 * length waiting.old.items + length running.old.items + 2 ≤ vec_capacity marks.new) }
+    ensures history_room { OnOk result (length history.old.items + length waiting.old.items + length running.old.items + 1 ≤ vec_capacity history.new) }
+    ensures running_room { OnOk result (length waiting.old.items + length running.old.items + 1 ≤ vec_capacity running.new) }
+{
+    let waits = waiting.len();
+    let runs = running.len();
+    calls.reserve(1)?;
+    places.reserve(1)?;
+    waiting.reserve(1)?;
+    marks.reserve(2 * waits + runs + 2)?;
+    history.reserve(waits + runs + 1)?;
+    running.reserve(waits + 1)?;
+    Ok(())
+}
+
 // Takes out the waiting call of this number.
 fn leave(waiting: &mut Vec<Waiting>, number: u32)
     ensures items { waiting.new.items ≡ filter (λ w. not (w.number == number)) waiting.old.items }
@@ -339,8 +376,6 @@ impl Roster {
         ensures ok { OnOk result ((operation : Operation) → slice_get (bodies self.old.object) place ≡ Some operation → self.new ≡ joined self.old (record { session = session; op = place; operation = operation; arguments = args.now })) }
         ensures err { OnErr result (self.new ≡ self.old) }
     {
-        let waiting = self.waiting.len();
-        let running = self.running.len();
         let number = self.calls.len() as u32 + 1;
         let asked = asked_of(
             self.alloc,
@@ -351,12 +386,14 @@ impl Roster {
             args,
         )?;
         let call = asked.share()?;
-        self.calls.reserve(1)?;
-        self.waiting.reserve(1)?;
-        self.marks.reserve(2 * waiting + running + 2)?;
-        self.history.reserve(waiting + running + 1)?;
-        self.running.reserve(waiting + 1)?;
-        self.places.reserve(1)?;
+        make_room(
+            &mut self.calls,
+            &mut self.places,
+            &mut self.marks,
+            &mut self.history,
+            &mut self.waiting,
+            &mut self.running,
+        )?;
         self.places.push_reserved(0);
         self.calls.push_reserved(call);
         self.waiting.push_reserved(asked);
@@ -576,6 +613,12 @@ impl Roster {
     pub(crate) fn is_ended(&self, number: u32) -> bool
         ensures { result ≡ ended_in self.now number }
     {
-        number != 0 && number as usize <= self.places.len() && self.places[number as usize - 1] != 0
+        if number as usize > self.places.len() {
+            return false;
+        }
+        if number == 0 {
+            return false;
+        }
+        self.places[number as usize - 1] != 0
     }
 }

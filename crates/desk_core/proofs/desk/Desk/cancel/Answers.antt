@@ -1,11 +1,18 @@
-use Rattle.std.proofs.Common.{◌∙◌, refl, sym, ap, subst}
-use Rattle.board_core.specs.Board.{Board, call_at, Admits}
+use Rattle.std.proofs.Common.{◌≡◌, ◌∙◌, true, refl, sym, ap, subst}
+use Rattle.board_core.specs.Board.{Board, call_at, dismissed, Admits}
 use Rattle.desk_core.specs.Answers.{waits_in, runs_in}
-use Rattle.board_core.proofs.Admission.{rests_after, dismissed_history}
+use Rattle.board_core.specs.Started.{Settles}
+use Rattle.board_core.proofs.Admission.{rests_after, dismissed_history, settled}
 use Rattle.desk_core.proofs.desk.Desk.cancel.Goals as goal
 
 pub invariant_of-self : goal.invariant_of-self
 invariant_of-self c = rests_after _ _ c.admit.ensures
+
+pub returns-then-waits-clause-board : goal.returns-then-waits-clause-board
+returns-then-waits-clause-board c =
+    let waits : waits_in c.self.inside.roster c.args.number ≡ true = sym c.waits.ensures ∙ c.if-waits.true in
+    subst (λ (b : Board). (waits_in b c.args.number ≡ true) × Settles (dismissed b c.args.number) c.admit.new.self) c.self.view_is
+    (waits, settled _ _ (subst (λ b. Admits b c.admit.new.self) c.dismiss.ensures c.admit.ensures))
 
 pub returns-then-waits-clause-history : goal.returns-then-waits-clause-history
 returns-then-waits-clause-history c =

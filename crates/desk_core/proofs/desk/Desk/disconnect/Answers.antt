@@ -1,10 +1,16 @@
 use Rattle.std.proofs.Common.{◌∙◌, ap, subst}
-use Rattle.board_core.specs.Board.{Board, marked, Admits}
-use Rattle.board_core.proofs.Admission.{rests_after, left_history}
+use Rattle.board_core.specs.Board.{Board, marked, released, Admits}
+use Rattle.board_core.specs.Started.{Settles}
+use Rattle.board_core.proofs.Admission.{rests_after, left_history, settled}
 use Rattle.desk_core.proofs.desk.Desk.disconnect.Goals as goal
 
 pub invariant_of-self : goal.invariant_of-self
 invariant_of-self c = rests_after _ _ c.admit.ensures
+
+pub returns-clause-left : goal.returns-clause-left
+returns-clause-left c = λ above below.
+    subst (λ (b : Board). Settles (marked (released b c.args.session) c.args.session) c.admit.new.self) c.self.view_is
+    (settled _ _ (subst (λ b. Admits b c.admit.new.self) (c.mark.ensures ∙ ap (λ b. marked b c.args.session) c.release.ensures) c.admit.ensures))
 
 pub returns-clause-history : goal.returns-clause-history
 returns-clause-history c =

@@ -6,7 +6,8 @@ use Rattle.board_core.specs.Calls.{AcceptedCall}
 use Rattle.board_core.specs.Board.{Board, joined, bodies, Admits}
 use Rattle.desk_core.specs.Answers.{Asked, IsTaken, IsRefused}
 use Rattle.desk_core.specs.declared.answer.SubmitFault.TheVariants.{Memory}
-use Rattle.board_core.proofs.Admission.{rests_after, joined_history}
+use Rattle.board_core.specs.Started.{Settles}
+use Rattle.board_core.proofs.Admission.{rests_after, joined_history, settled}
 use Rattle.desk_core.proofs.desk.Desk.submit.Goals as goal
 
 pub join-requires-clause-place : goal.join-requires-clause-place
@@ -24,7 +25,7 @@ returns-in-Ok-join-clause-board c =
     let call : AcceptedCall = record { session = c.args.session; op = c.in-Ok.place; operation = taken0.0; arguments = c.args.args.now } in
     let taken : IsTaken c.self.inside.roster asked call = subst (λ name. IsTaken c.self.inside.roster (record { session = c.args.session; name = name; arguments = c.args.args.now }) call) c.as_bytes.ensures.value taken0.1 in
     let admits : Admits (joined c.self.inside.roster call) c.admit.new.self = subst (λ b. Admits b c.admit.new.self) (c.in-Ok-join.ensures.ok taken0.0 taken0.1.asked.named.there) c.admit.ensures in
-    subst (λ (b : Board). (x : AcceptedCall) × IsTaken b asked x × Admits (joined b x) c.admit.new.self) c.self.view_is (call, taken, admits)
+    subst (λ (b : Board). (x : AcceptedCall) × IsTaken b asked x × Settles (joined b x) c.admit.new.self) c.self.view_is (call, taken, settled _ _ admits)
 
 pub returns-in-Ok-join-clause-history : goal.returns-in-Ok-join-clause-history
 returns-in-Ok-join-clause-history c =

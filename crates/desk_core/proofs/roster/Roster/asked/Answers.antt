@@ -29,8 +29,8 @@ returns-then-is_busy-clause-refused c =
     record { session = refl; named = named; arguments = refl; fits = (c.fits.ensures operation named0.1.there).0 c.if-not-fits.false } in
     (here, (call, asked), sym c.is_busy.ensures ∙ c.if-is_busy.true)
 
-pub returns-then-len-ge256-clause-refused : goal.returns-then-len-ge256-clause-refused
-returns-then-len-ge256-clause-refused c =
+pub returns-then-len-ge-MOST_OPEN-clause-refused : goal.returns-then-len-ge-MOST_OPEN-clause-refused
+returns-then-len-ge-MOST_OPEN-clause-refused c =
     let named0 = c.in-Some.ensures.some in
     let object : c.object-object.result.now ≡ c.args.self.now.object = c.object-object.ensures.same ∙ ap (λ (b : Board). b.object) c.self.view_is in
     let operation : Operation = named0.0 in
@@ -42,10 +42,10 @@ returns-then-len-ge256-clause-refused c =
     let w : c.len.result ≡ length c.args.self.now.waiting = omega (arith, c.len.ensures, c.self.inside.waiting.ok.0, ap (λ (b : Board). length b.waiting) c.self.view_is) in
     let r : c.len-2.result ≡ length c.args.self.now.running = omega (arith, c.len-2.ensures, c.self.inside.running.ok.0, ap (λ (b : Board). length b.running) c.self.view_is) in
     let free : is_busy c.args.self.now c.args.session ≡ false = sym c.is_busy.ensures ∙ c.if-is_busy.false in
-    (here, (call, asked), free, omega (arith, w, r, c.if-len-ge256.true))
+    (here, (call, asked), free, omega (arith, w, r, c.if-len-ge-MOST_OPEN.true))
 
-pub returns-then-len-ge65536-clause-refused : goal.returns-then-len-ge65536-clause-refused
-returns-then-len-ge65536-clause-refused c =
+pub returns-then-len-ge-MOST_CALLS-clause-refused : goal.returns-then-len-ge-MOST_CALLS-clause-refused
+returns-then-len-ge-MOST_CALLS-clause-refused c =
     let named0 = c.in-Some.ensures.some in
     let object : c.object-object.result.now ≡ c.args.self.now.object = c.object-object.ensures.same ∙ ap (λ (b : Board). b.object) c.self.view_is in
     let operation : Operation = named0.0 in
@@ -58,7 +58,7 @@ returns-then-len-ge65536-clause-refused c =
     let r : c.len-2.result ≡ length c.args.self.now.running = omega (arith, c.len-2.ensures, c.self.inside.running.ok.0, ap (λ (b : Board). length b.running) c.self.view_is) in
     let n : c.len-3.result ≡ length c.args.self.now.calls = omega (arith, c.len-3.ensures, c.self.inside.calls.ok.0, length-map c.self.inside.calls.items (λ x. arc_value x), ap (λ (b : Board). length b.calls) c.self.view_is) in
     let free : is_busy c.args.self.now c.args.session ≡ false = sym c.is_busy.ensures ∙ c.if-is_busy.false in
-    (here, (call, asked), free, omega (arith, w, r, c.if-len-ge256.false), omega (arith, n, c.if-len-ge65536.true))
+    (here, (call, asked), free, omega (arith, w, r, c.if-len-ge-MOST_OPEN.false), omega (arith, n, c.if-len-ge-MOST_CALLS.true))
 
 pub returns-clause-taken : goal.returns-clause-taken
 returns-clause-taken c =
@@ -74,4 +74,4 @@ returns-clause-taken c =
     let r : c.len-2.result ≡ length c.args.self.now.running = omega (arith, c.len-2.ensures, c.self.inside.running.ok.0, ap (λ (b : Board). length b.running) c.self.view_is) in
     let n : c.len-3.result ≡ length c.args.self.now.calls = omega (arith, c.len-3.ensures, c.self.inside.calls.ok.0, length-map c.self.inside.calls.items (λ x. arc_value x), ap (λ (b : Board). length b.calls) c.self.view_is) in
     let free : is_busy c.args.self.now c.args.session ≡ false = sym c.is_busy.ensures ∙ c.if-is_busy.false in
-    (operation, record { here = here; asked = asked; free = free; room = omega (arith, w, r, c.if-len-ge256.false); numbers = omega (arith, n, c.if-len-ge65536.false) })
+    (operation, record { here = here; asked = asked; free = free; room = omega (arith, w, r, c.if-len-ge-MOST_OPEN.false); numbers = omega (arith, n, c.if-len-ge-MOST_CALLS.false) })

@@ -8,7 +8,7 @@ use Rattle.board_core.specs.Board.{Board, started, IsNext, paths_of, past_of}
 use Rattle.desk_core.specs.Kept.{board_of, events_of, IsMarkIn}
 use Rattle.desk_core.specs.declared.marks.Mark.TheVariants as marks
 use Rattle.board_core.specs.Lists.{Every}
-use Rattle.desk_core.proofs.Marks.{events_start}
+use Rattle.desk_core.proofs.Marking.{events_start}
 use Rattle.board_core.specs.Sound.{IsSound, IsWaitingIn, as_path}
 use Rattle.board_core.proofs.Lists.{Every-among, Every-snoc}
 use Rattle.board_core.proofs.Sound.{sound-started, past_started}

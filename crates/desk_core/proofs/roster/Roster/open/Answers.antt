@@ -7,7 +7,7 @@ use Rattle.board_core.specs.Sound.{IsSound}
 use Rattle.board_core.proofs.Sound.{sound-opened}
 use Rattle.board_core.specs.Lists.{Every}
 use Rattle.desk_core.specs.Kept.{IsMarkIn, ArePlaces}
-use Rattle.desk_core.proofs.Marks.{events_are}
+use Rattle.desk_core.proofs.Marking.{events_are, no_marks}
 use Rattle.desk_core.proofs.Places.{no_places}
 use Rattle.desk_core.proofs.Tables.{opened_is}
 use Rattle.desk_core.proofs.roster.Roster.open.Goals as goal
@@ -21,9 +21,9 @@ invariant_of-result c =
     let w = ap length c.new-5.ensures.items in
     let r = ap length c.new-6.ensures.items in
     record {
-      marks = subst (Every (IsMarkIn _)) (sym c.new-3.ensures.items) tt;
-      places = subst (λ ps. ArePlaces _ _ ps) (sym c.new-2.ensures.items) (subst (λ cs. ArePlaces _ (length cs) []) (sym c.new.ensures.items) (no_places _));
-      sound = subst IsSound (sym made) (sound-opened c.args.accepted c.args.pins c.object.ensures.exclusive c.requires stands.satisfied);
+      marks = no_marks _ _ c.new-3.ensures.items;
+      places = no_places _ _ _ (ap length c.new.ensures.items) c.new-2.ensures.items;
+      sound = subst IsSound (sym made) (sound-opened c.args.accepted c.args.pins c.object.ensures.exclusive c.requires.each stands.satisfied);
       stands = subst (StandsFor c.in_ok-counters.counters (length c.args.accepted.operations.items) (object_of c.args.accepted).paths) (sym (ap past_of made)) stands;
       room = record { marks = omega (arith, t, w, r); history = omega (arith, h, w, r); running = omega (arith, w, r) };
     }

@@ -59,3 +59,6 @@ events_are {history} {all} none empty = ap (events_of history) empty
 -- the same marks over the same history tell the same
 pub events_same : {history before : List Noted} {all earlier : List Mark} → history ≡ before → all ≡ earlier → events_of history all ≡ events_of before earlier
 events_same same these = λ i. events_of (same i) (these i)
+
+pub no_marks : (count : ℕ) (all : List Mark) → all ≡ [] → Every (IsMarkIn count) all
+no_marks count all empty = subst (Every (IsMarkIn count)) (sym empty) tt
