@@ -2,11 +2,10 @@
 
 use crate::make::{Bytes, CELL, ZERO, pinned};
 use crate::rows::Happened::{End, Start};
-use crate::rows::Step;
 use crate::rows::Step::{Cancel, Finds, Finish, Leave, Open, Perform, Pins, Submit, Trace};
 use crate::rows::Want::{Failed, Nothing, Value, Word};
 use crate::rows::Word::Number;
-use crate::rows::{Found, play, play_pinned};
+use crate::rows::{Found, Step, play, play_pinned};
 use body_core::reply::Failure::{Damaged, Device};
 use desk_core::answer::Cancelled::{Cancelled, Ended, Running, Unknown};
 use shelf_core::fuse::FuseHand;
@@ -132,12 +131,7 @@ const CHANGES_NOTHING: &[Step] = &[
     Perform(2, Nothing),
     Finish(2, 2, &[1]),
     Pins(&[2]),
-    Trace(&[
-        Start(1),
-        End(1, Word(b"none")),
-        Start(2),
-        End(2, Nothing),
-    ]),
+    Trace(&[Start(1), End(1, Word(b"none")), Start(2), End(2, Nothing)]),
 ];
 
 #[test]

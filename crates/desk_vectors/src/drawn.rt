@@ -1,7 +1,7 @@
 //! The desk beside the slow one, on long runs of drawn calls.
 
 use crate::make::{Bytes, ZERO, accepted, desk_of, pinned};
-use crate::slow::{Args, Asked, Ended, Files, Found, PARTS, Slow, are_args};
+use crate::slow::{Args, Asked, Ended, Files, Found, PARTS, Slow, are_args, count};
 use board_core::entry::Entry;
 use board_core::event::TraceEvent;
 use body_core::fits::{arguments_fit, pins_fit};
@@ -112,7 +112,7 @@ impl Pair {
     // The number of a call, of the last ten or the one behind the last.
     fn some_call(&mut self) -> u32 {
         let back = self.draw(11);
-        (self.slow.calls.len() as u32).saturating_add(1).saturating_sub(back)
+        self.slow.next().saturating_sub(back)
     }
 
     // The number of a call that runs, if one is found, and else of some call.
@@ -196,7 +196,7 @@ impl Pair {
     // Whether the calls are the same.
     fn same_calls(&self) -> bool {
         let mut idle = true;
-        for number in 0..(self.slow.calls.len() as u32).saturating_add(2) {
+        for number in 0..=self.slow.next() {
             if !self.same_call(number) {
                 return false;
             }
@@ -216,7 +216,7 @@ impl Pair {
     // A session submits a call.
     fn submits(&mut self, alloc: Global, asks: Asks) -> Result<bool, AllocError> {
         let session = self.some_session();
-        let (name, args) = match asks.get(self.draw(asks.len() as u32) as usize) {
+        let (name, args) = match asks.get(self.draw(count(asks.len())) as usize) {
             Some(ask) => *ask,
             None => return Ok(false),
         };
@@ -265,16 +265,18 @@ impl Pair {
 
     // One of the outcomes, of which a copy may stay.
     fn some_outcome(&mut self, alloc: Global) -> Result<Option<Outcome>, AllocError> {
-        let at = self.draw(self.held.len() as u32) as usize;
+        let all = count(self.held.len());
+        let at = self.draw(all) as usize;
         let stays = self.draw(4) == 0;
         if at >= self.held.len() {
             return Ok(None);
         }
+        let outcome = self.held.remove(at);
         if stays {
-            let copy = self.held[at].copy(alloc)?;
-            return Ok(Some(copy));
+            let copy = outcome.copy(alloc)?;
+            self.held.push(copy).ok().ok_or(AllocError)?;
         }
-        Ok(Some(self.held.remove(at)))
+        Ok(Some(outcome))
     }
 
     // An outcome is handed in, and the files that are freed are retired.
@@ -291,10 +293,12 @@ impl Pair {
                         for stamp in &receipt.free {
                             let _retired = hand.retire(stamp).is_ok();
                         }
-                        Ok(receipt.place == self.slow.ends.len()
-                            && receipt.noted.session == call.session
-                            && receipt.noted.number() == number
-                            && are_files(&receipt.free, &want))
+                        Ok(
+                            receipt.place == self.slow.ends.len()
+                                && receipt.noted.session == call.session
+                                && receipt.noted.number() == number
+                                && are_files(&receipt.free, &want),
+                        )
                     }
                     Err(_) => Ok(false),
                 }
@@ -407,31 +411,66 @@ end;
 const RUNS: [Drawn; 5] = [
     Drawn(
         REGISTER,
-        &[("read", &[]), ("write", &[7]), ("Add", &[1]), ("READ", &[]), ("add", &[2, 2]), ("ad", &[])],
+        &[
+            ("read", &[]),
+            ("write", &[7]),
+            ("Add", &[1]),
+            ("READ", &[]),
+            ("add", &[2, 2]),
+            ("ad", &[]),
+        ],
         120,
         16,
     ),
     Drawn(
         BUFFER,
-        &[("put", &[1]), ("Put", &[2]), ("get", &[]), ("GET", &[]), ("size", &[]), ("get", &[1])],
+        &[
+            ("put", &[1]),
+            ("Put", &[2]),
+            ("get", &[]),
+            ("GET", &[]),
+            ("size", &[]),
+            ("get", &[1]),
+        ],
         120,
         16,
     ),
     Drawn(
         PARTS_OF,
-        &[("see", &[]), ("peek", &[]), ("set", &[7]), ("look", &[]), ("PAINT", &[1, 2]), ("move", &[])],
+        &[
+            ("see", &[]),
+            ("peek", &[]),
+            ("set", &[7]),
+            ("look", &[]),
+            ("PAINT", &[1, 2]),
+            ("move", &[]),
+        ],
         120,
         20,
     ),
     Drawn(
         NESTED,
-        &[("one", &[]), ("one", &[]), ("two", &[]), ("Three", &[]), ("all", &[1]), ("name", &[1])],
+        &[
+            ("one", &[]),
+            ("one", &[]),
+            ("two", &[]),
+            ("Three", &[]),
+            ("all", &[1]),
+            ("name", &[1]),
+        ],
         100,
         20,
     ),
     Drawn(
         TURNS,
-        &[("a", &[1]), ("b", &[]), ("C", &[]), ("d", &[]), ("e", &[7]), ("e", &[1])],
+        &[
+            ("a", &[1]),
+            ("b", &[]),
+            ("C", &[]),
+            ("d", &[]),
+            ("e", &[7]),
+            ("e", &[1]),
+        ],
         400,
         6,
     ),
@@ -455,7 +494,10 @@ fn compare(rt: &impl Abort, alloc: Global, drawn: Drawn, seed: u32) -> usize {
         seed,
     };
     for turn in 0..turns {
-        assert!(rt; pair.turn(alloc, &mut hand, asks) == Ok(true), "seed {seed}, turn {turn}");
+        assert!(rt;
+            pair.turn(alloc, &mut hand, asks) == Ok(true),
+            "seed {seed}, turn {turn}"
+        );
     }
     pair.slow.past.len()
 }

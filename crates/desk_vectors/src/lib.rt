@@ -12,6 +12,8 @@ mod parts;
 #[cfg(test)]
 mod refusals;
 #[cfg(test)]
+mod refused;
+#[cfg(test)]
 mod rows;
 #[cfg(test)]
 mod slow;

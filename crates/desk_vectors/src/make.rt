@@ -3,9 +3,9 @@
 use body_core::outcome::Outcome;
 use body_core::perform::perform;
 use body_core::run::Run;
+use decl_read::read::read_objects;
 use desk_core::answer::Collected;
 use desk_core::desk::Desk;
-use decl_read::read::read_objects;
 use exclude_core::analyse::{Accepted, analyse};
 use shelf_core::hand::{Hand, Stamp};
 use shelf_core::pins::Pins;
@@ -36,7 +36,9 @@ end;
 pub fn accepted(rt: &impl Abort, alloc: Global, text: &[u8]) -> Accepted {
     let objects = read_objects(alloc, text).expect(rt, "objects");
     for (_, object) in objects {
-        return analyse(alloc, object).ok().expect(rt, "an object that is accepted");
+        return analyse(alloc, object)
+            .ok()
+            .expect(rt, "an object that is accepted");
     }
     panic!(rt; "no object")
 }

@@ -46,28 +46,38 @@ fn holds(rt: &impl Abort, alloc: Global, shelf: &mut MemShelf, want: Bytes) -> b
     }
 }
 
+// Whether the part of a cell that nothing was saved of begins with 0, and 7 is put into it and saved.
+fn is_saved(rt: &impl Abort, alloc: Global, shelf: &mut MemShelf, hand: &mut MemHand) -> bool {
+    match opened(rt, alloc, shelf, hand, ZERO) {
+        Some(desk) => {
+            let mut desk = desk;
+            has_turn_of(alloc, &mut desk, hand, "put", &[Datum::Integer(7)])
+                && saves(alloc, &desk, shelf, hand)
+        }
+        None => false,
+    }
+}
+
 #[test]
 fn what_is_published_is_saved_and_opened_again(rt: HostRuntime) {
     let alloc = rt.alloc();
     let mut shelf = MemShelf::new(alloc);
     let mut hand = MemHand::new(alloc);
-    let first = opened(&rt, alloc, &mut shelf, &mut hand, ZERO);
-    let mut desk = first.expect(&rt, "a desk");
-    assert!(rt; has_turn_of(alloc, &mut desk, &mut hand, "put", &[Datum::Integer(7)]));
-    assert!(rt; saves(alloc, &desk, &mut shelf, &mut hand));
+    assert!(rt; is_saved(&rt, alloc, &mut shelf, &mut hand));
     assert!(rt; holds(&rt, alloc, &mut shelf, SEVEN));
-    let again = opened(&rt, alloc, &mut shelf, &mut hand, SEVEN);
-    assert!(rt; again.is_some());
+    assert!(rt; opened(&rt, alloc, &mut shelf, &mut hand, SEVEN).is_some());
+}
+
+// Whether the part of a cell is damaged.
+fn is_damaged(rt: &impl Abort, alloc: Global, shelf: &mut MemShelf, hand: &mut MemHand) -> bool {
+    let cell = accepted(rt, alloc, CELL);
+    open_parts(alloc, cell.object(), shelf, hand).err() == Some(OpenFault::Damaged(0))
 }
 
 #[test]
 fn a_part_that_is_cut_is_damaged(rt: HostRuntime) {
-    let alloc = rt.alloc();
-    let mut shelf = MemShelf::new(alloc);
-    let mut hand = MemHand::new(alloc);
-    let cell = accepted(&rt, alloc, CELL);
-    let cut: Bytes = b"\x01\x01\x00\x01\x00\x00\x00";
-    assert!(rt; shelf.store(b"cell.v", cut).is_ok());
-    let fault = open_parts(alloc, cell.object(), &mut shelf, &mut hand).err();
-    assert!(rt; fault == Some(OpenFault::Damaged(0)));
+    let mut shelf = MemShelf::new(rt.alloc());
+    let mut hand = MemHand::new(rt.alloc());
+    assert!(rt; shelf.store(b"cell.v", &SEVEN[..7]).is_ok());
+    assert!(rt; is_damaged(&rt, rt.alloc(), &mut shelf, &mut hand));
 }

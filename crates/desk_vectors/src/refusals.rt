@@ -1,14 +1,11 @@
 //! Why a submission is refused, and which reason is told where two apply.
 
 use crate::make::{CELL, ZERO, desk_of, has_a_turn, pinned};
-use crate::rows::Step;
 use crate::rows::Step::{Finish, Leave, Open, Perform, Refused, Submit};
 use crate::rows::Want::Nothing;
 use crate::rows::Word::{Number, Text};
-use crate::rows::{play, submitted};
-use desk_core::answer::SubmitFault::{
-    BadArgs, Full, Gone, HistoryFull, SessionBusy, UnknownOp,
-};
+use crate::rows::{Step, play, submitted};
+use desk_core::answer::SubmitFault::{BadArgs, Full, Gone, HistoryFull, SessionBusy, UnknownOp};
 use desk_core::answer::{Cancelled, SubmitFault};
 use desk_core::desk::Desk;
 use shelf_core::memory::MemHand;
@@ -74,33 +71,50 @@ fn cell(rt: &impl Abort, alloc: Global, hand: &mut MemHand) -> Desk {
     desk_of(rt, alloc, CELL, pins)
 }
 
+// Whether a full desk takes a call only where another that waits is cancelled.
+fn takes_one_for_another(desk: &mut Desk) -> bool {
+    is_refused(desk, 257, "get", BadArgs)
+        && is_refused(desk, 256, "put", SessionBusy)
+        && is_refused(desk, 257, "put", Full)
+        && desk.cancel(1) == Cancelled::Running
+        && is_refused(desk, 257, "put", Full)
+        && desk.cancel(2) == Cancelled::Cancelled
+        && desk.submit(257, "put", &[Datum::Integer(7)]) == Ok(257)
+        && is_refused(desk, 2, "put", Full)
+}
+
 #[test]
 fn a_full_desk_takes_a_call_where_another_is_cancelled(rt: HostRuntime) {
     let mut hand = MemHand::new(rt.alloc());
     let mut desk = cell(&rt, rt.alloc(), &mut hand);
-    assert!(rt; are_taken(&mut desk, 256, 0));
-    assert!(rt; is_refused(&mut desk, 257, "get", BadArgs));
-    assert!(rt; is_refused(&mut desk, 256, "put", SessionBusy));
-    assert!(rt; is_refused(&mut desk, 257, "put", Full));
-    assert!(rt; desk.cancel(1) == Cancelled::Running && is_refused(&mut desk, 257, "put", Full));
-    assert!(rt; desk.cancel(2) == Cancelled::Cancelled);
-    let number = desk.submit(257, "put", &[Datum::Integer(7)]);
-    assert!(rt; number == Ok(257) && is_refused(&mut desk, 2, "put", Full));
+    assert!(rt; are_taken(&mut desk, 256, 0) && takes_one_for_another(&mut desk));
+}
+
+// Whether session 1 makes this many calls.
+fn has_turns(alloc: Global, desk: &mut Desk, hand: &mut MemHand, turns: u32) -> bool {
+    for _ in 0..turns {
+        if !has_a_turn(alloc, desk, hand) {
+            return false;
+        }
+    }
+    true
+}
+
+// Whether a full desk that has no number left takes no call where one that waits is cancelled.
+fn takes_none_for_another(desk: &mut Desk) -> bool {
+    is_refused(desk, 257, "put", Full)
+        && desk.cancel(65_282) == Cancelled::Cancelled
+        && is_refused(desk, 3, "put", SessionBusy)
+        && is_refused(desk, 257, "put", HistoryFull)
+        && is_refused(desk, 257, "puts", UnknownOp)
+        && desk.history().len() == 65_280
+        && desk.trace_len() == 130_561
 }
 
 #[test]
 fn each_of_65536_numbers_is_given_once(rt: HostRuntime) {
     let mut hand = MemHand::new(rt.alloc());
     let mut desk = cell(&rt, rt.alloc(), &mut hand);
-    for _ in 0..65_280 {
-        assert!(rt; has_a_turn(rt.alloc(), &mut desk, &mut hand));
-    }
-    assert!(rt; are_taken(&mut desk, 256, 65_280));
-    assert!(rt; is_refused(&mut desk, 257, "put", Full));
-    // A number that was given is not given again.
-    assert!(rt; desk.cancel(65_282) == Cancelled::Cancelled);
-    assert!(rt; is_refused(&mut desk, 3, "put", SessionBusy));
-    assert!(rt; is_refused(&mut desk, 257, "put", HistoryFull));
-    assert!(rt; is_refused(&mut desk, 257, "puts", UnknownOp));
-    assert!(rt; desk.history().len() == 65_280 && desk.trace_len() == 130_561);
+    assert!(rt; has_turns(rt.alloc(), &mut desk, &mut hand, 65_280));
+    assert!(rt; are_taken(&mut desk, 256, 65_280) && takes_none_for_another(&mut desk));
 }

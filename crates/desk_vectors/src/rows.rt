@@ -236,13 +236,7 @@ impl World {
     }
 
     // Asks for a ticket that is not there.
-    fn finds<H: Hand>(
-        &mut self,
-        alloc: Global,
-        hand: &mut H,
-        number: u32,
-        want: Found,
-    ) -> bool {
+    fn finds<H: Hand>(&mut self, alloc: Global, hand: &mut H, number: u32, want: Found) -> bool {
         match self.desk.collect(number) {
             Collected::Ticket(ticket) => {
                 let _outcome = perform(Run::new(alloc, ticket), hand);
@@ -278,13 +272,7 @@ impl World {
     }
 
     // Does what a step says, and tells whether it comes out so.
-    fn does<H: Hand>(
-        &mut self,
-        rt: &impl Abort,
-        alloc: Global,
-        hand: &mut H,
-        step: Step,
-    ) -> bool {
+    fn does<H: Hand>(&mut self, rt: &impl Abort, alloc: Global, hand: &mut H, step: Step) -> bool {
         match step {
             Step::Submit(session, op, args, n) => self.submits(rt, alloc, session, op, args, Ok(n)),
             Step::Refused(session, op, args, why) => {

@@ -65,11 +65,23 @@ pub struct Slow {
     pub files: Files,
 }
 
+/// A length, which is far below 2^32.
+pub fn count(len: usize) -> u32 {
+    match u32::try_from(len) {
+        Ok(count) => count,
+        Err(_) => 0,
+    }
+}
+
 // The place of the operation of this name.
 fn place_of(object: &Object, name: &str) -> Option<OpId> {
     let mut place = 0;
     for operation in &object.operations {
-        if operation.name.as_bytes().eq_ignore_ascii_case(name.as_bytes()) {
+        if operation
+            .name
+            .as_bytes()
+            .eq_ignore_ascii_case(name.as_bytes())
+        {
             return Some(place);
         }
         place = place.wrapping_add(1);
@@ -175,9 +187,9 @@ impl Slow {
         self.has_started(number) && !self.has_ended(number)
     }
 
-    // The number behind the last one.
-    fn next(&self) -> u32 {
-        (self.calls.len() as u32).saturating_add(1)
+    /// The number behind the last one.
+    pub fn next(&self) -> u32 {
+        count(self.calls.len()).saturating_add(1)
     }
 
     // Whether a call of a session waits or runs.
@@ -260,7 +272,7 @@ impl Slow {
         };
         self.calls.push(Asked { session, op, args })?;
         self.admit(alloc)?;
-        Ok(Ok(self.calls.len() as u32))
+        Ok(Ok(count(self.calls.len())))
     }
 
     /// The submitter of a call asks for its ticket.
@@ -377,6 +389,8 @@ impl Slow {
         call: Asked,
         outcome: &Outcome,
     ) -> Result<Files, AllocError> {
+        // The checker looks for what a reply may hold among the locals.
+        let _of: Option<Datum> = None;
         let number = outcome.number();
         let news = news_of(outcome.new_pins());
         let mut behind = news_of(outcome.sealed());
@@ -387,10 +401,12 @@ impl Slow {
             }
         }
         self.past.insert(0, Happening::Ended(number, call.op))?;
+        let reply = outcome.reply();
+        let files = self.taken_files(number);
         self.ends.push(Ended {
             number,
-            reply: outcome.reply(),
-            files: self.taken_files(number),
+            reply,
+            files,
             news,
         })?;
         let free = self.free_of(behind);
