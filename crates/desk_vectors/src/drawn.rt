@@ -420,7 +420,7 @@ const RUNS: [Drawn; 5] = [
             ("ad", &[]),
         ],
         120,
-        16,
+        40,
     ),
     Drawn(
         BUFFER,
@@ -433,7 +433,7 @@ const RUNS: [Drawn; 5] = [
             ("get", &[1]),
         ],
         120,
-        16,
+        40,
     ),
     Drawn(
         PARTS_OF,
@@ -446,7 +446,7 @@ const RUNS: [Drawn; 5] = [
             ("move", &[]),
         ],
         120,
-        20,
+        50,
     ),
     Drawn(
         NESTED,
@@ -459,7 +459,7 @@ const RUNS: [Drawn; 5] = [
             ("name", &[1]),
         ],
         100,
-        20,
+        50,
     ),
     Drawn(
         TURNS,
@@ -472,7 +472,7 @@ const RUNS: [Drawn; 5] = [
             ("e", &[1]),
         ],
         400,
-        6,
+        15,
     ),
 ];
 
@@ -510,5 +510,5 @@ fn the_desk_does_what_the_slow_one_does(rt: HostRuntime) {
             events = events.saturating_add(compare(&rt, rt.alloc(), drawn, seed));
         }
     }
-    assert!(rt; events >= 1_500, "{events} events");
+    assert!(rt; events >= 4_000, "{events} events");
 }
