@@ -1,5 +1,6 @@
 // A library to preload: it refuses one growth of memory, the one whose number, counted from 1, stands
-// in the environment as REFUSE_GROWTH, and then makes the file that REFUSE_NOTE names.
+// in the environment as REFUSE_GROWTH, or each growth between one of REFUSE_MARK bytes and the next of one byte
+// more; and then it makes the file that REFUSE_NOTE names.
 #include <errno.h>
 #include <fcntl.h>
 #include <stdlib.h>
@@ -9,13 +10,9 @@ extern void *__libc_malloc(size_t size);
 extern void *__libc_realloc(void *old, size_t size);
 
 static unsigned long growths;
+static int starves;
 
-static int is_refused(void) {
-    const char *number = getenv("REFUSE_GROWTH");
-    const char *note = getenv("REFUSE_NOTE");
-    if (number == NULL || note == NULL || ++growths != strtoul(number, NULL, 10)) {
-        return 0;
-    }
+static int refuse(const char *note) {
     int file = open(note, O_CREAT | O_WRONLY, 0600);
     if (file >= 0) {
         close(file);
@@ -24,10 +21,27 @@ static int is_refused(void) {
     return 1;
 }
 
+static int is_refused(size_t size) {
+    const char *note = getenv("REFUSE_NOTE");
+    const char *number = getenv("REFUSE_GROWTH");
+    const char *mark = getenv("REFUSE_MARK");
+    if (note == NULL) {
+        return 0;
+    }
+    if (mark != NULL && size - strtoul(mark, NULL, 10) < 2) {
+        starves = size == strtoul(mark, NULL, 10);
+        return 0;
+    }
+    if (starves || (number != NULL && ++growths == strtoul(number, NULL, 10))) {
+        return refuse(note);
+    }
+    return 0;
+}
+
 void *malloc(size_t size) {
-    return is_refused() ? NULL : __libc_malloc(size);
+    return is_refused(size) ? NULL : __libc_malloc(size);
 }
 
 void *realloc(void *old, size_t size) {
-    return is_refused() ? NULL : __libc_realloc(old, size);
+    return is_refused(size) ? NULL : __libc_realloc(old, size);
 }

@@ -3,3 +3,19 @@
 
 #[cfg(test)]
 mod desks;
+#[cfg(test)]
+mod drawn;
+#[cfg(test)]
+mod make;
+#[cfg(test)]
+mod parts;
+#[cfg(test)]
+mod refusals;
+#[cfg(test)]
+mod refused;
+#[cfg(test)]
+mod rows;
+#[cfg(test)]
+mod slow;
+#[cfg(test)]
+mod strangers;

@@ -1,0 +1,154 @@
+//! Desks where a growth of memory is refused: a refused submission leaves the desk as it was, and no other call of a
+//! desk takes memory.
+//!
+//! `tools/refuse_memory` runs each test whose name begins with `refused_` with the first, the second, .. growth
+//! refused, and each whose name begins with `starved_` with all growths refused between its two marks. With no growth
+//! refused they are happy paths.
+
+use crate::make::{CELL, ZERO, outcome_of};
+use crate::rows::look;
+use body_core::outcome::Outcome;
+use body_core::reply::{Failure, Reply};
+use decl_read::read::read_objects;
+use desk_core::answer::{Cancelled, SubmitFault};
+use desk_core::desk::Desk;
+use exclude_core::analyse::{Accepted, analyse};
+use shelf_core::memory::MemHand;
+use shelf_core::pins::Pins;
+use shelf_core::whole::put;
+use std::alloc::Global;
+use std::process::Abort;
+use value_core::datum::Datum;
+
+// The cell, accepted, where there is memory for it.
+fn cell(alloc: Global) -> Option<Accepted> {
+    let objects = read_objects(alloc, CELL).ok()?;
+    for (_, object) in objects {
+        return analyse(alloc, object).ok();
+    }
+    None
+}
+
+// The same, where there is memory for it at the first or at the second try.
+fn cell_twice(rt: &impl Abort, alloc: Global) -> Accepted {
+    match cell(alloc) {
+        Some(cell) => cell,
+        None => cell(alloc).expect(rt, "memory"),
+    }
+}
+
+// The desk of a cell, where there is memory for it at the first or at the second try.
+fn desk_twice(rt: &impl Abort, alloc: Global, pins: Pins) -> Desk {
+    let first = cell_twice(rt, alloc);
+    assert!(rt; pins.len() == first.object().parts.len());
+    match Desk::open(alloc, first, pins) {
+        Ok(desk) => desk,
+        Err(_) => {
+            let second = cell_twice(rt, alloc);
+            assert!(rt; pins.len() == second.object().parts.len());
+            Desk::open(alloc, second, pins).expect(rt, "memory")
+        }
+    }
+}
+
+// A hand with one file, which is a cell's pin, where there is memory for it at the first or at the second try.
+fn pins_twice(rt: &impl Abort, hand: &mut MemHand) -> Pins {
+    let stamp = match put(hand, ZERO) {
+        Ok(stamp) => stamp,
+        Err(_) => put(hand, ZERO).expect(rt, "memory"),
+    };
+    Pins::new(&[stamp])
+}
+
+// Whether a session's `put 7` gets a number at the first or at the second try, and a refusal changes nothing.
+fn is_taken(desk: &mut Desk, session: u32, number: u32) -> bool {
+    let before = look(desk);
+    let first = desk.submit(session, "put", &[Datum::Integer(7)]);
+    if first == Err(SubmitFault::Memory) {
+        let is_same = look(desk) == before && desk.call(number).is_none();
+        let is_open = desk.refusal(session, "put", &[Datum::Integer(7)]).is_none();
+        let again = desk.submit(session, "put", &[Datum::Integer(7)]);
+        return is_same && is_open && again == Ok(number);
+    }
+    first == Ok(number)
+}
+
+// Whether the sessions below this one each get their number, and no more.
+fn are_taken(desk: &mut Desk, below: u32) -> bool {
+    for session in 1..below {
+        if !is_taken(desk, session, session) {
+            return false;
+        }
+    }
+    true
+}
+
+// Whether the calls below this number finish one after the other, each done or failed.
+fn finish(alloc: Global, desk: &mut Desk, hand: &mut MemHand, below: u32) -> bool {
+    for number in 1..below {
+        let Some(outcome) = outcome_of(alloc, desk, hand, number) else {
+            return false;
+        };
+        if desk.finish(outcome).is_err() {
+            return false;
+        }
+    }
+    desk.is_idle()
+}
+
+#[test]
+fn refused_open_and_submit(rt: HostRuntime) {
+    let mut hand = MemHand::new(rt.alloc());
+    let pins = pins_twice(&rt, &mut hand);
+    let mut desk = desk_twice(&rt, rt.alloc(), pins);
+    assert!(rt; are_taken(&mut desk, 40) && finish(rt.alloc(), &mut desk, &mut hand, 40));
+}
+
+// A growth of this many bytes says that each one behind it is to be refused, and a growth of one more that none is.
+const MARK: usize = 1_000_003;
+
+// Whether memory is refused now.
+fn is_starved(alloc: Global) -> bool {
+    Vec::<u8>::with_capacity(alloc, 64).is_err()
+}
+
+// Makes a growth of so many bytes.
+fn grow(rt: &impl Abort, alloc: Global, bytes: usize) {
+    let room: Vec<u8> = Vec::with_capacity(alloc, bytes).expect(rt, "memory");
+    assert!(rt; room.is_empty());
+}
+
+// Call 1 ends, whose outcome is there; call 2 starts, and fails where there is no memory; session 3 leaves while
+// its call runs, and call 4 is cancelled.
+fn goes_on(alloc: Global, desk: &mut Desk, hand: &mut MemHand, first: Outcome) -> bool {
+    let starved = is_starved(alloc);
+    if desk.finish(first).is_err() || !desk.runs(2) {
+        return false;
+    }
+    let Some(second) = outcome_of(alloc, desk, hand, 2) else {
+        return false;
+    };
+    let failed = second.reply() == Reply::Failed(Failure::Memory);
+    if failed != starved || desk.finish(second).is_err() || !desk.runs(3) {
+        return false;
+    }
+    desk.disconnect(3);
+    desk.disconnect(5);
+    let is_cancelled = desk.cancel(4) == Cancelled::Cancelled && !desk.waits(5);
+    let has_none = outcome_of(alloc, desk, hand, 4).is_none();
+    let refused = desk.submit(6, "get", &[]) == Err(SubmitFault::Memory);
+    is_cancelled && has_none && refused == starved && desk.runs(3)
+}
+
+#[test]
+fn starved_desk_goes_on(rt: HostRuntime) {
+    let mut hand = MemHand::new(rt.alloc());
+    let pins = pins_twice(&rt, &mut hand);
+    let mut desk = desk_twice(&rt, rt.alloc(), pins);
+    assert!(rt; are_taken(&mut desk, 6));
+    let first = outcome_of(rt.alloc(), &mut desk, &mut hand, 1).expect(&rt, "a ticket");
+    grow(&rt, rt.alloc(), MARK);
+    let goes_on = goes_on(rt.alloc(), &mut desk, &mut hand, first);
+    grow(&rt, rt.alloc(), MARK + 1);
+    assert!(rt; goes_on && desk.trace().len() == 5);
+}

@@ -1,0 +1,102 @@
+//! Outcomes that are handed to a desk on which no such call runs.
+
+use crate::make::{Bytes, CELL, ZERO, desk_of, has_a_turn, outcome_of, pinned};
+use crate::rows::look;
+use body_core::outcome::Outcome;
+use desk_core::answer::Stranger;
+use desk_core::desk::Desk;
+use shelf_core::hand::Stamp;
+use shelf_core::memory::MemHand;
+use shelf_core::pins::Pins;
+use std::alloc::Global;
+use std::process::Abort;
+use value_core::datum::Datum;
+
+/// A cell of which one operation differs in its last term alone.
+const OTHER: Bytes = b"object cell;
+  path 1:([get], put, bump) end;
+  var v : array [1] of integer;
+  entry function get : integer; begin get := v[0] end;
+  entry procedure put(x : integer); begin v[0] := x + 0 end;
+  entry procedure bump(x : integer); begin if x = 0 then refuse('none'); v[0] := v[0] + x end;
+end;
+";
+
+/// A call: its object, the number of its part's file, by how many bytes its pin is longer than the file, how many
+/// calls of its desk ended before it, its operation, and its argument.
+#[derive(Clone, Copy, Drop)]
+struct Called(Bytes, u64, usize, u32, &'static str, u32);
+
+const SEVEN_PUT: Called = Called(CELL, 1, 0, 0, "put", 7);
+
+// Calls that differ from the first in one thing each.
+const OTHERS: [Called; 6] = [
+    Called(CELL, 2, 0, 0, "put", 7),
+    Called(CELL, 1, 1, 0, "put", 7),
+    Called(CELL, 1, 0, 1, "put", 7),
+    Called(CELL, 1, 0, 0, "bump", 7),
+    Called(CELL, 1, 0, 0, "put", 8),
+    Called(OTHER, 1, 0, 0, "put", 7),
+];
+
+// A desk on which a call runs, and the outcome of the call.
+fn run(rt: &impl Abort, alloc: Global, hand: &mut MemHand, called: Called) -> (Desk, Outcome) {
+    let Called(object, number, more, before, op, arg) = called;
+    let len = more.saturating_add(8);
+    let mut desk = desk_of(rt, alloc, object, Pins::new(&[Stamp { number, len }]));
+    for _ in 0..before {
+        assert!(rt; has_a_turn(alloc, &mut desk, hand));
+    }
+    let number = desk
+        .submit(1, op, &[Datum::Integer(arg)])
+        .expect(rt, "a number");
+    let outcome = outcome_of(alloc, &mut desk, hand, number).expect(rt, "an outcome");
+    (desk, outcome)
+}
+
+// Whether a desk hands an outcome back, and stays as it is.
+fn hands_back(desk: &mut Desk, outcome: Outcome) -> Option<Outcome> {
+    let before = look(desk);
+    match desk.finish(outcome) {
+        Ok(_) => None,
+        Err(Stranger(outcome)) => {
+            if look(desk) != before {
+                return None;
+            }
+            Some(outcome)
+        }
+    }
+}
+
+// Whether a desk takes an outcome as its next entry, and hands a copy of it back.
+fn takes_once(rt: &impl Abort, alloc: Global, desk: &mut Desk, outcome: Outcome) -> bool {
+    let copy = outcome.copy(alloc).expect(rt, "memory");
+    let place = outcome.number() as usize;
+    match desk.finish(outcome) {
+        Ok(receipt) => receipt.place == place && hands_back(desk, copy).is_some(),
+        Err(_) => false,
+    }
+}
+
+// Whether the outcome of a call of one desk is a stranger on another, and on its own the next entry, once.
+fn is_strange(rt: &impl Abort, alloc: Global, hand: &mut MemHand, called: [Called; 2]) -> bool {
+    let (mut other, _) = run(rt, alloc, hand, called[0]);
+    let (mut own, outcome) = run(rt, alloc, hand, called[1]);
+    match hands_back(&mut other, outcome) {
+        Some(outcome) => takes_once(rt, alloc, &mut own, outcome),
+        None => false,
+    }
+}
+
+#[test]
+fn a_call_is_told_by_its_number_declaration_arguments_and_pins(rt: HostRuntime) {
+    let mut hand = MemHand::new(rt.alloc());
+    // Files 1 and 2 have the same bytes.
+    let _pins = pinned(&rt, &mut hand, &[ZERO, ZERO]);
+    for called in OTHERS {
+        assert!(rt; is_strange(&rt, rt.alloc(), &mut hand, [SEVEN_PUT, called]));
+        assert!(rt; is_strange(&rt, rt.alloc(), &mut hand, [called, SEVEN_PUT]));
+    }
+    // What is known of a call is no more than that: the like outcome of another desk is taken.
+    assert!(rt; !is_strange(&rt, rt.alloc(), &mut hand, [SEVEN_PUT, SEVEN_PUT]));
+}
