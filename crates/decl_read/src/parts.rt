@@ -20,6 +20,7 @@ use body_read::lookup::is_known;
 use body_read::scope::Scope;
 use body_read::terms::Read;
 use body_read::text_fault::TextFault;
+use decl_core::id::MOST_PARTS;
 use decl_core::object::Part;
 use path_tree::lookup::Constant;
 use path_tree::name::Name;
@@ -53,7 +54,7 @@ fn room(parts: &[Part]) -> u8
     ensures parts { result ≡ 16 - length (parts_of parts.now) }
     ensures length { result ≡ 16 - length parts.now }
 {
-    16 - parts.len() as u8
+    (MOST_PARTS - parts.len()) as u8
 }
 
 /// Parts of these names and of one kind, behind those before.
