@@ -3,3 +3,7 @@
 
 #[cfg(test)]
 mod desks;
+#[cfg(test)]
+mod make;
+#[cfg(test)]
+mod threads;

@@ -1,0 +1,98 @@
+//! Objects, files and desks, as the tests make them.
+
+use body_core::outcome::Outcome;
+use body_core::perform::perform;
+use body_core::run::Run;
+use decl_read::read::read_objects;
+use desk_core::answer::Collected;
+use desk_core::desk::Desk;
+use exclude_core::analyse::{Accepted, analyse};
+use shelf_core::hand::{Hand, Stamp};
+use shelf_core::pins::Pins;
+use shelf_core::whole::put;
+use std::alloc::Global;
+use std::process::Abort;
+use value_core::datum::Datum;
+
+/// The bytes of a part.
+pub type Bytes = &'static [u8];
+
+/// The arrays `[0]` and `[7]`.
+pub const ZERO: Bytes = b"\x01\x01\x00\x01\x00\x00\x00\x00";
+
+pub const SEVEN: Bytes = b"\x01\x01\x00\x01\x00\x00\x00\x07";
+
+/// An object with one part.
+pub const CELL: Bytes = b"object cell;
+  path 1:([get], put, bump) end;
+  var v : array [1] of integer;
+  entry function get : integer; begin get := v[0] end;
+  entry procedure put(x : integer); begin v[0] := x end;
+  entry procedure bump(x : integer); begin if x = 0 then refuse('none'); v[0] := v[0] + x end;
+end;
+";
+
+/// The one object of a text, accepted.
+pub fn accepted(rt: &impl Abort, alloc: Global, text: &[u8]) -> Accepted {
+    let objects = read_objects(alloc, text).expect(rt, "objects");
+    for (_, object) in objects {
+        return analyse(alloc, object)
+            .ok()
+            .expect(rt, "an object that is accepted");
+    }
+    panic!(rt; "no object")
+}
+
+/// A file for each part, with these bytes.
+pub fn pinned<H: Hand>(rt: &impl Abort, hand: &mut H, files: &[&[u8]]) -> Pins {
+    let mut stamps = [Stamp { number: 0, len: 0 }; 16];
+    assert!(rt; files.len() <= stamps.len());
+    for (place, bytes) in files.iter().enumerate() {
+        stamps[place] = put(hand, bytes).expect(rt, "a file");
+    }
+    Pins::new(&stamps[..files.len()])
+}
+
+/// The desk of the one object of a text, with these pins.
+pub fn desk_of(rt: &impl Abort, alloc: Global, text: &[u8], pins: Pins) -> Desk {
+    let accepted = accepted(rt, alloc, text);
+    assert!(rt; pins.len() == accepted.object().parts.len());
+    Desk::open(alloc, accepted, pins).expect(rt, "memory")
+}
+
+/// The outcome of a call whose ticket was not taken.
+pub fn outcome_of<H: Hand>(
+    alloc: Global,
+    desk: &mut Desk,
+    hand: &mut H,
+    number: u32,
+) -> Option<Outcome> {
+    match desk.collect(number) {
+        Collected::Ticket(ticket) => Some(perform(Run::new(alloc, ticket), hand)),
+        Collected::Waiting => None,
+        Collected::Cancelled => None,
+        Collected::Unknown => None,
+    }
+}
+
+/// Whether session 1 makes a call from beginning to end.
+pub fn has_turn_of<H: Hand>(
+    alloc: Global,
+    desk: &mut Desk,
+    hand: &mut H,
+    op: &str,
+    args: &[Datum],
+) -> bool {
+    let Ok(number) = desk.submit(1, op, args) else {
+        return false;
+    };
+    match outcome_of(alloc, desk, hand, number) {
+        Some(outcome) => desk.finish(outcome).is_ok(),
+        None => false,
+    }
+}
+
+/// Whether session 1 makes a call of `get`.
+pub fn has_a_turn<H: Hand>(alloc: Global, desk: &mut Desk, hand: &mut H) -> bool {
+    has_turn_of(alloc, desk, hand, "get", &[])
+}
