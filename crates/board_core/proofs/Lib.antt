@@ -8,3 +8,4 @@ pub mod Freed
 pub mod Admission
 pub mod BoardLaws
 pub mod Kept
+pub mod Sending

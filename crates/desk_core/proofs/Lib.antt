@@ -4,3 +4,4 @@ pub mod Busy
 pub mod Marking
 pub mod Places
 pub mod Telling
+pub mod Sending

@@ -19,3 +19,5 @@ mod rows;
 mod slow;
 #[cfg(test)]
 mod strangers;
+#[cfg(test)]
+mod threads;
