@@ -25,11 +25,7 @@ fn count_from(parts: u16, part: usize, left: usize) -> usize
         return 0;
     }
     let rest = count_from(parts, part + 1, left - 1);
-    if is_in(part, parts) {
-        rest + 1
-    } else {
-        rest
-    }
+    if is_in(part, parts) { rest + 1 } else { rest }
 }
 
 // How many parts are in a set, from 0 to 16.
