@@ -20,4 +20,6 @@ mod slow;
 #[cfg(test)]
 mod strangers;
 #[cfg(test)]
+mod texts;
+#[cfg(test)]
 mod threads;

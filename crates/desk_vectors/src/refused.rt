@@ -38,7 +38,7 @@ fn cell_twice(rt: &impl Abort, alloc: Global) -> Accepted {
 }
 
 // The desk of a cell, where there is memory for it at the first or at the second try.
-fn desk_twice(rt: &impl Abort, alloc: Global, pins: Pins) -> Desk {
+pub fn desk_twice(rt: &impl Abort, alloc: Global, pins: Pins) -> Desk {
     let first = cell_twice(rt, alloc);
     assert!(rt; pins.len() == first.object().parts.len());
     match Desk::open(alloc, first, pins) {
@@ -52,7 +52,7 @@ fn desk_twice(rt: &impl Abort, alloc: Global, pins: Pins) -> Desk {
 }
 
 // A hand with one file, which is a cell's pin, where there is memory for it at the first or at the second try.
-fn pins_twice(rt: &impl Abort, hand: &mut MemHand) -> Pins {
+pub fn pins_twice(rt: &impl Abort, hand: &mut MemHand) -> Pins {
     let stamp = match put(hand, ZERO) {
         Ok(stamp) => stamp,
         Err(_) => put(hand, ZERO).expect(rt, "memory"),
@@ -74,7 +74,7 @@ fn is_taken(desk: &mut Desk, session: u32, number: u32) -> bool {
 }
 
 // Whether the sessions below this one each get their number, and no more.
-fn are_taken(desk: &mut Desk, below: u32) -> bool {
+pub fn are_taken(desk: &mut Desk, below: u32) -> bool {
     for session in 1..below {
         if !is_taken(desk, session, session) {
             return false;
