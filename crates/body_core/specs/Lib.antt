@@ -8,6 +8,7 @@ pub mod NewPins
 pub mod Outcomes
 pub mod Phases
 pub mod Runs
+pub mod RunLaws
 pub mod Spread
 pub mod Steps
 pub mod Stops

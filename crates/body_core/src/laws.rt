@@ -1,6 +1,7 @@
-//! Laws of histories, over the definitions alone.
+//! Laws of histories and of runs, over the definitions alone.
 
 ghost use Rattle.body_core.specs.HistoryLaws.{LeadsOn, LegalSplits, LeadsByOne, LegalByOne, RefusedChangesNone};
+ghost use Rattle.body_core.specs.RunLaws.{PensStay, PensAreOpen};
 
 /// Two histories, one after the other, lead to what the second leads to from where the first leads.
 pub fn leads_on()
@@ -27,4 +28,14 @@ pub fn legal_by_one()
 /// A refused call changes no part.
 pub fn refused_changes_none()
     ensures { RefusedChangesNone }
+{}
+
+/// Files in memory hold what a run appended, where its file is as it was.
+pub fn pens_stay()
+    ensures { PensStay }
+{}
+
+/// Where files in memory hold what a run appended, the file that it writes is open.
+pub fn pens_are_open()
+    ensures { PensAreOpen }
 {}

@@ -1,0 +1,65 @@
+-- What a world answers to events, and what each of them leaves.
+use Rattle.std.specs.Prelude.{◌≡◌, ◌≢◌, ℕ, ◌+◌, ◌≤◌, ◌<◌, ◌⊎◌, ◌==◌, not, Bool, true, false, List, [], ◌∷◌, length, filter, slice_set, Some}
+use Rattle.std.specs.Global.{Vec}
+use Rattle.value_core.specs.Contents.{Contents}
+use Rattle.shelf_core.specs.declared.file.File.{File}
+use Rattle.body_core.specs.declared.reply.Failure.TheVariants as failures
+use Rattle.body_core.specs.declared.reply.Reply.{Reply}
+use Rattle.body_core.specs.declared.reply.Reply.TheVariants as replies
+use Rattle.body_core.specs.declared.step.Need.TheVariants as needs
+use Rattle.body_core.specs.Steps.{Place, Follows, FailsWith, need_at, ending_at, sealed_at}
+use Rattle.body_core.specs.Phases.{step_answer}
+use Rattle.body_core.specs.History.{leads_to}
+use Rattle.board_core.specs.Lists.{Among}
+use Rattle.board_core.specs.Calls.{AcceptedCall, RunningCall}
+use Rattle.board_core.specs.Board.{Board, joined, dismissed, released, marked, ended, entry_of}
+use Rattle.board_core.specs.Chain.{history_of}
+use Rattle.desk_core.specs.declared.answer.SubmitFault.{SubmitFault}
+use Rattle.desk_core.specs.declared.answer.Cancelled.{Cancelled}
+use Rattle.desk_core.specs.declared.answer.Cancelled.TheVariants as cancels
+use Rattle.desk_core.specs.Answers.{Asked, IsTaken, IsRefused, Cancels, waits_in, runs_in}
+use Rattle.world_core.specs.declared.event.Refusal.TheVariants.{Submit, NotRunning, NoStep, NotDone, NoSession, Memory}
+use Rattle.world_core.specs.declared.event.Answer.{Answer}
+use Rattle.world_core.specs.declared.event.Answer.TheVariants.{Number, Stepped, Ended, Cancel, Dropped, Shown, Refused}
+use Rattle.world_core.specs.declared.event.EventAnswer.{EventAnswer}
+use Rattle.world_core.specs.Events.{WorldEvent, call, step, finish, cancel, leave, look}
+use Rattle.world_core.specs.Scene.{Scene, Standing, Goes, IsRunAt, call_running}
+
+-- an answer, and how many calls the event started
+abbrev pub with_starts : Answer → ℕ → EventAnswer
+with_starts answer starts = record { answer = answer; starts = starts }
+
+-- A step of a run by the rule of steps: one that works does not fail for the device, one that does not work fails, and no part is found damaged.
+pub record Moves (run : Standing) (works : Bool) (after : Place) : Type 0 where
+  pub follows : Follows run.call run.place after
+  pub works : works ≡ true → ending_at after ≢ Some (replies.Failed failures.Device)
+  pub fails : works ≡ false → FailsWith run.place (ending_at after)
+  pub sound : ending_at after ≢ Some (replies.Failed failures.Damaged)
+
+-- The answer to an event, and what it leaves. A refused event changes nothing.
+pub data Answers (old : Scene) : WorldEvent → EventAnswer → Scene → Type 0 where
+  -- a call that is taken joins those that wait, with the next number
+  called : {asked : Asked} {starts : ℕ} {new : Scene} (accepted : AcceptedCall) → IsTaken old.board asked accepted → Goes old (joined old.board accepted) old.runs starts new
+      → Answers old (call asked) (with_starts (Number (length old.board.calls + 1)) starts) new
+  not_called : {asked : Asked} (fault : SubmitFault) → IsRefused old.board asked fault → Answers old (call asked) (with_starts (Refused (Submit fault)) 0) old
+  -- a step is one step of that call's run
+  stepped : {number : ℕ} {works : Bool} (k : ℕ) (run : Standing) (after : Place) (files : List File) → IsRunAt old.runs k number run → need_at run.place ≢ needs.Done → Moves run works after
+      → Answers old (step number works) (with_starts (Stepped (need_at run.place) (step_answer (ending_at run.place) (ending_at after))) 0)
+          (record old { runs = slice_set old.runs k (record run { place = after }); files = files })
+  no_step : {number : ℕ} {works : Bool} (k : ℕ) (run : Standing) → IsRunAt old.runs k number run → need_at run.place ≡ needs.Done → Answers old (step number works) (with_starts (Refused NoStep) 0) old
+  step_not_running : {number : ℕ} {works : Bool} → runs_in old.board number ≡ false → Answers old (step number works) (with_starts (Refused NotRunning) 0) old
+  -- a call finishes as its run has ended, and what that staged is published, if it was done
+  finished : {number starts : ℕ} {new : Scene} (k : ℕ) (r : RunningCall) (run : Standing) (reply : Reply) → Among r old.board.running → IsRunAt old.runs k number run → run.call ≡ call_running r → ending_at run.place ≡ Some reply
+      → Goes old (ended old.board (entry_of r reply (sealed_at run.place))) (filter (λ s. not (s.call.number == number)) old.runs) starts new
+      → Answers old (finish number) (with_starts (Ended reply) starts) new
+  not_done : {number : ℕ} (k : ℕ) (run : Standing) → IsRunAt old.runs k number run → need_at run.place ≢ needs.Done → Answers old (finish number) (with_starts (Refused NotDone) 0) old
+  finish_not_running : {number : ℕ} → runs_in old.board number ≡ false → Answers old (finish number) (with_starts (Refused NotRunning) 0) old
+  -- a call that waits is taken out; one that runs goes on
+  cancelled : {number starts : ℕ} {new : Scene} → waits_in old.board number ≡ true → Goes old (dismissed old.board number) old.runs starts new → Answers old (cancel number) (with_starts (Cancel cancels.Cancelled) starts) new
+  not_cancelled : {number : ℕ} (answer : Cancelled) → answer ≢ cancels.Cancelled → Cancels old.board number answer old.board → Answers old (cancel number) (with_starts (Cancel answer) 0) old
+  -- a session leaves: its waiting call is cancelled, its running call goes on
+  left : {session starts : ℕ} {new : Scene} → 0 < session → session ≤ 1024 → Goes old (marked (released old.board session) session) old.runs starts new → Answers old (leave session) (with_starts Dropped starts) new
+  no_session : {session : ℕ} → (session ≡ 0) ⊎ (1024 < session) → Answers old (leave session) (with_starts (Refused NoSession) 0) old
+  -- the contents after the history so far
+  shown : (values : Vec Contents) → values.items ≡ leads_to (history_of old.board.history) old.opening → Answers old look (with_starts (Shown values) 0) old
+  not_shown : Answers old look (with_starts (Refused Memory) 0) old

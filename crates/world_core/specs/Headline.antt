@@ -1,0 +1,42 @@
+-- The main theorem of worlds.
+use Rattle.std.specs.Prelude.{◌≡◌, ◌≢◌, ℕ, ◌<◌, List, [], map}
+use Rattle.path_tree.specs.Satisfies.{SatisfiesAll}
+use Rattle.shelf_core.specs.Device.{Assignment}
+use Rattle.body_core.specs.declared.reply.Failure.TheVariants as failures
+use Rattle.body_core.specs.declared.reply.Reply.TheVariants as replies
+use Rattle.body_core.specs.History.{IsLegal, leads_to}
+use Rattle.board_core.specs.Lists.{Every, EachPair}
+use Rattle.board_core.specs.Calls.{Noted}
+use Rattle.board_core.specs.Board.{paths_of, past_of, Rests}
+use Rattle.board_core.specs.Chain.{history_of, ShowContents}
+use Rattle.board_core.specs.Sound.{kinds_of, ends_of}
+use Rattle.world_core.specs.declared.event.EventAnswer.{EventAnswer}
+use Rattle.world_core.specs.Events.{WorldEvent}
+use Rattle.world_core.specs.Scene.{Scene, AgreesWith}
+use Rattle.world_core.specs.Plays.{Plays, finishes, HasFailedStep}
+
+-- The history of a world is sequential.
+pub record IsSequential (w : Scene) : Type 0 where
+  -- each finished call has the reply that the sequential object gives at its place
+  pub replies : IsLegal (history_of w.board.history) w.opening
+  -- the published contents, which the bytes under the published pins spell, are the sequential object's after that history
+  pub published : (a : Assignment) → AgreesWith w a → ShowContents a (kinds_of w.board.object) w.board.pins (leads_to (history_of w.board.history) w.opening)
+  pub agrees : (a : Assignment) × AgreesWith w a
+  -- each finished call stands there once, each session's in its order, and nothing else ended
+  pub once : EachPair (λ (e f : Noted). e.number ≢ f.number) w.board.history
+  pub in_order : EachPair (λ (e f : Noted). e.session ≡ f.session → e.number < f.number) w.board.history
+  pub ends : ends_of w.board.trace ≡ map (λ (e : Noted). (e.number, e.reply)) w.board.history
+  -- every prefix of starts and finishes satisfies every path
+  pub paths : SatisfiesAll (paths_of w.board) (past_of w.board)
+
+-- Every history is sequential: what holds after these events, which were answered so.
+pub record EveryHistoryIsSequential (old : Scene) (events : List WorldEvent) (answers : List EventAnswer) (new : Scene) : Type 0 where
+  pub plays : Plays old events answers new
+  pub sequential : IsSequential new
+  -- the calls that finished, with the replies that they were given, are the history, in order
+  pub told : map (λ (e : Noted). (e.number, e.reply)) new.board.history ≡ finishes events answers
+  -- a call fails for the device only where a step of its own was made to fail, and never since a part is damaged
+  pub fails : Every (λ (e : Noted). e.reply ≡ replies.Failed failures.Device → HasFailedStep e.number events answers) new.board.history
+  pub sound : Every (λ (e : Noted). e.reply ≢ replies.Failed failures.Damaged) new.board.history
+  -- no waiting call may start
+  pub rests : Rests new.board

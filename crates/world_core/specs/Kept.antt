@@ -1,0 +1,49 @@
+-- What holds of the tables of a world.
+use Rattle.std.specs.Prelude.{◌≡◌, ◌≤◌, ℕ, Bool, true, false, List, [], ◌∷◌, take, drop, map, length}
+use Rattle.value_core.specs.Contents.{Contents}
+use Rattle.shelf_core.specs.declared.file.File.{File}
+use Rattle.shelf_core.specs.declared.hand.Stamp.{Stamp}
+use Rattle.shelf_core.specs.Device.{Assignment, AreServed}
+use Rattle.shelf_core.specs.Files.{HasFiles, IsOpen, Serves, files_of}
+use Rattle.body_core.specs.declared.run.Run.{Run}
+use Rattle.body_core.specs.Runs.{run_call, run_ending, run_place, run_sealed, PenHolds, SoFar, AreApart}
+use Rattle.body_core.specs.Steps.{PinsServed, NewsServed}
+use Rattle.board_core.specs.Lists.{Every, EachPair}
+use Rattle.board_core.specs.Calls.{RunningCall}
+use Rattle.board_core.specs.Board.{Board}
+use Rattle.board_core.specs.Chain.{ShowContents, IsTrueEntry}
+use Rattle.board_core.specs.Sound.{IsSound, kinds_of}
+use Rattle.world_core.specs.declared.slot.Slot.{Slot}
+use Rattle.world_core.specs.declared.stage.Stage.{Stage}
+use Rattle.world_core.specs.Scene.{Scene, Standing, call_running}
+
+-- what a run is to whoever drives a world
+abbrev pub standing_of : Slot → Standing
+standing_of slot = record { call = run_call slot.run; place = run_place slot.run }
+
+abbrev pub scene_of : Stage → Scene
+scene_of s = record { board = s.desk; opening = s.opening.items; files = files_of s.hand; runs = map standing_of s.runs.items }
+
+-- A run can go on over these files: they hold what it appended, its pins and what it sealed can be read, and what it has found is true of each assignment that agrees.
+pub record IsReady (files : List File) (slot : Slot) : Type 0 where
+  pub pen : PenHolds (λ n b. IsOpen files n b) slot.run
+  pub pins : PinsServed (λ s. Serves files s) (run_call slot.run)
+  pub written : NewsServed (λ s. Serves files s) (run_sealed slot.run)
+  pub found : (a : Assignment) → HasFiles files a → SoFar a slot.run
+  pub number : slot.number ≡ (run_call slot.run).number
+
+-- a board, files, and the runs of so many of the running calls, the first ones, whose tickets were taken
+pub record IsKept (b : Board) (files : List File) (runs : List Slot) (opening : List Contents) (begun : ℕ) : Type 0 where
+  pub sound : IsSound b
+  pub taken : Every (λ (r : RunningCall). r.taken ≡ true) (take begun b.running)
+  pub left : Every (λ (r : RunningCall). r.taken ≡ false) (drop begun b.running)
+  pub calls : map (λ slot. run_call slot.run) runs ≡ map call_running (take begun b.running)
+  pub ready : Every (IsReady files) runs
+  pub apart : EachPair (λ (x y : Slot). AreApart x.run y.run) runs
+  pub served : AreServed (λ s. Serves files s) b.pins
+  pub opening : (a : Assignment) → HasFiles files a → ShowContents a (kinds_of b.object) b.opening opening
+  pub entries : (a : Assignment) → HasFiles files a → Every (IsTrueEntry a) b.history
+
+-- so is a stage whose running calls all have their runs
+abbrev pub IsStaged : Stage → Type 0
+IsStaged s = IsKept s.desk (files_of s.hand) s.runs.items s.opening.items (length s.desk.running)

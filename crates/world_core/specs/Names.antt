@@ -1,0 +1,23 @@
+-- The names of refusals.
+use Rattle.std.specs.Prelude.{ℕ, List, codes}
+use Rattle.desk_core.specs.declared.answer.SubmitFault.{SubmitFault}
+use Rattle.desk_core.specs.declared.answer.SubmitFault.TheVariants as faults
+use Rattle.world_core.specs.declared.event.Refusal.{Refusal}
+use Rattle.world_core.specs.declared.event.Refusal.TheVariants.{Submit, NotRunning, NoStep, NotDone, NoSession, Memory}
+
+abbrev pub fault_name : SubmitFault → List ℕ
+fault_name faults.Gone = codes "Gone"
+fault_name faults.UnknownOp = codes "UnknownOp"
+fault_name faults.BadArgs = codes "BadArgs"
+fault_name faults.SessionBusy = codes "SessionBusy"
+fault_name faults.Full = codes "Full"
+fault_name faults.HistoryFull = codes "HistoryFull"
+fault_name faults.Memory = codes "Memory"
+
+abbrev pub refusal_name : Refusal → List ℕ
+refusal_name (Submit fault) = fault_name fault
+refusal_name NotRunning = codes "NotRunning"
+refusal_name NoStep = codes "NoStep"
+refusal_name NotDone = codes "NotDone"
+refusal_name NoSession = codes "NoSession"
+refusal_name Memory = codes "Memory"
