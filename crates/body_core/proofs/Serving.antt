@@ -62,6 +62,10 @@ only_device faults.Memory is = absurd cc
 pub running : {ending : Option Reply} {reply : Reply} → ending ≡ None → ending ≡ Some reply → ⊥
 running none some = absurd cc
 
+-- a step that leaves no file
+pub no_news : (serves : Stamp → Type 0) (news : List NewPin) → news ≡ [] → NewsServed serves news
+no_news serves news none = subst (NewsServed serves) (sym none) tt
+
 -- files that could be read can be read where what could be read can be
 news_still : (before after : Stamp → Type 0) (news : List NewPin) → ((s : Stamp) → before s → after s) → NewsServed before news → NewsServed after news
 news_still before after [] still served = tt

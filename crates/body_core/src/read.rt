@@ -9,7 +9,7 @@ ghost use Rattle.body_core.specs.declared.reply.Reply.TheVariants as replies;
 ghost use Rattle.body_core.specs.Calling.{MakesRead};
 ghost use Rattle.body_core.specs.Truths.{PinHolds};
 ghost use Rattle.body_core.specs.Tasks.{task_call};
-ghost use Rattle.body_core.specs.Steps.{Follows, FailsWith, place_in, at_read};
+ghost use Rattle.body_core.specs.Steps.{Follows, FailsWith, NewsServed, place_in, at_read};
 ghost use Rattle.body_core.specs.Phases.{ending_of, sealed_in, HasNoPen, IsFront, IsRead, IsReadSoFar, EarlierAreRead, FoundBy, work_in};
 
 use crate::conclude::conclude;
@@ -129,7 +129,7 @@ pub(crate) fn read_step<H: Hand>(alloc: Global, hand: &mut H, task: &Task, r: Re
     ensures found { (a : Assignment) → H.agrees hand.new a → IsReadSoFar a (task_call task.now) r → FoundBy a (task_call task.now) result }
     ensures steps { Follows (task_call task.now) (place_in (Phase.Reading r)) (place_in result) }
     ensures pen { HasNoPen result }
-    ensures sealed { sealed_in result ≡ [] }
+    ensures written { NewsServed (H.serves hand.new) (sealed_in result) }
     ensures others { (n : ℕ) (b : List ℕ) → H.pending hand.old n b → H.pending hand.new n b }
     ensures earlier { (n : ℕ) (b : List ℕ) → H.pending hand.new n b → H.pending hand.old n b }
     ensures falls { work_in result < work_in (Phase.Reading r) }

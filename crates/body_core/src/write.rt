@@ -75,7 +75,7 @@ pub(crate) fn create_step<H: Hand>(hand: &mut H, plan: Plan) -> Phase
     ensures found { (a : Assignment) (call : Call) → IsWrittenSoFar a call plan → FoundBy a call result }
     ensures steps { (call : Call) → Follows call (place_in (Phase.Creating plan)) (place_in result) }
     ensures pen { PenHoldsIn (H.pending hand.new) result }
-    ensures sealed { sealed_in result ≡ plan.sealed }
+    ensures written { NewsServed (H.serves hand.old) plan.sealed → NewsServed (H.serves hand.new) (sealed_in result) }
     ensures unused { (n : ℕ) → pen_in result ≡ Some n → IsFree (H.agrees hand.new) (H.pending hand.old) n }
     ensures makes { MakesCreate H.makes hand.old hand.new }
     ensures others { (n : ℕ) (b : List ℕ) → H.pending hand.old n b → H.pending hand.new n b }
@@ -101,7 +101,7 @@ pub(crate) fn append_step<H: Hand>(hand: &mut H, plan: Plan, pen: Pen, done: usi
     ensures found { (a : Assignment) (call : Call) → IsWrittenSoFar a call plan → FoundBy a call result }
     ensures steps { (call : Call) → Follows call (place_in (Phase.Appending plan pen done)) (place_in result) }
     ensures pen { PenHoldsIn (H.pending hand.old) (Phase.Appending plan pen done) → PenHoldsIn (H.pending hand.new) result }
-    ensures sealed { sealed_in result ≡ plan.sealed }
+    ensures written { NewsServed (H.serves hand.old) plan.sealed → NewsServed (H.serves hand.new) (sealed_in result) }
     ensures same { (n : ℕ) → pen_in result ≡ Some n → pen.number ≡ n }
     ensures others { (n : ℕ) (b : List ℕ) → n ≢ pen.number → H.pending hand.old n b → H.pending hand.new n b }
     ensures earlier { (n : ℕ) (b : List ℕ) → n ≢ pen.number → H.pending hand.new n b → H.pending hand.old n b }
