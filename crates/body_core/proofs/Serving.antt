@@ -1,15 +1,16 @@
 -- A run reads the pins of its call.
-use Rattle.std.proofs.Common.{◌≡◌, ℕ, ◌+◌, Option, Some, None, refl, sym, ap, subst, ◌∙◌}
+use Rattle.std.proofs.Common.{◌≡◌, ℕ, ◌+◌, List, [], ◌∷◌, ◌++◌, Option, Some, None, refl, sym, ap, subst, ◌∙◌}
 use Rattle.shelf_core.specs.declared.hand.Stamp.{Stamp}
 use Rattle.shelf_core.specs.declared.hand.HandFault.{HandFault}
 use Rattle.shelf_core.specs.declared.hand.HandFault.TheVariants as faults
+use Rattle.body_core.specs.declared.new_pins.NewPin.{NewPin}
 use Rattle.body_core.specs.declared.phase.Phase.{Phase}
 use Rattle.body_core.specs.declared.reply.Failure.TheVariants as failures
 use Rattle.body_core.specs.declared.reply.Reply.{Reply}
 use Rattle.body_core.specs.declared.reply.Reply.TheVariants as replies
 use Rattle.body_core.specs.Calls.{Call}
 use Rattle.body_core.specs.Phases.{failure_of}
-use Rattle.body_core.specs.Steps.{Place, place_in, at_read, at_create, at_append, at_seal, at_end, Starts, with_part, with_none, IsJudged, changed, not_changed, Follows, reads_on, reads_next, reads_last, creates, appends_on, appends_last, seals_on, seals_last, fails, stays, IsNext, IsPinOf, ReadsItsPin, ReadIsServed, PinsServed}
+use Rattle.body_core.specs.Steps.{Place, place_in, at_read, at_create, at_append, at_seal, at_end, Starts, with_part, with_none, IsJudged, changed, not_changed, Follows, reads_on, reads_next, reads_last, creates, appends_on, appends_last, seals_on, seals_last, fails, stays, IsNext, IsPinOf, ReadsItsPin, ReadIsServed, PinsServed, NewsServed}
 
 next_pin : (call : Call) (from part q : ℕ) (pin other : Stamp) (n m : ℕ) → IsNext call from part pin → at_read part pin n ≡ at_read q other m → (IsPinOf call q other → ⊥) → ⊥
 next_pin call from part q pin other n m is same none =
@@ -60,3 +61,24 @@ only_device faults.Memory is = absurd cc
 -- what runs has not ended
 pub running : {ending : Option Reply} {reply : Reply} → ending ≡ None → ending ≡ Some reply → ⊥
 running none some = absurd cc
+
+-- a step that leaves no file
+pub no_news : (serves : Stamp → Type 0) (news : List NewPin) → news ≡ [] → NewsServed serves news
+no_news serves news none = subst (NewsServed serves) (sym none) tt
+
+-- files that could be read can be read where what could be read can be
+news_still : (before after : Stamp → Type 0) (news : List NewPin) → ((s : Stamp) → before s → after s) → NewsServed before news → NewsServed after news
+news_still before after [] still served = tt
+news_still before after (new ∷ news) still served = (still new.stamp served.0, news_still before after news still served.1)
+
+-- a step that seals no file
+pub news_as_before : (before after : Stamp → Type 0) (news later : List NewPin) → later ≡ news → ((s : Stamp) → before s → after s) → NewsServed before news → NewsServed after later
+news_as_before before after news later same still served = subst (NewsServed after) (sym same) (news_still before after news still served)
+
+one_behind : (after : Stamp → Type 0) (news : List NewPin) (new : NewPin) → NewsServed after news → after new.stamp → NewsServed after (news ++ new ∷ [])
+one_behind after [] new served last = (last, tt)
+one_behind after (first ∷ news) new served last = (served.0, one_behind after news new served.1 last)
+
+-- a step that seals a file
+pub news_and_one : (before after : Stamp → Type 0) (news later : List NewPin) (new : NewPin) → later ≡ news ++ new ∷ [] → ((s : Stamp) → before s → after s) → after new.stamp → NewsServed before news → NewsServed after later
+news_and_one before after news later new same still last served = subst (NewsServed after) (sym same) (one_behind after news new (news_still before after news still served) last)

@@ -99,6 +99,11 @@ ReadsItsPin call place = (part : ℕ) (pin : Stamp) (n : ℕ) → place ≡ at_r
 abbrev pub PinsServed : (Stamp → Type 0) → Call → Type 0
 PinsServed serves call = (part : ℕ) (pin : Stamp) → IsPinOf call part pin → serves pin
 
+-- each of these files can be read
+abbrev pub NewsServed : (Stamp → Type 0) → List NewPin → Type 0
+NewsServed serves [] = Unit {0}
+NewsServed serves (new ∷ news) = serves new.stamp × NewsServed serves news
+
 -- a device call moves at most so many bytes
 abbrev pub chunk : ℕ
 chunk = 4096

@@ -7,8 +7,8 @@ ghost use Rattle.body_core.specs.declared.reply.Failure.TheVariants as failures;
 ghost use Rattle.body_core.specs.declared.reply.Reply.TheVariants as replies;
 ghost use Rattle.body_core.specs.Calling.{StepMakes};
 ghost use Rattle.body_core.specs.Tasks.{task_call};
-ghost use Rattle.body_core.specs.Steps.{Follows, FailsWith, ReadIsServed, place_in};
-ghost use Rattle.body_core.specs.Phases.{ending_of, answer_to, step_answer, PenHoldsIn, pen_in, FoundBy, work_in};
+ghost use Rattle.body_core.specs.Steps.{Follows, FailsWith, NewsServed, ReadIsServed, place_in};
+ghost use Rattle.body_core.specs.Phases.{ending_of, sealed_in, answer_to, step_answer, PenHoldsIn, pen_in, FoundBy, work_in};
 
 use crate::phase::Phase;
 use crate::read::read_step;
@@ -45,6 +45,7 @@ pub(crate) fn advance<H: Hand>(
     ensures earlier { (n : ℕ) (b : List ℕ) → pen_in phase ≢ Some n → H.pending hand.new n b → H.pending hand.old n b ⊎ (pen_in result.0 ≡ Some n) }
     ensures unused { (n : ℕ) → pen_in result.0 ≡ Some n → (pen_in phase ≡ Some n) ⊎ IsFree (H.agrees hand.new) (H.pending hand.old) n }
     ensures serves { (s : Stamp) → H.serves hand.old s → H.serves hand.new s }
+    ensures written { NewsServed (H.serves hand.old) (sealed_in phase) → NewsServed (H.serves hand.new) (sealed_in result.0) }
     ensures works { (n : ℕ) → H.works_for hand.old n → H.works_for hand.old (n + 1) → H.works_for hand.new n }
     ensures in_order { H.works_for hand.old 1 → PenHoldsIn (H.pending hand.old) phase → ending_of phase ≡ None → ReadIsServed (H.serves hand.old) (place_in phase) → ending_of result.0 ≡ Some (replies.Failed failures.Device) → ⊥ }
     ensures fails { H.fails hand.old → FailsWith (place_in phase) (ending_of result.0) }

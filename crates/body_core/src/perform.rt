@@ -9,8 +9,8 @@ ghost use Rattle.body_core.specs.declared.reply.Failure.TheVariants as failures;
 ghost use Rattle.body_core.specs.declared.reply.Reply.TheVariants as replies;
 ghost use Rattle.body_core.specs.Truths.{IsTrueOf};
 ghost use Rattle.body_core.specs.Phases.{HasPart};
-ghost use Rattle.body_core.specs.Runs.{run_call, run_ending, run_place, PenHolds, SoFar};
-ghost use Rattle.body_core.specs.Steps.{Leads, PinsServed, at_end};
+ghost use Rattle.body_core.specs.Runs.{run_call, run_ending, run_place, run_sealed, PenHolds, SoFar};
+ghost use Rattle.body_core.specs.Steps.{Leads, NewsServed, PinsServed, at_end};
 ghost use Rattle.body_core.specs.Outcomes.{outcome_call, outcome_reply, outcome_news, outcome_pins};
 ghost use Rattle.body_core.specs.Written.{WritesInOrder, parts_of};
 
@@ -32,6 +32,8 @@ pub fn perform<H: Hand>(run: Run, hand: &mut H) -> Outcome
     // What could be read can be read, and the device stays in order.
     ensures serves { (s : Stamp) → H.serves hand.old s → H.serves hand.new s }
     ensures works { Always (H.works_for hand.old) → Always (H.works_for hand.new) }
+    // What it has sealed can be read.
+    ensures written { NewsServed (H.serves hand.old) (run_sealed run) → NewsServed (H.serves hand.new) (outcome_news result) }
     // On a device that is in order and can read the pins of the call, it does not fail for the device.
     ensures in_order { Always (H.works_for hand.old) → PenHolds (H.pending hand.old) run → PinsServed (H.serves hand.old) (run_call run) → run_ending run ≡ None → outcome_reply result ≢ replies.Failed failures.Device }
     // Where the device failed in these calls, so did the run.

@@ -9,8 +9,8 @@ ghost use Rattle.body_core.specs.declared.reply.Reply.TheVariants as replies;
 ghost use Rattle.body_core.specs.Calling.{MakesRead};
 ghost use Rattle.body_core.specs.Truths.{PinHolds};
 ghost use Rattle.body_core.specs.Tasks.{task_call};
-ghost use Rattle.body_core.specs.Steps.{Follows, FailsWith, place_in, at_read};
-ghost use Rattle.body_core.specs.Phases.{ending_of, HasNoPen, IsFront, IsRead, IsReadSoFar, EarlierAreRead, FoundBy, work_in};
+ghost use Rattle.body_core.specs.Steps.{Follows, FailsWith, NewsServed, place_in, at_read};
+ghost use Rattle.body_core.specs.Phases.{ending_of, sealed_in, HasNoPen, IsFront, IsRead, IsReadSoFar, EarlierAreRead, FoundBy, work_in};
 
 use crate::conclude::conclude;
 use crate::file_bytes::FileBytes;
@@ -103,6 +103,7 @@ fn next_part(alloc: Global, task: &Task, part: usize, read: Vec<FileBytes>, got:
     ensures found { (a : Assignment) → EarlierAreRead a (task_call task.now) part read.items → length read.items ≤ part → PinHolds a task.now.pins part got.items → FoundBy a (task_call task.now) result }
     ensures steps { (pin : Stamp) (n : ℕ) → pin.len ≤ n + 4096 → Follows (task_call task.now) (at_read part pin n) (place_in result) }
     ensures pen { HasNoPen result }
+    ensures sealed { sealed_in result ≡ [] }
     ensures cause { ending_of result ≢ Some (replies.Failed failures.Device) }
     ensures less { work_in result < 2 ^ 72 + (16 - part) * 2 ^ 66 }
 {
@@ -128,6 +129,7 @@ pub(crate) fn read_step<H: Hand>(alloc: Global, hand: &mut H, task: &Task, r: Re
     ensures found { (a : Assignment) → H.agrees hand.new a → IsReadSoFar a (task_call task.now) r → FoundBy a (task_call task.now) result }
     ensures steps { Follows (task_call task.now) (place_in (Phase.Reading r)) (place_in result) }
     ensures pen { HasNoPen result }
+    ensures written { NewsServed (H.serves hand.new) (sealed_in result) }
     ensures others { (n : ℕ) (b : List ℕ) → H.pending hand.old n b → H.pending hand.new n b }
     ensures earlier { (n : ℕ) (b : List ℕ) → H.pending hand.new n b → H.pending hand.old n b }
     ensures falls { work_in result < work_in (Phase.Reading r) }

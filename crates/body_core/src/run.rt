@@ -10,7 +10,7 @@ ghost use Rattle.body_core.specs.declared.reply.Failure.TheVariants as failures;
 ghost use Rattle.body_core.specs.declared.reply.Reply.TheVariants as replies;
 ghost use Rattle.body_core.specs.Truths.{IsTrueOf};
 ghost use Rattle.body_core.specs.Tasks.{task_call};
-ghost use Rattle.body_core.specs.Steps.{Starts, Follows, FailsWith, PinsServed, ReadsItsPin, place_in, need_at, parts_at};
+ghost use Rattle.body_core.specs.Steps.{Starts, Follows, FailsWith, NewsServed, PinsServed, ReadsItsPin, place_in, need_at, parts_at};
 ghost use Rattle.body_core.specs.Phases.{ending_of, sealed_in, pen_in, FoundBy, HasPart, IsSettled, step_answer};
 ghost use Rattle.body_core.specs.Written.{WritesInOrder, parts_of};
 
@@ -121,6 +121,8 @@ impl Run {
         // What could be read can be read, and at most one call counts.
         ensures serves { (s : Stamp) → H.serves hand.old s → H.serves hand.new s }
         ensures works { (n : ℕ) → H.works_for hand.old n → H.works_for hand.old (n + 1) → H.works_for hand.new n }
+        // What it has sealed can be read.
+        ensures written { NewsServed (H.serves hand.old) (run_sealed self.old) → NewsServed (H.serves hand.new) (run_sealed self.new) }
         // On a device that is in order and can read the pins of the call, it does not fail for the device.
         ensures in_order { H.works_for hand.old 1 → PenHolds (H.pending hand.old) self.old → PinsServed (H.serves hand.old) (run_call self.old) → run_ending self.old ≡ None → run_ending self.new ≡ Some (replies.Failed failures.Device) → ⊥ }
         // On a device whose next call fails, it fails for the device, or for memory before a read.

@@ -8,7 +8,7 @@ ghost use Rattle.body_core.specs.declared.reply.Reply.TheVariants as replies;
 ghost use Rattle.body_core.specs.Calling.{MakesCreate, MakesAppend, MakesSeal};
 ghost use Rattle.body_core.specs.Calls.{Call};
 ghost use Rattle.body_core.specs.Truths.{PinHolds, IsDone, AreChanges};
-ghost use Rattle.body_core.specs.Steps.{Follows, place_in, at_create, at_append, at_seal, at_end};
+ghost use Rattle.body_core.specs.Steps.{Follows, NewsServed, place_in, at_create, at_append, at_seal, at_end};
 ghost use Rattle.body_core.specs.Phases.{ending_of, sealed_in, failure_of, IsCurrent, PenHoldsIn, HasNoPen, pen_in, FoundBy, AreSealed, IsWrittenSoFar, IsSettled, work_in};
 
 use crate::judge::Change;
@@ -75,6 +75,7 @@ pub(crate) fn create_step<H: Hand>(hand: &mut H, plan: Plan) -> Phase
     ensures found { (a : Assignment) (call : Call) → IsWrittenSoFar a call plan → FoundBy a call result }
     ensures steps { (call : Call) → Follows call (place_in (Phase.Creating plan)) (place_in result) }
     ensures pen { PenHoldsIn (H.pending hand.new) result }
+    ensures written { NewsServed (H.serves hand.old) plan.sealed → NewsServed (H.serves hand.new) (sealed_in result) }
     ensures unused { (n : ℕ) → pen_in result ≡ Some n → IsFree (H.agrees hand.new) (H.pending hand.old) n }
     ensures makes { MakesCreate H.makes hand.old hand.new }
     ensures others { (n : ℕ) (b : List ℕ) → H.pending hand.old n b → H.pending hand.new n b }
@@ -100,6 +101,7 @@ pub(crate) fn append_step<H: Hand>(hand: &mut H, plan: Plan, pen: Pen, done: usi
     ensures found { (a : Assignment) (call : Call) → IsWrittenSoFar a call plan → FoundBy a call result }
     ensures steps { (call : Call) → Follows call (place_in (Phase.Appending plan pen done)) (place_in result) }
     ensures pen { PenHoldsIn (H.pending hand.old) (Phase.Appending plan pen done) → PenHoldsIn (H.pending hand.new) result }
+    ensures written { NewsServed (H.serves hand.old) plan.sealed → NewsServed (H.serves hand.new) (sealed_in result) }
     ensures same { (n : ℕ) → pen_in result ≡ Some n → pen.number ≡ n }
     ensures others { (n : ℕ) (b : List ℕ) → n ≢ pen.number → H.pending hand.old n b → H.pending hand.new n b }
     ensures earlier { (n : ℕ) (b : List ℕ) → n ≢ pen.number → H.pending hand.new n b → H.pending hand.old n b }
@@ -140,6 +142,7 @@ pub(crate) fn seal_step<H: Hand>(hand: &mut H, plan: Plan, pen: Pen) -> Phase
     ensures found { PenHoldsIn (H.pending hand.old) (Phase.Sealing plan pen) → (a : Assignment) → H.agrees hand.new a → (call : Call) → IsWrittenSoFar a call plan → FoundBy a call result }
     ensures steps { (call : Call) → Follows call (place_in (Phase.Sealing plan pen)) (place_in result) }
     ensures pen { HasNoPen result }
+    ensures written { NewsServed (H.serves hand.old) plan.sealed → NewsServed (H.serves hand.new) (sealed_in result) }
     ensures others { (n : ℕ) (b : List ℕ) → n ≢ pen.number → H.pending hand.old n b → H.pending hand.new n b }
     ensures earlier { (n : ℕ) (b : List ℕ) → n ≢ pen.number → H.pending hand.new n b → H.pending hand.old n b }
     ensures falls { work_in result < work_in (Phase.Sealing plan pen) }

@@ -1,10 +1,10 @@
 use Rattle.std.proofs.Common.{rules, arith, ap, sym, subst, ◌∙◌, ◌+◌, inl, inr, Some}
 use Rattle.std.proofs.lemmas.Bool.{cases_lt}
 use Rattle.body_core.specs.declared.reply.Reply.{Reply}
-use Rattle.body_core.specs.Steps.{IsPinOf}
+use Rattle.body_core.specs.Steps.{IsPinOf, NewsServed}
 use Rattle.body_core.proofs.Serving.{running}
 use Rattle.body_core.proofs.Stepping.{some_same}
-use Rattle.body_core.specs.Runs.{run_call, run_ending, run_place, PenHolds, SoFar}
+use Rattle.body_core.specs.Runs.{run_call, run_ending, run_place, run_sealed, PenHolds, SoFar}
 use Rattle.body_core.proofs.Leading.{ends, one_more}
 use Rattle.body_core.proofs.perform.perform.Goals as goal
 
@@ -21,6 +21,7 @@ loop-outcome-preserved g c = record {
   found = λ holds a is so. c.step.ensures.found (subst (λ r. PenHolds (g.H.Hand.pending c.loop-outcome.hand) r) (sym c.in-Err.ensures.back) (c.loop-outcome.invariant.pen holds)) a is (subst (λ r. SoFar a r) (sym c.in-Err.ensures.back) (c.loop-outcome.invariant.found holds a (c.step.ensures.kept a is) so));
   serves = λ s is. c.step.ensures.serves s (c.loop-outcome.invariant.serves s is);
   works = λ always n. c.step.ensures.works n (c.loop-outcome.invariant.works always n) (c.loop-outcome.invariant.works always (n + 1));
+  written = λ was. c.step.ensures.written (subst (λ r. NewsServed (g.H.Hand.serves c.loop-outcome.hand) (run_sealed r)) (sym c.in-Err.ensures.back) (c.loop-outcome.invariant.written was));
   in_order = λ always pen pins none is.
       c.step.ensures.in_order (c.loop-outcome.invariant.works always 1) (subst (λ r. PenHolds (g.H.Hand.pending c.loop-outcome.hand) r) (sym c.in-Err.ensures.back) (c.loop-outcome.invariant.pen pen))
       (λ p s its. c.loop-outcome.invariant.serves s (pins p s (subst (λ call. IsPinOf call p s) (ap run_call c.in-Err.ensures.back ∙ c.loop-outcome.invariant.call) its))) c.in-Err.ensures.begun is;
@@ -37,3 +38,6 @@ returns-in-Ok-clause-in_order g c = λ always pen pins none is. c.loop-outcome.i
 
 pub returns-in-Ok-clause-rises : goal.returns-in-Ok-clause-rises
 returns-in-Ok-clause-rises g c = λ up. some_same (sym c.in-Ok.ensures.reply ∙ c.loop-outcome.invariant.rises up)
+
+pub returns-in-Ok-clause-written : goal.returns-in-Ok-clause-written
+returns-in-Ok-clause-written g c = λ was. subst (NewsServed (g.H.Hand.serves c.loop-outcome.hand)) (sym c.in-Ok.ensures.news) (c.loop-outcome.invariant.written was)

@@ -3,8 +3,8 @@ use Rattle.shelf_core.specs.declared.hand.Stamp.{Stamp}
 use Rattle.shelf_core.specs.Device.{Assignment, Always, Failed as DeviceFailed}
 use Rattle.body_core.specs.declared.reply.Failure.TheVariants as failures
 use Rattle.body_core.specs.declared.reply.Reply.TheVariants as replies
-use Rattle.body_core.specs.Runs.{run_call, run_ending, run_place, run_work, PenHolds, SoFar}
-use Rattle.body_core.specs.Steps.{Place, Leads, PinsServed}
+use Rattle.body_core.specs.Runs.{run_call, run_ending, run_place, run_sealed, run_work, PenHolds, SoFar}
+use Rattle.body_core.specs.Steps.{Place, Leads, NewsServed, PinsServed}
 use Rattle.body_core.proofs.perform.perform.Given as goal
 
 -- the steps so far are as one step
@@ -23,6 +23,7 @@ invariant-loop-outcome g l =
       found : PenHolds (pending l.fn.hand) l.fn.run → (a : Assignment) → agrees l.hand a → SoFar a l.fn.run → SoFar a l.run;
       serves : (s : Stamp) → readable l.fn.hand s → readable l.hand s;
       works : Always (works_for l.fn.hand) → Always (works_for l.hand);
+      written : NewsServed (readable l.fn.hand) (run_sealed l.fn.run) → NewsServed (readable l.hand) (run_sealed l.run);
       in_order : Always (works_for l.fn.hand) → PenHolds (pending l.fn.hand) l.fn.run → PinsServed (readable l.fn.hand) (run_call l.fn.run) → run_ending l.fn.run ≡ None → run_ending l.run ≡ Some (replies.Failed failures.Device) → ⊥;
       rises : failed l.fn.hand < failed l.hand → run_ending l.run ≡ Some (replies.Failed failures.Device);
       counted : failed l.fn.hand ≤ failed l.hand;

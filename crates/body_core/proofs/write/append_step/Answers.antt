@@ -1,7 +1,9 @@
 use Rattle.std.proofs.Common.{◌≡◌, ◌+◌, ℕ, List, arith, refl, ap, length, take, sym, subst, ◌∙◌, inr}
 use Rattle.std.specs.Prelude.{Err}
 use Rattle.body_core.specs.declared.judge.Change.{Change}
+use Rattle.body_core.specs.Phases.{sealed_in}
 use Rattle.body_core.specs.Steps.{appends_last}
+use Rattle.body_core.proofs.Serving.{news_as_before}
 use Rattle.body_core.proofs.Stepping.{failed_there, appends_first, append_on, some_same, chunk_appended}
 use Rattle.body_core.proofs.write.append_step.Goals as goal
 
@@ -29,3 +31,13 @@ returns-in-Err-clause-steps g c = λ call. failed_there call _ c.in-Err.fault c.
 
 pub returns-in-Err-clause-makes : goal.returns-in-Err-clause-makes
 returns-in-Err-clause-makes g c = (_, Err c.in-Err.fault, inr (refl, (c.append.new.self, c.append.new.pen, c.in-Err.ensures.number, c.in-Err.ensures.makes, c.discard.ensures.makes)))
+
+pub returns-then-end-len-clause-written : goal.returns-then-end-len-clause-written
+returns-then-end-len-clause-written g c = λ was. news_as_before (g.H.Hand.serves c.args.hand.now) (g.H.Hand.serves c.append.new.self) c.args.plan.sealed _ refl c.append.ensures.serves was
+
+pub returns-else-end-len-clause-written : goal.returns-else-end-len-clause-written
+returns-else-end-len-clause-written g c = λ was. news_as_before (g.H.Hand.serves c.args.hand.now) (g.H.Hand.serves c.append.new.self) c.args.plan.sealed _ refl c.append.ensures.serves was
+
+pub returns-in-Err-clause-written : goal.returns-in-Err-clause-written
+returns-in-Err-clause-written g c = λ was.
+    news_as_before (g.H.Hand.serves c.args.hand.now) (g.H.Hand.serves c.discard.new.self) c.args.plan.sealed _ (ap sealed_in c.failed.ensures) (λ s is. c.discard.ensures.serves s (c.append.ensures.serves s is)) was

@@ -1,8 +1,8 @@
 use Rattle.std.proofs.Common.{sym, ap, ◌∙◌, subst, refl}
-use Rattle.body_core.specs.Phases.{ending_of, AreSealed}
+use Rattle.body_core.specs.Phases.{ending_of, sealed_in, AreSealed}
 use Rattle.body_core.proofs.Sealing.{sealed_more}
 use Rattle.body_core.proofs.Stepping.{failed_there, seals_first, seal_on}
-use Rattle.body_core.proofs.Serving.{only_device}
+use Rattle.body_core.proofs.Serving.{news_and_one, news_as_before, only_device}
 use Rattle.body_core.proofs.write.seal_step.Goals as goal
 
 pub returns-in-Ok-clause-found : goal.returns-in-Ok-clause-found
@@ -21,3 +21,11 @@ returns-in-Err-clause-steps g c = λ call. failed_there call _ c.in-Err.fault c.
 pub returns-in-Err-clause-in_order : goal.returns-in-Err-clause-in_order
 returns-in-Err-clause-in_order g c = λ works holds is.
     c.in-Err.ensures.in_order works c.current.result.now.bytes (holds c.current.result.now c.current.ensures) (only_device c.in-Err.fault (sym (ap ending_of c.failed.ensures) ∙ is))
+
+pub returns-in-Ok-clause-written : goal.returns-in-Ok-clause-written
+returns-in-Ok-clause-written g c = λ was.
+    news_and_one (g.H.Hand.serves c.args.hand.now) (g.H.Hand.serves c.seal.new.self) c.args.plan.sealed _ _ (c.go_on.ensures.sealed ∙ c.with.ensures) c.seal.ensures.serves c.in-Ok.ensures.served was
+
+pub returns-in-Err-clause-written : goal.returns-in-Err-clause-written
+returns-in-Err-clause-written g c = λ was.
+    news_as_before (g.H.Hand.serves c.args.hand.now) (g.H.Hand.serves c.discard.new.self) c.args.plan.sealed _ (ap sealed_in c.failed.ensures) (λ s is. c.discard.ensures.serves s (c.seal.ensures.serves s is)) was
