@@ -1,0 +1,5 @@
+pub mod Identifier
+pub mod Said
+pub mod View
+pub mod First
+pub mod Answers
