@@ -1,7 +1,7 @@
 //! The first line of a script, which names its object.
 
 ghost use Rattle.std.specs.Prelude.{ℕ, List, [], ◌∷◌, MatchOption};
-ghost use Rattle.word_core.specs.Words.{Word, bare, IsFirst, AreWords};
+ghost use Rattle.word_core.specs.Words.{Word as LineWord, bare, IsFirst, AreWords};
 ghost use Rattle.script_text.specs.First.{IsObjectLine, IsFirstObject};
 
 use line_core::next_line;
@@ -12,7 +12,7 @@ use word_core::word::Word;
 
 // The first word of a line, where it stands bare, and what stands behind it.
 fn first_bare(line: &[u8]) -> Option<(&[u8], &[u8])>
-    ensures { MatchOption result ((word : List ℕ) (more : List Word) → AreWords line.now (bare word ∷ more) → ⊥)
+    ensures { MatchOption result ((word : List ℕ) (more : List LineWord) → AreWords line.now (bare word ∷ more) → ⊥)
         (λ r. IsFirst line.now (bare r.0.now) r.1.now) }
 {
     match next_word(line) {

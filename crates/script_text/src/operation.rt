@@ -1,7 +1,6 @@
 //! Names of operations, as they are written.
 
-ghost use Rattle.std.specs.Prelude.{◌≡◌, option_map};
-ghost use Rattle.path_tree.specs.Identifier.{IsIdentifier};
+ghost use Rattle.std.specs.Prelude.{◌≡◌, true, option_map};
 ghost use Rattle.script_text.specs.Identifier.{is_identifier as is_identifier_test, identifier_of};
 
 use path_tree::name::is_identifier;
@@ -15,7 +14,7 @@ fn is_name(bytes: &[u8]) -> bool
 
 // An identifier as text.
 fn text_of(bytes: &[u8]) -> &str
-    requires { IsIdentifier bytes.now }
+    requires { is_identifier_test bytes.now ≡ true }
     ensures { result.now ≡ bytes.now }
 {
     match std::str::from_utf8(bytes) {
@@ -28,7 +27,7 @@ fn text_of(bytes: &[u8]) -> &str
 pub fn identifier_of(bytes: &[u8]) -> Option<&str>
     ensures { option_map (λ s. s.now) result ≡ identifier_of bytes.now }
 {
-    if !is_identifier(bytes) {
+    if !is_name(bytes) {
         return None;
     }
     let text = text_of(bytes);

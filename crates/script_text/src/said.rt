@@ -52,7 +52,10 @@ pub fn read_line(alloc: Global, line: &[u8]) -> Result<Option<Said<'_>>, AllocEr
     ensures { IfOk result (IsReadOf line.now) }
 {
     match words_of(alloc, line)? {
-        Some(words) => said_of(alloc, &words),
+        Some(words) => {
+            let said = said_of(alloc, &words)?;
+            Ok(said)
+        }
         None => Ok(None),
     }
 }
