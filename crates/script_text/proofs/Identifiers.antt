@@ -1,6 +1,6 @@
 -- The test that tells identifiers, and identifiers as text.
-use Rattle.std.proofs.Common.{◌≡◌, ℕ, ◌≤◌, ◌<◌, Bool, true, false, ◌&&◌, ◌||◌, ◌==◌, List, [], ◌∷◌, length, refl, arith, inl, inr}
-use Rattle.std.specs.Prelude.{All, nat_le, ◌⊎◌, ◌↔◌, Decides, slice_index_or}
+use Rattle.std.proofs.Common.{◌≡◌, ℕ, ◌≤◌, ◌<◌, Bool, true, ◌&&◌, ◌||◌, ◌==◌, List, [], ◌∷◌, length, refl, arith, inl, inr}
+use Rattle.std.specs.Prelude.{All, Some, None, nat_le, ◌⊎◌, Decides, slice_index_or}
 use Rattle.std.specs.Str.{IsUtf8}
 use Rattle.std.specs.List.{list_all}
 use Rattle.std.specs.Char.{is_ascii_alphabetic, is_ascii_digit}
@@ -9,8 +9,9 @@ use Rattle.std.proofs.lemmas.Str.{IsUtf8-from_ascii}
 use Rattle.std.proofs.lemmas.Str.Ascii.{IsAscii-from_all}
 use Rattle.std.proofs.lemmas.Bool.Decides.{Decides-and, Decides-or, Decides-eqb, Decides-like, Decides-by_and, nat_tests, same_from_decides}
 use Rattle.std.proofs.lemmas.List.Elements.{All-cons}
-use Rattle.path_tree.specs.Identifier.{IsLowerLetter, IsUpperLetter, IsLetter, IsDigit, IsWordByte, IsIdentifier}
-use Rattle.script_text.specs.Identifier.{is_word_byte, is_identifier}
+use Rattle.path_tree.specs.Identifier.{IsLetter, IsWordByte, IsIdentifier}
+use Rattle.script_text.specs.Identifier.{is_word_byte, is_identifier, identifier_of}
+use Rattle.script_text.proofs.Choices.{none_some, choose}
 
 le_decides : (a b : ℕ) → Decides (nat_le a b) (a ≤ b)
 le_decides a b = (λ e. grind (arith, nat_tests), λ h. grind (arith, nat_tests))
@@ -57,3 +58,12 @@ text_is (b ∷ rest) is =
 
 pub identifier_text : (bytes : List ℕ) → is_identifier bytes ≡ true → IsUtf8 bytes
 identifier_text bytes is = text_is bytes ((identifier_decides bytes).0 is)
+
+pub identifier_found : (bytes name : List ℕ) → identifier_of bytes ≡ Some name → (bytes ≡ name) × IsIdentifier bytes
+identifier_found bytes name is = elim (choose (is_identifier bytes) (Some bytes) None name is) [
+  | inl found ↦ let same : bytes ≡ name = cc in (same, (identifier_decides bytes).0 found.0)
+  | inr none ↦ absurd (none_some name none.1)
+]
+
+pub identifier_read : (name : List ℕ) → IsIdentifier name → identifier_of name ≡ Some name
+identifier_read name is = rw ((identifier_decides name).1 is) refl

@@ -1,3 +1,5 @@
+pub mod Choices
 pub mod Identifiers
-pub mod Firsts
+pub mod Telling
 pub mod Reading
+pub mod Firsts

@@ -3,3 +3,4 @@ pub mod Said
 pub mod View
 pub mod First
 pub mod Answers
+pub mod Laws

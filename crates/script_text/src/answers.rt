@@ -24,10 +24,7 @@ pub fn push_called(out: &mut Vec<u8>, number: u32) -> Result<(), AllocError>
 {
     push_line(
         out,
-        &[
-            Written::Bare(b"call"),
-            Written::Integer(u64::from(number)),
-        ],
+        &[Written::Bare(b"call"), Written::Integer(u64::from(number))],
     )
 }
 
@@ -127,10 +124,7 @@ pub fn push_dropped(out: &mut Vec<u8>, session: u32) -> Result<(), AllocError>
 {
     push_line(
         out,
-        &[
-            Written::Bare(b"drop"),
-            Written::Session(u64::from(session)),
-        ],
+        &[Written::Bare(b"drop"), Written::Session(u64::from(session))],
     )
 }
 

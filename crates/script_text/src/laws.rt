@@ -1,8 +1,8 @@
 //! Laws of the lines of scripts, over the definitions alone.
 
-ghost use Rattle.script_text.specs.Identifier.{TellsIdentifiers};
+ghost use Rattle.script_text.specs.Laws.{SaidExact};
 
-/// The test that a name is an identifier tells identifiers.
-pub fn tells_identifiers()
-    ensures { TellsIdentifiers }
+/// Words say what they tell, and nothing else.
+pub fn said_exact()
+    ensures { SaidExact }
 {}

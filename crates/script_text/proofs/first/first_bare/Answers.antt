@@ -1,6 +1,5 @@
 use Rattle.std.proofs.Common.{◌∷◌}
 use Rattle.word_core.specs.Words.{bare}
-use Rattle.script_text.proofs.Firsts.{begins_quoted}
 use Rattle.script_text.proofs.first.first_bare.Goals as goal
 
 pub returns-in-Bad : goal.returns-in-Bad

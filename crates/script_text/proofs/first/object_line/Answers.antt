@@ -1,6 +1,6 @@
 use Rattle.std.proofs.Common.{sym, ◌∙◌}
 use Rattle.std.proofs.lemmas.Bool.Decides.{not_from_Decides}
-use Rattle.script_text.proofs.Firsts.{no_verb, other_verb, no_name, wrong_name, object_named}
+use Rattle.script_text.proofs.Firsts.{no_verb, other_verb, no_name, wrong_name}
 use Rattle.script_text.proofs.first.object_line.Goals as goal
 
 pub returns-in_err-verb : goal.returns-in_err-verb
