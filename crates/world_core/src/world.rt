@@ -11,6 +11,7 @@ ghost use Rattle.world_core.specs.Plays.{Plays};
 ghost use Rattle.world_core.specs.Headline.{IsSequential, EveryHistoryIsSequential};
 
 use crate::event::{Event, EventAnswer};
+use crate::laws::{fails_only_with_its_device, replies_are_told};
 use crate::stage::{MOST_OPEN, Stage};
 use desk_core::desk::Desk;
 use exclude_core::analyse::Accepted;
@@ -101,6 +102,10 @@ impl World {
         for event in events {
             let _answer = world.event(*event);
         }
+        // Its history is sequential, and it is what was told.
+        world.desk();
+        replies_are_told();
+        fails_only_with_its_device();
         Ok(world)
     }
 
