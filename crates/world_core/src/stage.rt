@@ -27,6 +27,7 @@ use crate::slot::Slot;
 use body_core::run::Run;
 use body_core::step::{Need, StepAnswer};
 use board_core::event::TraceEvent;
+use board_core::laws::truth_is_noted;
 use desk_core::answer::{Cancelled, Collected};
 use desk_core::desk::Desk;
 use shelf_core::fuse::FuseHand;
@@ -204,6 +205,7 @@ impl Stage {
         let outcome = self.runs.remove(place).into_outcome();
         match self.desk.finish(outcome) {
             Ok(receipt) => {
+                truth_is_noted();
                 self.desk.history();
                 let reply = receipt.noted.reply();
                 let starts = self.begin(before);
