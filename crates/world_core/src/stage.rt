@@ -24,9 +24,11 @@ ghost use Rattle.world_core.specs.Kept.{IsKept, IsStaged, HasNew, standing_of, s
 use crate::event::{Answer, EventAnswer, Refusal};
 use crate::read::read_value;
 use crate::slot::Slot;
+use body_core::laws::{pens_are_open, pens_stay};
 use body_core::run::Run;
 use body_core::step::{Need, StepAnswer};
 use board_core::event::TraceEvent;
+use board_core::laws::chained_are_legal;
 use desk_core::answer::{Cancelled, Collected};
 use desk_core::desk::Desk;
 use shelf_core::fuse::FuseHand;
@@ -172,15 +174,21 @@ impl Stage {
         ensures staged { IsStaged self.new }
         ensures rests { Rests self.old.desk → Rests self.new.desk }
     {
-        let Some(place) = place_of(&self.runs, number) else {
-            return only(Answer::Refused(Refusal::NotRunning));
+        let place = match place_of(&self.runs, number) {
+            Some(place) => place,
+            None => return only(Answer::Refused(Refusal::NotRunning)),
         };
-        let slot = &mut self.runs[place];
-        let need = slot.run.next();
+        let need = self.runs[place].run.next();
         if need == Need::Done {
             return only(Answer::Refused(Refusal::NoStep));
         }
+        let slot = &mut self.runs[place];
         let answer = step_run(self.alloc, &mut self.hand, &mut slot.run, works);
+        // What the other runs have found stays true, and no published part is damaged.
+        self.hand.agrees_with_some();
+        pens_stay();
+        pens_are_open();
+        chained_are_legal();
         only(Answer::Stepped(need, answer))
     }
 
