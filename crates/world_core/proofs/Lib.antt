@@ -1,3 +1,4 @@
 pub mod Places
 pub mod Beginning
+pub mod Settling
 pub mod Stepping
