@@ -44,10 +44,10 @@ pub beside : {X Y Z : Type 0} (f : X → Z) (g : Y → Z) (xs : List X) (ys : Li
     → (y : Y) × (slice_get ys k ≡ Some y) × (f x ≡ g y)
 beside f g [] ys k x same at = absurd cc
 beside f g (z ∷ xs) [] k x same at = absurd cc
-beside f g (z ∷ xs) (y ∷ ys) zero x same at = (y, refl, head_is same at)
+beside f g (z ∷ xs) (y ∷ ys) zero x same at = (y, refl, ap f (sym (some_is at)) ∙ head_is same)
   where
-    head_is : {X Y Z : Type 0} {f : X → Z} {z x : X} {w : Z} {zs ws : List Z} → f z ∷ zs ≡ w ∷ ws → Some z ≡ Some x → f x ≡ w
-    head_is e at = cc
+    head_is : {Z : Type 0} {z w : Z} {zs ws : List Z} → z ∷ zs ≡ w ∷ ws → z ≡ w
+    head_is e = cc
 beside f g (z ∷ xs) (y ∷ ys) (suc k) x same at = beside f g xs ys k x (tail_is same) at
   where
     tail_is : {Z : Type 0} {z w : Z} {zs ws : List Z} → z ∷ zs ≡ w ∷ ws → zs ≡ ws
@@ -107,13 +107,13 @@ pub record Spares (old new : List File) (before after : Run) : Type 0 where
   pub serves : (s : Stamp) → Serves old s → Serves new s
 
 -- what a step makes of its own run
-pub record Makes (works : Bool) (old new : List File) (before after : Run) : Type 0 where
+pub record Makes (is_to_work : Bool) (old new : List File) (before after : Run) : Type 0 where
   pub found : PenHolds (λ n b. IsOpen old n b) before → (a : Assignment) → HasFiles new a → SoFar a before → SoFar a after
   pub pen : PenHolds (λ n b. IsOpen old n b) before → PenHolds (λ n b. IsOpen new n b) after
   pub moves : Follows (run_call before) (run_place before) (run_place after)
   pub written : NewsServed (λ s. Serves old s) (run_sealed before) → NewsServed (λ s. Serves new s) (run_sealed after)
-  pub works : works ≡ true → PenHolds (λ n b. IsOpen old n b) before → PinsServed (λ s. Serves old s) (run_call before) → run_ending before ≡ None → run_ending after ≡ Some (Failed failures.Device) → ⊥
-  pub fails : works ≡ false → FailsWith (run_place before) (run_ending after)
+  pub works : is_to_work ≡ true → PenHolds (λ n b. IsOpen old n b) before → PinsServed (λ s. Serves old s) (run_call before) → run_ending before ≡ None → run_ending after ≡ Some (Failed failures.Device) → ⊥
+  pub fails : is_to_work ≡ false → FailsWith (run_place before) (run_ending after)
 
 news_stay : (old new : Stamp → Type 0) (news : _) → ((s : Stamp) → old s → new s) → NewsServed old news → NewsServed new news
 news_stay old new [] serves is = tt

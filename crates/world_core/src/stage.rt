@@ -1,11 +1,12 @@
 //! The tables of a world, and what each event does to them.
 
-ghost use Rattle.std.specs.Prelude.{◌≡◌, ◌≢◌, ◌≤◌, ◌<◌, ◌⊎◌, ℕ, List, [], ◌∷◌, ◌++◌, length, map, IfSome, IfNone, IfOk, Some, None, true, false, vec_capacity, slice_get};
+ghost use Rattle.std.specs.Prelude.{◌≡◌, ◌≢◌, ◌↔◌, IsTrue, ◌≤◌, ◌<◌, ◌⊎◌, ℕ, List, [], ◌∷◌, ◌++◌, length, map, IfSome, IfNone, IfOk, Some, None, true, false, vec_capacity, slice_get};
 ghost use Rattle.shelf_core.specs.declared.hand.Stamp.{Stamp};
 ghost use Rattle.shelf_core.specs.Device.{Assignment, IsFree};
 ghost use Rattle.shelf_core.specs.Files.{HasFiles, IsOpen, Serves, files_of};
 ghost use Rattle.body_core.specs.declared.reply.Failure.TheVariants as failures;
 ghost use Rattle.body_core.specs.declared.reply.Reply.TheVariants as replies;
+ghost use Rattle.body_core.specs.declared.step.Need.TheVariants as needs;
 ghost use Rattle.body_core.specs.Runs.{run_call, run_ending, run_place, run_sealed, run_pen, PenHolds, SoFar};
 ghost use Rattle.body_core.specs.Steps.{Starts, Follows, FailsWith, PinsServed, NewsServed};
 ghost use Rattle.body_core.specs.Phases.{step_answer};
@@ -68,6 +69,16 @@ fn place_of(runs: &[Slot], number: u32) -> Option<usize>
         }
     }
     None
+}
+
+// Whether a run that needs this has ended.
+fn is_done(need: Need) -> bool
+    ensures { IsTrue result ↔ (need ≡ needs.Done) }
+{
+    match need {
+        Need::Done => true,
+        _ => false,
+    }
 }
 
 // Makes one step of a run, which works, or fails for the device.
@@ -180,7 +191,7 @@ impl Stage {
             None => return only(Answer::Refused(Refusal::NotRunning)),
         };
         let need = self.runs[place].run.next();
-        if need == Need::Done {
+        if is_done(need) {
             return only(Answer::Refused(Refusal::NoStep));
         }
         let slot = &mut self.runs[place];
