@@ -2,3 +2,4 @@ pub mod Places
 pub mod Beginning
 pub mod Settling
 pub mod Finishing
+pub mod Stepping
