@@ -1,2 +1,5 @@
 pub mod Places
 pub mod Beginning
+pub mod Showing
+pub mod Opening
+pub mod Sequential
