@@ -1,5 +1,5 @@
 -- The runs of calls that have started.
-use Rattle.std.proofs.Common.{◌≡◌, ◌≢◌, ℕ, zero, suc, ◌+◌, ◌<◌, ◌≤◌, inl, inr, Bool, true, false, List, [], ◌∷◌, ◌++◌, length, Some, None, refl, sym, ◌∙◌, ap, subst, arith, take, drop, map}
+use Rattle.std.proofs.Common.{◌≡◌, ◌≢◌, ℕ, zero, suc, ◌+◌, ◌<◌, ◌≤◌, ◌⊎◌, inl, inr, Bool, true, false, List, [], ◌∷◌, ◌++◌, length, Option, Some, None, refl, sym, ◌∙◌, ap, subst, arith, take, drop, map}
 use Rattle.std.specs.Prelude.{slice_get, slice_set}
 use Rattle.value_core.specs.Contents.{Contents}
 use Rattle.decl_core.specs.Bodies.{body_of}
@@ -17,7 +17,11 @@ use Rattle.board_core.specs.Calls.{RunningCall, WaitingCall}
 use Rattle.board_core.specs.Board.{Board, taken_at}
 use Rattle.board_core.specs.Sound.{IsSound, IsPinned}
 use Rattle.board_core.proofs.Lists.{Every-at, Every-snoc, Every-map, EachPair-snoc, Every-all}
-use Rattle.desk_core.specs.Answers.{IsLeft, NoneIsLeft}
+use Rattle.body_core.specs.declared.ticket.Ticket.{Ticket}
+use Rattle.body_core.specs.Tickets.{ticket_call}
+use Rattle.desk_core.specs.declared.answer.Collected.{Collected}
+use Rattle.desk_core.specs.declared.answer.Collected.TheVariants as collects
+use Rattle.desk_core.specs.Answers.{IsLeft, NoneIsLeft, Collects}
 use Rattle.world_core.specs.declared.slot.Slot.{Slot}
 use Rattle.world_core.specs.Scene.{Standing, AreBegun, call_running, collected}
 use Rattle.world_core.specs.Kept.{IsKept, IsReady, HasNew, standing_of}
@@ -83,7 +87,7 @@ one_begun b files runs opening r slot kept at sound call ready pen =
       entries = kept.entries;
     }
   where
-    none_of : (x : Slot) (n : ℕ) → None {A = ℕ} ≡ Some n → ⊥
+    none_of : (x : Slot) (n : ℕ) → ◌≡◌ {A = Option ℕ} None (Some n) → ⊥
     none_of x n is = absurd cc
 
 -- the same, whether tickets were taken
@@ -146,3 +150,20 @@ none_new b files runs opening from kept new = omega (arith, kept.few, no_more b.
     no_more [] k is = omega arith
     no_more (x ∷ xs) zero is = absurd cc
     no_more (x ∷ xs) (suc k) is = omega (arith, no_more xs k is)
+
+-- what is found where no ticket is handed out
+pub found_none : (b : Board) (n : ℕ) (result : Collected) (after : Board) → Collects b n result after → (result ≡ collects.Waiting) ⊎ ((result ≡ collects.Cancelled) ⊎ (result ≡ collects.Unknown)) → NoneIsLeft b n
+found_none b n (collects.Ticket t) after found is = absurd (elim is [ inl e ↦ absurd cc | inr more ↦ elim more [ inl e ↦ absurd cc | inr e ↦ absurd cc ] ])
+found_none b n collects.Waiting after found is = found.0
+found_none b n collects.Cancelled after found is = found.0
+found_none b n collects.Unknown after found is = found.0
+
+-- the ticket of a call that has no run
+pub ticket_found : (b : Board) (files : List File) (runs : List Slot) (opening : List Contents) (n : ℕ) (r : RunningCall) (t : Ticket) (after : Board) → IsKept b files runs opening → slice_get b.running (length runs) ≡ Some r → r.number ≡ n
+    → Collects b n (collects.Ticket t) after → (after ≡ taken_at b (length runs) r) × (ticket_call t ≡ call_running r)
+ticket_found b files runs opening n r t after kept at number (k, found, left, call, is) =
+    let same = same_call b n k (length runs) found r kept.sound left at number in
+    (
+      is ∙ ap (λ j. taken_at b j found) same.0 ∙ ap (λ (x : RunningCall). taken_at b (length runs) x) same.1,
+      call ∙ ap (λ (x : RunningCall). call_of n x.call.operation x.call.arguments x.pins) same.1 ∙ ap (λ j. call_of j r.call.operation r.call.arguments r.pins) (sym number),
+    )

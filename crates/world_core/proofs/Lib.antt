@@ -1,5 +1,6 @@
 pub mod Places
 pub mod Beginning
+pub mod Settling
 pub mod Showing
 pub mod Opening
 pub mod Sequential

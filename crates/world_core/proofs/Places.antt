@@ -38,7 +38,8 @@ drop_at (z ∷ xs) (suc k) x at = drop_at xs k x at
 
 -- and the first item of that stands there
 pub at_of_drop : {X : Type 0} (xs : List X) (k : ℕ) (x : X) (rest : List X) → drop k xs ≡ x ∷ rest → slice_get xs k ≡ Some x
-at_of_drop [] k x rest is = absurd cc
+at_of_drop [] zero x rest is = absurd cc
+at_of_drop [] (suc k) x rest is = absurd cc
 at_of_drop (z ∷ xs) zero x rest is = cc
 at_of_drop (z ∷ xs) (suc k) x rest is = at_of_drop xs k x rest is
 

@@ -155,6 +155,7 @@ impl Stage {
         let before = self.desk.trace().len();
         match self.desk.submit(session, op, args) {
             Ok(number) => {
+                self.desk.history();
                 let starts = self.begin(before);
                 EventAnswer {
                     answer: Answer::Number(number),
@@ -201,6 +202,7 @@ impl Stage {
         let outcome = self.runs.remove(place).into_outcome();
         match self.desk.finish(outcome) {
             Ok(receipt) => {
+                self.desk.history();
                 let reply = receipt.noted.reply();
                 let starts = self.begin(before);
                 EventAnswer {
@@ -223,6 +225,7 @@ impl Stage {
         let answer = self.desk.cancel(number);
         match answer {
             Cancelled::Cancelled => {
+                self.desk.history();
                 let starts = self.begin(before);
                 EventAnswer {
                     answer: Answer::Cancel(Cancelled::Cancelled),
@@ -245,6 +248,7 @@ impl Stage {
         }
         let before = self.desk.trace().len();
         self.desk.disconnect(session);
+        self.desk.history();
         let starts = self.begin(before);
         EventAnswer {
             answer: Answer::Dropped,

@@ -32,12 +32,13 @@ impl Model for World {
     ghost use Rattle.decl_core.specs.contracts.object.Operation as e;
     ghost use Rattle.shelf_core.specs.contracts.file.File as f;
     ghost use Rattle.std.specs.Coded.{codes};
+    ghost use Rattle.value_core.specs.Code.{contents_code};
     ghost use Rattle.world_core.specs.Scene.{Scene};
     ghost use Rattle.world_core.specs.Kept.{IsStaged, scene_of};
 
     ghost Value = { Scene };
 
-    ghost coded = { Prim.hlevel (codes, o.the_row.coded, e.the_row.coded, f.the_row.coded) };
+    ghost coded = { Prim.hlevel (codes, o.the_row.coded, e.the_row.coded, f.the_row.coded, contents_code) };
 
     ghost view = { λ w. scene_of w.stage };
 
@@ -58,6 +59,8 @@ impl World {
         };
         let runs = Vec::with_capacity(alloc, MOST_OPEN)?;
         let desk = Desk::open(alloc, accepted, pins)?;
+        // The board is sound.
+        desk.history();
         Ok(World {
             stage: Stage {
                 alloc,
