@@ -22,6 +22,11 @@ use Rattle.board_core.specs.Sound.{kinds_of}
 use Rattle.world_core.specs.declared.slot.Slot.{Slot}
 use Rattle.world_core.specs.declared.stage.Stage.{Stage}
 use Rattle.world_core.specs.Scene.{Scene, Standing}
+use Rattle.world_core.specs.declared.event.EventAnswer.{EventAnswer}
+use Rattle.world_core.specs.declared.event.Answer.TheVariants.{Shown, Refused}
+use Rattle.world_core.specs.declared.event.Refusal.TheVariants.{Memory}
+use Rattle.world_core.specs.Events.{look}
+use Rattle.world_core.specs.Answers.{Answers, with_starts, shown, not_shown}
 use Rattle.world_core.specs.Kept.{IsKept, IsStaged, scene_of, standing_of}
 use Rattle.world_core.proofs.Sequential.{contents_shown}
 
@@ -45,10 +50,10 @@ pub record Showing (old new : Stage) (values : List Contents) (part : ℕ) : Typ
   pub files : files_of new.hand ≡ files_of old.hand
   pub runs : new.runs ≡ old.runs
   pub opening : new.opening ≡ old.opening
-  pub shown : values ≡ take part (leads_to (history_of old.desk.history) old.opening.items)
+  pub so_far : values ≡ take part (leads_to (history_of old.desk.history) old.opening.items)
 
 pub none_shown : (s : Stage) (values : List Contents) → values ≡ [] → Showing s s values 0
-none_shown s values none = record { desk = refl; files = refl; runs = refl; opening = refl; shown = none }
+none_shown s values none = record { desk = refl; files = refl; runs = refl; opening = refl; so_far = none }
 
 take_at : {X : Type 0} (xs : List X) (k : ℕ) (x : X) → slice_get xs k ≡ Some x → take (suc k) xs ≡ take k xs ++ x ∷ []
 take_at [] k x at = absurd cc
@@ -56,14 +61,14 @@ take_at (y ∷ xs) zero x at = ap (λ z. z ∷ []) (some_is at)
 take_at (y ∷ xs) (suc k) x at = ap (λ zs. y ∷ zs) (take_at xs k x at)
 
 -- with one part more
-pub one_more : (old mid new : Stage) (so_far values : List Contents) (part : ℕ) (value : Contents) → Showing old mid so_far part → new.desk ≡ mid.desk → files_of new.hand ≡ files_of mid.hand → new.runs ≡ mid.runs → new.opening ≡ mid.opening
-    → values ≡ so_far ++ value ∷ [] → slice_get (leads_to (history_of old.desk.history) old.opening.items) part ≡ Some value → Showing old new values (part + 1)
-one_more old mid new so_far values part value so desk files runs opening more at = let next : suc part ≡ part + 1 = omega arith in record {
+pub one_more : (old mid new : Stage) (before values : List Contents) (part : ℕ) (value : Contents) → Showing old mid before part → new.desk ≡ mid.desk → files_of new.hand ≡ files_of mid.hand → new.runs ≡ mid.runs → new.opening ≡ mid.opening
+    → values ≡ before ++ value ∷ [] → slice_get (leads_to (history_of old.desk.history) old.opening.items) part ≡ Some value → Showing old new values (part + 1)
+one_more old mid new before values part value so desk files runs opening more at = let next : suc part ≡ part + 1 = omega arith in record {
   desk = desk ∙ so.desk;
   files = files ∙ so.files;
   runs = runs ∙ so.runs;
   opening = opening ∙ so.opening;
-  shown = more ∙ ap (λ vs. vs ++ value ∷ []) so.shown ∙ sym (take_at (leads_to (history_of old.desk.history) old.opening.items) part value at)
+  so_far = more ∙ ap (λ vs. vs ++ value ∷ []) so.so_far ∙ sym (take_at (leads_to (history_of old.desk.history) old.opening.items) part value at)
       ∙ ap (λ k. take k (leads_to (history_of old.desk.history) old.opening.items)) next;
 }
 
@@ -116,14 +121,21 @@ pub value_of : (old mid : Stage) (values : List Contents) (k : ℕ) (o : Object)
 value_of old mid values k o part pins pin staged so same its there stands =
     let at : slice_get (kinds_of old.desk.object) k ≡ Some part.kind =
         subst (λ (x : Object). slice_get (kinds_of x) k ≡ Some part.kind) (same ∙ ap (λ (b : Board). b.object) so.desk) (kind_at o.parts.items k part there) in
-    let shown = part_shown old k part.kind pin staged at (subst (λ ps. slice_get ps k ≡ Some pin) its stands) in
-    (shown.0, shown.1, λ a agrees. shown.2 a (subst (λ fs. HasFiles fs a) so.files agrees))
+    let its_value = part_shown old k part.kind pin staged at (subst (λ ps. slice_get ps k ≡ Some pin) its stands) in
+    (its_value.0, its_value.1, λ a agrees. its_value.2 a (subst (λ fs. HasFiles fs a) so.files agrees))
 
 -- all parts are shown
 pub all_shown : (old new : Stage) (values : List Contents) (part : ℕ) → IsStaged old → Showing old new values part → length old.desk.pins ≤ part → values ≡ leads_to (history_of old.desk.history) old.opening.items
 all_shown old new values part staged so all =
     let some = some_map old.hand.files.items in
-    let shown = contents_shown old staged some.0 some.1 in
-    let pins = shown.pins_each in
-    let contents = shown.contents_each in
-    so.shown ∙ take_all part (leads_to (history_of old.desk.history) old.opening.items) (omega (arith, pins, contents, all))
+    let spelled = contents_shown old staged some.0 some.1 in
+    let pins = spelled.pins_each in
+    let contents = spelled.contents_each in
+    so.so_far ∙ take_all part (leads_to (history_of old.desk.history) old.opening.items) (omega (arith, pins, contents, all))
+
+-- the answer to a look
+pub look_shown : (old new : Scene) (values : Vec Contents) (given : EventAnswer) → given ≡ with_starts (Shown values) 0 → new ≡ old → values.items ≡ leads_to (history_of old.board.history) old.opening → Answers old look given new
+look_shown old new values given is same values_are = subst (λ g. Answers old look g new) (sym is) (subst (λ w. Answers old look (with_starts (Shown values) 0) w) (sym same) (shown values values_are))
+
+pub look_refused : (old new : Scene) (given : EventAnswer) → given ≡ with_starts (Refused Memory) 0 → new ≡ old → Answers old look given new
+look_refused old new given is same = subst (λ g. Answers old look g new) (sym is) (subst (λ w. Answers old look (with_starts (Refused Memory) 0) w) (sym same) not_shown)
