@@ -1,7 +1,7 @@
 -- The world of an object before any event.
 use Rattle.std.proofs.Common.{◌≡◌, ℕ, zero, suc, List, [], ◌∷◌, length, Some, None, refl, sym, ◌∙◌, ap, subst, arith, take, drop, map}
-use Rattle.std.specs.Prelude.{slice_get, unwrap_or}
-use Rattle.std.specs.FinMap as map
+use Rattle.std.specs.Prelude.{◌≤◌, slice_get, vec_capacity}
+use Rattle.std.specs.FinMap as papers_map
 use Rattle.std.specs.Ordering.{nat_cmp}
 use Rattle.std.specs.Cmp.Lexicographic.{slice_cmp}
 use Rattle.value_core.specs.declared.kind.Kind.{Kind}
@@ -12,20 +12,23 @@ use Rattle.decl_core.specs.declared.object.Part.{Part}
 use Rattle.shelf_core.specs.declared.file.File.{File}
 use Rattle.shelf_core.specs.declared.hand.Stamp.{Stamp}
 use Rattle.shelf_core.specs.Device.{Assignment, AreServed, bytes_of, front_of, IsWhole}
-use Rattle.shelf_core.specs.Files.{HasFiles, Serves}
+use Rattle.shelf_core.specs.Files.{HasFiles, Serves, files_of}
 use Rattle.shelf_core.specs.Papers.{Papers, part_key}
 use Rattle.shelf_core.specs.Opened.{BeginsWith, IsPinned, AreLoaded, ArePinned}
-use Rattle.board_core.specs.Board.{opened}
+use Rattle.board_core.specs.Board.{Board, opened}
 use Rattle.board_core.specs.Chain.{ShowContents, Shows}
 use Rattle.board_core.specs.Sound.{IsSound, kinds_of}
-use Rattle.world_core.specs.Kept.{IsKept}
+use Rattle.world_core.specs.declared.slot.Slot.{Slot}
+use Rattle.world_core.specs.declared.stage.Stage.{Stage}
+use Rattle.world_core.specs.Scene.{Scene, IsNew}
+use Rattle.world_core.specs.Kept.{IsKept, IsStaged}
 
 -- from an empty shelf each part has its opening value
-begins_so : (papers : Papers) (key : List ℕ) (kind : Kind) (value : Contents) → papers ≡ map.empty → BeginsWith kind (map.get papers key) value → value ≡ opening_of kind
+begins_so : (papers : Papers) (key : List ℕ) (kind : Kind) (value : Contents) → papers ≡ papers_map.empty → BeginsWith kind (papers_map.get papers key) value → value ≡ opening_of kind
 begins_so papers key kind value none begins =
-    subst (λ found. BeginsWith kind found value) (ap (λ p. map.get p key) none ∙ map.get-empty (slice_cmp nat_cmp) key) begins
+    subst (λ found. BeginsWith kind found value) (ap (λ p. papers_map.get p key) none ∙ papers_map.get-empty (slice_cmp nat_cmp) key) begins
 
-pub loaded_so : (papers : Papers) (name : List ℕ) (parts : List Part) (values : List Contents) → papers ≡ map.empty → AreLoaded papers name parts values → values ≡ map opening_of (map (λ (p : Part). p.kind) parts)
+pub loaded_so : (papers : Papers) (name : List ℕ) (parts : List Part) (values : List Contents) → papers ≡ papers_map.empty → AreLoaded papers name parts values → values ≡ map opening_of (map (λ (p : Part). p.kind) parts)
 loaded_so papers name [] [] none loaded = refl
 loaded_so papers name [] (v ∷ values) none loaded = absurd loaded
 loaded_so papers name (p ∷ parts) [] none loaded = absurd loaded
@@ -76,4 +79,22 @@ opened_kept o pins files values sound served pinned = record {
   served = served;
   opening = λ a agrees. pins_show a o.parts.items pins values (pinned a agrees);
   entries = λ a agrees. tt;
+}
+
+pub new_staged : (s : Stage) (o m : Object) (pins : List Stamp) → m ≡ o → s.desk ≡ opened o pins → IsSound s.desk → AreServed (λ p. Serves (files_of s.hand) p) pins
+    → ((a : Assignment) → HasFiles (files_of s.hand) a → ArePinned a m.parts.items pins s.opening.items) → s.runs.items ≡ [] → 256 ≤ vec_capacity s.runs → IsStaged s
+new_staged s o m pins same made sound served pinned none room = record {
+  kept = subst (λ (b : Board). IsKept b (files_of s.hand) s.runs.items s.opening.items) (sym made)
+      (subst (λ (rs : List Slot). IsKept (opened o pins) (files_of s.hand) rs s.opening.items) (sym none)
+      (opened_kept o pins (files_of s.hand) s.opening.items (subst IsSound made sound) served (subst (λ (x : Object). (a : Assignment) → HasFiles (files_of s.hand) a → ArePinned a x.parts.items pins s.opening.items) same pinned)));
+  all = ap length none ∙ sym (ap (λ (b : Board). length b.running) made);
+  room = room;
+}
+
+pub new_is : (w : Scene) (o m : Object) (pins : List Stamp) (papers : Papers) → m ≡ o → w.board ≡ opened o pins → papers ≡ papers_map.empty → AreLoaded papers m.name m.parts.items w.opening → w.runs ≡ [] → IsNew o w
+new_is w o m pins papers same made none loaded no_runs = record {
+  pins = pins;
+  board = made;
+  opening = loaded_so papers m.name m.parts.items w.opening none loaded ∙ ap (λ (x : Object). map opening_of (kinds_of x)) same;
+  runs = no_runs;
 }
