@@ -1,5 +1,5 @@
 -- The runs of calls that have started.
-use Rattle.std.proofs.Common.{◌≡◌, ◌≢◌, ℕ, zero, suc, ◌+◌, ◌<◌, ◌≤◌, ◌⊎◌, inl, inr, Bool, true, false, List, [], ◌∷◌, ◌++◌, length, Option, Some, None, refl, sym, ◌∙◌, ap, subst, arith, take, drop, map}
+use Rattle.std.proofs.Common.{◌≡◌, ◌≢◌, ℕ, zero, suc, ◌+◌, ◌<◌, ◌≤◌, ◌⊎◌, inl, inr, Bool, true, false, List, [], ◌∷◌, ◌++◌, length, Option, Some, None, refl, sym, ◌∙◌, ap, subst, arith, take, drop, map, append_assoc}
 use Rattle.std.specs.Prelude.{slice_get, slice_set}
 use Rattle.value_core.specs.Contents.{Contents}
 use Rattle.decl_core.specs.Bodies.{body_of}
@@ -26,7 +26,9 @@ use Rattle.world_core.specs.declared.slot.Slot.{Slot}
 use Rattle.world_core.specs.Scene.{Standing, AreBegun, call_running, collected}
 use Rattle.world_core.specs.Kept.{IsKept, IsReady, HasNew, standing_of}
 use Rattle.board_core.specs.declared.event.TraceEvent.{TraceEvent}
-use Rattle.board_core.specs.declared.event.TraceEvent.TheVariants.{Start}
+use Rattle.board_core.specs.declared.event.TraceEvent.TheVariants.{Start, End}
+use Rattle.body_core.specs.declared.reply.Reply.{Reply}
+use Rattle.std.proofs.lemmas.List.{length-map}
 use Rattle.board_core.specs.Started.{run_of}
 use Rattle.world_core.proofs.Places.{some_is, one_place, take_set, drop_set, drop_at, at_of_drop, within, length_set, length_snoc, map_snoc, all_taken}
 
@@ -166,4 +168,88 @@ ticket_found b files runs opening n r t after kept at number (k, found, left, ca
     (
       is ∙ ap (λ j. taken_at b j found) same.0 ∙ ap (λ (x : RunningCall). taken_at b (length runs) x) same.1,
       call ∙ ap (λ (x : RunningCall). call_of n x.call.operation x.call.arguments x.pins) same.1 ∙ ap (λ j. call_of j r.call.operation r.call.arguments r.pins) (sym number),
+    )
+
+-- behind the end of the trace no call is new
+pub new_over : (b : Board) (m from : ℕ) (ones : List WaitingCall) → HasNew b m from ones → length b.trace ≤ from → ones ≡ []
+new_over b m from [] new over = refl
+new_over b m from (w ∷ ones) new over = absurd (omega (arith, over, within b.trace from (Start w.number) (new_more b m from w ones new).1))
+
+no_event : (xs : List TraceEvent) (k : ℕ) → k < length xs → slice_get xs k ≡ None → ⊥
+no_event [] k low none = omega (arith, low)
+no_event (x ∷ xs) zero low none = cc
+no_event (x ∷ xs) (suc k) low none = no_event xs k (omega (arith, low)) none
+
+pub event_there : (b : Board) (from : ℕ) → from < length b.trace → slice_get b.trace from ≡ None → ⊥
+event_there b from low none = no_event b.trace from low none
+
+-- the event there is the start of the first of them
+pub next_new : (b : Board) (m from : ℕ) (ones : List WaitingCall) (e : TraceEvent) → HasNew b m from ones → slice_get b.trace from ≡ Some e
+    → (w : WaitingCall) × (more : List WaitingCall) × HasNew b m from (w ∷ more) × (ones ≡ w ∷ more) × (e ≡ Start w.number)
+next_new b m from ones e new at =
+    let is = new_is b m from ones e new at in
+    (is.0, is.1, subst (HasNew b m from) is.2 new, is.2, is.3)
+
+pub not_end : (b : Board) (m from : ℕ) (ones : List WaitingCall) (n : ℕ) (reply : Reply) → HasNew b m from ones → slice_get b.trace from ≡ Some (End n reply) → ⊥
+not_end b m from ones n reply new at = let is = (next_new b m from ones (End n reply) new at).4 in cc
+
+-- there are as many of them as running calls that have no run
+pub new_few : (b : Board) (m from : ℕ) (ones : List WaitingCall) → HasNew b m from ones → length ones ≤ length b.running
+new_few b m from ones new = omega (arith, sym (length-map ones (run_of b.pins)), ap (λ (rs : List RunningCall). length rs) (sym new.running), drop_le b.running m)
+  where
+    drop_le : (xs : List RunningCall) (k : ℕ) → length (drop k xs) ≤ length xs
+    drop_le [] zero = omega arith
+    drop_le [] (suc k) = omega arith
+    drop_le (x ∷ xs) zero = omega arith
+    drop_le (x ∷ xs) (suc k) = omega (arith, drop_le xs k)
+
+pub taken_trace : (b : Board) (k : ℕ) (r : RunningCall) → ((taken_at b k r).trace ≡ b.trace) × ((taken_at b k r).pins ≡ b.pins)
+unfolding taken_at
+taken_trace b k r = (refl, refl)
+
+-- what is left after the first of them has its run
+pub record IsNextRun (b mid : Board) (runs mid_runs : List Slot) (from : ℕ) (w : WaitingCall) (more : List WaitingCall) : Type 0 where
+  pub trace : mid.trace ≡ b.trace
+  pub pins : mid.pins ≡ b.pins
+  pub collected : collected mid ≡ collected b
+  pub new : HasNew mid (length mid_runs) (from + 1) more
+  pub slot : Slot
+  pub items : mid_runs ≡ runs ++ slot ∷ []
+  pub call : run_call slot.run ≡ call_running (run_of b.pins w)
+  pub starts : Starts (run_call slot.run) (run_place slot.run)
+
+pub next_run : (b mid : Board) (runs mid_runs : List Slot) (from : ℕ) (w : WaitingCall) (more : List WaitingCall) → HasNew b (length runs) from (w ∷ more)
+    → ((r : RunningCall) → slice_get b.running (length runs) ≡ Some r → mid ≡ taken_at b (length runs) r)
+    → ((r : RunningCall) → slice_get b.running (length runs) ≡ Some r → (slot : Slot) × (mid_runs ≡ runs ++ slot ∷ []) × (run_call slot.run ≡ call_running r) × Starts (run_call slot.run) (run_place slot.run))
+    → IsNextRun b mid runs mid_runs from w more
+next_run b mid runs mid_runs from w more new desk made =
+    let parts = new_more b (length runs) from w more new in
+    let same = desk (run_of b.pins w) parts.0 in
+    let one = made (run_of b.pins w) parts.0 in
+    let kept = taken_trace b (length runs) (run_of b.pins w) in
+    let one_on : suc from ≡ from + 1 = omega arith in
+    let count : length mid_runs ≡ suc (length runs) = ap (λ (ss : List Slot). length ss) one.1 ∙ length_snoc runs one.0 in
+    record {
+      trace = ap (λ (x : Board). x.trace) same ∙ kept.0;
+      pins = ap (λ (x : Board). x.pins) same ∙ kept.1;
+      collected = ap collected same ∙ collected_taken b (length runs) (run_of b.pins w) parts.0;
+      new = subst (λ k. HasNew mid (length mid_runs) k more) one_on (subst (λ (x : Board). HasNew x (length mid_runs) (suc from) more) (sym same) (subst (λ k. HasNew (taken_at b (length runs) (run_of b.pins w)) k (suc from) more) (sym count) parts.2));
+      slot = one.0;
+      items = one.1;
+      call = one.2;
+      starts = one.3;
+    }
+
+-- the runs of all of them
+pub all_begun : (b mid : Board) (runs mid_runs last_runs : List Slot) (from others : ℕ) (w : WaitingCall) (more ones : List WaitingCall) → IsNextRun b mid runs mid_runs from w more → ones ≡ w ∷ more
+    → (others ≡ length more) × ((begun : List Standing) × AreBegun (map (run_of mid.pins) more) begun × (map standing_of last_runs ≡ map standing_of mid_runs ++ begun))
+    → (1 + others ≡ length ones) × ((begun : List Standing) × AreBegun (map (run_of b.pins) ones) begun × (map standing_of last_runs ≡ map standing_of runs ++ begun))
+all_begun b mid runs mid_runs last_runs from others w more ones next are (count, (begun, begin, rest)) =
+    (
+      omega (arith, count, ap (λ (ws : List WaitingCall). length ws) are),
+      (
+        standing_of next.slot ∷ begun,
+        subst (λ (ws : List WaitingCall). AreBegun (map (run_of b.pins) ws) (standing_of next.slot ∷ begun)) (sym are) (next.call, next.starts, subst (λ pins. AreBegun (map (run_of pins) more) begun) next.pins begin),
+        rest ∙ ap (λ (ss : List Slot). map standing_of ss ++ begun) next.items ∙ ap (λ ss. ss ++ begun) (map_snoc standing_of runs next.slot) ∙ append_assoc (map standing_of runs) (standing_of next.slot ∷ []) begun,
+      ),
     )

@@ -5,19 +5,24 @@ use Rattle.value_core.specs.Contents.{Contents}
 use Rattle.shelf_core.specs.declared.file.File.{File}
 use Rattle.shelf_core.specs.declared.hand.Stamp.{Stamp}
 use Rattle.shelf_core.specs.Device.{Assignment, AreServed}
-use Rattle.shelf_core.specs.Files.{HasFiles, Serves}
+use Rattle.shelf_core.specs.Files.{HasFiles, Serves, files_of}
 use Rattle.body_core.specs.Runs.{run_call, AreApart}
 use Rattle.board_core.specs.declared.event.TraceEvent.{TraceEvent}
 use Rattle.board_core.specs.declared.event.TraceEvent.TheVariants.{Start}
 use Rattle.board_core.specs.Lists.{Every, EachPair}
-use Rattle.board_core.specs.Calls.{RunningCall, WaitingCall}
-use Rattle.board_core.specs.Board.{Board, Rests}
+use Rattle.board_core.specs.Calls.{AcceptedCall, RunningCall, WaitingCall}
+use Rattle.board_core.specs.Board.{Board, Rests, joined, dismissed, released, marked}
 use Rattle.board_core.specs.Started.{Settles, HasStarted, run_of}
 use Rattle.board_core.specs.Chain.{ShowContents, IsTrueEntry}
 use Rattle.board_core.specs.Sound.{IsSound, kinds_of}
+use Rattle.desk_core.specs.declared.answer.Cancelled.{Cancelled}
+use Rattle.desk_core.specs.declared.answer.Cancelled.TheVariants as cancels
+use Rattle.desk_core.specs.Answers.{Cancels}
 use Rattle.world_core.specs.declared.slot.Slot.{Slot}
+use Rattle.world_core.specs.declared.stage.Stage.{Stage}
 use Rattle.world_core.specs.Scene.{Scene, Standing, AreBegun, Goes, call_running, collected}
-use Rattle.world_core.specs.Kept.{IsKept, IsReady, HasNew}
+use Rattle.world_core.specs.Kept.{IsKept, IsReady, IsStaged, HasNew, standing_of, scene_of}
+use Rattle.world_core.proofs.Beginning.{all_collected}
 use Rattle.world_core.proofs.Places.{all_taken, none_left}
 
 pub drop_front : {X : Type 0} (xs ys : List X) → drop (length xs) (xs ++ ys) ≡ ys
@@ -95,3 +100,49 @@ goes old between settled kept begun starts new settles board count begin runs fi
 -- a taken ticket lets no call start
 pub rests_collected : (b : Board) → Rests b → Rests (collected b)
 rests_collected b rests = rests
+
+-- an event that changed neither what runs and what happened, nor pins, nor the history
+pub record IsBetween (old between : Board) : Type 0 where
+  pub object : between.object ≡ old.object
+  pub running : between.running ≡ old.running
+  pub trace : between.trace ≡ old.trace
+  pub history : between.history ≡ old.history
+  pub opening : between.opening ≡ old.opening
+  pub pins : between.pins ≡ old.pins
+
+pub joined_between : (b : Board) (call : AcceptedCall) → IsBetween b (joined b call)
+unfolding joined
+joined_between b call = record { object = refl; running = refl; trace = refl; history = refl; opening = refl; pins = refl }
+
+pub dismissed_between : (b : Board) (n : ℕ) → IsBetween b (dismissed b n)
+unfolding dismissed
+dismissed_between b n = record { object = refl; running = refl; trace = refl; history = refl; opening = refl; pins = refl }
+
+pub left_between : (b : Board) (session : ℕ) → IsBetween b (marked (released b session) session)
+unfolding marked released
+left_between b session = record { object = refl; running = refl; trace = refl; history = refl; opening = refl; pins = refl }
+
+pub event_kept : (old between settled : Board) (files : List File) (runs : List Slot) (values : List Contents) → IsBetween old between → Settles between settled → IsKept old files runs values → length runs ≡ length old.running
+    → IsSound settled → IsKept settled files runs values
+event_kept old between settled files runs values is settles kept all sound =
+    kept_same old between settled settles.ones files runs values kept all is.running is.pins is.opening is.object is.history settles.started sound
+
+pub event_new : (old between settled : Board) (m from : ℕ) (is : IsBetween old between) (settles : Settles between settled) → m ≡ length old.running → from ≡ length old.trace → HasNew settled m from settles.ones
+event_new old between settled m from is settles all before =
+    has_new between settled m from settles.ones settles.started (all ∙ ap (λ (rs : List RunningCall). length rs) (sym is.running)) (before ∙ ap (λ (es : List TraceEvent). length es) (sym is.trace))
+
+-- the runs of the calls that started behind an event
+pub event_goes : (old new : Stage) (between settled : Board) (runs : List Slot) (from starts : ℕ) (settles : Settles between settled) → HasNew settled (length runs) from settles.ones → IsStaged new → collected new.desk ≡ collected settled
+    → ((ones : List WaitingCall) → HasNew settled (length runs) from ones → (starts ≡ length ones) × ((begun : List Standing) × AreBegun (map (run_of settled.pins) ones) begun × (map standing_of new.runs.items ≡ map standing_of runs ++ begun)))
+    → files_of new.hand ≡ files_of old.hand → new.opening.items ≡ old.opening.items → Goes (scene_of old) between (map standing_of runs) starts (scene_of new)
+event_goes old new between settled runs from starts settles has staged same made files opening =
+    let all = made settles.ones has in
+    goes (scene_of old) between settled (map standing_of runs) all.1.0 starts (scene_of new) settles
+      (sym (all_collected new.desk (files_of new.hand) new.runs.items new.opening.items staged.kept staged.all) ∙ same) all.0 all.1.1 all.1.2 files opening
+
+-- a cancel that takes no call out changes nothing
+pub not_dismissed : (b after : Board) (n : ℕ) (answer : Cancelled) → Cancels b n answer after → (answer ≡ cancels.Cancelled → ⊥) → after ≡ b
+not_dismissed b after n cancels.Cancelled is none = absurd (none refl)
+not_dismissed b after n cancels.Running is none = is.2
+not_dismissed b after n cancels.Ended is none = is.3
+not_dismissed b after n cancels.Unknown is none = is.3

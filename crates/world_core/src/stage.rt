@@ -133,15 +133,17 @@ impl Stage {
         ensures files { files_of self.new.hand ≡ files_of self.old.hand }
         ensures opening { self.new.opening.items ≡ self.old.opening.items }
     {
-        let event = self.desk.trace().get(from);
-        match event {
-            None => 0,
-            Some(TraceEvent::End(_, _)) => unreachable!(),
+        if from >= self.desk.trace().len() {
+            return 0;
+        }
+        match self.desk.trace().get(from) {
             Some(TraceEvent::Start(number)) => {
                 self.begin_run(number);
                 let others = self.begin(from + 1);
                 1 + others
             }
+            Some(TraceEvent::End(_, _)) => unreachable!(),
+            None => unreachable!(),
         }
     }
 
