@@ -29,7 +29,6 @@ use body_core::laws::{pens_are_open, pens_stay};
 use body_core::run::Run;
 use body_core::step::{Need, StepAnswer};
 use board_core::event::TraceEvent;
-
 use board_core::laws::{chained_are_legal, truth_is_noted};
 use desk_core::answer::{Cancelled, Collected};
 use desk_core::desk::Desk;
