@@ -2,3 +2,8 @@ pub mod Places
 pub mod Beginning
 pub mod Settling
 pub mod Playing
+pub mod Finishing
+pub mod Stepping
+pub mod Showing
+pub mod Opening
+pub mod Sequential

@@ -60,6 +60,8 @@ impl World {
         };
         let runs = Vec::with_capacity(alloc, MOST_OPEN)?;
         let desk = Desk::open(alloc, accepted, pins)?;
+        // The board is sound.
+        desk.history();
         Ok(World {
             stage: Stage {
                 alloc,
