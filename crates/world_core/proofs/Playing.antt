@@ -1,6 +1,6 @@
 -- What lists of events leave.
-use Rattle.std.proofs.Common.{◌≡◌, ◌≢◌, ℕ, zero, suc, ◌⊎◌, inl, inr, Bool, true, false, not, ◌==◌, List, [], ◌∷◌, ◌++◌, length, Option, Some, None, refl, sym, ◌∙◌, ap, subst, map}
-use Rattle.std.proofs.lemmas.List.{append-nil}
+use Rattle.std.proofs.Common.{◌≡◌, ◌≢◌, ℕ, zero, suc, ◌⊎◌, inl, inr, Bool, true, false, not, ◌==◌, List, [], ◌∷◌, ◌++◌, length, Option, Some, None, refl, sym, ◌∙◌, ap, subst, map, take, get_or, ◌+◌, ◌<◌}
+use Rattle.std.proofs.lemmas.List.{append-nil, take_more}
 use Rattle.std.specs.Prelude.{slice_get, slice_set, filter}
 use Rattle.decl_core.specs.declared.object.Object.{Object}
 use Rattle.shelf_core.specs.declared.file.File.{File}
@@ -22,10 +22,12 @@ use Rattle.board_core.proofs.Lists.{Every-at, Every-snoc, Every-map, Every-filte
 use Rattle.world_core.specs.declared.event.Answer.{Answer}
 use Rattle.world_core.specs.declared.event.Answer.TheVariants.{Stepped}
 use Rattle.world_core.specs.declared.event.EventAnswer.{EventAnswer}
-use Rattle.world_core.specs.Events.{WorldEvent, step}
+use Rattle.world_core.specs.declared.event.Event.{Event}
+use Rattle.world_core.specs.Events.{WorldEvent, step, event_of}
 use Rattle.world_core.specs.Scene.{Scene, Standing, Goes, IsNew, IsRunAt, AreBegun, call_running}
 use Rattle.world_core.specs.Answers.{Answers, Moves, called, not_called, stepped, no_step, step_not_running, finished, not_done, finish_not_running, cancelled, not_cancelled, left, no_session, shown, not_shown}
 use Rattle.world_core.specs.Plays.{Plays, if_ended, finishes, IsFailedStep, HasFailedStep}
+use Rattle.world_core.proofs.Places.{map_snoc}
 
 -- one more event after others
 pub plays_more : (events : List WorldEvent) (answers : List EventAnswer) (old mid new : Scene) (e : WorldEvent) (a : EventAnswer)
@@ -229,3 +231,10 @@ fails_only o old new events answers begins plays =
     let fair = plays_fair events answers (λ n. ⊥) old new plays (new_fair o old begins) in
     let owed : ℕ → Type 0 = λ n. ⊥ ⊎ HasFailedStep n events answers in
     (Every-map (EntryFair owed) _ (λ e h is. elim (h.device is) [ inl none ↦ absurd none | inr there ↦ there ]) new.board.history fair.entries, Every-map (EntryFair owed) _ (λ e h. h.damage) new.board.history fair.entries)
+
+-- one more event of a list
+pub plays_taken : (all : List Event) (k : ℕ) (event : Event) (answers : List EventAnswer) (old mid new : Scene) (a : EventAnswer) → k < length all
+    → Plays old (map event_of (take k all)) answers mid → Answers mid (event_of (get_or all k event)) a new → Plays old (map event_of (take (k + 1) all)) (answers ++ a ∷ []) new
+plays_taken all k event answers old mid new a within plays answer =
+    let longer : map event_of (take (k + 1) all) ≡ map event_of (take k all) ++ event_of (get_or all k event) ∷ [] = ap (map event_of) (take_more all k event within) ∙ map_snoc event_of (take k all) (get_or all k event) in
+    subst (λ es. Plays old es (answers ++ a ∷ []) new) (sym longer) (plays_more (map event_of (take k all)) answers old mid new (event_of (get_or all k event)) a plays answer)
