@@ -1,11 +1,12 @@
 //! The tables of a world, and what each event does to them.
 
-ghost use Rattle.std.specs.Prelude.{◌≡◌, ◌≢◌, ◌≤◌, ◌<◌, ◌⊎◌, ℕ, List, [], ◌∷◌, ◌++◌, length, map, IfSome, IfNone, IfOk, Some, None, true, false, vec_capacity, slice_get};
+ghost use Rattle.std.specs.Prelude.{◌≡◌, ◌≢◌, ◌↔◌, IsTrue, ◌≤◌, ◌<◌, ◌⊎◌, ℕ, List, [], ◌∷◌, ◌++◌, length, map, IfSome, IfNone, IfOk, Some, None, true, false, vec_capacity, slice_get};
 ghost use Rattle.shelf_core.specs.declared.hand.Stamp.{Stamp};
 ghost use Rattle.shelf_core.specs.Device.{Assignment, IsFree};
 ghost use Rattle.shelf_core.specs.Files.{HasFiles, IsOpen, Serves, files_of};
 ghost use Rattle.body_core.specs.declared.reply.Failure.TheVariants as failures;
 ghost use Rattle.body_core.specs.declared.reply.Reply.TheVariants as replies;
+ghost use Rattle.body_core.specs.declared.step.Need.TheVariants as needs;
 ghost use Rattle.body_core.specs.Runs.{run_call, run_ending, run_place, run_sealed, run_pen, PenHolds, SoFar};
 ghost use Rattle.body_core.specs.Steps.{Starts, Follows, FailsWith, PinsServed, NewsServed};
 ghost use Rattle.body_core.specs.Phases.{step_answer};
@@ -24,9 +25,11 @@ ghost use Rattle.world_core.specs.Kept.{IsKept, IsStaged, HasNew, standing_of, s
 use crate::event::{Answer, EventAnswer, Refusal};
 use crate::read::read_value;
 use crate::slot::Slot;
+use body_core::laws::{pens_are_open, pens_stay};
 use body_core::run::Run;
 use body_core::step::{Need, StepAnswer};
 use board_core::event::TraceEvent;
+use board_core::laws::{chained_are_legal, truth_is_noted};
 use desk_core::answer::{Cancelled, Collected};
 use desk_core::desk::Desk;
 use shelf_core::fuse::FuseHand;
@@ -66,6 +69,16 @@ fn place_of(runs: &[Slot], number: u32) -> Option<usize>
         }
     }
     None
+}
+
+// Whether a run that needs this has ended.
+fn is_done(need: Need) -> bool
+    ensures { IsTrue result ↔ (need ≡ needs.Done) }
+{
+    match need {
+        Need::Done => true,
+        _ => false,
+    }
 }
 
 // Makes one step of a run, which works, or fails for the device.
@@ -175,15 +188,21 @@ impl Stage {
         ensures staged { IsStaged self.new }
         ensures rests { Rests self.old.desk → Rests self.new.desk }
     {
-        let Some(place) = place_of(&self.runs, number) else {
-            return only(Answer::Refused(Refusal::NotRunning));
+        let place = match place_of(&self.runs, number) {
+            Some(place) => place,
+            None => return only(Answer::Refused(Refusal::NotRunning)),
         };
-        let slot = &mut self.runs[place];
-        let need = slot.run.next();
-        if need == Need::Done {
+        let need = self.runs[place].run.next();
+        if is_done(need) {
             return only(Answer::Refused(Refusal::NoStep));
         }
+        let slot = &mut self.runs[place];
         let answer = step_run(self.alloc, &mut self.hand, &mut slot.run, works);
+        // What the other runs have found stays true, and no published part is damaged.
+        self.hand.agrees_with_some();
+        pens_stay();
+        pens_are_open();
+        chained_are_legal();
         only(Answer::Stepped(need, answer))
     }
 
@@ -204,6 +223,7 @@ impl Stage {
         let outcome = self.runs.remove(place).into_outcome();
         match self.desk.finish(outcome) {
             Ok(receipt) => {
+                truth_is_noted();
                 self.desk.history();
                 let reply = receipt.noted.reply();
                 let starts = self.begin(before);

@@ -1,0 +1,15 @@
+use Rattle.std.proofs.Common.{sym, ◌∙◌, subst}
+use Rattle.shelf_core.specs.declared.memory.MemHand.{MemHand}
+use Rattle.shelf_core.specs.declared.hand.Stamp.{Stamp}
+use Rattle.shelf_core.specs.Files.{Serves, files_of}
+use Rattle.body_core.specs.Runs.{run_sealed}
+use Rattle.body_core.specs.Steps.{NewsServed}
+use Rattle.world_core.proofs.stage.step_run.Goals as goal
+
+pub returns-clause-serves : goal.returns-clause-serves
+returns-clause-serves c = λ s is. subst (λ (h : MemHand). Serves (files_of h) s) (sym c.into_inner.ensures)
+    (c.step-answer.ensures.serves s (subst (λ (h : MemHand). Serves (files_of h) s) (sym (c.new-broken.ensures.inner ∙ c.replace.ensures.value)) is))
+
+pub returns-clause-written : goal.returns-clause-written
+returns-clause-written c = λ is. subst (λ (h : MemHand). NewsServed (λ (s : Stamp). Serves (files_of h) s) (run_sealed c.step-answer.new.self)) (sym c.into_inner.ensures)
+    (c.step-answer.ensures.written (subst (λ (h : MemHand). NewsServed (λ (s : Stamp). Serves (files_of h) s) (run_sealed c.args.run.now)) (sym (c.new-broken.ensures.inner ∙ c.replace.ensures.value)) is))
