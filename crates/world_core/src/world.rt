@@ -74,7 +74,7 @@ impl World {
 
     /// What happens: its answer, and how many calls it started.
     pub fn event(&mut self, event: Event<'_>) -> EventAnswer
-        ensures { Answers self.old (event_of event) result self.new }
+        ensures { Answers self.old (event_of event.entry) result self.new }
     {
         match event {
             Event::Call(session, op, args) => self.stage.call(session, op, args),
