@@ -1,5 +1,5 @@
 -- What a finish leaves.
-use Rattle.std.proofs.Common.{◌≡◌, ◌≢◌, ℕ, zero, suc, ◌+◌, ◌<◌, ◌≤◌, ◌⊎◌, inl, inr, Bool, true, false, cond, ◌==◌, List, [], ◌∷◌, ◌++◌, length, Option, Some, None, refl, sym, ◌∙◌, ap, subst, arith, take, drop, map}
+use Rattle.std.proofs.Common.{◌≡◌, ◌≢◌, ℕ, zero, suc, ◌+◌, ◌<◌, ◌≤◌, ◌⊎◌, inl, inr, Bool, true, false, cond, ◌==◌, List, [], ◌∷◌, ◌++◌, length, Option, Some, None, refl, sym, ◌∙◌, ap, subst, arith, take, drop, map, length-append}
 use Rattle.std.specs.Prelude.{slice_get, slice_set, not}
 use Rattle.std.specs.List.{filter}
 use Rattle.std.proofs.lemmas.Bool.{ne_eqb}
@@ -7,32 +7,36 @@ use Rattle.value_core.specs.Contents.{Contents}
 use Rattle.shelf_core.specs.declared.file.File.{File}
 use Rattle.shelf_core.specs.declared.hand.Stamp.{Stamp}
 use Rattle.shelf_core.specs.Device.{Assignment, AreServed}
-use Rattle.shelf_core.specs.Files.{HasFiles, Serves}
+use Rattle.shelf_core.specs.Files.{HasFiles, Serves, files_of}
 use Rattle.body_core.specs.declared.new_pins.NewPin.{NewPin}
 use Rattle.body_core.specs.declared.outcome.Outcome.{Outcome}
 use Rattle.body_core.specs.declared.reply.Reply.{Reply}
 use Rattle.body_core.specs.declared.reply.Reply.TheVariants.{Done, Refused, Failed}
 use Rattle.body_core.specs.Calls.{Call}
-use Rattle.body_core.specs.Runs.{run_call, AreApart}
+use Rattle.body_core.specs.Runs.{run_call, run_sealed, SoFar, AreApart}
 use Rattle.body_core.specs.Steps.{NewsServed}
 use Rattle.body_core.specs.Outcomes.{outcome_call, outcome_reply, outcome_news, outcome_pins, new_if_done}
 use Rattle.body_core.specs.Truths.{IsTrueOf}
+use Rattle.board_core.specs.declared.event.TraceEvent.{TraceEvent}
 use Rattle.board_core.specs.declared.event.TraceEvent.TheVariants.{End}
+use Rattle.board_core.specs.declared.receipt.Receipt.{Receipt}
+use Rattle.desk_core.specs.Answers.{Finishes}
 use Rattle.board_core.specs.Lists.{Every, EachPair, Among}
 use Rattle.board_core.specs.Calls.{RunningCall, WaitingCall, Noted}
 use Rattle.board_core.specs.Board.{Board, ended, entry_of, published}
 use Rattle.board_core.specs.Chain.{ShowContents, IsTrueEntry}
 use Rattle.board_core.specs.Laws.{TruthIsNoted}
 use Rattle.board_core.specs.Outcomes.{IsOf}
-use Rattle.board_core.specs.Started.{HasStarted}
+use Rattle.board_core.specs.Started.{HasStarted, Settles}
 use Rattle.board_core.specs.Sound.{IsSound, kinds_of}
 use Rattle.board_core.proofs.Lists.{Every-at, Every-snoc, Every-filter, EachPair-filter, filter_one, eqb_same}
 use Rattle.board_core.proofs.Published.{done_twice}
 use Rattle.world_core.specs.declared.slot.Slot.{Slot}
+use Rattle.world_core.specs.declared.stage.Stage.{Stage}
 use Rattle.world_core.specs.Scene.{Standing, call_running}
-use Rattle.world_core.specs.Kept.{IsKept, IsReady, standing_of}
+use Rattle.world_core.specs.Kept.{IsKept, IsReady, IsStaged, HasNew, standing_of}
 use Rattle.world_core.proofs.Places.{some_is, one_place, all_taken, within}
-use Rattle.world_core.proofs.Settling.{kept_settled}
+use Rattle.world_core.proofs.Settling.{kept_settled, has_new}
 
 -- not of this number
 abbrev pub is_other : ℕ → Call → Bool
@@ -201,3 +205,58 @@ finished_kept old between settled ones files runs left values k slot r o law kep
         (λ a agrees. subst (λ ob. ShowContents a (kinds_of ob) between.opening values) (sym end.object) (subst (λ pins. ShowContents a (kinds_of old.object) pins values) (sym end.opening) (kept.opening a agrees)))
         (λ a agrees. subst (Every (IsTrueEntry a)) (sym end.history) (Every-snoc (IsTrueEntry a) old.history (entry_of r (outcome_reply o) (outcome_news o)) (kept.entries a agrees) (entry a agrees))),
     )
+
+-- a finish of the run at a place, all that it leaves
+pub record IsFinish (old : Stage) (slot : Slot) (o : Outcome) (left : List Slot) (from : ℕ) (settled : Board) : Type 0 where
+  pub r : RunningCall
+  pub runs : Among r old.desk.running
+  pub call : run_call slot.run ≡ call_running r
+  pub settles : Settles (ended old.desk (entry_of r (outcome_reply o) (outcome_news o))) settled
+  pub standing : map standing_of left ≡ filter (λ (s : Standing). not (s.call.number == slot.number)) (map standing_of old.runs.items)
+  pub kept : IsKept settled (files_of old.hand) left old.opening.items
+  pub has : HasNew settled (length left) from settles.ones
+  pub longer : from ≤ length settled.trace
+
+pub finish_is : (law : TruthIsNoted) (old : Stage) (k from : ℕ) (slot : Slot) (o : Outcome) (left : List Slot) (receipt : Receipt) (settled : Board) → IsStaged old → slice_get old.runs.items k ≡ Some slot
+    → left ≡ take k old.runs.items ++ drop (k + 1) old.runs.items → from ≡ length old.desk.trace + 1
+    → outcome_call o ≡ run_call slot.run → outcome_news o ≡ run_sealed slot.run → ((a : Assignment) → SoFar a slot.run → IsTrueOf a (outcome_call o) (outcome_reply o) (outcome_pins o))
+    → Finishes old.desk o receipt settled → IsSound settled → IsFinish old slot o left from settled
+finish_is law old k from slot o left receipt settled staged at cut before call news told finishes sound =
+    let kept = staged.kept in
+    let whole : take (length old.runs.items) old.desk.running ≡ old.desk.running = ap (λ j. take j old.desk.running) staged.all ∙ all_taken old.desk.running in
+    let paired : IsPaired old.desk.running old.runs.items = record { calls = kept.calls ∙ ap (map call_running) whole; apart = kept.sound.counted.apart } in
+    let ready : IsReady (files_of old.hand) slot = Every-at (IsReady (files_of old.hand)) old.runs.items k slot kept.ready at in
+    let r : RunningCall = finishes.call in
+    let number : r.number ≡ (run_call slot.run).number = finishes.is.number ∙ ap (λ (c : Call). c.number) call in
+    let same : slot.number ≡ r.number = ready.number ∙ sym number in
+    let next : k + 1 ≡ suc k = omega arith in
+    let is : left ≡ filter (λ (s : Slot). is_other r.number (call_of_slot s)) old.runs.items =
+        cut ∙ ap (λ j. take k old.runs.items ++ drop j old.runs.items) next ∙ others_left old.desk.running old.runs.items k r.number slot paired at (sym number) in
+    let entry : Noted = entry_of r (outcome_reply o) (outcome_news o) in
+    let end : IsEnded old.desk (ended old.desk entry) entry = ended_is old.desk entry in
+    let all = finished_kept old.desk (ended old.desk entry) settled finishes.settles.ones (files_of old.hand) old.runs.items left old.opening.items k slot r o law kept staged.all at is call
+        (subst (NewsServed (λ s. Serves (files_of old.hand) s)) (sym news) ready.written) (λ a agrees. told a (ready.found a agrees)) finishes.is end finishes.settles.started sound in
+    let has : HasNew settled (length left) from finishes.settles.ones =
+        has_new (ended old.desk entry) settled (length left) from finishes.settles.ones finishes.settles.started all.0
+            (before ∙ sym (ap (λ (es : List TraceEvent). length es) end.trace ∙ length-append old.desk.trace (End entry.number entry.reply ∷ []))) in
+    record {
+      r = r;
+      runs = finishes.runs;
+      call = call_is old.desk.running old.runs.items k slot r paired at finishes.runs number;
+      settles = finishes.settles;
+      standing = ap (map standing_of) is ∙ standing_left old.runs.items r.number ∙ ap (λ n. filter (λ (s : Standing). not (s.call.number == n)) (map standing_of old.runs.items)) (sym same);
+      kept = all.1;
+      has = has;
+      longer = has.within;
+    }
+
+-- an outcome of a run is that of its call
+pub no_stranger : (old : Stage) (k : ℕ) (slot : Slot) (c : Call) → IsStaged old → slice_get old.runs.items k ≡ Some slot → c ≡ run_call slot.run → Every (λ (r : RunningCall). IsOf c r → ⊥) old.desk.running → ⊥
+no_stranger old k slot c staged at call none =
+    let kept = staged.kept in
+    let whole : take (length old.runs.items) old.desk.running ≡ old.desk.running = ap (λ j. take j old.desk.running) staged.all ∙ all_taken old.desk.running in
+    let paired : IsPaired old.desk.running old.runs.items = record { calls = kept.calls ∙ ap (map call_running) whole; apart = kept.sound.counted.apart } in
+    let there = call_there old.desk.running old.runs.items k slot paired at in
+    let r : RunningCall = there.0 in
+    let same : call_running r ≡ c = there.2 ∙ sym call in
+    Every-at (λ (x : RunningCall). IsOf c x → ⊥) old.desk.running k r none there.1 (subst (λ d. IsOf d r) same (record { number = refl; operation = refl; arguments = refl; pins = refl }))

@@ -1,5 +1,5 @@
 -- The world of an object before any event.
-use Rattle.std.proofs.Common.{◌≡◌, ℕ, zero, suc, List, [], ◌∷◌, length, Some, None, refl, sym, ◌∙◌, ap, subst, arith, take, drop, map}
+use Rattle.std.proofs.Common.{◌≡◌, ℕ, zero, suc, List, [], ◌∷◌, length, Some, refl, sym, ◌∙◌, ap, subst, arith, take, map}
 use Rattle.std.specs.Prelude.{◌≤◌, slice_get, vec_capacity}
 use Rattle.std.specs.FinMap as papers_map
 use Rattle.std.specs.Ordering.{nat_cmp}
@@ -11,7 +11,7 @@ use Rattle.decl_core.specs.declared.object.Object.{Object}
 use Rattle.decl_core.specs.declared.object.Part.{Part}
 use Rattle.shelf_core.specs.declared.file.File.{File}
 use Rattle.shelf_core.specs.declared.hand.Stamp.{Stamp}
-use Rattle.shelf_core.specs.Device.{Assignment, AreServed, bytes_of, front_of, IsWhole}
+use Rattle.shelf_core.specs.Device.{Assignment, AreServed, front_of}
 use Rattle.shelf_core.specs.Files.{HasFiles, Serves, files_of}
 use Rattle.shelf_core.specs.Papers.{Papers, part_key}
 use Rattle.shelf_core.specs.Opened.{BeginsWith, IsPinned, AreLoaded, ArePinned}

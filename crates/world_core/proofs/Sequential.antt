@@ -1,5 +1,5 @@
 -- The history of a world, whose tables are kept, is sequential.
-use Rattle.std.proofs.Common.{◌≡◌, ◌≢◌, ℕ, ◌<◌, List, [], ◌∷◌, Some, sym, ◌∙◌, ap, subst, arith}
+use Rattle.std.proofs.Common.{◌≡◌, ◌≢◌, ◌<◌, List, [], ◌∷◌, Some, sym, ◌∙◌, ap, arith}
 use Rattle.std.specs.Prelude.{unwrap_or}
 use Rattle.shelf_core.specs.Device.{Assignment}
 use Rattle.shelf_core.specs.Files.{HasFiles, files_of}

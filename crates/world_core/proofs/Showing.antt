@@ -1,6 +1,6 @@
 -- The contents under pins.
-use Rattle.std.proofs.Common.{◌≡◌, ℕ, zero, suc, ◌+◌, ◌<◌, ◌≤◌, List, [], ◌∷◌, ◌++◌, length, Option, Some, None, Result, Ok, Err, refl, sym, ◌∙◌, ap, subst, arith, take, drop, map, take_all}
-use Rattle.std.specs.Prelude.{slice_get, vec_capacity}
+use Rattle.std.proofs.Common.{◌≡◌, ℕ, zero, suc, ◌+◌, ◌≤◌, List, [], ◌∷◌, ◌++◌, length, Some, sym, ◌∙◌, ap, subst, arith, take, map, take_all}
+use Rattle.std.specs.Prelude.{slice_get}
 use Rattle.std.specs.Global.{Vec}
 use Rattle.value_core.specs.declared.kind.Kind.{Kind}
 use Rattle.value_core.specs.Contents.{Contents}
@@ -8,10 +8,8 @@ use Rattle.value_core.specs.Spelling.{Spells}
 use Rattle.value_core.proofs.Unique.{unique}
 use Rattle.shelf_core.specs.declared.file.File.{File}
 use Rattle.shelf_core.specs.declared.hand.Stamp.{Stamp}
-use Rattle.shelf_core.specs.Device.{Assignment, bytes_of, front_of}
-use Rattle.shelf_core.specs.Device.{Shows as AreThere}
-use Rattle.shelf_core.specs.Files.{IsKept as IsKeptFile}
-use Rattle.shelf_core.specs.Files.{HasFiles, Serves, files_of}
+use Rattle.shelf_core.specs.Device.{Assignment, bytes_of}
+use Rattle.shelf_core.specs.Files.{HasFiles, files_of}
 use Rattle.shelf_core.proofs.Agreeing.{some_map}
 use Rattle.body_core.specs.History.{leads_to}
 use Rattle.decl_core.specs.declared.object.Object.{Object}
@@ -19,15 +17,14 @@ use Rattle.decl_core.specs.declared.object.Part.{Part}
 use Rattle.board_core.specs.Board.{Board}
 use Rattle.board_core.specs.Chain.{Shows, history_of}
 use Rattle.board_core.specs.Sound.{kinds_of}
-use Rattle.world_core.specs.declared.slot.Slot.{Slot}
 use Rattle.world_core.specs.declared.stage.Stage.{Stage}
-use Rattle.world_core.specs.Scene.{Scene, Standing}
+use Rattle.world_core.specs.Scene.{Scene}
 use Rattle.world_core.specs.declared.event.EventAnswer.{EventAnswer}
 use Rattle.world_core.specs.declared.event.Answer.TheVariants.{Shown, Refused}
 use Rattle.world_core.specs.declared.event.Refusal.TheVariants.{Memory}
 use Rattle.world_core.specs.Events.{look}
 use Rattle.world_core.specs.Answers.{Answers, with_starts, shown, not_shown}
-use Rattle.world_core.specs.Kept.{IsKept, IsStaged, scene_of, standing_of}
+use Rattle.world_core.specs.Kept.{IsStaged}
 use Rattle.world_core.proofs.Sequential.{contents_shown}
 
 some_is : {X : Type 0} {x y : X} → Some x ≡ Some y → x ≡ y
@@ -52,9 +49,6 @@ pub record Showing (old new : Stage) (values : List Contents) (part : ℕ) : Typ
   pub opening : new.opening ≡ old.opening
   pub so_far : values ≡ take part (leads_to (history_of old.desk.history) old.opening.items)
 
-pub none_shown : (s : Stage) (values : List Contents) → values ≡ [] → Showing s s values 0
-none_shown s values none = record { desk = refl; files = refl; runs = refl; opening = refl; so_far = none }
-
 take_at : {X : Type 0} (xs : List X) (k : ℕ) (x : X) → slice_get xs k ≡ Some x → take (suc k) xs ≡ take k xs ++ x ∷ []
 take_at [] k x at = absurd cc
 take_at (y ∷ xs) zero x at = ap (λ z. z ∷ []) (some_is at)
@@ -70,28 +64,6 @@ one_more old mid new before values part value so desk files runs opening more at
   opening = opening ∙ so.opening;
   so_far = more ∙ ap (λ vs. vs ++ value ∷ []) so.so_far ∙ sym (take_at (leads_to (history_of old.desk.history) old.opening.items) part value at)
       ∙ ap (λ k. take k (leads_to (history_of old.desk.history) old.opening.items)) next;
-}
-
--- the same tables
-pub same_scene : (old new : Stage) (values : List Contents) (part : ℕ) → Showing old new values part → scene_of new ≡ scene_of old
-same_scene old new values part so = scenes so.desk (ap (λ (v : Vec Contents). v.items) so.opening) so.files (ap (λ (v : Vec Slot). map standing_of v.items) so.runs)
-  where
-    scenes : {b c : Board} {vs ws : List Contents} {fs gs : List File} {rs ss : List Standing} → b ≡ c → vs ≡ ws → fs ≡ gs → rs ≡ ss
-        → ◌≡◌ {A = Scene} (record { board = b; opening = vs; files = fs; runs = rs }) (record { board = c; opening = ws; files = gs; runs = ss })
-    scenes {b = b} {c = c} {vs = vs} {ws = ws} {fs = fs} {gs = gs} {rs = rs} {ss = ss} board opening files runs =
-        ap (λ (x : Board). record { board = x; opening = vs; files = fs; runs = rs }) board
-        ∙ ap (λ (x : List Contents). record { board = c; opening = x; files = fs; runs = rs }) opening
-        ∙ ap (λ (x : List File). record { board = c; opening = ws; files = x; runs = rs }) files
-        ∙ ap (λ (x : List Standing). record { board = c; opening = ws; files = gs; runs = x }) runs
-
-pub same_staged : (old new : Stage) (values : List Contents) (part : ℕ) → Showing old new values part → IsStaged old → IsStaged new
-same_staged old new values part so staged = record {
-  kept = subst (λ (b : Board). IsKept b (files_of new.hand) new.runs.items new.opening.items) (sym so.desk)
-      (subst (λ fs. IsKept old.desk fs new.runs.items new.opening.items) (sym so.files)
-      (subst (λ (v : Vec Slot). IsKept old.desk (files_of old.hand) v.items new.opening.items) (sym so.runs)
-      (subst (λ (v : Vec Contents). IsKept old.desk (files_of old.hand) old.runs.items v.items) (sym so.opening) staged.kept)));
-  all = subst (λ (v : Vec Slot). length v.items ≡ length new.desk.running) (sym so.runs) (staged.all ∙ ap (λ (b : Board). length b.running) (sym so.desk));
-  room = subst (λ (v : Vec Slot). 256 ≤ vec_capacity v) (sym so.runs) staged.room;
 }
 
 -- the value of a part, which its pin shows whatever assignment agrees

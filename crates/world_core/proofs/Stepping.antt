@@ -1,5 +1,5 @@
 -- The tables of a world after a step of one run.
-use Rattle.std.proofs.Common.{◌≡◌, ◌≢◌, ℕ, zero, suc, ◌+◌, ◌<◌, ◌≤◌, ◌⊎◌, inl, inr, Bool, true, false, ◌||◌, ◌==◌, List, [], ◌∷◌, length, Option, Some, None, refl, sym, ◌∙◌, ap, subst, arith, take, drop, map}
+use Rattle.std.proofs.Common.{◌≡◌, ◌≢◌, ℕ, zero, suc, ◌≤◌, ◌⊎◌, inl, inr, Bool, true, false, ◌||◌, ◌==◌, List, [], ◌∷◌, length, Option, Some, None, refl, sym, ◌∙◌, ap, subst, arith, take, drop, map}
 use Rattle.std.specs.Prelude.{slice_get, slice_set}
 use Rattle.std.specs.List.{list_any}
 use Rattle.std.proofs.lemmas.Bool.Decides.{eqb_tells}
@@ -8,7 +8,7 @@ use Rattle.value_core.specs.Contents.{Contents}
 use Rattle.value_core.specs.Spelling.{Spells}
 use Rattle.shelf_core.specs.declared.file.File.{File}
 use Rattle.shelf_core.specs.declared.hand.Stamp.{Stamp}
-use Rattle.shelf_core.specs.Device.{Assignment, AreServed, IsFree, bytes_of}
+use Rattle.shelf_core.specs.Device.{Assignment, IsFree, bytes_of}
 use Rattle.shelf_core.specs.Files.{HasFiles, IsOpen, Serves}
 use Rattle.body_core.specs.declared.phase.Phase.{Phase}
 use Rattle.body_core.specs.declared.phase.Phase.TheVariants.{Reading, Creating, Appending, Sealing, Ended}
@@ -26,8 +26,8 @@ use Rattle.body_core.specs.Truths.{PinHolds, IsDamaged}
 use Rattle.board_core.specs.Lists.{Every, EachPair}
 use Rattle.board_core.specs.Calls.{AcceptedCall, RunningCall}
 use Rattle.board_core.specs.Board.{Board, call_at}
-use Rattle.board_core.specs.Chain.{AreOf, ChainedAreLegal, ShowContents, IsTrueEntry}
-use Rattle.board_core.specs.Sound.{IsSound, IsMadeOf, IsPinned, IsRunningIn, kinds_of}
+use Rattle.board_core.specs.Chain.{AreOf, ChainedAreLegal, ShowContents}
+use Rattle.board_core.specs.Sound.{IsMadeOf, IsPinned, IsRunningIn, kinds_of}
 use Rattle.board_core.proofs.Lists.{Every-at, Every-both}
 use Rattle.desk_core.specs.Answers.{runs_in}
 use Rattle.world_core.specs.declared.slot.Slot.{Slot}
@@ -95,7 +95,7 @@ not_damaged law b files runs values k slot run a kept at same agrees found ended
     let made : IsMadeOf b.object r.call = of_call_at (IsMadeOf b.object) b.calls r.number r.call kept.sound.counted.made runs_so.call in
     let shown : ShowContents a (kinds_of b.object) b.pins _ = (law a (kinds_of b.object) b.opening b.pins b.history values kept.sound.pinned.entries kept.sound.pinned.chained (kept.opening a agrees) (kept.entries a agrees)).1 in
     no_damage a (kinds_of b.object) b.pins _ r shown made.parts (Every-at (IsPinned b.pins) b.running k r kept.sound.pinned.pinned its.1)
-      (subst (λ (c : Call). IsDamaged (PinHolds a c.pins) c.operation) (same ∙ its.2) (damaged_in a (run_call run) run.phase ended found.found))
+    (subst (λ (c : Call). IsDamaged (PinHolds a c.pins) c.operation) (same ∙ its.2) (damaged_in a (run_call run) run.phase ended found.found))
 
 -- A step of this run over these files leaves the other files and runs as they are.
 pub record Spares (old new : List File) (before after : Run) : Type 0 where
@@ -142,9 +142,11 @@ module _ (stay : PensStay) (are_open : PensAreOpen) (old new : List File) (slot 
 
   ready_set : (runs : List Slot) (k : ℕ) → slice_get runs k ≡ Some slot → EachPair (λ (x y : Slot). AreApart x.run y.run) runs → IsReady new left → Every (IsReady old) runs → Every (IsReady new) (slice_set runs k left)
   ready_set [] k at apart here ready = tt
-  ready_set (x ∷ xs) zero at apart here ready =
-      (here, Every-both (λ (y : Slot). AreApart slot.run y.run) (IsReady old) (IsReady new) (λ y its is. other_ready y (turned slot y its) is) xs
-        (subst (λ (z : Slot). Every (λ (y : Slot). AreApart z.run y.run) xs) (some_is at) apart.0) ready.1)
+  ready_set (x ∷ xs) zero at apart here ready = (
+    here,
+    Every-both (λ (y : Slot). AreApart slot.run y.run) (IsReady old) (IsReady new) (λ y its is. other_ready y (turned slot y its) is) xs
+        (subst (λ (z : Slot). Every (λ (y : Slot). AreApart z.run y.run) xs) (some_is at) apart.0) ready.1,
+  )
   ready_set (x ∷ xs) (suc k) at apart here ready =
       (other_ready x (Every-at (λ (y : Slot). AreApart x.run y.run) xs k slot apart.0 at) ready.0, ready_set xs k at apart.1 here ready.1)
 
@@ -156,9 +158,11 @@ module _ (stay : PensStay) (are_open : PensAreOpen) (old new : List File) (slot 
   apart_set : (runs : List Slot) (k : ℕ) → slice_get runs k ≡ Some slot → EachPair (λ (x y : Slot). AreApart x.run y.run) runs → Every (IsReady old) runs
       → EachPair (λ (x y : Slot). AreApart x.run y.run) (slice_set runs k left)
   apart_set [] k at apart ready = tt
-  apart_set (x ∷ xs) zero at apart ready =
-      (Every-both (λ (y : Slot). AreApart slot.run y.run) (IsReady old) (λ (y : Slot). AreApart left.run y.run) (λ y its is. turned y left (other_apart y (turned slot y its) is)) xs
-        (subst (λ (z : Slot). Every (λ (y : Slot). AreApart z.run y.run) xs) (some_is at) apart.0) ready.1, apart.1)
+  apart_set (x ∷ xs) zero at apart ready = (
+    Every-both (λ (y : Slot). AreApart slot.run y.run) (IsReady old) (λ (y : Slot). AreApart left.run y.run) (λ y its is. turned y left (other_apart y (turned slot y its) is)) xs
+        (subst (λ (z : Slot). Every (λ (y : Slot). AreApart z.run y.run) xs) (some_is at) apart.0) ready.1,
+    apart.1,
+  )
   apart_set (x ∷ xs) (suc k) at apart ready =
       (every_set (λ (y : Slot). AreApart x.run y.run) xs k left apart.0 (other_apart x (Every-at (λ (y : Slot). AreApart x.run y.run) xs k slot apart.0 at) ready.0), apart_set xs k at apart.1 ready.1)
 
@@ -184,8 +188,8 @@ pub runs_stepped : (stay : PensStay) (are_open : PensAreOpen) (b : Board) (old n
 runs_stepped stay are_open b old new runs values k slot left kept at spares ready =
     let count : length (slice_set runs k left) ≡ length runs = length_set runs k left in
     let calls : map (λ (s : Slot). run_call s.run) (slice_set runs k left) ≡ map (λ (s : Slot). run_call s.run) runs =
-        map_set (λ (s : Slot). run_call s.run) runs k left ∙ ap (slice_set (map (λ (s : Slot). run_call s.run) runs) k) spares.call
-        ∙ set_same (map (λ (s : Slot). run_call s.run) runs) k (run_call slot.run) (map_at (λ (s : Slot). run_call s.run) runs k slot at) in
+    map_set (λ (s : Slot). run_call s.run) runs k left ∙ ap (slice_set (map (λ (s : Slot). run_call s.run) runs) k) spares.call
+    ∙ set_same (map (λ (s : Slot). run_call s.run) runs) k (run_call slot.run) (map_at (λ (s : Slot). run_call s.run) runs k slot at) in
     record {
       sound = kept.sound;
       few = subst (λ n. n ≤ length b.running) (sym count) kept.few;
@@ -214,6 +218,7 @@ none_running files (s ∷ ss) (r ∷ rs) n others ready calls all =
   where
     head_is : {Z : Type 0} {z w : Z} {zs ws : List Z} → z ∷ zs ≡ w ∷ ws → z ≡ w
     head_is e = cc
+
     tail_is : {Z : Type 0} {z w : Z} {zs ws : List Z} → z ∷ zs ≡ w ∷ ws → zs ≡ ws
     tail_is e = cc
 
@@ -272,8 +277,8 @@ pub step_answers : (b : Board) (opening : List Contents) (old new : List File) (
 step_answers b opening old new runs k number works slot left there more moves call =
     let set : List Standing = slice_set (map standing_of runs) k (record { call = run_call slot.run; place = run_place left.run }) in
     let same : map standing_of (slice_set runs k left) ≡ slice_set (map standing_of runs) k (record { call = run_call slot.run; place = run_place left.run }) =
-        map_set standing_of runs k left ∙ ap (λ (c : Call). slice_set (map standing_of runs) k (record { call = c; place = run_place left.run })) call in
+    map_set standing_of runs k left ∙ ap (λ (c : Call). slice_set (map standing_of runs) k (record { call = c; place = run_place left.run })) call in
     subst (λ (rs : List Standing). Answers (table b opening old (map standing_of runs)) (step number works) (said (run_place slot.run) (run_ending slot.run) (run_ending left.run)) (table b opening new rs)) (sym same)
-      (subst (λ (o : Option Reply). Answers (table b opening old (map standing_of runs)) (step number works) (said (run_place slot.run) (run_ending slot.run) o) (table b opening new set)) (sym (ending_by_place left.run))
-        (subst (λ (o : Option Reply). Answers (table b opening old (map standing_of runs)) (step number works) (said (run_place slot.run) o (ending_at (run_place left.run))) (table b opening new set)) (sym (ending_by_place slot.run))
-          (stepped k (standing_of slot) (run_place left.run) new there more moves)))
+    (subst (λ (o : Option Reply). Answers (table b opening old (map standing_of runs)) (step number works) (said (run_place slot.run) (run_ending slot.run) o) (table b opening new set)) (sym (ending_by_place left.run))
+    (subst (λ (o : Option Reply). Answers (table b opening old (map standing_of runs)) (step number works) (said (run_place slot.run) o (ending_at (run_place left.run))) (table b opening new set)) (sym (ending_by_place slot.run))
+    (stepped k (standing_of slot) (run_place left.run) new there more moves)))

@@ -206,27 +206,24 @@ impl Stage {
         only(Answer::Stepped(need, answer))
     }
 
-    // A call finishes.
-    pub(crate) fn finish(&mut self, number: u32) -> EventAnswer
+    // The call of the run at this place, which has ended, finishes.
+    fn publish(&mut self, place: usize) -> EventAnswer
         requires staged { IsStaged self.old }
-        ensures answers { Answers (scene_of self.old) (finishes number) result (scene_of self.new) }
+        requires done { (slot : ASlot) × (slice_get self.old.runs.items place ≡ Some slot) × (run_ending slot.run ≢ None) }
+        ensures answers { (slot : ASlot) → slice_get self.old.runs.items place ≡ Some slot → Answers (scene_of self.old) (finishes slot.number) result (scene_of self.new) }
         ensures staged { IsStaged self.new }
         ensures rests { Rests self.old.desk → Rests self.new.desk }
     {
-        let Some(place) = place_of(&self.runs, number) else {
-            return only(Answer::Refused(Refusal::NotRunning));
-        };
-        if self.runs[place].run.next() != Need::Done {
-            return only(Answer::Refused(Refusal::NotDone));
-        }
-        let before = self.desk.trace().len() + 1;
+        let before = self.desk.trace().len();
         let outcome = self.runs.remove(place).into_outcome();
         match self.desk.finish(outcome) {
             Ok(receipt) => {
                 truth_is_noted();
                 self.desk.history();
                 let reply = receipt.noted.reply();
-                let starts = self.begin(before);
+                // The end stands in the trace, so one place more is no more than its length.
+                let _all = self.desk.trace().len();
+                let starts = self.begin(before + 1);
                 EventAnswer {
                     answer: Answer::Ended(reply),
                     starts,
@@ -234,6 +231,24 @@ impl Stage {
             }
             Err(_) => unreachable!(),
         }
+    }
+
+    // A call finishes.
+    pub(crate) fn finish(&mut self, number: u32) -> EventAnswer
+        requires staged { IsStaged self.old }
+        ensures answers { Answers (scene_of self.old) (finishes number) result (scene_of self.new) }
+        ensures staged { IsStaged self.new }
+        ensures rests { Rests self.old.desk → Rests self.new.desk }
+    {
+        let place = match place_of(&self.runs, number) {
+            Some(place) => place,
+            None => return only(Answer::Refused(Refusal::NotRunning)),
+        };
+        let need = self.runs[place].run.next();
+        if !is_done(need) {
+            return only(Answer::Refused(Refusal::NotDone));
+        }
+        self.publish(place)
     }
 
     // A call is cancelled, if it waits.

@@ -1,4 +1,4 @@
-use Rattle.std.proofs.Common.{◌≤◌, ℕ, refl, ap, map, ◌∙◌, arith}
+use Rattle.std.proofs.Common.{refl, ap, map, ◌∙◌, arith}
 use Rattle.world_core.specs.Kept.{standing_of}
 use Rattle.world_core.proofs.Opening.{new_staged, new_is}
 use Rattle.world_core.proofs.world.World.new.Goals as goal
