@@ -1,17 +1,11 @@
 -- What lists of events leave.
-use Rattle.std.proofs.Common.{◌≡◌, ◌≢◌, ℕ, zero, suc, ◌⊎◌, inl, inr, Bool, true, false, not, ◌==◌, List, [], ◌∷◌, ◌++◌, length, Option, Some, None, refl, sym, ◌∙◌, ap, subst, map, take, get_or, ◌+◌, ◌<◌}
+use Rattle.std.proofs.Common.{◌≡◌, ◌≢◌, ℕ, ◌⊎◌, inl, inr, Bool, true, false, not, ◌==◌, List, [], ◌∷◌, ◌++◌, length, Some, None, refl, sym, ◌∙◌, ap, subst, map, take, get_or, ◌+◌, ◌<◌}
 use Rattle.std.proofs.lemmas.List.{append-nil, take_more}
-use Rattle.std.specs.Prelude.{slice_get, slice_set, filter}
 use Rattle.decl_core.specs.declared.object.Object.{Object}
-use Rattle.shelf_core.specs.declared.file.File.{File}
-use Rattle.shelf_core.specs.declared.hand.HandFault.TheVariants as faults
-use Rattle.shelf_core.specs.declared.hand.Stamp.{Stamp}
 use Rattle.body_core.specs.declared.reply.Failure.TheVariants as failures
 use Rattle.body_core.specs.declared.reply.Reply.{Reply}
 use Rattle.body_core.specs.declared.reply.Reply.TheVariants as replies
-use Rattle.body_core.specs.declared.step.Need.{Need}
 use Rattle.body_core.specs.declared.step.Need.TheVariants as needs
-use Rattle.body_core.specs.declared.step.StepAnswer.TheVariants as steps
 use Rattle.body_core.specs.Calls.{Call}
 use Rattle.body_core.specs.Phases.{IsSettled, step_answer}
 use Rattle.body_core.specs.Steps.{Place, at_read, at_create, at_append, at_seal, at_end, Starts, with_part, with_none, need_at, ending_at, sealed_at}
@@ -19,12 +13,11 @@ use Rattle.board_core.specs.Lists.{Every}
 use Rattle.board_core.specs.Calls.{Noted, AcceptedCall, RunningCall}
 use Rattle.board_core.specs.Board.{Board, joined, dismissed, released, marked, ended, entry_of}
 use Rattle.board_core.proofs.Lists.{Every-at, Every-snoc, Every-map, Every-filter, Every-set}
-use Rattle.world_core.specs.declared.event.Answer.{Answer}
 use Rattle.world_core.specs.declared.event.Answer.TheVariants.{Stepped}
 use Rattle.world_core.specs.declared.event.EventAnswer.{EventAnswer}
 use Rattle.world_core.specs.declared.event.Event.{Event}
 use Rattle.world_core.specs.Events.{WorldEvent, step, event_of}
-use Rattle.world_core.specs.Scene.{Scene, Standing, Goes, IsNew, IsRunAt, AreBegun, call_running}
+use Rattle.world_core.specs.Scene.{Scene, Standing, Goes, IsNew, AreBegun, call_running}
 use Rattle.world_core.specs.Answers.{Answers, Moves, called, not_called, stepped, no_step, step_not_running, finished, not_done, finish_not_running, cancelled, not_cancelled, left, no_session, shown, not_shown}
 use Rattle.world_core.specs.Plays.{Plays, if_ended, finishes, IsFailedStep, HasFailedStep}
 use Rattle.world_core.proofs.Places.{map_snoc}
@@ -193,7 +186,7 @@ step_fair P Q old new e a more now (finished {number = number} k r run reply amo
     let ended_fair = Every-at (EndsFair Q) old.runs k run before.runs there.there reply ends in
     let one : EntryFair Q noted = subst (λ n. IsFair Q n reply) (ap (λ (c : Call). c.number) is) ended_fair in
     goes_fair Q goes (subst (Every (EntryFair Q)) (sym (ended_history old.board noted)) (Every-snoc (EntryFair Q) old.board.history noted before.entries one))
-      (Every-filter (EndsFair Q) (λ s. not (s.call.number == number)) old.runs before.runs)
+    (Every-filter (EndsFair Q) (λ s. not (s.call.number == number)) old.runs before.runs)
 step_fair P Q old new e a more now (not_done k run there going) fair = all_fair_owed P Q more old fair
 step_fair P Q old new e a more now (finish_not_running none) fair = all_fair_owed P Q more old fair
 step_fair P Q old new e a more now (cancelled {number = number} waits goes) fair =
@@ -217,7 +210,7 @@ plays_fair (e ∷ events) (a ∷ answers) Owed old new plays fair =
     let Later : ℕ → Type 0 = λ n. HasFailedStep n events answers in
     let first = step_fair Owed Now old plays.0 e a (λ n h. inl h) (λ n h. inr h) plays.1 fair in
     all_fair_owed (λ n. Now n ⊎ Later n) (λ n. Owed n ⊎ (IsFailedStep n e a ⊎ Later n)) (λ n h. elim h [ inl early ↦ elim early [ inl owed ↦ inl owed | inr here ↦ inr (inl here) ] | inr later ↦ inr (inr later) ]) new
-      (plays_fair events answers Now plays.0 new plays.2 first)
+    (plays_fair events answers Now plays.0 new plays.2 first)
 
 new_fair : (o : Object) (w : Scene) → IsNew o w → AreFair (λ n. ⊥) w
 new_fair o w begins = record {
