@@ -1,17 +1,11 @@
 -- What lists of events leave.
-use Rattle.std.proofs.Common.{◌≡◌, ◌≢◌, ℕ, zero, suc, ◌⊎◌, inl, inr, Bool, true, false, not, ◌==◌, List, [], ◌∷◌, ◌++◌, length, Option, Some, None, refl, sym, ◌∙◌, ap, subst, map, take, get_or, ◌+◌, ◌<◌}
+use Rattle.std.proofs.Common.{◌≡◌, ◌≢◌, ℕ, ◌⊎◌, inl, inr, Bool, true, false, not, ◌==◌, List, [], ◌∷◌, ◌++◌, length, Some, None, refl, sym, ◌∙◌, ap, subst, map, take, get_or, ◌+◌, ◌<◌}
 use Rattle.std.proofs.lemmas.List.{append-nil, take_more}
-use Rattle.std.specs.Prelude.{slice_get, slice_set, filter}
 use Rattle.decl_core.specs.declared.object.Object.{Object}
-use Rattle.shelf_core.specs.declared.file.File.{File}
-use Rattle.shelf_core.specs.declared.hand.HandFault.TheVariants as faults
-use Rattle.shelf_core.specs.declared.hand.Stamp.{Stamp}
 use Rattle.body_core.specs.declared.reply.Failure.TheVariants as failures
 use Rattle.body_core.specs.declared.reply.Reply.{Reply}
 use Rattle.body_core.specs.declared.reply.Reply.TheVariants as replies
-use Rattle.body_core.specs.declared.step.Need.{Need}
 use Rattle.body_core.specs.declared.step.Need.TheVariants as needs
-use Rattle.body_core.specs.declared.step.StepAnswer.TheVariants as steps
 use Rattle.body_core.specs.Calls.{Call}
 use Rattle.body_core.specs.Phases.{IsSettled, step_answer}
 use Rattle.body_core.specs.Steps.{Place, at_read, at_create, at_append, at_seal, at_end, Starts, with_part, with_none, need_at, ending_at, sealed_at}
@@ -19,12 +13,11 @@ use Rattle.board_core.specs.Lists.{Every}
 use Rattle.board_core.specs.Calls.{Noted, AcceptedCall, RunningCall}
 use Rattle.board_core.specs.Board.{Board, joined, dismissed, released, marked, ended, entry_of}
 use Rattle.board_core.proofs.Lists.{Every-at, Every-snoc, Every-map, Every-filter, Every-set}
-use Rattle.world_core.specs.declared.event.Answer.{Answer}
 use Rattle.world_core.specs.declared.event.Answer.TheVariants.{Stepped}
 use Rattle.world_core.specs.declared.event.EventAnswer.{EventAnswer}
 use Rattle.world_core.specs.declared.event.Event.{Event}
 use Rattle.world_core.specs.Events.{WorldEvent, step, event_of}
-use Rattle.world_core.specs.Scene.{Scene, Standing, Goes, IsNew, IsRunAt, AreBegun, call_running}
+use Rattle.world_core.specs.Scene.{Scene, Standing, Goes, IsNew, AreBegun, call_running}
 use Rattle.world_core.specs.Answers.{Answers, Moves, called, not_called, stepped, no_step, step_not_running, finished, not_done, finish_not_running, cancelled, not_cancelled, left, no_session, shown, not_shown}
 use Rattle.world_core.specs.Plays.{Plays, if_ended, finishes, IsFailedStep, HasFailedStep}
 use Rattle.world_core.proofs.Places.{map_snoc}
@@ -77,7 +70,7 @@ number_of r run number is there = sym (ap (λ (c : Call). c.number) is) ∙ ther
 step_told : (old new : Scene) (e : WorldEvent) (a : EventAnswer) (rest : List (ℕ × Reply)) → Answers old e a new → map told_of new.board.history ++ rest ≡ map told_of old.board.history ++ if_ended e a.answer rest
 step_told old new e a rest (called accepted taken goes) = told_same old new rest (goes_history goes ∙ joined_history old.board accepted)
 step_told old new e a rest (not_called fault refused) = refl
-step_told old new e a rest (stepped k run after files there open_ moves) = refl
+step_told old new e a rest (stepped k run after files there going moves) = refl
 step_told old new e a rest (no_step k run there done) = refl
 step_told old new e a rest (step_not_running none) = refl
 step_told old new e a rest (finished {number = number} k r run reply among there is ends goes) =

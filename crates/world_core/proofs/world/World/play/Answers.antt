@@ -1,4 +1,4 @@
-use Rattle.std.proofs.Common.{◌≡◌, ◌<◌, ◌+◌, ℕ, List, [], ◌∷◌, ◌++◌, length, map, take, get_or, refl, sym, ◌∙◌, ap, subst, arith}
+use Rattle.std.proofs.Common.{◌≡◌, ℕ, List, [], ◌∷◌, ◌++◌, map, take, get_or, refl, subst, arith}
 use Rattle.std.proofs.lemmas.List.{take_all}
 use Rattle.world_core.specs.declared.event.Event.{Event}
 use Rattle.world_core.specs.Answers.{Answers}
