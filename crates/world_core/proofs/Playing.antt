@@ -186,7 +186,7 @@ step_fair P Q old new e a more now (finished {number = number} k r run reply amo
     let ended_fair = Every-at (EndsFair Q) old.runs k run before.runs there.there reply ends in
     let one : EntryFair Q noted = subst (λ n. IsFair Q n reply) (ap (λ (c : Call). c.number) is) ended_fair in
     goes_fair Q goes (subst (Every (EntryFair Q)) (sym (ended_history old.board noted)) (Every-snoc (EntryFair Q) old.board.history noted before.entries one))
-      (Every-filter (EndsFair Q) (λ s. not (s.call.number == number)) old.runs before.runs)
+    (Every-filter (EndsFair Q) (λ s. not (s.call.number == number)) old.runs before.runs)
 step_fair P Q old new e a more now (not_done k run there going) fair = all_fair_owed P Q more old fair
 step_fair P Q old new e a more now (finish_not_running none) fair = all_fair_owed P Q more old fair
 step_fair P Q old new e a more now (cancelled {number = number} waits goes) fair =
@@ -210,7 +210,7 @@ plays_fair (e ∷ events) (a ∷ answers) Owed old new plays fair =
     let Later : ℕ → Type 0 = λ n. HasFailedStep n events answers in
     let first = step_fair Owed Now old plays.0 e a (λ n h. inl h) (λ n h. inr h) plays.1 fair in
     all_fair_owed (λ n. Now n ⊎ Later n) (λ n. Owed n ⊎ (IsFailedStep n e a ⊎ Later n)) (λ n h. elim h [ inl early ↦ elim early [ inl owed ↦ inl owed | inr here ↦ inr (inl here) ] | inr later ↦ inr (inr later) ]) new
-      (plays_fair events answers Now plays.0 new plays.2 first)
+    (plays_fair events answers Now plays.0 new plays.2 first)
 
 new_fair : (o : Object) (w : Scene) → IsNew o w → AreFair (λ n. ⊥) w
 new_fair o w begins = record {

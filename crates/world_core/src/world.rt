@@ -54,8 +54,7 @@ impl World {
     {
         let mut hand = MemHand::new(alloc);
         let mut shelf = MemShelf::new(alloc);
-        let Ok((pins, opening)) = open_parts(alloc, accepted.object(), &mut shelf, &mut hand)
-        else {
+        let Ok((pins, opening)) = open_parts(alloc, accepted.object(), &mut shelf, &mut hand) else {
             return Err(AllocError);
         };
         let runs = Vec::with_capacity(alloc, MOST_OPEN)?;

@@ -15,7 +15,7 @@ loop-event-preserved c =
     let kept = c.loop-event.invariant in
     let k : ℕ = c.loop-event.event-index in
     let answer : Answers c.loop-event.world (event_of (get_or c.args.events.now k c.event-item.result)) c.event-answer.result c.event-answer.new.self =
-      subst (λ (e : Event). Answers c.loop-event.world (event_of e) c.event-answer.result c.event-answer.new.self) c.event-item.is c.event-answer.ensures in
+    subst (λ (e : Event). Answers c.loop-event.world (event_of e) c.event-answer.result c.event-answer.new.self) c.event-item.is c.event-answer.ensures in
     (kept.0, kept.1 ++ c.event-answer.result ∷ [], kept.2, plays_taken c.args.events.now k c.event-item.result kept.1 kept.0 c.loop-event.world c.event-answer.new.self c.event-answer.result c.loop-event-test.true kept.3 answer)
 
 pub returns : goal.returns
@@ -23,14 +23,16 @@ returns c =
     let kept = c.loop-event.invariant in
     let all : take c.loop-event.event-index c.args.events.now ≡ c.args.events.now = take_all c.loop-event.event-index c.args.events.now (omega (arith, c.loop-event-test.false)) in
     let plays : Plays kept.0 (map event_of c.args.events.now) kept.1 c.loop-event.world = subst (λ (es : List Event). Plays kept.0 (map event_of es) kept.1 c.loop-event.world) all kept.3 in
-    let fails = c.fails_only_with_its_device.ensures c.args.accepted kept.0 c.loop-event.world (map event_of c.args.events.now) kept.1 kept.2 plays in
-    (kept.1, record {
-      old = kept.0;
-      begins = kept.2;
-      plays = plays;
-      sequential = c.desk.ensures.sequential;
-      told = c.replies_are_told.ensures c.args.accepted kept.0 c.loop-event.world (map event_of c.args.events.now) kept.1 kept.2 plays;
-      fails = fails.0;
-      sound = fails.1;
-      rests = c.desk.ensures.rests;
-    })
+    let fails = c.fails_only_with_its_device.ensures c.args.accepted kept.0 c.loop-event.world (map event_of c.args.events.now) kept.1 kept.2 plays in (
+      kept.1,
+      record {
+        old = kept.0;
+        begins = kept.2;
+        plays = plays;
+        sequential = c.desk.ensures.sequential;
+        told = c.replies_are_told.ensures c.args.accepted kept.0 c.loop-event.world (map event_of c.args.events.now) kept.1 kept.2 plays;
+        fails = fails.0;
+        sound = fails.1;
+        rests = c.desk.ensures.rests;
+      },
+    )
