@@ -70,7 +70,7 @@ number_of r run number is there = sym (ap (λ (c : Call). c.number) is) ∙ ther
 step_told : (old new : Scene) (e : WorldEvent) (a : EventAnswer) (rest : List (ℕ × Reply)) → Answers old e a new → map told_of new.board.history ++ rest ≡ map told_of old.board.history ++ if_ended e a.answer rest
 step_told old new e a rest (called accepted taken goes) = told_same old new rest (goes_history goes ∙ joined_history old.board accepted)
 step_told old new e a rest (not_called fault refused) = refl
-step_told old new e a rest (stepped k run after files there open_ moves) = refl
+step_told old new e a rest (stepped k run after files there going moves) = refl
 step_told old new e a rest (no_step k run there done) = refl
 step_told old new e a rest (step_not_running none) = refl
 step_told old new e a rest (finished {number = number} k r run reply among there is ends goes) =
