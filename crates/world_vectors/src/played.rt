@@ -1,9 +1,10 @@
 //! Lists of events, played as a whole.
 
-use body_core::reply::Reply;
+use body_core::reply::{Failure, Reply};
 use decl_read::read::read_objects;
 use exclude_core::analyse::{Accepted, analyse};
 use std::alloc::Global;
+use std::process::Abort;
 use value_core::datum::Datum;
 use world_core::event::Event;
 use world_core::world::World;
@@ -20,11 +21,10 @@ end;
 // The object of a source that has one.
 fn accepted(rt: &impl Abort, alloc: Global, text: &[u8]) -> Accepted {
     let objects = read_objects(alloc, text).expect(rt, "objects");
-    for object in objects.into_values() {
-        match analyse(alloc, object) {
-            Ok(accepted) => return accepted,
-            Err(_) => panic!(rt; "refused"),
-        }
+    for (_, object) in objects {
+        return analyse(alloc, object)
+            .ok()
+            .expect(rt, "an object that is accepted");
     }
     panic!(rt; "no object")
 }
@@ -62,7 +62,7 @@ fn events_are_played_in_order(rt: HostRuntime) {
     assert!(&rt; world.desk().history().len() == 3);
     assert!(&rt; reply_at(&world, 0) == Some(Reply::Done(None)));
     assert!(&rt; reply_at(&world, 1) == Some(Reply::Done(Some(Datum::Integer(7)))));
-    assert!(&rt; reply_at(&world, 2) == Some(Reply::Failed(body_core::reply::Failure::Device)));
+    assert!(&rt; reply_at(&world, 2) == Some(Reply::Failed(Failure::Device)));
     let desk = world.end();
     assert!(&rt; desk.is_idle());
 }
