@@ -1,9 +1,9 @@
 -- The first line of a text stands in its head.
-use Rattle.std.proofs.Common.{◌≡◌, ◌<◌, ◌≤◌, ◌+◌, ◌⊎◌, ◌↔◌, inl, inr, Bool, true, false, ℕ, zero, suc, List, [], ◌∷◌, ◌++◌, length, take, refl, sym, ap, subst, ◌∙◌, append_assoc, length-append, arith, ◌==◌}
+use Rattle.std.proofs.Common.{◌≡◌, ◌<◌, ◌≤◌, ◌⊎◌, ◌↔◌, inl, inr, Bool, true, false, ℕ, zero, suc, List, [], ◌∷◌, ◌++◌, length, take, refl, sym, ap, subst, ◌∙◌, append_assoc, length-append, arith, ◌==◌}
 use Rattle.std.specs.Prelude.{Option, None, Some, MatchOption, All, IsTrue}
 use mathlib.Core.Bool.{not}
 use Rattle.std.specs.Io.KnownBytes.{Consumes}
-use Rattle.std.specs.Str.Lines.{lines, strip_carriage_return}
+use Rattle.std.specs.Str.Lines.{lines}
 use Rattle.std.proofs.lemmas.Bool.{cases_lt, cases_eq}
 use Rattle.std.proofs.lemmas.List.{append-nil, take-append-le}
 use Rattle.std.proofs.lemmas.List.Elements.{All-nil, All-cons, All-head, All-tail, All-take}
@@ -104,9 +104,9 @@ pub named_alike : (head rest name : List ℕ) → (NoLineFeed head → length he
 named_alike head rest name enough = elim (first_feed head) [
   | inl clear ↦ elim (cases_lt 65536 (length head)) [
     | inl long ↦ (
-        λ is. absurd (long_names_none head [] name clear long (subst (λ t. NamesObject t name) (sym (append-nil head)) is)),
-        λ is. absurd (long_names_none head rest name clear long is),
-      )
+      λ is. absurd (long_names_none head [] name clear long (subst (λ t. NamesObject t name) (sym (append-nil head)) is)),
+      λ is. absurd (long_names_none head rest name clear long is),
+    )
     | inr short ↦
         let all : head ++ rest ≡ head = ap (λ r. head ++ r) (enough clear short) ∙ append-nil head in
         (λ is. subst (λ t. NamesObject t name) (sym all) is, λ is. subst (λ t. NamesObject t name) all is)

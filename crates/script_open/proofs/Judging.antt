@@ -1,5 +1,5 @@
 -- What an object of a source is judged.
-use Rattle.std.proofs.Common.{◌≡◌, ℕ, List, sym, subst}
+use Rattle.std.proofs.Common.{ℕ, List, sym, subst}
 use Rattle.decl_core.specs.ObjectForm.{ObjectForm}
 use Rattle.exclude_core.specs.Exclusive.{IsExclusive}
 use Rattle.script_open.specs.Named.{NamesObject}

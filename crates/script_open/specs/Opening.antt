@@ -1,8 +1,6 @@
 -- What a script runs on, and what is told where it has nothing to run on.
 use Rattle.std.specs.Prelude.{◌≡◌, ◌≢◌, ℕ, List, ◌++◌, All, Contains, codes}
-use Rattle.decl_core.specs.declared.object.Object.{Object}
 use Rattle.decl_core.specs.ObjectForm.{ObjectForm}
-use Rattle.decl_core.specs.ObjectMap.{object_of}
 use Rattle.decl_read.specs.declared.fault.DeclFault.{DeclFault}
 use Rattle.decl_read.specs.Sources.{AreObjectsOf}
 use Rattle.exclude_core.specs.Exclusive.{IsExclusive, IsFirstUnseparated}

@@ -1,4 +1,4 @@
-use Rattle.std.proofs.Common.{◌≡◌, length, arith, take}
+use Rattle.std.proofs.Common.{arith}
 use Rattle.std.proofs.lemmas.List.{length-take}
 use Rattle.script_open.proofs.Heads.{short_told}
 use Rattle.script_open.proofs.head.has_short_line.Goals as goal

@@ -1,4 +1,4 @@
-use Rattle.std.proofs.Common.{rules, ◌≡◌, ◌≤◌, ◌++◌, ◌==◌, false, ℕ, List, length, take, subst, sym, ◌∙◌, arith}
+use Rattle.std.proofs.Common.{rules, ◌≡◌, ◌++◌, ◌==◌, false, take, subst, sym, ◌∙◌, arith}
 use Rattle.std.proofs.lemmas.List.{with_items_is}
 use Rattle.std.proofs.lemmas.List.Elements.{All-append}
 use Rattle.line_core.specs.Runs.{NoLineFeed}
@@ -10,7 +10,7 @@ pub returns-then-not-has_no_line_feed-clause-enough :
 returns-then-not-has_no_line_feed-clause-enough g c = λ clear short.
     let grown = c.in_ok-extend_from_slice.ensures.items in
     absurd (not_clear c.has_no_line_feed.result (take c.in-Ok.len c.deref.result.now) c.has_no_line_feed.ensures c.if-not-has_no_line_feed.true
-        (clear_end c.loop-turn.head.items (take c.in-Ok.len c.deref.result.now) (subst {y = c.loop-turn.head.items ++ take c.in-Ok.len c.deref.result.now} NoLineFeed grown clear)))
+    (clear_end c.loop-turn.head.items (take c.in-Ok.len c.deref.result.now) (subst NoLineFeed grown clear)))
 
 pub loop-turn-preserved : goal.loop-turn-preserved
 loop-turn-preserved g c =

@@ -1,4 +1,4 @@
-use Rattle.std.proofs.Common.{◌≡◌, ◌∙◌}
+use Rattle.std.proofs.Common.{◌∙◌}
 use Rattle.std.proofs.lemmas.Map.Iter.{rest_more, rest_all}
 use Rattle.script_open.proofs.Looking.{looked_none, looked_more, looked_all, looked_found}
 use Rattle.script_open.proofs.open.object_named.Goals as goal

@@ -23,5 +23,5 @@ returns-in_ok-text-in-None c text named =
 pub returns-in_ok-opened-in-Some : goal.returns-in_ok-opened-in-Some
 returns-in_ok-opened-in-Some c text named =
     opened_by c.args.source.now text c.args.name.now (object_of c.in-Some.object) c.in_ok-opened-in-Some.opened named
-    (record { objects = objects_of (values_of c.in-Ok.all.entries); are = c.in-Ok.ensures.found; is_one = c.in-Some.ensures.0; named = c.in-Some.ensures.1; })
+    (record { objects = objects_of (values_of c.in-Ok.all.entries); are = c.in-Ok.ensures.found; is_one = c.in-Some.ensures.0; named = c.in-Some.ensures.1 })
     c.in_ok-opened-in-Some.ensures
