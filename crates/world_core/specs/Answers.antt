@@ -30,10 +30,10 @@ abbrev pub with_starts : Answer → ℕ → EventAnswer
 with_starts answer starts = record { answer = answer; starts = starts }
 
 -- A step of a run by the rule of steps: one that works does not fail for the device, one that does not work fails, and no part is found damaged.
-pub record Moves (run : Standing) (works : Bool) (after : Place) : Type 0 where
+pub record Moves (run : Standing) (is_to_work : Bool) (after : Place) : Type 0 where
   pub follows : Follows run.call run.place after
-  pub works : works ≡ true → ending_at after ≢ Some (replies.Failed failures.Device)
-  pub fails : works ≡ false → FailsWith run.place (ending_at after)
+  pub works : is_to_work ≡ true → ending_at after ≢ Some (replies.Failed failures.Device)
+  pub fails : is_to_work ≡ false → FailsWith run.place (ending_at after)
   pub sound : ending_at after ≢ Some (replies.Failed failures.Damaged)
 
 -- The answer to an event, and what it leaves. A refused event changes nothing.

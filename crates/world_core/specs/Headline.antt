@@ -1,6 +1,7 @@
 -- The main theorem of worlds.
 use Rattle.std.specs.Prelude.{◌≡◌, ◌≢◌, ℕ, ◌<◌, List, [], map}
 use Rattle.path_tree.specs.Satisfies.{SatisfiesAll}
+use Rattle.decl_core.specs.declared.object.Object.{Object}
 use Rattle.shelf_core.specs.Device.{Assignment}
 use Rattle.body_core.specs.declared.reply.Failure.TheVariants as failures
 use Rattle.body_core.specs.declared.reply.Reply.TheVariants as replies
@@ -12,7 +13,7 @@ use Rattle.board_core.specs.Chain.{history_of, ShowContents}
 use Rattle.board_core.specs.Sound.{kinds_of, ends_of}
 use Rattle.world_core.specs.declared.event.EventAnswer.{EventAnswer}
 use Rattle.world_core.specs.Events.{WorldEvent}
-use Rattle.world_core.specs.Scene.{Scene, AgreesWith}
+use Rattle.world_core.specs.Scene.{Scene, AgreesWith, IsNew}
 use Rattle.world_core.specs.Plays.{Plays, finishes, HasFailedStep}
 
 -- The history of a world is sequential.
@@ -29,8 +30,10 @@ pub record IsSequential (w : Scene) : Type 0 where
   -- every prefix of starts and finishes satisfies every path
   pub paths : SatisfiesAll (paths_of w.board) (past_of w.board)
 
--- Every history is sequential: what holds after these events, which were answered so.
-pub record EveryHistoryIsSequential (old : Scene) (events : List WorldEvent) (answers : List EventAnswer) (new : Scene) : Type 0 where
+-- Every history is sequential: what holds of the world of an object after these events, which were answered so.
+pub record EveryHistoryIsSequential (o : Object) (events : List WorldEvent) (answers : List EventAnswer) (new : Scene) : Type 0 where
+  pub old : Scene
+  pub begins : IsNew o old
   pub plays : Plays old events answers new
   pub sequential : IsSequential new
   -- the calls that finished, with the replies that they were given, are the history, in order

@@ -1,5 +1,5 @@
 -- What holds of the tables of a world.
-use Rattle.std.specs.Prelude.{◌≡◌, ◌≤◌, ℕ, Bool, true, false, List, [], ◌∷◌, take, drop, map, length}
+use Rattle.std.specs.Prelude.{◌≡◌, ◌≤◌, ℕ, Bool, true, false, List, [], ◌∷◌, take, drop, map, length, vec_capacity}
 use Rattle.value_core.specs.Contents.{Contents}
 use Rattle.shelf_core.specs.declared.file.File.{File}
 use Rattle.shelf_core.specs.declared.hand.Stamp.{Stamp}
@@ -9,7 +9,9 @@ use Rattle.body_core.specs.declared.run.Run.{Run}
 use Rattle.body_core.specs.Runs.{run_call, run_ending, run_place, run_sealed, PenHolds, SoFar, AreApart}
 use Rattle.body_core.specs.Steps.{PinsServed, NewsServed}
 use Rattle.board_core.specs.Lists.{Every, EachPair}
-use Rattle.board_core.specs.Calls.{RunningCall}
+use Rattle.board_core.specs.declared.event.TraceEvent.TheVariants.{Start}
+use Rattle.board_core.specs.Calls.{RunningCall, WaitingCall}
+use Rattle.board_core.specs.Started.{run_of}
 use Rattle.board_core.specs.Board.{Board}
 use Rattle.board_core.specs.Chain.{ShowContents, IsTrueEntry}
 use Rattle.board_core.specs.Sound.{IsSound, kinds_of}
@@ -32,18 +34,27 @@ pub record IsReady (files : List File) (slot : Slot) : Type 0 where
   pub found : (a : Assignment) → HasFiles files a → SoFar a slot.run
   pub number : slot.number ≡ (run_call slot.run).number
 
--- a board, files, and the runs of so many of the running calls, the first ones, whose tickets were taken
-pub record IsKept (b : Board) (files : List File) (runs : List Slot) (opening : List Contents) (begun : ℕ) : Type 0 where
+-- a board, files, and the runs of the first running calls, whose tickets were taken
+pub record IsKept (b : Board) (files : List File) (runs : List Slot) (values : List Contents) : Type 0 where
   pub sound : IsSound b
-  pub taken : Every (λ (r : RunningCall). r.taken ≡ true) (take begun b.running)
-  pub left : Every (λ (r : RunningCall). r.taken ≡ false) (drop begun b.running)
-  pub calls : map (λ slot. run_call slot.run) runs ≡ map call_running (take begun b.running)
+  pub few : length runs ≤ length b.running
+  pub taken : Every (λ (r : RunningCall). r.taken ≡ true) (take (length runs) b.running)
+  pub left : Every (λ (r : RunningCall). r.taken ≡ false) (drop (length runs) b.running)
+  pub calls : map (λ slot. run_call slot.run) runs ≡ map call_running (take (length runs) b.running)
   pub ready : Every (IsReady files) runs
   pub apart : EachPair (λ (x y : Slot). AreApart x.run y.run) runs
   pub served : AreServed (λ s. Serves files s) b.pins
-  pub opening : (a : Assignment) → HasFiles files a → ShowContents a (kinds_of b.object) b.opening opening
+  pub opening : (a : Assignment) → HasFiles files a → ShowContents a (kinds_of b.object) b.opening values
   pub entries : (a : Assignment) → HasFiles files a → Every (IsTrueEntry a) b.history
 
--- so is a stage whose running calls all have their runs
-abbrev pub IsStaged : Stage → Type 0
-IsStaged s = IsKept s.desk (files_of s.hand) s.runs.items s.opening.items (length s.desk.running)
+-- the running calls without a run, and the last events of the trace, are those of calls that have just started
+pub record HasNew (b : Board) (begun from : ℕ) (ones : List WaitingCall) : Type 0 where
+  pub running : drop begun b.running ≡ map (run_of b.pins) ones
+  pub trace : drop from b.trace ≡ map (λ (w : WaitingCall). Start w.number) ones
+  pub within : from ≤ length b.trace
+
+-- the tables of a world, where each running call has its run
+pub record IsStaged (s : Stage) : Type 0 where
+  pub kept : IsKept s.desk (files_of s.hand) s.runs.items s.opening.items
+  pub all : length s.runs.items ≡ length s.desk.running
+  pub room : 256 ≤ vec_capacity s.runs

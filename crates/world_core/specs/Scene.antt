@@ -1,13 +1,17 @@
 -- A world, as contracts see it.
 use Rattle.std.specs.Prelude.{◌≡◌, ◌≢◌, ℕ, ◌+◌, Bool, true, List, [], ◌∷◌, ◌++◌, length, map, slice_get, Some}
 use Rattle.value_core.specs.Contents.{Contents}
+use Rattle.value_core.specs.Meaning.{opening_of}
+use Rattle.decl_core.specs.declared.object.Object.{Object}
+use Rattle.shelf_core.specs.declared.hand.Stamp.{Stamp}
 use Rattle.shelf_core.specs.declared.file.File.{File}
 use Rattle.shelf_core.specs.Device.{Assignment}
 use Rattle.shelf_core.specs.Files.{HasFiles}
 use Rattle.body_core.specs.Calls.{Call, call_of}
 use Rattle.body_core.specs.Steps.{Place, Starts}
 use Rattle.board_core.specs.Calls.{RunningCall}
-use Rattle.board_core.specs.Board.{Board}
+use Rattle.board_core.specs.Board.{Board, opened}
+use Rattle.board_core.specs.Sound.{kinds_of}
 use Rattle.board_core.specs.Started.{Settles, run_of}
 
 -- a run: its call, and where it stands
@@ -32,7 +36,7 @@ call_running r = call_of r.number r.call.operation r.call.arguments r.pins
 
 -- the ticket of each running call was taken
 abbrev pub collected : Board → Board
-collected b = record b { running = map (λ r. record r { taken = true }) b.running }
+collected b = record b { running = map (λ (r : RunningCall). record r { taken = true }) b.running }
 
 -- a run stands at its beginning, one for each of these calls
 abbrev pub AreBegun : List RunningCall → List Standing → Type 0
@@ -54,6 +58,13 @@ pub record Goes (old : Scene) (between : Board) (kept : List Standing) (starts :
   pub opening : new.opening ≡ old.opening
 
 -- the run of the call of this number stands at this place of the runs
-pub record IsRunAt (runs : List Standing) (k number : ℕ) (run : Standing) : Type 0 where
+pub record IsRunAt (runs : List Standing) (k n : ℕ) (run : Standing) : Type 0 where
   pub there : slice_get runs k ≡ Some run
-  pub number : run.call.number ≡ number
+  pub number : run.call.number ≡ n
+
+-- the world of an object before any event: no calls, each part with its opening value
+pub record IsNew (o : Object) (w : Scene) : Type 0 where
+  pub pins : List Stamp
+  pub board : w.board ≡ opened o pins
+  pub opening : w.opening ≡ map opening_of (kinds_of o)
+  pub runs : w.runs ≡ []

@@ -10,9 +10,3 @@ mod read;
 mod slot;
 mod stage;
 pub mod world;
-
-#[cfg(test)]
-mod scratch {
-    #[test]
-    fn nothing(rt: HostRuntime) { assert!(&rt; 1 == 1); }
-}

@@ -1,27 +1,25 @@
 //! The tables of a world, and what each event does to them.
 
-ghost use Rattle.std.specs.Prelude.{◌≡◌, ◌≢◌, ◌≤◌, ◌<◌, ◌+◌, ℕ, List, [], ◌∷◌, ◌++◌, length, map, filter, not, ◌==◌, IfSome, IfNone, IfOk, Some, None, true, false, vec_capacity, slice_get, slice_set};
-ghost use Rattle.value_core.specs.Contents.{Contents};
+ghost use Rattle.std.specs.Prelude.{◌≡◌, ◌≢◌, ◌≤◌, ◌<◌, ◌⊎◌, ℕ, List, [], ◌∷◌, ◌++◌, length, map, IfSome, IfNone, IfOk, Some, None, true, false, vec_capacity, slice_get};
 ghost use Rattle.shelf_core.specs.declared.hand.Stamp.{Stamp};
-ghost use Rattle.shelf_core.specs.Device.{Assignment, AreServed};
-ghost use Rattle.shelf_core.specs.Files.{HasFiles, Serves, files_of};
-ghost use Rattle.body_core.specs.Runs.{run_call, run_place};
-ghost use Rattle.body_core.specs.Steps.{Starts, need_at, ending_at};
+ghost use Rattle.shelf_core.specs.Device.{Assignment, IsFree};
+ghost use Rattle.shelf_core.specs.Files.{HasFiles, IsOpen, Serves, files_of};
+ghost use Rattle.body_core.specs.declared.reply.Failure.TheVariants as failures;
+ghost use Rattle.body_core.specs.declared.reply.Reply.TheVariants as replies;
+ghost use Rattle.body_core.specs.Runs.{run_call, run_ending, run_place, run_sealed, run_pen, PenHolds, SoFar};
+ghost use Rattle.body_core.specs.Steps.{Starts, Follows, FailsWith, PinsServed, NewsServed};
 ghost use Rattle.body_core.specs.Phases.{step_answer};
 ghost use Rattle.body_core.specs.History.{leads_to};
-ghost use Rattle.body_core.specs.declared.step.Need.TheVariants as needs;
-ghost use Rattle.board_core.specs.declared.event.TraceEvent.TheVariants.{Start};
 ghost use Rattle.board_core.specs.Lists.{Every};
 ghost use Rattle.board_core.specs.Calls.{RunningCall, WaitingCall};
-ghost use Rattle.board_core.specs.Board.{Board, taken_at, Rests};
+ghost use Rattle.board_core.specs.Board.{taken_at, Rests};
 ghost use Rattle.board_core.specs.Started.{run_of};
-ghost use Rattle.board_core.specs.Chain.{ShowContents, history_of};
-ghost use Rattle.board_core.specs.Sound.{kinds_of};
-ghost use Rattle.desk_core.specs.Answers.{Asked};
-ghost use Rattle.world_core.specs.Events.{call, step, finish, cancel, leave, look};
-ghost use Rattle.world_core.specs.Scene.{Scene, AreBegun, collected, call_running};
-ghost use Rattle.world_core.specs.Answers.{Answers, Moves};
-ghost use Rattle.world_core.specs.Kept.{IsReady, IsKept, IsStaged, standing_of, scene_of};
+ghost use Rattle.board_core.specs.Chain.{history_of};
+ghost use Rattle.world_core.specs.declared.slot.Slot.{Slot as ASlot};
+ghost use Rattle.world_core.specs.Events.{call as calls, step as steps, finish as finishes, cancel as cancels, leave as leaves, look as looks};
+ghost use Rattle.world_core.specs.Scene.{Standing, AreBegun, collected, call_running};
+ghost use Rattle.world_core.specs.Answers.{Answers};
+ghost use Rattle.world_core.specs.Kept.{IsKept, IsStaged, HasNew, standing_of, scene_of};
 
 use crate::event::{Answer, EventAnswer, Refusal};
 use crate::read::read_value;
@@ -59,8 +57,8 @@ fn only(answer: Answer) -> EventAnswer
 
 // The place of the run of the call of this number.
 fn place_of(runs: &[Slot], number: u32) -> Option<usize>
-    ensures some { IfSome result (λ k. (slot : Slot) × (slice_get runs.now k ≡ Some slot) × (slot.number ≡ number)) }
-    ensures none { IfNone result (Every (λ (slot : Slot). slot.number ≢ number) runs.now) }
+    ensures some { IfSome result (λ k. (slot : ASlot) × (slice_get runs.now k ≡ Some slot) × (slot.number ≡ number)) }
+    ensures none { IfNone result (Every (λ (slot : ASlot). slot.number ≢ number) runs.now) }
 {
     for k in 0..runs.len() {
         if runs[k].number == number {
@@ -71,7 +69,20 @@ fn place_of(runs: &[Slot], number: u32) -> Option<usize>
 }
 
 // Makes one step of a run, which works, or fails for the device.
-fn step_run(alloc: Global, hand: &mut MemHand, run: &mut Run, works: bool) -> StepAnswer {
+fn step_run(alloc: Global, hand: &mut MemHand, run: &mut Run, works: bool) -> StepAnswer
+    ensures call { run_call run.new ≡ run_call run.old }
+    ensures kept { (a : Assignment) → HasFiles (files_of hand.new) a → HasFiles (files_of hand.old) a }
+    ensures found { PenHolds (λ n b. IsOpen (files_of hand.old) n b) run.old → (a : Assignment) → HasFiles (files_of hand.new) a → SoFar a run.old → SoFar a run.new }
+    ensures pen { PenHolds (λ n b. IsOpen (files_of hand.old) n b) run.old → PenHolds (λ n b. IsOpen (files_of hand.new) n b) run.new }
+    ensures moves { Follows (run_call run.old) (run_place run.old) (run_place run.new) }
+    ensures unused { (n : ℕ) → run_pen run.new ≡ Some n → (run_pen run.old ≡ Some n) ⊎ IsFree (λ a. HasFiles (files_of hand.new) a) (λ n b. IsOpen (files_of hand.old) n b) n }
+    ensures others { (n : ℕ) (b : List ℕ) → run_pen run.old ≢ Some n → IsOpen (files_of hand.old) n b → IsOpen (files_of hand.new) n b }
+    ensures serves { (s : Stamp) → Serves (files_of hand.old) s → Serves (files_of hand.new) s }
+    ensures written { NewsServed (λ s. Serves (files_of hand.old) s) (run_sealed run.old) → NewsServed (λ s. Serves (files_of hand.new) s) (run_sealed run.new) }
+    ensures works { works ≡ true → PenHolds (λ n b. IsOpen (files_of hand.old) n b) run.old → PinsServed (λ s. Serves (files_of hand.old) s) (run_call run.old) → run_ending run.old ≡ None → run_ending run.new ≡ Some (replies.Failed failures.Device) → ⊥ }
+    ensures fails { works ≡ false → FailsWith (run_place run.old) (run_ending run.new) }
+    ensures answer { result ≡ step_answer (run_ending run.old) (run_ending run.new) }
+{
     if works {
         return run.step(hand);
     }
@@ -83,7 +94,18 @@ fn step_run(alloc: Global, hand: &mut MemHand, run: &mut Run, works: bool) -> St
 
 impl Stage {
     // Begins the run of a call that has started.
-    fn begin_run(&mut self, number: u32) {
+    fn begin_run(&mut self, number: u32)
+        requires kept { IsKept self.old.desk (files_of self.old.hand) self.old.runs.items self.old.opening.items }
+        requires next { (r : RunningCall) × (slice_get self.old.desk.running (length self.old.runs.items) ≡ Some r) × (r.number ≡ number) }
+        requires room { length self.old.runs.items < vec_capacity self.old.runs }
+        ensures kept { IsKept self.new.desk (files_of self.new.hand) self.new.runs.items self.new.opening.items }
+        ensures desk { (r : RunningCall) → slice_get self.old.desk.running (length self.old.runs.items) ≡ Some r → self.new.desk ≡ taken_at self.old.desk (length self.old.runs.items) r }
+        ensures runs { (r : RunningCall) → slice_get self.old.desk.running (length self.old.runs.items) ≡ Some r
+            → (slot : ASlot) × (self.new.runs.items ≡ self.old.runs.items ++ slot ∷ []) × (run_call slot.run ≡ call_running r) × Starts (run_call slot.run) (run_place slot.run) }
+        ensures files { files_of self.new.hand ≡ files_of self.old.hand }
+        ensures opening { self.new.opening.items ≡ self.old.opening.items }
+        ensures room { vec_capacity self.new.runs ≡ vec_capacity self.old.runs }
+    {
         match self.desk.collect(number) {
             Collected::Ticket(ticket) => {
                 let run = Run::new(self.alloc, ticket);
@@ -92,28 +114,50 @@ impl Stage {
                     number,
                     run,
                 });
+                // The board is sound.
+                self.desk.history();
             }
             Collected::Waiting | Collected::Cancelled | Collected::Unknown => unreachable!(),
         }
     }
 
-    // Begins the runs of the calls that started behind this place of the trace, and says how many they are.
-    fn begin(&mut self, from: usize) -> usize {
-        let all = self.desk.trace().len();
-        for place in from..all {
-            match self.desk.trace().get(place) {
-                Some(TraceEvent::Start(number)) => self.begin_run(number),
-                _ => unreachable!(),
-            }
+    // Begins the runs of the calls that started from this place of the trace on, and says how many they are.
+    fn begin(&mut self, from: usize) -> usize
+        requires kept { IsKept self.old.desk (files_of self.old.hand) self.old.runs.items self.old.opening.items }
+        requires new { (ones : List WaitingCall) × HasNew self.old.desk (length self.old.runs.items) from ones }
+        requires room { 256 ≤ vec_capacity self.old.runs }
+        ensures staged { IsStaged self.new }
+        ensures desk { collected self.new.desk ≡ collected self.old.desk }
+        ensures starts { (ones : List WaitingCall) → HasNew self.old.desk (length self.old.runs.items) from ones
+            → (result ≡ length ones) × ((begun : List Standing) × AreBegun (map (run_of self.old.desk.pins) ones) begun × (map standing_of self.new.runs.items ≡ map standing_of self.old.runs.items ++ begun)) }
+        ensures files { files_of self.new.hand ≡ files_of self.old.hand }
+        ensures opening { self.new.opening.items ≡ self.old.opening.items }
+    {
+        if from >= self.desk.trace().len() {
+            return 0;
         }
-        all - from
+        match self.desk.trace().get(from) {
+            Some(TraceEvent::Start(number)) => {
+                self.begin_run(number);
+                let others = self.begin(from + 1);
+                1 + others
+            }
+            Some(TraceEvent::End(_, _)) => unreachable!(),
+            None => unreachable!(),
+        }
     }
 
     // A session calls.
-    pub(crate) fn call(&mut self, session: u32, op: &str, args: &[Datum]) -> EventAnswer {
+    pub(crate) fn call(&mut self, session: u32, op: &str, args: &[Datum]) -> EventAnswer
+        requires staged { IsStaged self.old }
+        ensures answers { Answers (scene_of self.old) (calls (record { session = session; name = op.now; arguments = args.now })) result (scene_of self.new) }
+        ensures staged { IsStaged self.new }
+        ensures rests { Rests self.old.desk → Rests self.new.desk }
+    {
         let before = self.desk.trace().len();
         match self.desk.submit(session, op, args) {
             Ok(number) => {
+                self.desk.history();
                 let starts = self.begin(before);
                 EventAnswer {
                     answer: Answer::Number(number),
@@ -125,7 +169,12 @@ impl Stage {
     }
 
     // A run makes a step.
-    pub(crate) fn step(&mut self, number: u32, works: bool) -> EventAnswer {
+    pub(crate) fn step(&mut self, number: u32, works: bool) -> EventAnswer
+        requires staged { IsStaged self.old }
+        ensures answers { Answers (scene_of self.old) (steps number works) result (scene_of self.new) }
+        ensures staged { IsStaged self.new }
+        ensures rests { Rests self.old.desk → Rests self.new.desk }
+    {
         let Some(place) = place_of(&self.runs, number) else {
             return only(Answer::Refused(Refusal::NotRunning));
         };
@@ -139,7 +188,12 @@ impl Stage {
     }
 
     // A call finishes.
-    pub(crate) fn finish(&mut self, number: u32) -> EventAnswer {
+    pub(crate) fn finish(&mut self, number: u32) -> EventAnswer
+        requires staged { IsStaged self.old }
+        ensures answers { Answers (scene_of self.old) (finishes number) result (scene_of self.new) }
+        ensures staged { IsStaged self.new }
+        ensures rests { Rests self.old.desk → Rests self.new.desk }
+    {
         let Some(place) = place_of(&self.runs, number) else {
             return only(Answer::Refused(Refusal::NotRunning));
         };
@@ -150,6 +204,7 @@ impl Stage {
         let outcome = self.runs.remove(place).into_outcome();
         match self.desk.finish(outcome) {
             Ok(receipt) => {
+                self.desk.history();
                 let reply = receipt.noted.reply();
                 let starts = self.begin(before);
                 EventAnswer {
@@ -162,11 +217,17 @@ impl Stage {
     }
 
     // A call is cancelled, if it waits.
-    pub(crate) fn cancel(&mut self, number: u32) -> EventAnswer {
+    pub(crate) fn cancel(&mut self, number: u32) -> EventAnswer
+        requires staged { IsStaged self.old }
+        ensures answers { Answers (scene_of self.old) (cancels number) result (scene_of self.new) }
+        ensures staged { IsStaged self.new }
+        ensures rests { Rests self.old.desk → Rests self.new.desk }
+    {
         let before = self.desk.trace().len();
         let answer = self.desk.cancel(number);
         match answer {
             Cancelled::Cancelled => {
+                self.desk.history();
                 let starts = self.begin(before);
                 EventAnswer {
                     answer: Answer::Cancel(Cancelled::Cancelled),
@@ -178,12 +239,18 @@ impl Stage {
     }
 
     // A session leaves.
-    pub(crate) fn leave(&mut self, session: u32) -> EventAnswer {
+    pub(crate) fn leave(&mut self, session: u32) -> EventAnswer
+        requires staged { IsStaged self.old }
+        ensures answers { Answers (scene_of self.old) (leaves session) result (scene_of self.new) }
+        ensures staged { IsStaged self.new }
+        ensures rests { Rests self.old.desk → Rests self.new.desk }
+    {
         if session == 0 || session > 1024 {
             return only(Answer::Refused(Refusal::NoSession));
         }
         let before = self.desk.trace().len();
         self.desk.disconnect(session);
+        self.desk.history();
         let starts = self.begin(before);
         EventAnswer {
             answer: Answer::Dropped,
@@ -192,7 +259,12 @@ impl Stage {
     }
 
     // The contents under the published pins.
-    fn contents(&mut self) -> Result<Vec<Value>, AllocError> {
+    fn contents(&mut self) -> Result<Vec<Value>, AllocError>
+        requires staged { IsStaged self.old }
+        ensures values { IfOk result (λ values. values.items ≡ leads_to (history_of self.old.desk.history) self.old.opening.items) }
+        ensures staged { IsStaged self.new }
+        ensures same { scene_of self.new ≡ scene_of self.old }
+    {
         let pins = self.desk.pins();
         let count = pins.len();
         let mut values = Vec::with_capacity(self.alloc, count)?;
@@ -208,7 +280,12 @@ impl Stage {
     }
 
     // The contents are asked for.
-    pub(crate) fn look(&mut self) -> EventAnswer {
+    pub(crate) fn look(&mut self) -> EventAnswer
+        requires staged { IsStaged self.old }
+        ensures answers { Answers (scene_of self.old) (looks) result (scene_of self.new) }
+        ensures staged { IsStaged self.new }
+        ensures rests { Rests self.old.desk → Rests self.new.desk }
+    {
         match self.contents() {
             Ok(values) => only(Answer::Shown(values)),
             Err(AllocError) => only(Answer::Refused(Refusal::Memory)),

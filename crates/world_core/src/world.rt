@@ -1,5 +1,15 @@
 //! Worlds.
 
+ghost use Rattle.std.specs.Prelude.{◌≡◌, List, IfOk, map};
+ghost use Rattle.board_core.specs.Board.{Rests};
+ghost use Rattle.board_core.specs.Sound.{IsSound};
+ghost use Rattle.world_core.specs.declared.event.EventAnswer.{EventAnswer as AnAnswer};
+ghost use Rattle.world_core.specs.Events.{event_of};
+ghost use Rattle.world_core.specs.Scene.{IsNew};
+ghost use Rattle.world_core.specs.Answers.{Answers};
+ghost use Rattle.world_core.specs.Plays.{Plays};
+ghost use Rattle.world_core.specs.Headline.{IsSequential, EveryHistoryIsSequential};
+
 use crate::event::{Event, EventAnswer};
 use crate::stage::{MOST_OPEN, Stage};
 use desk_core::desk::Desk;
@@ -16,10 +26,31 @@ pub struct World {
     stage: Stage,
 }
 
+impl Model for World {
+    ghost use Rattle.board_core.specs.Board.{Rests};
+    ghost use Rattle.decl_core.specs.contracts.object.Object as o;
+    ghost use Rattle.decl_core.specs.contracts.object.Operation as e;
+    ghost use Rattle.shelf_core.specs.contracts.file.File as f;
+    ghost use Rattle.std.specs.Coded.{codes};
+    ghost use Rattle.value_core.specs.Code.{contents_code};
+    ghost use Rattle.world_core.specs.Scene.{Scene};
+    ghost use Rattle.world_core.specs.Kept.{IsStaged, scene_of};
+
+    ghost Value = { Scene };
+
+    ghost coded = { Prim.hlevel (codes, o.the_row.coded, e.the_row.coded, f.the_row.coded, contents_code) };
+
+    ghost view = { λ w. scene_of w.stage };
+
+    ghost invariant = { λ w. IsStaged w.stage × Rests w.stage.desk };
+}
+
 impl World {
     /// The world of an object whose parts have their opening values, before any event. The error is that memory was
     /// refused.
-    pub fn new(alloc: Global, accepted: Accepted) -> Result<World, AllocError> {
+    pub fn new(alloc: Global, accepted: Accepted) -> Result<World, AllocError>
+        ensures { IfOk result (λ w. IsNew accepted w) }
+    {
         let mut hand = MemHand::new(alloc);
         let mut shelf = MemShelf::new(alloc);
         let Ok((pins, opening)) = open_parts(alloc, accepted.object(), &mut shelf, &mut hand)
@@ -39,8 +70,10 @@ impl World {
         })
     }
 
-    /// What happens.
-    pub fn event(&mut self, event: Event<'_>) -> EventAnswer {
+    /// What happens: its answer, and how many calls it started.
+    pub fn event(&mut self, event: Event<'_>) -> EventAnswer
+        ensures { Answers self.old (event_of event) result self.new }
+    {
         match event {
             Event::Call(session, op, args) => self.stage.call(session, op, args),
             Event::Step(number, works) => self.stage.step(number, works),
@@ -51,18 +84,46 @@ impl World {
         }
     }
 
-    /// The desk.
-    pub fn desk(&self) -> &Desk {
+    /// The world of an object after a list of events.
+    ///
+    /// This is the main theorem: whatever the events, in any order, each finished call has the reply that the sequential
+    /// object gives at its place in the history, the published contents are the sequential object's after that history,
+    /// each session's finished calls stand there once and in its order, and every prefix of starts and finishes satisfies
+    /// every path. The error is that memory was refused for the world; an event for which it is refused says so.
+    pub fn play(
+        alloc: Global,
+        accepted: Accepted,
+        events: &[Event<'_>],
+    ) -> Result<World, AllocError>
+        ensures { IfOk result (λ w. (answers : List AnAnswer) × EveryHistoryIsSequential accepted (map event_of events.now) answers w) }
+    {
+        let mut world = World::new(alloc, accepted)?;
+        for event in events {
+            let _answer = world.event(*event);
+        }
+        Ok(world)
+    }
+
+    /// The desk, on which no waiting call may start.
+    pub fn desk(&self) -> &Desk
+        ensures desk { result.now ≡ self.now.board }
+        ensures sequential { IsSequential self.now }
+        ensures rests { Rests self.now.board }
+    {
         &self.stage.desk
     }
 
     /// The opening values, one for each part, in order.
-    pub fn opening(&self) -> &[Value] {
+    pub fn opening(&self) -> &[Value]
+        ensures { result.now ≡ self.now.opening }
+    {
         &self.stage.opening
     }
 
     /// Hands back the desk. The runs of calls that have not finished are spent by steps that fail.
-    pub fn end(self) -> Desk {
+    pub fn end(self) -> Desk
+        ensures { result ≡ self.board }
+    {
         let World { stage } = self;
         let Stage {
             alloc: _,
