@@ -27,9 +27,7 @@ fn command<'a>(alloc: Global) -> Result<Command<'a>, AllocError> {
         .about(help::CHECK)
         .after_help(help::CHECK_MORE)
         .arg(file)?;
-    let objects = Arg::new(alloc, "FILE")
-        .required(true)
-        .help(help::RUN_FILE);
+    let objects = Arg::new(alloc, "FILE").required(true).help(help::RUN_FILE);
     let script = Arg::new(alloc, "SCRIPT")
         .required(true)
         .help(help::RUN_SCRIPT);
