@@ -25,8 +25,10 @@ abbrev pub told_of : Script → Told
 told_of state = record { named = state.named; world = state.world }
 
 -- a line that names this object, in any case
-abbrev pub NamesObject : Object → List ℕ → Type 0
-NamesObject o line = (name : List ℕ) × IsObjectLine line name × (str_to_ascii_lowercase name ≡ o.name)
+pub record NamesObject (o : Object) (line : List ℕ) : Type 0 where
+  pub name : List ℕ
+  pub stands : IsObjectLine line name
+  pub same : str_to_ascii_lowercase name ≡ o.name
 
 -- the answer to the line of this number: its text, whether the script goes on, and what holds then
 pub data Writes (told : Told) (number : ℕ) (line : List ℕ) : List ℕ → Bool → Told → Type 0 where

@@ -77,6 +77,16 @@ fn push_answer(
     }
 }
 
+// The call that an event of the trace is of.
+fn number_of(event: TraceEvent) -> u32
+    ensures { result ≡ event_number event }
+{
+    match event {
+        TraceEvent::Start(number) => number,
+        TraceEvent::End(number, _) => number,
+    }
+}
+
 // Adds a line for each call that started from this place of the trace on.
 fn push_starts(out: &mut Vec<u8>, desk: &Desk, from: usize) -> Result<(), AllocError>
     ensures { OnOk result (out.new.items ≡ out.old.items ++ flat_map (λ e. started_line (event_number e)) (drop from desk.now.trace)) }
@@ -84,8 +94,7 @@ fn push_starts(out: &mut Vec<u8>, desk: &Desk, from: usize) -> Result<(), AllocE
     let trace = desk.trace();
     for place in from..trace.len() {
         match trace.get(place) {
-            Some(TraceEvent::Start(number)) => push_started(out, number)?,
-            Some(TraceEvent::End(number, _)) => push_started(out, number)?,
+            Some(event) => push_started(out, number_of(event))?,
             None => unreachable!(),
         }
     }
