@@ -54,7 +54,7 @@ told_so_far o old text written begun (whole, held, cuts, clear, new, runs) =
     (told_of old, begun, whole, held, cuts, clear, told_of new, told_runs old 1 whole written new runs)
 
 -- some state before the first line
-start_of : Object → Told
+abbrev start_of : Object → Told
 start_of o = record { named = false; world = record { board = opened o []; opening = map opening_of (kinds_of o); files = []; runs = [] } }
 
 -- nothing is a front of the answers to any text

@@ -114,7 +114,8 @@ fn tell_event(
     let EventAnswer { answer, starts } = world.event(event);
     let desk = world.desk();
     push_answer(alloc, out, desk.accepted().object(), number, &answer)?;
-    push_starts(out, desk, desk.trace().len().saturating_sub(starts))
+    push_starts(out, desk, desk.trace().len().saturating_sub(starts))?;
+    Ok(())
 }
 
 // Lets a run make its steps to the end, and adds the answer.
