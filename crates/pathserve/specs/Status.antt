@@ -16,6 +16,8 @@ use Rattle.exclude_core.specs.declared.report.CheckFault.{CheckFault}
 use Rattle.exclude_core.specs.declared.report.CheckFault.TheVariants as check_faults
 use Rattle.exclude_core.specs.declared.report.CheckEnd.{CheckEnd}
 use Rattle.exclude_core.specs.declared.report.CheckEnd.TheVariants as check_ends
+use Rattle.script_core.specs.declared.script.ScriptEnd.{ScriptEnd}
+use Rattle.script_core.specs.declared.script.ScriptEnd.TheVariants as script_ends
 
 -- `paths`: 0 where each line was answered, 1 where one ended the run
 abbrev pub paths_status : LinesEnd → ℕ
@@ -26,6 +28,11 @@ paths_status (ends.Stopped line) = 1
 abbrev pub check_status : CheckEnd → ℕ
 check_status (check_ends.Counted objects refused) = if refused == 0 then 0 else 1
 check_status check_ends.Faulty = 1
+
+-- `run`, where there is an object to run on: 0 where each line was answered, 1 where a bad line ended the script
+abbrev pub script_status : ScriptEnd → ℕ
+script_status script_ends.Whole = 0
+script_status (script_ends.BadLine line) = 1
 
 -- a failure: 2 usage, 3 a read or write fault, 4 memory
 abbrev pub status_of : Failure → ℕ

@@ -1,5 +1,12 @@
 //! `pathserve run` over any reader and writer: what it writes, and the exit status that it ends with.
 
+ghost use Rattle.std.specs.Prelude.{◌≡◌, ◌++◌, ℕ, List, IfOk, IfErr, IfSome, take};
+ghost use Rattle.std.specs.Io.KnownBytes.{Appends};
+ghost use Rattle.script_core.specs.Run.{IsScript, IsFront};
+ghost use Rattle.script_core.specs.declared.script.ScriptEnd.{ScriptEnd as End};
+ghost use Rattle.pathserve.specs.Status.{script_status, IsFault};
+ghost use Rattle.pathserve.specs.ScriptRun.{IsScriptRun, IsScriptFront};
+
 use crate::answer::{ACCEPTED, REFUSED};
 use crate::failure::Failure;
 use exclude_core::analyse::Accepted;
@@ -10,7 +17,9 @@ use script_open::open::{Opened, open_script};
 use std::alloc::Global;
 use std::io::{Read, Write};
 
-fn status_of_script(end: ScriptEnd) -> u8 {
+fn status_of_script(end: ScriptEnd) -> u8
+    ensures { result ≡ script_status end }
+{
     match end {
         ScriptEnd::Whole => ACCEPTED,
         ScriptEnd::BadLine(_) => REFUSED,
@@ -24,7 +33,12 @@ fn run_on<R: Read, W: Write>(
     head: &[u8],
     reader: &mut R,
     writer: &mut W,
-) -> Result<u8, Failure> {
+) -> Result<u8, Failure>
+    ensures ended { IfOk result (λ status. IfSome (R.remaining reader.old) (λ rest. (end : End) × (written : List ℕ)
+        × Appends (W.contents writer.old) (W.contents writer.new) written × IsScript accepted (head.now ++ rest) end written × (status ≡ script_status end))) }
+    ensures cut { IfErr result (λ failure. IsFault failure × IfSome (R.remaining reader.old) (λ rest. (written : List ℕ)
+        × Appends (W.contents writer.old) (W.contents writer.new) written × IsFront accepted (head.now ++ rest) written)) }
+{
     let mut text = head.chain(reader);
     match run_script(alloc, accepted, &mut text, writer) {
         Ok(end) => Ok(status_of_script(end)),
@@ -33,7 +47,10 @@ fn run_on<R: Read, W: Write>(
 }
 
 // Writes the line that says why there is nothing to run on.
-fn tell<W: Write>(line: &[u8], writer: &mut W) -> Result<u8, Failure> {
+fn tell<W: Write>(line: &[u8], writer: &mut W) -> Result<u8, Failure>
+    ensures ended { IfOk result (λ status. Appends (W.contents writer.old) (W.contents writer.new) line.now × (status ≡ REFUSED)) }
+    ensures cut { IfErr result (λ failure. IsFault failure × ((count : ℕ) × Appends (W.contents writer.old) (W.contents writer.new) (take count line.now))) }
+{
     match write_whole(writer, line) {
         Ok(()) => Ok(REFUSED),
         Err(fault) => Err(Failure::from(fault)),
@@ -43,14 +60,19 @@ fn tell<W: Write>(line: &[u8], writer: &mut W) -> Result<u8, Failure> {
 /// `pathserve run`: runs a script on the object of a source that its first line names, and gives the exit status: 0 where
 /// each line was answered, 1 where there is nothing to run on, or a bad line ended the script.
 ///
-/// A failure is `ReadFault`, `WriteFault` or `Memory`, and leaves a front of the answers; a `ReadFault` leaves those to all
-/// lines that had come whole.
+/// A failure is `ReadFault`, `WriteFault` or `Memory`, and leaves a front of the answers. A `ReadFault` leaves those to all
+/// lines that had come whole, but nothing where it came before the first line was whole.
 pub fn answer_script<R: Read, W: Write>(
     alloc: Global,
     source: &[u8],
     reader: &mut R,
     writer: &mut W,
-) -> Result<u8, Failure> {
+) -> Result<u8, Failure>
+    ensures ended { IfOk result (λ status. IfSome (R.remaining reader.old) (λ text. (written : List ℕ)
+        × Appends (W.contents writer.old) (W.contents writer.new) written × IsScriptRun source.now text status written)) }
+    ensures cut { IfErr result (λ failure. IsFault failure × IfSome (R.remaining reader.old) (λ text. (written : List ℕ)
+        × Appends (W.contents writer.old) (W.contents writer.new) written × IsScriptFront source.now text written)) }
+{
     let head = match read_head(alloc, reader) {
         Ok(head) => head,
         Err(fault) => return Err(Failure::from(fault)),
