@@ -1,24 +1,72 @@
 -- A script whose head was read first is the whole script.
-use Rattle.std.proofs.Common.{◌≡◌, ℕ, ◌≤◌, List, [], ◌++◌, length, refl, sym, subst}
+use Rattle.std.proofs.Common.{◌≡◌, ℕ, ◌≤◌, List, [], ◌++◌, length, take, sym, subst}
 use Rattle.std.specs.Prelude.{Option, Some, None, IfSome}
-use Rattle.std.specs.Io.KnownBytes.{Consumes}
-use Rattle.core.specs.Fmt.{option_append}
+use Rattle.std.specs.Io.KnownBytes.{Appends, Consumes}
+use Rattle.std.specs.Fmt.{option_append}
+use Rattle.decl_core.specs.declared.object.Object.{Object}
+use Rattle.decl_core.specs.ObjectMap.{object_of}
 use Rattle.line_core.specs.Runs.{NoLineFeed}
+use Rattle.line_core.proofs.Known.{Appends-none}
 use Rattle.script_open.specs.Named.{IsHead}
+use Rattle.script_open.specs.Opening.{IsReady, IsTold}
+use Rattle.script_open.proofs.Heads.{told_alike, ready_alike}
+use Rattle.script_core.specs.Run.{IsScript, IsFront}
+use Rattle.script_core.specs.declared.script.ScriptEnd.{ScriptEnd}
+use Rattle.pathserve.specs.Status.{script_status}
+use Rattle.pathserve.specs.ScriptRun.{IsScriptRun, IsScriptFront, told, ran, nothing, told_front, ran_front}
 
 -- what holds of the bytes of a chain, where they are known
-pub chained : (known all : Option (List ℕ)) (head : List ℕ) (P : List ℕ → Type 0) → all ≡ option_append (Some head) known → IfSome all P → IfSome known (λ rest. P (head ++ rest))
-chained None all head P is holds = tt
-chained (Some rest) all head P is holds = subst (λ k. IfSome k P) is holds
+pub chained : (known all : Option (List ℕ)) (head : List ℕ) (P Q : List ℕ → Type 0) → all ≡ option_append (Some head) known → IfSome all Q
+    → ((text : List ℕ) → Q text → P text) → IfSome known (λ rest. P (head ++ rest))
+chained None all head P Q is holds gives = tt
+chained (Some rest) all head P Q is holds gives = gives (head ++ rest) (subst (λ k. IfSome k Q) is holds)
 
--- what holds of the rest of a text whose head was read shows what holds of the text
-pub whole : (old new : Option (List ℕ)) (head : List ℕ) (P Q : List ℕ → Type 0) → Consumes old new head → IsHead head new → IfSome new Q
+-- a text whose head was read is the head and the rest
+of_rest : (old new : Option (List ℕ)) (head : List ℕ) (P : List ℕ → Type 0) → Consumes old new head → IsHead head new
+    → ((rest : List ℕ) → (NoLineFeed head → length head ≤ 65536 → rest ≡ []) → P (head ++ rest)) → IfSome old P
+of_rest None new head P taken enough gives = tt
+of_rest (Some text) None head P taken enough gives = absurd taken
+of_rest (Some text) (Some rest) head P taken enough gives = subst P (sym taken) (gives rest enough)
+
+-- the same, with what is known of the rest
+with_rest : (old new : Option (List ℕ)) (head : List ℕ) (P Q : List ℕ → Type 0) → Consumes old new head → IsHead head new → IfSome new Q
     → ((rest : List ℕ) → (NoLineFeed head → length head ≤ 65536 → rest ≡ []) → Q rest → P (head ++ rest)) → IfSome old P
-whole None new head P Q taken enough holds all = tt
-whole (Some text) None head P Q taken enough holds all = absurd taken
-whole (Some text) (Some rest) head P Q taken enough holds all = subst P (sym taken) (all rest enough holds)
+with_rest None new head P Q taken enough holds gives = tt
+with_rest (Some text) None head P Q taken enough holds gives = absurd taken
+with_rest (Some text) (Some rest) head P Q taken enough holds gives = subst P (sym taken) (gives rest enough holds)
 
--- what holds of each text
-pub whatever : (known : Option (List ℕ)) (P : List ℕ → Type 0) → ((text : List ℕ) → P text) → IfSome known P
-whatever None P all = tt
-whatever (Some text) P all = all text
+-- there is an object to run on
+pub ran_whole : (old new w v : Option (List ℕ)) (source head : List ℕ) (o : Object) (status : ℕ) → Consumes old new head → IsHead head new → IsReady source head (object_of o)
+    → IfSome new (λ rest. (end : ScriptEnd) × (written : List ℕ) × Appends w v written × IsScript o (head ++ rest) end written × (status ≡ script_status end))
+    → IfSome old (λ text. (written : List ℕ) × Appends w v written × IsScriptRun source text status written)
+ran_whole old new w v source head o status taken enough ready run =
+    with_rest old new head (λ text. (written : List ℕ) × Appends w v written × IsScriptRun source text status written)
+    (λ rest. (end : ScriptEnd) × (written : List ℕ) × Appends w v written × IsScript o (head ++ rest) end written × (status ≡ script_status end)) taken enough run
+    (λ rest end script. (script.1, script.2, subst (λ s. IsScriptRun source (head ++ rest) s script.1) (sym script.4)
+        (ran o script.0 (ready_alike source head rest (object_of o) end ready) script.3)))
+
+pub ran_cut : (old new w v : Option (List ℕ)) (source head : List ℕ) (o : Object) → Consumes old new head → IsHead head new → IsReady source head (object_of o)
+    → IfSome new (λ rest. (written : List ℕ) × Appends w v written × IsFront o (head ++ rest) written)
+    → IfSome old (λ text. (written : List ℕ) × Appends w v written × IsScriptFront source text written)
+ran_cut old new w v source head o taken enough ready run =
+    with_rest old new head (λ text. (written : List ℕ) × Appends w v written × IsScriptFront source text written)
+    (λ rest. (written : List ℕ) × Appends w v written × IsFront o (head ++ rest) written) taken enough run
+    (λ rest end front. (front.0, front.1, ran_front o (ready_alike source head rest (object_of o) end ready) front.2))
+
+-- there is none
+pub told_whole : (old new w v : Option (List ℕ)) (source head line : List ℕ) (status : ℕ) → Consumes old new head → IsHead head new → IsTold source head line
+    → Appends w v line → status ≡ 1 → IfSome old (λ text. (written : List ℕ) × Appends w v written × IsScriptRun source text status written)
+told_whole old new w v source head line status taken enough is writes one =
+    of_rest old new head (λ text. (written : List ℕ) × Appends w v written × IsScriptRun source text status written) taken enough
+    (λ rest end. (line, writes, subst (λ s. IsScriptRun source (head ++ rest) s line) (sym one) (told (told_alike source head rest line end is))))
+
+pub told_cut : (old new w v : Option (List ℕ)) (source head line : List ℕ) (count : ℕ) → Consumes old new head → IsHead head new → IsTold source head line
+    → Appends w v (take count line) → IfSome old (λ text. (written : List ℕ) × Appends w v written × IsScriptFront source text written)
+told_cut old new w v source head line count taken enough is writes =
+    of_rest old new head (λ text. (written : List ℕ) × Appends w v written × IsScriptFront source text written) taken enough
+    (λ rest end. (take count line, writes, told_front line count (told_alike source head rest line end is)))
+
+-- nothing was written
+pub none_written : (old w : Option (List ℕ)) (source : List ℕ) → IfSome old (λ text. (written : List ℕ) × Appends w w written × IsScriptFront source text written)
+none_written None w source = tt
+none_written (Some text) w source = ([], Appends-none w, nothing)
