@@ -1,5 +1,4 @@
 use Rattle.std.proofs.Common.{sym, subst}
-use Rattle.script_open.specs.View.{IsOpened}
 use Rattle.pathserve.specs.Status.{IsFault}
 use Rattle.pathserve.proofs.Scripts.{is_fault, none_written, ran_ended, ran_failed, told_ended, told_failed}
 use Rattle.pathserve.proofs.script.answer_script.Goals as goal
@@ -12,7 +11,7 @@ pub returns-in-Ok-Ready-clause-ended : goal.returns-in-Ok-Ready-clause-ended
 returns-in-Ok-Ready-clause-ended g c =
     ran_ended c.run_on.result (g.R.Read.remaining c.args.reader.now) (g.R.Read.remaining c.read_head.new.reader) (g.W.Write.contents c.args.writer.now) (g.W.Write.contents c.run_on.new.writer)
     c.args.source.now c.in-Ok.head.items c.deref.result.now c.deref-in-Ok-Ready.result.now c.in-Ok-Ready.accepted c.deref.ensures.value c.deref-in-Ok-Ready.ensures.value
-    c.in-Ok.ensures.taken c.in-Ok.ensures.enough (subst (IsOpened c.args.source.now c.deref.result.now) c.in-Ok-Ready.field-0-is c.in-Ok-Ready.ensures) c.run_on.ensures.ended
+    c.in-Ok.ensures.taken c.in-Ok.ensures.enough (rw c.in-Ok-Ready.field-0-is at c.in-Ok-Ready.ensures) c.run_on.ensures.ended
 
 pub returns-in-Ok-Ready-clause-cut : goal.returns-in-Ok-Ready-clause-cut
 returns-in-Ok-Ready-clause-cut g c =
@@ -24,7 +23,7 @@ pub returns-in-Ok-Told-clause-ended : goal.returns-in-Ok-Told-clause-ended
 returns-in-Ok-Told-clause-ended g c =
     told_ended c.tell.result (g.R.Read.remaining c.args.reader.now) (g.R.Read.remaining c.read_head.new.reader) (g.W.Write.contents c.args.writer.now) (g.W.Write.contents c.tell.new.writer)
     c.args.source.now c.in-Ok.head.items c.deref.result.now c.in-Ok-Told.line.items c.deref-in-Ok-Told.result.now c.deref.ensures.value c.deref-in-Ok-Told.ensures.value
-    c.in-Ok.ensures.taken c.in-Ok.ensures.enough (subst (IsOpened c.args.source.now c.deref.result.now) c.in-Ok-Told.field-0-is c.in-Ok-Told.ensures) c.tell.ensures.ended
+    c.in-Ok.ensures.taken c.in-Ok.ensures.enough (rw c.in-Ok-Told.field-0-is at c.in-Ok-Told.ensures) c.tell.ensures.ended
 
 pub returns-in-Ok-Told-clause-cut : goal.returns-in-Ok-Told-clause-cut
 returns-in-Ok-Told-clause-cut g c =
