@@ -218,6 +218,11 @@ def with_each(block):
     return [block]
 
 
+def escaped(text):
+    """The lines of the notation whose text is this one."""
+    return [re.sub(r"[\\\\^|]", r"\\\g<0>", it) for it in text.decode().splitlines()]
+
+
 class Reader:
     """Makes the cases of one block."""
 
@@ -238,6 +243,8 @@ class Reader:
                 self.sections[head] = rest.split()
             elif head.endswith(":") and head[:-1].isupper():
                 self.files[head[:-1]] = rest
+            elif head == "output:":
+                self.sections["output"] = escaped(stored(rest))
             elif name in ("rows", "output", "error", "reads", "faults", "output, one more", "fronts", "growths") or name.isupper():
                 self.sections[name] = lines_of(section)
             else:

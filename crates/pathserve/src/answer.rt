@@ -17,9 +17,9 @@ use std::alloc::Global;
 use std::io::{Read, Write};
 
 // The exit status of a run that was accepted, and of one that was refused.
-const ACCEPTED: u8 = 0;
+pub(crate) const ACCEPTED: u8 = 0;
 
-const REFUSED: u8 = 1;
+pub(crate) const REFUSED: u8 = 1;
 
 fn status_of_paths(end: PathsEnd) -> u8
     ensures { result ≡ paths_status end }

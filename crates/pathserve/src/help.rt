@@ -7,7 +7,8 @@ pub const PROGRAM: &str =
 /// What stands below the list of subcommands.
 pub const PROGRAM_MORE: &str =
     "A path expression is a rule of use: `path 1:(get, put) end` lets one `get` or `put` run at a time.
-Try `pathserve paths` to play with paths by hand, and `pathserve check FILE` on a file of objects.
+Try `pathserve paths` to play with paths by hand, `pathserve check FILE` on a file of objects, and
+`pathserve run FILE SCRIPT` to call one of them.
 `pathserve SUBCOMMAND --help` says what a subcommand reads and writes, with an example.
 
 Exit status: 0 accepted, 1 refused, 2 a wrong command line or a request for help, 3 a read or a write
@@ -61,3 +62,53 @@ Example: `box.pp` holds one object, in which a write excludes each other call.
   1 objects, 0 refused
 
 Exit status: 0 no object is refused, 1 one is, or the file is no file of objects.";
+
+/// What `run` does.
+pub const RUN: &str =
+    "Runs a script on an object of a file: calls, the device steps of their runs, finishes, one line each";
+
+/// What the first argument of `run` is.
+pub const RUN_FILE: &str = "The file with the objects, one after the other, at most 65536 bytes";
+
+/// What the second argument of `run` is.
+pub const RUN_SCRIPT: &str =
+    "The file with the script; /dev/stdin, for instance, to type it or to send it by a pipe";
+
+/// What `run` reads and writes.
+pub const RUN_MORE: &str =
+    "Reads FILE, and then SCRIPT: its line 1, `object NAME`, says which object of FILE is called, and each further line what
+happens next. Writes the answer to each line to standard output before it waits for more.
+
+  call sK OP ARG ..  session K calls an operation      call N, or no FAULT
+  step N ok          the run of call N makes a step    step N NEED ok
+  step N fail        its device fails at that step     step N NEED failed
+  steps N            it makes the steps that are left  steps N K
+  finish N           its result is published           done N, done N VALUE, refused N WORD, failed N CAUSE
+  cancel N           call N is called off if it waits  cancel N Cancelled, Running, Ended or Unknown
+  drop sK            session K leaves                  drop sK
+  show               what the parts hold               PART = VALUE, a line a part
+  trace              all that happened so far          its lines
+
+Behind each answer stands `started N` for each call that could start then. Empty lines, and lines that begin with `#`,
+are skipped.
+
+Example: the second `put` has to wait for the first one.
+
+  $ cat two_puts.script
+  object cell
+  call s1 put 7
+  call s2 put 8
+  steps 1
+  finish 1
+  $ pathserve run examples/objects/cell.pp two_puts.script
+  call 1
+  started 1
+  call 2
+  steps 1 4
+  done 1
+  started 2
+
+Where line 1 names no object the answer is `bad line 1`, where FILE lacks it `no object NAME`; a fault of FILE, or a
+refusal of the object, is told as by `check`. A line that says none of the above gives `bad line K`, and ends the script.
+
+Exit status: 0 each line was answered, refusals included, 1 there was no object to run on, or a bad line.";

@@ -3,10 +3,11 @@
 //! `pathserve paths` reads paths, starts and finishes from standard input and answers each line.
 //! `pathserve check FILE` says of each object of a file whether its paths keep operations that conflict
 //! apart, and by which nodes.
+//! `pathserve run FILE SCRIPT` runs a script of calls, device steps and finishes on an object of a file.
 //! Exit statuses: 0 accepted, 1 refused, 2 usage (a request for help too), 3 read or write fault,
 //! 4 out of memory.
 //!
-//! `answer` says what the two do over any reader and writer, and `failure` what the program ends with
+//! `answer` says what they do over any reader and writer, and `failure` what the program ends with
 //! where it has no answer. What stands here hands them the command line and the streams.
 #![tactic(auto)]
 
@@ -14,11 +15,14 @@ mod answer;
 mod failure;
 mod help;
 mod request;
+mod script;
 mod source;
 
 use answer::{answer_lines, check_source};
 use failure::{Failure, exit_status};
 use request::{Request, request_of};
+use script::answer_script;
+use source::read_source;
 use std::fs::File;
 use std::process::ExitCode;
 use std::{env, io};
@@ -41,6 +45,11 @@ fn run(rt: &HostRuntime) -> Result<u8, Failure> {
         Request::Check(path) => {
             let file = File::open(rt, path)?;
             check_source(rt.alloc(), file, &mut writer)
+        }
+        Request::Run(path, script) => {
+            let source = read_source(rt.alloc(), File::open(rt, path)?)?;
+            let mut script = File::open(rt, script)?;
+            answer_script(rt.alloc(), &source, &mut script, &mut writer)
         }
     }
 }

@@ -11,6 +11,8 @@ pub enum Request<'a> {
     Paths,
     /// `pathserve check FILE`, with the path of the file.
     Check(&'a str),
+    /// `pathserve run FILE SCRIPT`, with the paths of the two.
+    Run(&'a str, &'a str),
 }
 
 // The commands of the program.
@@ -25,12 +27,22 @@ fn command<'a>(alloc: Global) -> Result<Command<'a>, AllocError> {
         .about(help::CHECK)
         .after_help(help::CHECK_MORE)
         .arg(file)?;
+    let objects = Arg::new(alloc, "FILE").required(true).help(help::RUN_FILE);
+    let script = Arg::new(alloc, "SCRIPT")
+        .required(true)
+        .help(help::RUN_SCRIPT);
+    let run = Command::new(alloc, "run")
+        .about(help::RUN)
+        .after_help(help::RUN_MORE)
+        .arg(objects)?
+        .arg(script)?;
     Command::new(alloc, "pathserve")
         .about(help::PROGRAM)
         .after_help(help::PROGRAM_MORE)
         .subcommand_required(true)
         .subcommand(paths)?
-        .subcommand(check)
+        .subcommand(check)?
+        .subcommand(run)
 }
 
 /// What these words, the first of which names the program, ask for.
@@ -38,7 +50,13 @@ fn command<'a>(alloc: Global) -> Result<Command<'a>, AllocError> {
 /// An error is a mistake in them or a request for help, with the text to print, or a want of memory.
 pub fn request_of<'a>(alloc: Global, words: &'a [&'a str]) -> Result<Request<'a>, Error> {
     let matches = command(alloc)?.try_get_matches_from(words)?;
-    // `check` alone has a file, and cannot be without
+    // `check` has a file and `run` a file and a script, and neither can be without
+    if let Some(run) = matches.subcommand_matches("run") {
+        return Ok(match (run.get_str("FILE"), run.get_str("SCRIPT")) {
+            (Some(file), Some(script)) => Request::Run(file, script),
+            _ => Request::Paths,
+        });
+    }
     match matches.subcommand_matches("check") {
         Some(check) => match check.get_str("FILE") {
             Some(file) => Ok(Request::Check(file)),

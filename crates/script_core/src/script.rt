@@ -1,0 +1,52 @@
+//! Scripts over one object.
+
+mod answer;
+mod machine;
+mod steps;
+
+use exclude_core::analyse::Accepted;
+pub use line_core::LinesFault as ScriptFault;
+use line_core::{LinesEnd, run_lines};
+use machine::Script;
+use std::alloc::Global;
+use std::io::{Read, Write};
+
+/// How a script ended.
+#[derive(Clone, Copy, Debug, PartialEq, Eq)]
+pub enum ScriptEnd {
+    /// The text ended, and each of its lines was answered.
+    Whole,
+    /// The line of this number, counted from 1, says nothing that a script may say, or is a first line that does not name
+    /// the object. It was answered by `bad line K`, and ended the script.
+    BadLine(u64),
+}
+
+fn end_of(end: LinesEnd) -> ScriptEnd {
+    match end {
+        LinesEnd::Whole => ScriptEnd::Whole,
+        LinesEnd::Stopped(line) => ScriptEnd::BadLine(line),
+    }
+}
+
+/// Answers the lines of a script over a new world of the object. Line 1 is `object NAME` with its name, in any case, and
+/// has no answer.
+///
+/// A text without any line has no line 1: it is `Whole`, and nothing is written. The faults, in this order: `ReadFault`
+/// where a read failed or the text had not ended after 16,777,216 reads, `WriteFault` where a write failed or took no byte,
+/// `Memory` where the room for a line, an event or an answer was refused. A want of memory in the run of a body is none of
+/// these: the call fails for it. After a fault a front of the answers is written, after a `ReadFault` those to all lines that have come
+/// whole: they are written before the next read.
+pub fn run_script<R: Read, W: Write>(
+    alloc: Global,
+    accepted: Accepted,
+    reader: &mut R,
+    writer: &mut W,
+) -> Result<ScriptEnd, ScriptFault> {
+    let mut script = Script::new(alloc, accepted)?;
+    let ended = run_lines(alloc, &mut script, reader, writer);
+    script.end();
+    match ended {
+        Ok(end) => Ok(end_of(end)),
+        Err(fault) => Err(fault),
+    }
+}

@@ -1,0 +1,122 @@
+//! What the lines of a script do, and the lines that answer them.
+
+use crate::script::steps::step_to_end;
+use board_core::event::TraceEvent;
+use body_core::step::StepAnswer;
+use decl_core::object::Object;
+use desk_core::answer::{Cancelled, SubmitFault};
+use desk_core::desk::Desk;
+use script_text::answers::{
+    push_all_stepped, push_called, push_cancelled, push_dropped, push_finished, push_refused,
+    push_shown, push_started, push_stepped,
+};
+use script_text::said::Said;
+use std::alloc::{AllocError, Global};
+use world_core::event::{Answer, Event, EventAnswer, Refusal};
+use world_core::world::World;
+
+// The name of what became of a cancel.
+fn cancel_name(answer: Cancelled) -> &'static str {
+    match answer {
+        Cancelled::Cancelled => "Cancelled",
+        Cancelled::Running => "Running",
+        Cancelled::Ended => "Ended",
+        Cancelled::Unknown => "Unknown",
+    }
+}
+
+// Whether a step did not fail.
+fn has_gone(answer: StepAnswer) -> bool {
+    matches!(answer, StepAnswer::Went)
+}
+
+// Adds the line of a refusal. Want of memory is an error.
+fn push_refusal(out: &mut Vec<u8>, refusal: Refusal) -> Result<(), AllocError> {
+    match refusal {
+        Refusal::Submit(SubmitFault::Memory) | Refusal::Memory => Err(AllocError),
+        _ => push_refused(out, refusal.name()),
+    }
+}
+
+// Adds the answer to an event of this call or session.
+fn push_answer(
+    alloc: Global,
+    out: &mut Vec<u8>,
+    object: &Object,
+    number: u32,
+    answer: &Answer,
+) -> Result<(), AllocError> {
+    match answer {
+        Answer::Number(call) => push_called(out, *call),
+        Answer::Stepped(need, went) => push_stepped(out, number, *need, has_gone(*went)),
+        Answer::Ended(reply) => push_finished(out, number, reply),
+        Answer::Cancel(became) => push_cancelled(out, number, cancel_name(*became)),
+        Answer::Dropped => push_dropped(out, number),
+        Answer::Shown(values) => push_shown(alloc, out, object, values),
+        Answer::Refused(refusal) => push_refusal(out, *refusal),
+    }
+}
+
+// Adds a line for each call that started from this place of the trace on.
+fn push_starts(out: &mut Vec<u8>, desk: &Desk, from: usize) -> Result<(), AllocError> {
+    let trace = desk.trace();
+    for place in from..trace.len() {
+        match trace.get(place) {
+            Some(TraceEvent::Start(number)) => push_started(out, number)?,
+            Some(TraceEvent::End(number, _)) => push_started(out, number)?,
+            None => unreachable!(),
+        }
+    }
+    Ok(())
+}
+
+// Lets an event of this call or session happen, and adds its answer.
+fn tell_event(
+    alloc: Global,
+    world: &mut World,
+    event: Event<'_>,
+    number: u32,
+    out: &mut Vec<u8>,
+) -> Result<(), AllocError> {
+    let EventAnswer { answer, starts } = world.event(event);
+    let desk = world.desk();
+    push_answer(alloc, out, desk.accepted().object(), number, &answer)?;
+    push_starts(out, desk, desk.trace().len().saturating_sub(starts))
+}
+
+// Lets a run make its steps to the end, and adds the answer.
+fn tell_steps(world: &mut World, number: u32, out: &mut Vec<u8>) -> Result<(), AllocError> {
+    match step_to_end(world, number) {
+        Ok(count) => push_all_stepped(out, number, count),
+        Err(refusal) => push_refusal(out, refusal),
+    }
+}
+
+// Adds the text of the trace.
+fn tell_trace(world: &World, out: &mut Vec<u8>) -> Result<(), AllocError> {
+    let text = world.desk().trace_text(world.opening())?;
+    out.extend_from_slice(&text)
+}
+
+/// Does what a line says, and adds its answer. The error is that memory was refused, for the event or for the answer.
+pub fn answer_said(
+    alloc: Global,
+    world: &mut World,
+    said: Said<'_>,
+    out: &mut Vec<u8>,
+) -> Result<(), AllocError> {
+    match said {
+        Said::Call(session, op, arguments) => {
+            tell_event(alloc, world, Event::Call(session, op, &arguments), 0, out)
+        }
+        Said::Step(number, works) => {
+            tell_event(alloc, world, Event::Step(number, works), number, out)
+        }
+        Said::Steps(number) => tell_steps(world, number, out),
+        Said::Finish(number) => tell_event(alloc, world, Event::Finish(number), number, out),
+        Said::Cancel(number) => tell_event(alloc, world, Event::Cancel(number), number, out),
+        Said::Drop(session) => tell_event(alloc, world, Event::Drop(session), session, out),
+        Said::Show => tell_event(alloc, world, Event::Show, 0, out),
+        Said::Trace => tell_trace(world, out),
+    }
+}

@@ -1,0 +1,99 @@
+//! The state of a script, and its answers.
+
+use crate::script::answer::answer_said;
+use decl_core::object::Object;
+use exclude_core::analyse::Accepted;
+use line_core::Machine;
+use script_text::answers::push_bad_line;
+use script_text::first::object_line;
+use script_text::said::{is_skipped, read_line};
+use std::alloc::{AllocError, Global};
+use world_core::world::World;
+
+/// What the lines of a script have done so far. It has to be spent, by [`Script::end`].
+pub struct Script {
+    alloc: Global,
+    // Whether the first line has named the object.
+    named: bool,
+    world: World,
+}
+
+// Whether a line names this object.
+fn names_object(object: &Object, line: &[u8]) -> bool {
+    match object_line(line) {
+        Some(name) => object.name.is_spelled_by(name),
+        None => false,
+    }
+}
+
+impl Script {
+    /// The state before the first line.
+    pub fn new(alloc: Global, accepted: Accepted) -> Result<Script, AllocError> {
+        let world = World::new(alloc, accepted)?;
+        Ok(Script {
+            alloc,
+            named: false,
+            world,
+        })
+    }
+
+    /// Spends the world.
+    pub fn end(self) {
+        let Script {
+            alloc: _,
+            named: _,
+            world,
+        } = self;
+        let _desk = world.end();
+    }
+
+    // Answers the first line.
+    fn name_object(
+        &mut self,
+        number: u64,
+        line: &[u8],
+        out: &mut Vec<u8>,
+    ) -> Result<bool, AllocError> {
+        if names_object(self.world.desk().accepted().object(), line) {
+            self.named = true;
+            return Ok(true);
+        }
+        push_bad_line(out, number)?;
+        Ok(false)
+    }
+
+    // Answers a line behind the first one.
+    fn answer_line(
+        &mut self,
+        number: u64,
+        line: &[u8],
+        out: &mut Vec<u8>,
+    ) -> Result<bool, AllocError> {
+        if is_skipped(line) {
+            return Ok(true);
+        }
+        match read_line(self.alloc, line)? {
+            Some(said) => {
+                answer_said(self.alloc, &mut self.world, said, out)?;
+                Ok(true)
+            }
+            None => {
+                push_bad_line(out, number)?;
+                Ok(false)
+            }
+        }
+    }
+}
+
+impl Machine for Script {
+    ghost use Rattle.std.specs.Prelude.{Unit};
+
+    ghost gives = { λ old number line text goes new. Unit {0} };
+
+    fn answer(&mut self, number: u64, line: &[u8], out: &mut Vec<u8>) -> Result<bool, AllocError> {
+        if !self.named {
+            return self.name_object(number, line, out);
+        }
+        self.answer_line(number, line, out)
+    }
+}

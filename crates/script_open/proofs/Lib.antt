@@ -1,0 +1,3 @@
+pub mod Heads
+pub mod Looking
+pub mod Judging
