@@ -4,6 +4,11 @@ mod answer;
 mod machine;
 mod steps;
 
+ghost use Rattle.std.specs.Prelude.{◌≡◌, ◌++◌, [], List, ℕ, IfOk, IfSome, OnErr, IsErrOf, unwrap_or};
+ghost use Rattle.std.specs.Io.KnownBytes.{Appends, Consumes};
+ghost use Rattle.line_core.specs.declared.machine.LinesFault.TheVariants.{ReadFault};
+ghost use Rattle.script_core.specs.Run.{IsScript, IsFront, IsScriptSoFar, end_of as end_in};
+
 use exclude_core::analyse::Accepted;
 pub use line_core::LinesFault as ScriptFault;
 use line_core::{LinesEnd, run_lines};
@@ -21,7 +26,10 @@ pub enum ScriptEnd {
     BadLine(u64),
 }
 
-fn end_of(end: LinesEnd) -> ScriptEnd {
+// How a script ended whose lines ended so.
+fn end_of(end: LinesEnd) -> ScriptEnd
+    ensures { result ≡ end_in end }
+{
     match end {
         LinesEnd::Whole => ScriptEnd::Whole,
         LinesEnd::Stopped(line) => ScriptEnd::BadLine(line),
@@ -41,7 +49,20 @@ pub fn run_script<R: Read, W: Write>(
     accepted: Accepted,
     reader: &mut R,
     writer: &mut W,
-) -> Result<ScriptEnd, ScriptFault> {
+) -> Result<ScriptEnd, ScriptFault>
+    // Of any reader: what was written is the script over the text that was read and what is known to be left.
+    ensures any { IfOk result (λ end. (text : List ℕ) × (written : List ℕ) × Consumes (R.remaining reader.old) (R.remaining reader.new) text
+        × Appends (W.contents writer.old) (W.contents writer.new) written × IsScript accepted (text ++ unwrap_or (R.remaining reader.new) []) end written) }
+
+    // Of a reader whose text is known: the script over that text, and after a fault a front of it.
+    ensures known { IfOk result (λ end. IfSome (R.remaining reader.old) (λ text.
+        (written : List ℕ) × Appends (W.contents writer.old) (W.contents writer.new) written × IsScript accepted text end written)) }
+    ensures fault { OnErr result (IfSome (R.remaining reader.old) (λ text.
+        (written : List ℕ) × Appends (W.contents writer.old) (W.contents writer.new) written × IsFront accepted text written)) }
+    // Each line that has come whole is answered before the next read: any read may fail.
+    ensures unread { IsErrOf result ReadFault → (text : List ℕ) × (written : List ℕ) × Consumes (R.remaining reader.old) (R.remaining reader.new) text
+        × Appends (W.contents writer.old) (W.contents writer.new) written × IsScriptSoFar accepted text written }
+{
     let mut script = Script::new(alloc, accepted)?;
     let ended = run_lines(alloc, &mut script, reader, writer);
     script.end();

@@ -1,22 +1,18 @@
 -- The runs of calls that have started.
-use Rattle.std.proofs.Common.{◌≡◌, ◌≢◌, ℕ, zero, suc, ◌+◌, ◌<◌, ◌≤◌, ◌⊎◌, inl, inr, Bool, true, false, List, [], ◌∷◌, ◌++◌, length, Option, Some, None, refl, sym, ◌∙◌, ap, subst, arith, take, drop, map, append_assoc}
+use Rattle.std.proofs.Common.{◌≡◌, ℕ, zero, suc, ◌+◌, ◌<◌, ◌≤◌, ◌⊎◌, inl, inr, true, false, List, [], ◌∷◌, ◌++◌, length, Option, Some, None, refl, sym, ◌∙◌, ap, subst, arith, take, drop, map, append_assoc}
 use Rattle.std.specs.Prelude.{slice_get, slice_set}
 use Rattle.value_core.specs.Contents.{Contents}
-use Rattle.decl_core.specs.Bodies.{body_of}
-use Rattle.decl_core.specs.Touched.{Reads}
 use Rattle.shelf_core.specs.declared.file.File.{File}
-use Rattle.shelf_core.specs.declared.hand.Stamp.{Stamp}
 use Rattle.shelf_core.specs.Device.{Assignment, AreServed}
-use Rattle.shelf_core.specs.Files.{HasFiles, IsOpen, Serves}
-use Rattle.body_core.specs.declared.run.Run.{Run}
+use Rattle.shelf_core.specs.Files.{IsOpen, Serves}
 use Rattle.body_core.specs.Calls.{Call, call_of}
-use Rattle.body_core.specs.Runs.{run_call, run_pen, run_sealed, run_place, PenHolds, SoFar, AreApart, no_pen}
-use Rattle.body_core.specs.Steps.{PinsServed, NewsServed, IsPinOf, Starts}
-use Rattle.board_core.specs.Lists.{Every, EachPair, Among}
+use Rattle.body_core.specs.Runs.{run_call, run_pen, run_sealed, run_place, SoFar, AreApart, no_pen}
+use Rattle.body_core.specs.Steps.{PinsServed, NewsServed, Starts}
+use Rattle.board_core.specs.Lists.{Every}
 use Rattle.board_core.specs.Calls.{RunningCall, WaitingCall}
 use Rattle.board_core.specs.Board.{Board, taken_at}
 use Rattle.board_core.specs.Sound.{IsSound, IsPinned}
-use Rattle.board_core.proofs.Lists.{Every-at, Every-snoc, Every-map, EachPair-snoc, Every-all}
+use Rattle.board_core.proofs.Lists.{Every-at, Every-snoc, EachPair-snoc, Every-all}
 use Rattle.body_core.specs.declared.ticket.Ticket.{Ticket}
 use Rattle.body_core.specs.Tickets.{ticket_call}
 use Rattle.desk_core.specs.declared.answer.Collected.{Collected}
@@ -73,7 +69,7 @@ one_begun b files runs opening r slot kept at sound call ready pen =
     let taken : RunningCall = record r { taken = true } in
     let count : length (runs ++ slot ∷ []) ≡ suc (length runs) = length_snoc runs slot in
     let front : take (length (runs ++ slot ∷ [])) (slice_set b.running (length runs) taken) ≡ take (length runs) b.running ++ taken ∷ [] =
-        ap (λ k. take k (slice_set b.running (length runs) taken)) count ∙ take_set b.running (length runs) r taken at in
+    ap (λ k. take k (slice_set b.running (length runs) taken)) count ∙ take_set b.running (length runs) r taken at in
     record {
       sound = sound;
       few = omega (arith, count, length_set b.running (length runs) taken, within b.running (length runs) r at);
@@ -120,8 +116,7 @@ new_more b m from w ones new =
     let running : drop m b.running ≡ run_of b.pins w ∷ map (run_of b.pins) ones = new.running in
     let trace : drop from b.trace ≡ Start w.number ∷ map (λ (x : WaitingCall). Start x.number) ones = new.trace in
     let at : slice_get b.running m ≡ Some (run_of b.pins w) = at_of_drop b.running m (run_of b.pins w) (map (run_of b.pins) ones) running in
-    let there : slice_get b.trace from ≡ Some (Start w.number) = at_of_drop b.trace from (Start w.number) (map (λ (x : WaitingCall). Start x.number) ones) trace in
-    (
+    let there : slice_get b.trace from ≡ Some (Start w.number) = at_of_drop b.trace from (Start w.number) (map (λ (x : WaitingCall). Start x.number) ones) trace in (
       at,
       there,
       record {
@@ -164,8 +159,7 @@ found_none b n collects.Unknown after found is = found.0
 pub ticket_found : (b : Board) (files : List File) (runs : List Slot) (opening : List Contents) (n : ℕ) (r : RunningCall) (t : Ticket) (after : Board) → IsKept b files runs opening → slice_get b.running (length runs) ≡ Some r → r.number ≡ n
     → Collects b n (collects.Ticket t) after → (after ≡ taken_at b (length runs) r) × (ticket_call t ≡ call_running r)
 ticket_found b files runs opening n r t after kept at number (k, found, left, call, is) =
-    let same = same_call b n k (length runs) found r kept.sound left at number in
-    (
+    let same = same_call b n k (length runs) found r kept.sound left at number in (
       is ∙ ap (λ j. taken_at b j found) same.0 ∙ ap (λ (x : RunningCall). taken_at b (length runs) x) same.1,
       call ∙ ap (λ (x : RunningCall). call_of n x.call.operation x.call.arguments x.pins) same.1 ∙ ap (λ j. call_of j r.call.operation r.call.arguments r.pins) (sym number),
     )
@@ -244,12 +238,11 @@ next_run b mid runs mid_runs from w more new desk made =
 pub all_begun : (b mid : Board) (runs mid_runs last_runs : List Slot) (from others : ℕ) (w : WaitingCall) (more ones : List WaitingCall) → IsNextRun b mid runs mid_runs from w more → ones ≡ w ∷ more
     → (others ≡ length more) × ((begun : List Standing) × AreBegun (map (run_of mid.pins) more) begun × (map standing_of last_runs ≡ map standing_of mid_runs ++ begun))
     → (1 + others ≡ length ones) × ((begun : List Standing) × AreBegun (map (run_of b.pins) ones) begun × (map standing_of last_runs ≡ map standing_of runs ++ begun))
-all_begun b mid runs mid_runs last_runs from others w more ones next are (count, (begun, begin, rest)) =
-    (
-      omega (arith, count, ap (λ (ws : List WaitingCall). length ws) are),
-      (
-        standing_of next.slot ∷ begun,
-        subst (λ (ws : List WaitingCall). AreBegun (map (run_of b.pins) ws) (standing_of next.slot ∷ begun)) (sym are) (next.call, next.starts, subst (λ pins. AreBegun (map (run_of pins) more) begun) next.pins begin),
-        rest ∙ ap (λ (ss : List Slot). map standing_of ss ++ begun) next.items ∙ ap (λ ss. ss ++ begun) (map_snoc standing_of runs next.slot) ∙ append_assoc (map standing_of runs) (standing_of next.slot ∷ []) begun,
-      ),
-    )
+all_begun b mid runs mid_runs last_runs from others w more ones next are (count, (begun, begin, rest)) = (
+  omega (arith, count, ap (λ (ws : List WaitingCall). length ws) are),
+  (
+    standing_of next.slot ∷ begun,
+    subst (λ (ws : List WaitingCall). AreBegun (map (run_of b.pins) ws) (standing_of next.slot ∷ begun)) (sym are) (next.call, next.starts, subst (λ pins. AreBegun (map (run_of pins) more) begun) next.pins begin),
+    rest ∙ ap (λ (ss : List Slot). map standing_of ss ++ begun) next.items ∙ ap (λ ss. ss ++ begun) (map_snoc standing_of runs next.slot) ∙ append_assoc (map standing_of runs) (standing_of next.slot ∷ []) begun,
+  ),
+)

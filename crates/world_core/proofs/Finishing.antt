@@ -1,5 +1,5 @@
 -- What a finish leaves.
-use Rattle.std.proofs.Common.{◌≡◌, ◌≢◌, ℕ, zero, suc, ◌+◌, ◌<◌, ◌≤◌, ◌⊎◌, inl, inr, Bool, true, false, cond, ◌==◌, List, [], ◌∷◌, ◌++◌, length, Option, Some, None, refl, sym, ◌∙◌, ap, subst, arith, take, drop, map, length-append}
+use Rattle.std.proofs.Common.{◌≡◌, ◌≢◌, ℕ, zero, suc, ◌+◌, ◌≤◌, ◌⊎◌, inl, inr, Bool, true, false, cond, ◌==◌, List, [], ◌∷◌, ◌++◌, length, Some, refl, sym, ◌∙◌, ap, subst, arith, take, drop, map, length-append}
 use Rattle.std.specs.Prelude.{slice_get, slice_set, not}
 use Rattle.std.specs.List.{filter}
 use Rattle.std.proofs.lemmas.Bool.{ne_eqb}
@@ -30,12 +30,11 @@ use Rattle.board_core.specs.Outcomes.{IsOf}
 use Rattle.board_core.specs.Started.{HasStarted, Settles}
 use Rattle.board_core.specs.Sound.{IsSound, kinds_of}
 use Rattle.board_core.proofs.Lists.{Every-at, Every-snoc, Every-filter, EachPair-filter, filter_one, eqb_same}
-use Rattle.board_core.proofs.Published.{done_twice}
 use Rattle.world_core.specs.declared.slot.Slot.{Slot}
 use Rattle.world_core.specs.declared.stage.Stage.{Stage}
 use Rattle.world_core.specs.Scene.{Standing, call_running}
 use Rattle.world_core.specs.Kept.{IsKept, IsReady, IsStaged, HasNew, standing_of}
-use Rattle.world_core.proofs.Places.{some_is, one_place, all_taken, within}
+use Rattle.world_core.proofs.Places.{some_is, one_place, all_taken}
 use Rattle.world_core.proofs.Settling.{kept_settled, has_new}
 
 -- not of this number
@@ -95,7 +94,7 @@ pub record IsPaired (running : List RunningCall) (runs : List Slot) : Type 0 whe
 slots_apart : (running : List RunningCall) (runs : List Slot) → IsPaired running runs → EachPair (λ (x y : Slot). (call_of_slot x).number ≢ (call_of_slot y).number) runs
 slots_apart running runs paired =
     pairs_unmap call_of_slot (λ (c d : Call). c.number ≢ d.number) runs
-        (subst (EachPair (λ (c d : Call). c.number ≢ d.number)) (sym paired.calls) (pairs_map call_running (λ (c d : Call). c.number ≢ d.number) running paired.apart))
+    (subst (EachPair (λ (c d : Call). c.number ≢ d.number)) (sym paired.calls) (pairs_map call_running (λ (c d : Call). c.number ≢ d.number) running paired.apart))
 
 -- the running call of the run at a place
 pub call_there : (running : List RunningCall) (runs : List Slot) (k : ℕ) (slot : Slot) → IsPaired running runs → slice_get runs k ≡ Some slot → (r : RunningCall) × (slice_get running k ≡ Some r) × (call_running r ≡ run_call slot.run)
@@ -114,17 +113,17 @@ pub others_left : (running : List RunningCall) (runs : List Slot) (k n : ℕ) (s
     → take k runs ++ drop (suc k) runs ≡ filter (λ (s : Slot). is_other n (call_of_slot s)) runs
 others_left running runs k n slot paired at number =
     filter_one (λ (s : Slot). is_other n (call_of_slot s)) runs k slot at (ap (λ m. not (m == n)) number ∙ ap not (eqb_same n))
-        (apart_from runs (slots_apart running runs paired))
+    (apart_from runs (slots_apart running runs paired))
   where
     from_one : (x : Slot) (xs : List Slot) → Every (λ (y : Slot). (call_of_slot x).number ≢ (call_of_slot y).number) xs
         → Every (λ (z : Slot). (x ≡ slot → is_other n (call_of_slot z) ≡ true) × (z ≡ slot → is_other n (call_of_slot x) ≡ true)) xs
     from_one x [] all = tt
     from_one x (y ∷ xs) all =
-        let num : Slot → ℕ = λ s. (call_of_slot s).number in
-        (
+        let num : Slot → ℕ = λ s. (call_of_slot s).number in (
           (λ is. other_true (num y) n (λ same. all.0 (ap num is ∙ number ∙ sym same)), λ is. other_true (num x) n (λ same. all.0 (same ∙ sym number ∙ sym (ap num is)))),
           from_one x xs all.1,
         )
+
     apart_from : (xs : List Slot) → EachPair (λ (x y : Slot). (call_of_slot x).number ≢ (call_of_slot y).number) xs
         → EachPair (λ (x z : Slot). (x ≡ slot → is_other n (call_of_slot z) ≡ true) × (z ≡ slot → is_other n (call_of_slot x) ≡ true)) xs
     apart_from [] pairs = tt
@@ -190,20 +189,19 @@ pub finished_kept : (old between settled : Board) (ones : List WaitingCall) (fil
 finished_kept old between settled ones files runs left values k slot r o law kept all at is call written truth same end started sound =
     let whole : take (length runs) old.running ≡ old.running = ap (λ j. take j old.running) all ∙ all_taken old.running in
     let calls : map call_of_slot left ≡ map call_running between.running =
-        ap (map call_of_slot) is ∙ calls_left old.running runs r.number (kept.calls ∙ ap (map call_running) whole) ∙ ap (map call_running) (sym end.running) in
+    ap (map call_of_slot) is ∙ calls_left old.running runs r.number (kept.calls ∙ ap (map call_running) whole) ∙ ap (map call_running) (sym end.running) in
     let count : length left ≡ length between.running = sym (length_map call_of_slot left) ∙ ap (λ (cs : List Call). length cs) calls ∙ length_map call_running between.running in
     let entry : (a : Assignment) → HasFiles files a → IsTrueEntry a (entry_of r (outcome_reply o) (outcome_news o)) =
-        λ a agrees. subst (IsTrueEntry a) (entry_same r (outcome_reply o) (outcome_news o)) (law a (outcome_call o) r (outcome_reply o) (outcome_pins o) same (truth a agrees)) in
-    (
+    λ a agrees. subst (IsTrueEntry a) (entry_same r (outcome_reply o) (outcome_news o)) (law a (outcome_call o) r (outcome_reply o) (outcome_pins o) same (truth a agrees)) in (
       count,
       kept_settled between settled ones files left values started sound
-        (subst (Every (λ (x : RunningCall). x.taken ≡ true)) (sym end.running) (Every-filter (λ (x : RunningCall). x.taken ≡ true) (λ (x : RunningCall). not (x.number == r.number)) old.running (subst (Every (λ (x : RunningCall). x.taken ≡ true)) whole kept.taken)))
-        calls count
-        (subst (Every (IsReady files)) (sym is) (Every-filter (IsReady files) (λ (s : Slot). is_other r.number (call_of_slot s)) runs kept.ready))
-        (subst (EachPair (λ (x y : Slot). AreApart x.run y.run)) (sym is) (EachPair-filter (λ (x y : Slot). AreApart x.run y.run) (λ (s : Slot). is_other r.number (call_of_slot s)) runs kept.apart))
-        (subst (AreServed (λ s. Serves files s)) (sym end.pins) (published_served (λ s. Serves files s) old.pins (new_if_done (outcome_reply o) (new_if_done (outcome_reply o) (outcome_news o))) kept.served (done_served (λ s. Serves files s) (outcome_reply o) (new_if_done (outcome_reply o) (outcome_news o)) (done_served (λ s. Serves files s) (outcome_reply o) (outcome_news o) written))))
-        (λ a agrees. subst (λ ob. ShowContents a (kinds_of ob) between.opening values) (sym end.object) (subst (λ pins. ShowContents a (kinds_of old.object) pins values) (sym end.opening) (kept.opening a agrees)))
-        (λ a agrees. subst (Every (IsTrueEntry a)) (sym end.history) (Every-snoc (IsTrueEntry a) old.history (entry_of r (outcome_reply o) (outcome_news o)) (kept.entries a agrees) (entry a agrees))),
+          (subst (Every (λ (x : RunningCall). x.taken ≡ true)) (sym end.running) (Every-filter (λ (x : RunningCall). x.taken ≡ true) (λ (x : RunningCall). not (x.number == r.number)) old.running (subst (Every (λ (x : RunningCall). x.taken ≡ true)) whole kept.taken)))
+          calls count
+          (subst (Every (IsReady files)) (sym is) (Every-filter (IsReady files) (λ (s : Slot). is_other r.number (call_of_slot s)) runs kept.ready))
+          (subst (EachPair (λ (x y : Slot). AreApart x.run y.run)) (sym is) (EachPair-filter (λ (x y : Slot). AreApart x.run y.run) (λ (s : Slot). is_other r.number (call_of_slot s)) runs kept.apart))
+          (subst (AreServed (λ s. Serves files s)) (sym end.pins) (published_served (λ s. Serves files s) old.pins (new_if_done (outcome_reply o) (new_if_done (outcome_reply o) (outcome_news o))) kept.served (done_served (λ s. Serves files s) (outcome_reply o) (new_if_done (outcome_reply o) (outcome_news o)) (done_served (λ s. Serves files s) (outcome_reply o) (outcome_news o) written))))
+          (λ a agrees. subst (λ ob. ShowContents a (kinds_of ob) between.opening values) (sym end.object) (subst (λ pins. ShowContents a (kinds_of old.object) pins values) (sym end.opening) (kept.opening a agrees)))
+          (λ a agrees. subst (Every (IsTrueEntry a)) (sym end.history) (Every-snoc (IsTrueEntry a) old.history (entry_of r (outcome_reply o) (outcome_news o)) (kept.entries a agrees) (entry a agrees))),
     )
 
 -- a finish of the run at a place, all that it leaves
@@ -231,14 +229,14 @@ finish_is law old k from slot o left receipt settled staged at cut before call n
     let same : slot.number ≡ r.number = ready.number ∙ sym number in
     let next : k + 1 ≡ suc k = omega arith in
     let is : left ≡ filter (λ (s : Slot). is_other r.number (call_of_slot s)) old.runs.items =
-        cut ∙ ap (λ j. take k old.runs.items ++ drop j old.runs.items) next ∙ others_left old.desk.running old.runs.items k r.number slot paired at (sym number) in
+    cut ∙ ap (λ j. take k old.runs.items ++ drop j old.runs.items) next ∙ others_left old.desk.running old.runs.items k r.number slot paired at (sym number) in
     let entry : Noted = entry_of r (outcome_reply o) (outcome_news o) in
     let end : IsEnded old.desk (ended old.desk entry) entry = ended_is old.desk entry in
     let all = finished_kept old.desk (ended old.desk entry) settled finishes.settles.ones (files_of old.hand) old.runs.items left old.opening.items k slot r o law kept staged.all at is call
-        (subst (NewsServed (λ s. Serves (files_of old.hand) s)) (sym news) ready.written) (λ a agrees. told a (ready.found a agrees)) finishes.is end finishes.settles.started sound in
+    (subst (NewsServed (λ s. Serves (files_of old.hand) s)) (sym news) ready.written) (λ a agrees. told a (ready.found a agrees)) finishes.is end finishes.settles.started sound in
     let has : HasNew settled (length left) from finishes.settles.ones =
-        has_new (ended old.desk entry) settled (length left) from finishes.settles.ones finishes.settles.started all.0
-            (before ∙ sym (ap (λ (es : List TraceEvent). length es) end.trace ∙ length-append old.desk.trace (End entry.number entry.reply ∷ []))) in
+    has_new (ended old.desk entry) settled (length left) from finishes.settles.ones finishes.settles.started all.0
+    (before ∙ sym (ap (λ (es : List TraceEvent). length es) end.trace ∙ length-append old.desk.trace (End entry.number entry.reply ∷ []))) in
     record {
       r = r;
       runs = finishes.runs;

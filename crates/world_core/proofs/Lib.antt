@@ -1,6 +1,7 @@
 pub mod Places
 pub mod Beginning
 pub mod Settling
+pub mod Playing
 pub mod Finishing
 pub mod Stepping
 pub mod Showing

@@ -1,8 +1,8 @@
 -- Lists cut at a place.
-use Rattle.std.proofs.Common.{◌≡◌, ◌≢◌, ℕ, zero, suc, ◌+◌, ◌<◌, ◌≤◌, List, [], ◌∷◌, ◌++◌, length, Option, Some, None, refl, sym, ◌∙◌, ap, subst, arith, take, drop, map}
-use Rattle.std.specs.Prelude.{slice_get, slice_set, unwrap_or}
-use Rattle.board_core.specs.Lists.{Every, EachPair, Among}
-use Rattle.board_core.proofs.Lists.{Every-at, Every-snoc}
+use Rattle.std.proofs.Common.{◌≡◌, ◌≢◌, ℕ, zero, suc, ◌<◌, List, [], ◌∷◌, ◌++◌, length, Some, refl, sym, ◌∙◌, ap, arith, take, drop, map}
+use Rattle.std.specs.Prelude.{slice_get, slice_set}
+use Rattle.board_core.specs.Lists.{EachPair}
+use Rattle.board_core.proofs.Lists.{Every-at}
 
 pub some_is : {X : Type 0} {x y : X} → Some x ≡ Some y → x ≡ y
 some_is e = cc

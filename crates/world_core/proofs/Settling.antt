@@ -1,6 +1,5 @@
 -- What an event leaves, where admission follows.
-use Rattle.std.proofs.Common.{◌≡◌, ℕ, zero, suc, ◌+◌, ◌≤◌, true, false, List, [], ◌∷◌, ◌++◌, length, Some, refl, sym, ◌∙◌, ap, subst, arith, take, drop, map, length-append}
-use Rattle.std.specs.Prelude.{slice_get}
+use Rattle.std.proofs.Common.{◌≡◌, ℕ, true, false, List, [], ◌∷◌, ◌++◌, length, refl, sym, ◌∙◌, ap, subst, arith, take, drop, map, length-append}
 use Rattle.value_core.specs.Contents.{Contents}
 use Rattle.shelf_core.specs.declared.file.File.{File}
 use Rattle.shelf_core.specs.declared.hand.Stamp.{Stamp}
@@ -23,7 +22,7 @@ use Rattle.world_core.specs.declared.stage.Stage.{Stage}
 use Rattle.world_core.specs.Scene.{Scene, Standing, AreBegun, Goes, call_running, collected}
 use Rattle.world_core.specs.Kept.{IsKept, IsReady, IsStaged, HasNew, standing_of, scene_of}
 use Rattle.world_core.proofs.Beginning.{all_collected}
-use Rattle.world_core.proofs.Places.{all_taken, none_left}
+use Rattle.world_core.proofs.Places.{all_taken}
 
 pub drop_front : {X : Type 0} (xs ys : List X) → drop (length xs) (xs ++ ys) ≡ ys
 drop_front [] ys = refl
@@ -74,13 +73,13 @@ pub kept_same : (old between settled : Board) (ones : List WaitingCall) (files :
 kept_same old between settled ones files runs values kept all running pins opening object history started sound =
     let whole : take (length runs) old.running ≡ between.running = ap (λ k. take k old.running) all ∙ all_taken old.running ∙ sym running in
     kept_settled between settled ones files runs values started sound
-      (subst (Every (λ (r : RunningCall). r.taken ≡ true)) whole kept.taken)
-      (kept.calls ∙ ap (map call_running) whole)
-      (all ∙ ap (λ (rs : List RunningCall). length rs) (sym running))
-      kept.ready kept.apart
-      (subst (AreServed (λ s. Serves files s)) (sym pins) kept.served)
-      (λ a agrees. subst (λ o. ShowContents a (kinds_of o) between.opening values) (sym object) (subst (λ ps. ShowContents a (kinds_of old.object) ps values) (sym opening) (kept.opening a agrees)))
-      (λ a agrees. subst (Every (IsTrueEntry a)) (sym history) (kept.entries a agrees))
+    (subst (Every (λ (r : RunningCall). r.taken ≡ true)) whole kept.taken)
+    (kept.calls ∙ ap (map call_running) whole)
+    (all ∙ ap (λ (rs : List RunningCall). length rs) (sym running))
+    kept.ready kept.apart
+    (subst (AreServed (λ s. Serves files s)) (sym pins) kept.served)
+    (λ a agrees. subst (λ o. ShowContents a (kinds_of o) between.opening values) (sym object) (subst (λ ps. ShowContents a (kinds_of old.object) ps values) (sym opening) (kept.opening a agrees)))
+    (λ a agrees. subst (Every (IsTrueEntry a)) (sym history) (kept.entries a agrees))
 
 -- what the runs of the calls that started make of a world
 pub goes : (old : Scene) (between settled : Board) (kept begun : List Standing) (starts : ℕ) (new : Scene) (settles : Settles between settled) → new.board ≡ collected settled → starts ≡ length settles.ones
@@ -138,7 +137,7 @@ pub event_goes : (old new : Stage) (between settled : Board) (runs : List Slot) 
 event_goes old new between settled runs from starts settles has staged same made files opening =
     let all = made settles.ones has in
     goes (scene_of old) between settled (map standing_of runs) all.1.0 starts (scene_of new) settles
-      (sym (all_collected new.desk (files_of new.hand) new.runs.items new.opening.items staged.kept staged.all) ∙ same) all.0 all.1.1 all.1.2 files opening
+    (sym (all_collected new.desk (files_of new.hand) new.runs.items new.opening.items staged.kept staged.all) ∙ same) all.0 all.1.1 all.1.2 files opening
 
 -- a cancel that takes no call out changes nothing
 pub not_dismissed : (b after : Board) (n : ℕ) (answer : Cancelled) → Cancels b n answer after → (answer ≡ cancels.Cancelled → ⊥) → after ≡ b

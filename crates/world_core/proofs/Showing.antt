@@ -73,11 +73,12 @@ part_shown s k kind pin staged at there = (
   first.1,
   first.3,
   λ a agrees.
-    let this = (contents_shown s staged a agrees).each k kind at in
-    subst (λ v. Shows a kind pin v) (some_is (sym this.3 ∙ first.3)) (subst (λ p. Shows a kind p this.1) (some_is (sym this.2 ∙ there)) this.4),
+      let this = (contents_shown s staged a agrees).each k kind at in
+      subst (λ v. Shows a kind pin v) (some_is (sym this.3 ∙ first.3)) (subst (λ p. Shows a kind p this.1) (some_is (sym this.2 ∙ there)) this.4),
 ) where
   some : (a : Assignment) × HasFiles (files_of s.hand) a
   some = some_map s.hand.files.items
+
   first : (p : Stamp) × (value : Contents) × (slice_get s.desk.pins k ≡ Some p) × (slice_get (leads_to (history_of s.desk.history) s.opening.items) k ≡ Some value) × Shows some.0 kind p value
   first = (contents_shown s staged some.0 some.1).each k kind at
 
@@ -92,7 +93,7 @@ pub value_of : (old mid : Stage) (values : List Contents) (k : ℕ) (o : Object)
     → (value : Contents) × (slice_get (leads_to (history_of old.desk.history) old.opening.items) k ≡ Some value) × ((a : Assignment) → HasFiles (files_of mid.hand) a → Shows a part.kind pin value)
 value_of old mid values k o part pins pin staged so same its there stands =
     let at : slice_get (kinds_of old.desk.object) k ≡ Some part.kind =
-        subst (λ (x : Object). slice_get (kinds_of x) k ≡ Some part.kind) (same ∙ ap (λ (b : Board). b.object) so.desk) (kind_at o.parts.items k part there) in
+    subst (λ (x : Object). slice_get (kinds_of x) k ≡ Some part.kind) (same ∙ ap (λ (b : Board). b.object) so.desk) (kind_at o.parts.items k part there) in
     let its_value = part_shown old k part.kind pin staged at (subst (λ ps. slice_get ps k ≡ Some pin) its stands) in
     (its_value.0, its_value.1, λ a agrees. its_value.2 a (subst (λ fs. HasFiles fs a) so.files agrees))
 

@@ -1,5 +1,5 @@
 -- What a world answers to events, and what each of them leaves.
-use Rattle.std.specs.Prelude.{◌≡◌, ◌≢◌, ℕ, ◌+◌, ◌≤◌, ◌<◌, ◌⊎◌, ◌==◌, not, Bool, true, false, List, [], ◌∷◌, length, filter, slice_set, Some}
+use Rattle.std.specs.Prelude.{◌≡◌, ◌≢◌, ℕ, ◌+◌, ◌≤◌, ◌<◌, ◌⊎◌, ◌==◌, not, Bool, true, false, List, length, filter, slice_set, Some}
 use Rattle.std.specs.Global.{Vec}
 use Rattle.value_core.specs.Contents.{Contents}
 use Rattle.shelf_core.specs.declared.file.File.{File}
@@ -12,7 +12,7 @@ use Rattle.body_core.specs.Phases.{step_answer}
 use Rattle.body_core.specs.History.{leads_to}
 use Rattle.board_core.specs.Lists.{Among}
 use Rattle.board_core.specs.Calls.{AcceptedCall, RunningCall}
-use Rattle.board_core.specs.Board.{Board, joined, dismissed, released, marked, ended, entry_of}
+use Rattle.board_core.specs.Board.{joined, dismissed, released, marked, ended, entry_of}
 use Rattle.board_core.specs.Chain.{history_of}
 use Rattle.desk_core.specs.declared.answer.SubmitFault.{SubmitFault}
 use Rattle.desk_core.specs.declared.answer.Cancelled.{Cancelled}
@@ -45,7 +45,7 @@ pub data Answers (old : Scene) : WorldEvent → EventAnswer → Scene → Type 0
   -- a step is one step of that call's run
   stepped : {number : ℕ} {works : Bool} (k : ℕ) (run : Standing) (after : Place) (files : List File) → IsRunAt old.runs k number run → need_at run.place ≢ needs.Done → Moves run works after
       → Answers old (step number works) (with_starts (Stepped (need_at run.place) (step_answer (ending_at run.place) (ending_at after))) 0)
-          (record old { runs = slice_set old.runs k (record run { place = after }); files = files })
+      (record old { runs = slice_set old.runs k (record run { place = after }); files = files })
   no_step : {number : ℕ} {works : Bool} (k : ℕ) (run : Standing) → IsRunAt old.runs k number run → need_at run.place ≡ needs.Done → Answers old (step number works) (with_starts (Refused NoStep) 0) old
   step_not_running : {number : ℕ} {works : Bool} → runs_in old.board number ≡ false → Answers old (step number works) (with_starts (Refused NotRunning) 0) old
   -- a call finishes as its run has ended, and what that staged is published, if it was done

@@ -1,5 +1,5 @@
 -- The main theorem of worlds.
-use Rattle.std.specs.Prelude.{◌≡◌, ◌≢◌, ℕ, ◌<◌, List, [], map}
+use Rattle.std.specs.Prelude.{◌≡◌, ◌≢◌, ◌<◌, List, map}
 use Rattle.path_tree.specs.Satisfies.{SatisfiesAll}
 use Rattle.decl_core.specs.declared.object.Object.{Object}
 use Rattle.shelf_core.specs.Device.{Assignment}

@@ -5,3 +5,4 @@ pub mod Answers
 pub mod Plays
 pub mod Headline
 pub mod Kept
+pub mod Laws

@@ -1,8 +1,6 @@
 -- Lists of events.
-use Rattle.std.specs.Prelude.{◌≡◌, ℕ, ◌⊎◌, Bool, false, List, [], ◌∷◌, ◌++◌, map}
+use Rattle.std.specs.Prelude.{◌≡◌, ℕ, ◌⊎◌, false, List, [], ◌∷◌}
 use Rattle.body_core.specs.declared.reply.Reply.{Reply}
-use Rattle.body_core.specs.declared.reply.Failure.TheVariants as failures
-use Rattle.body_core.specs.declared.reply.Reply.TheVariants as replies
 use Rattle.body_core.specs.declared.step.Need.{Need}
 use Rattle.body_core.specs.declared.step.StepAnswer.TheVariants as steps
 use Rattle.shelf_core.specs.declared.hand.HandFault.TheVariants as faults

@@ -1,5 +1,5 @@
 -- A world, as contracts see it.
-use Rattle.std.specs.Prelude.{◌≡◌, ◌≢◌, ℕ, ◌+◌, Bool, true, List, [], ◌∷◌, ◌++◌, length, map, slice_get, Some}
+use Rattle.std.specs.Prelude.{◌≡◌, ℕ, true, List, [], ◌∷◌, ◌++◌, length, map, slice_get, Some}
 use Rattle.value_core.specs.Contents.{Contents}
 use Rattle.value_core.specs.Meaning.{opening_of}
 use Rattle.decl_core.specs.declared.object.Object.{Object}

@@ -6,6 +6,7 @@
 #![tactic(auto)]
 
 pub mod event;
+pub mod laws;
 mod read;
 mod slot;
 mod stage;

@@ -25,11 +25,11 @@ ghost use Rattle.world_core.specs.Kept.{IsKept, IsStaged, HasNew, standing_of, s
 use crate::event::{Answer, EventAnswer, Refusal};
 use crate::read::read_value;
 use crate::slot::Slot;
+use board_core::event::TraceEvent;
+use board_core::laws::{chained_are_legal, truth_is_noted};
 use body_core::laws::{pens_are_open, pens_stay};
 use body_core::run::Run;
 use body_core::step::{Need, StepAnswer};
-use board_core::event::TraceEvent;
-use board_core::laws::{chained_are_legal, truth_is_noted};
 use desk_core::answer::{Cancelled, Collected};
 use desk_core::desk::Desk;
 use shelf_core::fuse::FuseHand;

@@ -11,6 +11,7 @@ ghost use Rattle.world_core.specs.Plays.{Plays};
 ghost use Rattle.world_core.specs.Headline.{IsSequential, EveryHistoryIsSequential};
 
 use crate::event::{Event, EventAnswer};
+use crate::laws::{fails_only_with_its_device, replies_are_told};
 use crate::stage::{MOST_OPEN, Stage};
 use desk_core::desk::Desk;
 use exclude_core::analyse::Accepted;
@@ -53,8 +54,7 @@ impl World {
     {
         let mut hand = MemHand::new(alloc);
         let mut shelf = MemShelf::new(alloc);
-        let Ok((pins, opening)) = open_parts(alloc, accepted.object(), &mut shelf, &mut hand)
-        else {
+        let Ok((pins, opening)) = open_parts(alloc, accepted.object(), &mut shelf, &mut hand) else {
             return Err(AllocError);
         };
         let runs = Vec::with_capacity(alloc, MOST_OPEN)?;
@@ -103,6 +103,10 @@ impl World {
         for event in events {
             let _answer = world.event(*event);
         }
+        // Its history is sequential, and it is what was told.
+        world.desk();
+        replies_are_told();
+        fails_only_with_its_device();
         Ok(world)
     }
 

@@ -1,5 +1,15 @@
 //! What the lines of a script do, and the lines that answer them.
 
+ghost use Rattle.std.specs.Prelude.{◌≡◌, ◌++◌, ℕ, List, OnOk, drop, map};
+ghost use Rattle.std.specs.List.{flat_map};
+ghost use Rattle.board_core.specs.Sound.{event_number};
+ghost use Rattle.script_text.specs.Answers.{refused_line, started_line};
+ghost use Rattle.script_text.specs.Said.{all_steps, a_trace};
+ghost use Rattle.script_text.specs.View.{said_view};
+ghost use Rattle.world_core.specs.Names.{refusal_name};
+ghost use Rattle.world_core.specs.Events.{event_of};
+ghost use Rattle.script_core.specs.Does.{Does, Happens, IsNoWant, IsTold, answer_lines, cancel_name, has_gone};
+
 use crate::script::steps::step_to_end;
 use board_core::event::TraceEvent;
 use body_core::step::StepAnswer;
@@ -16,7 +26,9 @@ use world_core::event::{Answer, Event, EventAnswer, Refusal};
 use world_core::world::World;
 
 // The name of what became of a cancel.
-fn cancel_name(answer: Cancelled) -> &'static str {
+fn cancel_name(answer: Cancelled) -> &'static str
+    ensures { result.now ≡ cancel_name answer }
+{
     match answer {
         Cancelled::Cancelled => "Cancelled",
         Cancelled::Running => "Running",
@@ -26,12 +38,17 @@ fn cancel_name(answer: Cancelled) -> &'static str {
 }
 
 // Whether a step did not fail.
-fn has_gone(answer: StepAnswer) -> bool {
+fn has_gone(answer: StepAnswer) -> bool
+    ensures { result ≡ has_gone answer }
+{
     matches!(answer, StepAnswer::Went)
 }
 
 // Adds the line of a refusal. Want of memory is an error.
-fn push_refusal(out: &mut Vec<u8>, refusal: Refusal) -> Result<(), AllocError> {
+fn push_refusal(out: &mut Vec<u8>, refusal: Refusal) -> Result<(), AllocError>
+    ensures told { OnOk result (out.new.items ≡ out.old.items ++ refused_line (refusal_name refusal)) }
+    ensures memory { OnOk result (IsNoWant refusal) }
+{
     match refusal {
         Refusal::Submit(SubmitFault::Memory) | Refusal::Memory => Err(AllocError),
         _ => push_refused(out, refusal.name()),
@@ -45,7 +62,10 @@ fn push_answer(
     object: &Object,
     number: u32,
     answer: &Answer,
-) -> Result<(), AllocError> {
+) -> Result<(), AllocError>
+    ensures told { OnOk result (out.new.items ≡ out.old.items ++ answer_lines object.now number answer.now) }
+    ensures memory { OnOk result (IsTold answer.now) }
+{
     match answer {
         Answer::Number(call) => push_called(out, *call),
         Answer::Stepped(need, went) => push_stepped(out, number, *need, has_gone(*went)),
@@ -57,13 +77,24 @@ fn push_answer(
     }
 }
 
+// The call that an event of the trace is of.
+fn number_of(event: TraceEvent) -> u32
+    ensures { result ≡ event_number event }
+{
+    match event {
+        TraceEvent::Start(number) => number,
+        TraceEvent::End(number, _) => number,
+    }
+}
+
 // Adds a line for each call that started from this place of the trace on.
-fn push_starts(out: &mut Vec<u8>, desk: &Desk, from: usize) -> Result<(), AllocError> {
+fn push_starts(out: &mut Vec<u8>, desk: &Desk, from: usize) -> Result<(), AllocError>
+    ensures { OnOk result (out.new.items ≡ out.old.items ++ flat_map (λ e. started_line (event_number e)) (drop from desk.now.trace)) }
+{
     let trace = desk.trace();
     for place in from..trace.len() {
         match trace.get(place) {
-            Some(TraceEvent::Start(number)) => push_started(out, number)?,
-            Some(TraceEvent::End(number, _)) => push_started(out, number)?,
+            Some(event) => push_started(out, number_of(event))?,
             None => unreachable!(),
         }
     }
@@ -77,25 +108,34 @@ fn tell_event(
     event: Event<'_>,
     number: u32,
     out: &mut Vec<u8>,
-) -> Result<(), AllocError> {
+) -> Result<(), AllocError>
+    ensures { OnOk result ((text : List ℕ) × (out.new.items ≡ out.old.items ++ text) × Happens (event_of event.entry) number world.old text world.new) }
+{
     let EventAnswer { answer, starts } = world.event(event);
     let desk = world.desk();
     push_answer(alloc, out, desk.accepted().object(), number, &answer)?;
-    push_starts(out, desk, desk.trace().len().saturating_sub(starts))
+    push_starts(out, desk, desk.trace().len().saturating_sub(starts))?;
+    Ok(())
 }
 
 // Lets a run make its steps to the end, and adds the answer.
-fn tell_steps(world: &mut World, number: u32, out: &mut Vec<u8>) -> Result<(), AllocError> {
-    match step_to_end(world, number) {
-        Ok(count) => push_all_stepped(out, number, count),
-        Err(refusal) => push_refusal(out, refusal),
+fn tell_steps(world: &mut World, number: u32, out: &mut Vec<u8>) -> Result<(), AllocError>
+    ensures { OnOk result ((text : List ℕ) × (out.new.items ≡ out.old.items ++ text) × Does (all_steps number) world.old text world.new) }
+{
+    if !world.desk().runs(number) {
+        return push_refused(out, Refusal::NotRunning.name());
     }
+    let count = step_to_end(world, number);
+    push_all_stepped(out, number, count)
 }
 
 // Adds the text of the trace.
-fn tell_trace(world: &World, out: &mut Vec<u8>) -> Result<(), AllocError> {
+fn tell_trace(world: &World, out: &mut Vec<u8>) -> Result<(), AllocError>
+    ensures { OnOk result ((text : List ℕ) × (out.new.items ≡ out.old.items ++ text) × Does a_trace world.now text world.now) }
+{
     let text = world.desk().trace_text(world.opening())?;
-    out.extend_from_slice(&text)
+    out.extend_from_slice(&text)?;
+    Ok(())
 }
 
 /// Does what a line says, and adds its answer. The error is that memory was refused, for the event or for the answer.
@@ -104,7 +144,9 @@ pub fn answer_said(
     world: &mut World,
     said: Said<'_>,
     out: &mut Vec<u8>,
-) -> Result<(), AllocError> {
+) -> Result<(), AllocError>
+    ensures { OnOk result ((text : List ℕ) × (out.new.items ≡ out.old.items ++ text) × Does (said_view said.entry) world.old text world.new) }
+{
     match said {
         Said::Call(session, op, arguments) => {
             tell_event(alloc, world, Event::Call(session, op, &arguments), 0, out)

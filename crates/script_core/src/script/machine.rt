@@ -1,5 +1,8 @@
 //! The state of a script, and its answers.
 
+ghost use Rattle.std.specs.Prelude.{◌≡◌, ◌++◌, ◌↔◌, ℕ, List, IfOk, IsTrue, true, false};
+ghost use Rattle.script_core.specs.Writes.{IsBegun, NamesObject, Writes, told_of};
+
 use crate::script::answer::answer_said;
 use decl_core::object::Object;
 use exclude_core::analyse::Accepted;
@@ -19,7 +22,9 @@ pub struct Script {
 }
 
 // Whether a line names this object.
-fn names_object(object: &Object, line: &[u8]) -> bool {
+fn names_object(object: &Object, line: &[u8]) -> bool
+    ensures { IsTrue result ↔ NamesObject object.now line.now }
+{
     match object_line(line) {
         Some(name) => object.name.is_spelled_by(name),
         None => false,
@@ -28,7 +33,9 @@ fn names_object(object: &Object, line: &[u8]) -> bool {
 
 impl Script {
     /// The state before the first line.
-    pub fn new(alloc: Global, accepted: Accepted) -> Result<Script, AllocError> {
+    pub fn new(alloc: Global, accepted: Accepted) -> Result<Script, AllocError>
+        ensures { IfOk result (λ state. IsBegun accepted (told_of state)) }
+    {
         let world = World::new(alloc, accepted)?;
         Ok(Script {
             alloc,
@@ -53,7 +60,10 @@ impl Script {
         number: u64,
         line: &[u8],
         out: &mut Vec<u8>,
-    ) -> Result<bool, AllocError> {
+    ) -> Result<bool, AllocError>
+        requires { self.old.named ≡ false }
+        ensures { IfOk result (λ goes. (text : List ℕ) × (out.new.items ≡ out.old.items ++ text) × Writes (told_of self.old) number line.now text goes (told_of self.new)) }
+    {
         if names_object(self.world.desk().accepted().object(), line) {
             self.named = true;
             return Ok(true);
@@ -68,7 +78,10 @@ impl Script {
         number: u64,
         line: &[u8],
         out: &mut Vec<u8>,
-    ) -> Result<bool, AllocError> {
+    ) -> Result<bool, AllocError>
+        requires { self.old.named ≡ true }
+        ensures { IfOk result (λ goes. (text : List ℕ) × (out.new.items ≡ out.old.items ++ text) × Writes (told_of self.old) number line.now text goes (told_of self.new)) }
+    {
         if is_skipped(line) {
             return Ok(true);
         }
@@ -86,9 +99,9 @@ impl Script {
 }
 
 impl Machine for Script {
-    ghost use Rattle.std.specs.Prelude.{Unit};
+    ghost use Rattle.script_core.specs.Writes.{ScriptGives};
 
-    ghost gives = { λ old number line text goes new. Unit {0} };
+    ghost gives = { ScriptGives };
 
     fn answer(&mut self, number: u64, line: &[u8], out: &mut Vec<u8>) -> Result<bool, AllocError> {
         if !self.named {

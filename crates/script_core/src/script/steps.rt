@@ -1,21 +1,37 @@
 //! The steps of a run, to its end.
 
-use world_core::event::{Answer, Event, Refusal};
+ghost use Rattle.std.specs.Prelude.{◌≡◌, true, false};
+ghost use Rattle.desk_core.specs.Answers.{runs_in};
+ghost use Rattle.script_core.specs.Does.{IsStep, IsOver, StepsOn};
+
+use world_core::event::{Answer, Event};
 use world_core::world::World;
 
 /// After so many steps a run counts as one that never ends.
 pub const MOST_STEPS: u64 = u64::MAX;
 
-/// Lets the run of the call of this number make steps that work until it has ended, and says how many. The error is why
-/// there is no such run.
-pub fn step_to_end(world: &mut World, number: u32) -> Result<u64, Refusal> {
+// Lets a run make a step that works, if it has one.
+fn step_once(world: &mut World, number: u32) -> bool
+    requires { runs_in world.old.board number ≡ true }
+    ensures runs { runs_in world.new.board number ≡ true }
+    ensures made { result ≡ true → IsStep number world.old world.new }
+    ensures over { result ≡ false → IsOver number world.old world.new }
+{
+    match world.event(Event::Step(number, true)).answer {
+        Answer::Stepped(_, _) => true,
+        _ => false,
+    }
+}
+
+/// Lets the run of the call of this number, which runs, make steps that work until it has ended, and says how many.
+pub fn step_to_end(world: &mut World, number: u32) -> u64
+    requires { runs_in world.old.board number ≡ true }
+    ensures { StepsOn number world.old result world.new }
+{
     for count in 0..MOST_STEPS {
-        match world.event(Event::Step(number, true)).answer {
-            Answer::Stepped(_, _) => {}
-            Answer::Refused(Refusal::NoStep) => return Ok(count),
-            Answer::Refused(refusal) => return Err(refusal),
-            _ => unreachable!(),
+        if !step_once(world, number) {
+            return count;
         }
     }
-    Ok(MOST_STEPS)
+    MOST_STEPS
 }

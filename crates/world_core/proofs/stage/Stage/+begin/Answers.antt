@@ -1,15 +1,14 @@
-use Rattle.std.proofs.Common.{arith, ◌≡◌, ◌≤◌, ◌<◌, ◌+◌, ◌∷◌, ◌++◌, [], List, ℕ, Some, None, length, map, refl, sym, ◌∙◌, ap, subst, append-nil, append_assoc, suc}
+use Rattle.std.proofs.Common.{arith, ◌≡◌, ◌≤◌, ◌<◌, [], List, Some, length, map, sym, ◌∙◌, ap, subst, append-nil}
 use Rattle.std.specs.Prelude.{slice_get}
-use Rattle.shelf_core.specs.Files.{files_of}
 use Rattle.board_core.specs.declared.event.TraceEvent.{TraceEvent}
-use Rattle.board_core.specs.declared.event.TraceEvent.TheVariants.{Start, End}
-use Rattle.board_core.specs.Calls.{RunningCall, WaitingCall}
-use Rattle.board_core.specs.Board.{Board, taken_at}
+use Rattle.board_core.specs.declared.event.TraceEvent.TheVariants.{End}
+use Rattle.board_core.specs.Calls.{WaitingCall}
+use Rattle.board_core.specs.Board.{Board}
 use Rattle.board_core.specs.Started.{run_of}
-use Rattle.world_core.specs.Scene.{Standing, AreBegun, collected}
-use Rattle.world_core.specs.Kept.{IsKept, HasNew, standing_of}
+use Rattle.world_core.specs.Scene.{AreBegun}
+use Rattle.world_core.specs.Kept.{HasNew}
 use Rattle.world_core.proofs.Beginning.{new_over, none_new, next_new, new_more, not_end, new_few, event_there, next_run, all_begun}
-use Rattle.world_core.proofs.Places.{within, length_snoc, map_snoc}
+use Rattle.world_core.proofs.Places.{within}
 use Rattle.world_core.proofs.stage.Stage.+begin.Goals as goal
 
 pub returns-then-from-len-clause-staged : goal.returns-then-from-len-clause-staged
@@ -24,8 +23,7 @@ pub returns-then-from-len-clause-starts : goal.returns-then-from-len-clause-star
 returns-then-from-len-clause-starts t c = λ ones new.
     let old = c.args.self.now in
     let over : length old.desk.trace ≤ c.args.from = omega (arith, c.if-from-len.true, c.len.ensures, ap (λ (b : Board). length b.trace) c.trace.ensures) in
-    let none : ones ≡ [] = new_over _ _ _ _ new over in
-    (
+    let none : ones ≡ [] = new_over _ _ _ _ new over in (
       sym (ap (λ (ws : List WaitingCall). length ws) none),
       ([], subst (λ (ws : List WaitingCall). AreBegun (map (run_of old.desk.pins) ws) []) (sym none) tt, sym (append-nil _)),
     )

@@ -1,6 +1,4 @@
-use Rattle.std.proofs.Common.{◌≡◌, sym, ◌∙◌, ap, subst, length}
-use Rattle.shelf_core.specs.Files.{files_of}
-use Rattle.board_core.specs.Calls.{AcceptedCall}
+use Rattle.std.proofs.Common.{sym, ◌∙◌, ap, subst, length}
 use Rattle.board_core.specs.Board.{Board, joined}
 use Rattle.desk_core.specs.Answers.{Asked}
 use Rattle.world_core.specs.declared.event.EventAnswer.{EventAnswer}
@@ -42,4 +40,4 @@ returns-in-Err-clause-answers c =
     let put : Board → Stage = λ b. record old { desk = b } in
     let told : Answers (scene_of old) (call asked) (with_starts (Refused (Submit c.in-Err.fault)) 0) (scene_of old) = not_called c.in-Err.fault found.0 in
     subst (λ (x : EventAnswer). Answers (scene_of old) (call asked) x (scene_of (put c.submit.new.self))) (sym c.only.ensures)
-        (subst (λ (b : Board). Answers (scene_of old) (call asked) (with_starts (Refused (Submit c.in-Err.fault)) 0) (scene_of (put b))) (sym found.1) told)
+    (subst (λ (b : Board). Answers (scene_of old) (call asked) (with_starts (Refused (Submit c.in-Err.fault)) 0) (scene_of (put b))) (sym found.1) told)

@@ -1,8 +1,5 @@
-use Rattle.std.proofs.Common.{◌≡◌, refl, sym, ◌∙◌, ap, subst, length, map}
-use Rattle.shelf_core.specs.Files.{files_of}
+use Rattle.std.proofs.Common.{sym, ◌∙◌, ap, subst, length}
 use Rattle.board_core.specs.Board.{Board, Rests, dismissed}
-use Rattle.board_core.specs.Started.{Settles}
-use Rattle.desk_core.specs.declared.answer.Cancelled.TheVariants as cancels
 use Rattle.desk_core.specs.Answers.{Cancels}
 use Rattle.world_core.specs.declared.event.EventAnswer.{EventAnswer}
 use Rattle.world_core.specs.declared.event.Answer.TheVariants.{Cancel}

@@ -1,8 +1,7 @@
-use Rattle.std.proofs.Common.{◌≡◌, ◌≢◌, ◌<◌, ◌∙◌, ℕ, List, length, Option, Some, None, refl, sym, ap, subst, arith}
+use Rattle.std.proofs.Common.{◌≡◌, ◌≢◌, ◌∙◌, ℕ, List, Some, sym, ap, subst, arith}
 use Rattle.std.specs.Prelude.{slice_get}
 use Rattle.std.proofs.lemmas.Option.{slice_get_within, get_or_from_slice_get}
 use Rattle.shelf_core.specs.Files.{files_of}
-use Rattle.body_core.specs.declared.step.Need.{Need}
 use Rattle.body_core.specs.declared.step.Need.TheVariants as needs
 use Rattle.body_core.specs.Runs.{run_ending, run_place}
 use Rattle.body_core.specs.Steps.{need_at}
@@ -19,7 +18,7 @@ pub returns-in-None-clause-answers : goal.returns-in-None-clause-answers
 returns-in-None-clause-answers c =
     let none : Every (λ (s : Slot). s.number ≢ c.args.number) c.args.self.now.runs.items = subst (Every (λ (s : Slot). s.number ≢ c.args.number)) c.deref.ensures.value c.in-None.ensures.none in
     subst (λ (answer : EventAnswer). Answers (scene_of c.args.self.now) (finish c.args.number) answer (scene_of c.args.self.now)) (sym c.only.ensures)
-      (finish_not_running (not_running c.args.self.now.desk (files_of c.args.self.now.hand) c.args.self.now.runs.items c.args.self.now.opening.items c.args.number c.requires.staged.kept c.requires.staged.all none))
+    (finish_not_running (not_running c.args.self.now.desk (files_of c.args.self.now.hand) c.args.self.now.runs.items c.args.self.now.opening.items c.args.number c.requires.staged.kept c.requires.staged.all none))
 
 pub index-requires : goal.index-requires
 index-requires c =
@@ -37,7 +36,7 @@ returns-then-not-is_done-clause-answers c =
     let need : c.next-need.result ≡ need_at (run_place slot.run) = c.next-need.ensures.need ∙ ap (λ (s : Slot). need_at (run_place s.run)) same in
     let more : need_at (run_place slot.run) ≢ needs.Done = λ done. let yes = c.is_done.ensures.1 (need ∙ done) in let no = c.if-not-is_done.true in cc in
     subst (λ (answer : EventAnswer). Answers (scene_of c.args.self.now) (finish c.args.number) answer (scene_of c.args.self.now)) (sym c.only-then-not-is_done.ensures)
-      (not_done k (standing_of slot) (run_at (files_of c.args.self.now.hand) runs k c.args.number slot c.requires.staged.kept.ready at c.in-Some.ensures.some.2) more)
+    (not_done k (standing_of slot) (run_at (files_of c.args.self.now.hand) runs k c.args.number slot c.requires.staged.kept.ready at c.in-Some.ensures.some.2) more)
 
 pub publish-requires-clause-done : goal.publish-requires-clause-done
 publish-requires-clause-done c =

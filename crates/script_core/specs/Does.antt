@@ -1,0 +1,109 @@
+-- What a line of a script does to a world, and the lines that answer it.
+use Rattle.std.specs.Prelude.{◌≡◌, ◌≢◌, ◌⊎◌, ℕ, ◌+◌, ◌-◌, ◌^◌, Bool, true, false, List, ◌++◌, length, drop, codes}
+use Rattle.std.specs.List.{flat_map}
+use Rattle.value_core.specs.declared.datum.Datum.{Datum}
+use Rattle.decl_core.specs.declared.object.Object.{Object}
+use Rattle.decl_core.specs.ObjectMap.{object_of}
+use Rattle.body_core.specs.declared.step.Need.{Need}
+use Rattle.body_core.specs.declared.step.StepAnswer.{StepAnswer}
+use Rattle.body_core.specs.declared.step.StepAnswer.TheVariants.{Went, Failed, AlreadyDone}
+use Rattle.trace_core.specs.Text.{trace_text}
+use Rattle.board_core.specs.declared.event.TraceEvent.{TraceEvent}
+use Rattle.board_core.specs.Sound.{event_number}
+use Rattle.desk_core.specs.declared.answer.SubmitFault.TheVariants as faults
+use Rattle.desk_core.specs.declared.answer.Cancelled.{Cancelled}
+use Rattle.desk_core.specs.declared.answer.Cancelled.TheVariants as cancels
+use Rattle.desk_core.specs.Answers.{runs_in}
+use Rattle.desk_core.specs.Told.{lines_told}
+use Rattle.world_core.specs.declared.event.Refusal.{Refusal}
+use Rattle.world_core.specs.declared.event.Refusal.TheVariants.{Submit, NotRunning, NoStep, Memory}
+use Rattle.world_core.specs.declared.event.Answer.{Answer}
+use Rattle.world_core.specs.declared.event.Answer.TheVariants.{Number, Stepped, Ended, Cancel, Dropped, Shown, Refused}
+use Rattle.world_core.specs.declared.event.EventAnswer.{EventAnswer}
+use Rattle.world_core.specs.Names.{refusal_name}
+use Rattle.world_core.specs.Events.{WorldEvent, call, step, finish, cancel, leave, look}
+use Rattle.world_core.specs.Scene.{Scene}
+use Rattle.world_core.specs.Answers.{Answers}
+use Rattle.script_text.specs.Said.{Said, a_call, a_step, all_steps, a_finish, a_cancel, a_drop, a_show, a_trace}
+use Rattle.script_text.specs.Answers.{called_line, refused_line, stepped_line, all_stepped_line, finished_line, cancelled_line, dropped_line, started_line, shown_lines}
+
+-- a step that failed, for whatever cause, is told as failed
+abbrev pub has_gone : StepAnswer → Bool
+has_gone Went = true
+has_gone (Failed fault) = false
+has_gone AlreadyDone = false
+
+-- what became of a cancel
+abbrev pub cancel_name : Cancelled → List ℕ
+cancel_name cancels.Cancelled = codes "Cancelled"
+cancel_name cancels.Running = codes "Running"
+cancel_name cancels.Ended = codes "Ended"
+cancel_name cancels.Unknown = codes "Unknown"
+
+-- the lines that tell an answer to an event of this call or session, over this object
+abbrev pub answer_lines : Object → ℕ → Answer → List ℕ
+answer_lines o number (Number given) = called_line given
+answer_lines o number (Stepped need went) = stepped_line number need (has_gone went)
+answer_lines o number (Ended reply) = finished_line number reply
+answer_lines o number (Cancel became) = cancelled_line number (cancel_name became)
+answer_lines o number Dropped = dropped_line number
+answer_lines o number (Shown values) = shown_lines (object_of o).parts values.items
+answer_lines o number (Refused refusal) = refused_line (refusal_name refusal)
+
+-- a refusal that is no want of memory
+pub record IsNoWant (refusal : Refusal) : Type 0 where
+  pub event : refusal ≢ Memory
+  pub submit : refusal ≢ Submit faults.Memory
+
+-- an answer is told, and a want of memory is not
+abbrev pub IsTold : Answer → Type 0
+IsTold answer = (refusal : Refusal) → answer ≡ Refused refusal → IsNoWant refusal
+
+-- `started N` for each of the last events of a trace
+abbrev pub started_lines : ℕ → List TraceEvent → List ℕ
+started_lines starts trace = flat_map (λ e. started_line (event_number e)) (drop (length trace - starts) trace)
+
+-- the event that a line says, and the call or the session that it speaks of; a call has no number yet
+pub data IsEvent : Said → WorldEvent → ℕ → Type 0 where
+  calls : {session : ℕ} {name : List ℕ} {arguments : List Datum} → IsEvent (a_call session name arguments) (call (record { session = session; name = name; arguments = arguments })) 0
+  steps : {number : ℕ} {works : Bool} → IsEvent (a_step number works) (step number works) number
+  finishes : {number : ℕ} → IsEvent (a_finish number) (finish number) number
+  cancels_it : {number : ℕ} → IsEvent (a_cancel number) (cancel number) number
+  leaves : {session : ℕ} → IsEvent (a_drop session) (leave session) session
+  looks : IsEvent a_show look 0
+
+-- an event of this call or session happens: its answer, and a line for each call that it started
+pub data Happens (event : WorldEvent) (number : ℕ) (old : Scene) : List ℕ → Scene → Type 0 where
+  happens : {new : Scene} (a : EventAnswer) → Answers old event a new → IsTold a.answer → Happens event number old (answer_lines new.board.object number a.answer ++ started_lines a.starts new.board.trace) new
+
+-- a step of a call that is to work is made
+pub record IsStep (number : ℕ) (old new : Scene) : Type 0 where
+  pub a : EventAnswer
+  pub answers : Answers old (step number true) a new
+  pub need : Need
+  pub went : StepAnswer
+  pub stepped : a.answer ≡ Stepped need went
+
+-- so many steps of a call that are to work lead from a world to a world
+pub data StepsMade (number : ℕ) (first : Scene) : ℕ → Scene → Type 0 where
+  none_yet : StepsMade number first 0 first
+  one_more : {count : ℕ} {mid last : Scene} → StepsMade number first count mid → IsStep number mid last → StepsMade number first (count + 1) last
+
+-- the run of a call has no step to make
+pub record IsOver (number : ℕ) (old new : Scene) : Type 0 where
+  pub a : EventAnswer
+  pub answers : Answers old (step number true) a new
+  pub refused : a.answer ≡ Refused NoStep
+
+-- so many steps, and then the run has no step to make; after 2 ^ 64 - 1 steps no more are made
+abbrev pub StepsOn : ℕ → Scene → ℕ → Scene → Type 0
+StepsOn number first count last = (mid : Scene) × StepsMade number first count mid × (IsOver number mid last ⊎ ((count ≡ 2 ^ 64 - 1) × (last ≡ mid)))
+
+-- what a line that says this does to a world: the lines that answer it, and the world that it leaves
+pub data Does : Said → Scene → List ℕ → Scene → Type 0 where
+  one_event : {said : Said} {event : WorldEvent} {number : ℕ} {old new : Scene} {text : List ℕ} → IsEvent said event number → Happens event number old text new → Does said old text new
+  -- steps until the run is done
+  all_stepped : {number : ℕ} {old new : Scene} (count : ℕ) → StepsOn number old count new → Does (all_steps number) old (all_stepped_line number count) new
+  not_stepped : {number : ℕ} {old : Scene} → runs_in old.board number ≡ false → Does (all_steps number) old (refused_line (refusal_name NotRunning)) old
+  -- the trace, with the opening values
+  traced : {old : Scene} → Does a_trace old (trace_text (object_of old.board.object) old.opening (lines_told old.board)) old

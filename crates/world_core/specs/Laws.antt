@@ -1,0 +1,21 @@
+-- Laws of lists of events.
+use Rattle.std.specs.Prelude.{◌≡◌, ◌≢◌, List, map}
+use Rattle.decl_core.specs.declared.object.Object.{Object}
+use Rattle.body_core.specs.declared.reply.Failure.TheVariants as failures
+use Rattle.body_core.specs.declared.reply.Reply.TheVariants as replies
+use Rattle.board_core.specs.Lists.{Every}
+use Rattle.board_core.specs.Calls.{Noted}
+use Rattle.world_core.specs.declared.event.EventAnswer.{EventAnswer}
+use Rattle.world_core.specs.Events.{WorldEvent}
+use Rattle.world_core.specs.Scene.{Scene, IsNew}
+use Rattle.world_core.specs.Plays.{Plays, finishes, HasFailedStep}
+
+-- From a new world, a call fails for the device only where a step of its own was made to fail, and never since a part is damaged.
+abbrev pub FailsOnlyWithItsDevice : Type 0
+FailsOnlyWithItsDevice = (o : Object) (old new : Scene) (events : List WorldEvent) (answers : List EventAnswer) → IsNew o old → Plays old events answers new →
+    Every (λ (e : Noted). e.reply ≡ replies.Failed failures.Device → HasFailedStep e.number events answers) new.board.history × Every (λ (e : Noted). e.reply ≢ replies.Failed failures.Damaged) new.board.history
+
+-- From a new world, the calls that finished, with the replies that they were given, are the history, in order.
+abbrev pub RepliesAreTold : Type 0
+RepliesAreTold = (o : Object) (old new : Scene) (events : List WorldEvent) (answers : List EventAnswer) → IsNew o old → Plays old events answers new →
+    map (λ (e : Noted). (e.number, e.reply)) new.board.history ≡ finishes events answers

@@ -1,0 +1,68 @@
+//! Lists of events, played as a whole.
+
+use body_core::reply::{Failure, Reply};
+use decl_read::read::read_objects;
+use exclude_core::analyse::{Accepted, analyse};
+use std::alloc::Global;
+use std::process::Abort;
+use value_core::datum::Datum;
+use world_core::event::Event;
+use world_core::world::World;
+
+// One value, read by many or changed by one.
+const CELL: &[u8] = b"object cell;
+  path 1:([get], put) end;
+  var v : array [1] of integer;
+  entry function get : integer; begin get := v[0] end;
+  entry procedure put(x : integer); begin v[0] := x end;
+end;
+";
+
+// The object of a source that has one.
+fn accepted(rt: &impl Abort, alloc: Global, text: &[u8]) -> Accepted {
+    let objects = read_objects(alloc, text).expect(rt, "objects");
+    for (_, object) in objects {
+        return analyse(alloc, object)
+            .ok()
+            .expect(rt, "an object that is accepted");
+    }
+    panic!(rt; "no object")
+}
+
+// What the entry at a place of the history replies.
+fn reply_at(world: &World, place: usize) -> Option<Reply> {
+    match world.desk().history().get(place) {
+        Some(entry) => Some(entry.reply()),
+        None => None,
+    }
+}
+
+#[test]
+fn events_are_played_in_order(rt: HostRuntime) {
+    let alloc = rt.alloc();
+    let events = [
+        Event::Call(1, "put", &[Datum::Integer(7)]),
+        Event::Call(2, "GET", &[]),
+        Event::Step(1, true),
+        Event::Step(1, true),
+        Event::Step(1, true),
+        Event::Step(1, true),
+        Event::Finish(2),
+        Event::Finish(1),
+        Event::Step(2, true),
+        Event::Show,
+        Event::Finish(2),
+        Event::Call(3, "get", &[]),
+        Event::Step(3, false),
+        Event::Finish(3),
+        Event::Cancel(3),
+        Event::Drop(3),
+    ];
+    let world = World::play(alloc, accepted(&rt, alloc, CELL), &events).expect(&rt, "memory");
+    assert!(&rt; world.desk().history().len() == 3);
+    assert!(&rt; reply_at(&world, 0) == Some(Reply::Done(None)));
+    assert!(&rt; reply_at(&world, 1) == Some(Reply::Done(Some(Datum::Integer(7)))));
+    assert!(&rt; reply_at(&world, 2) == Some(Reply::Failed(Failure::Device)));
+    let desk = world.end();
+    assert!(&rt; desk.is_idle());
+}
