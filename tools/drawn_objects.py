@@ -107,7 +107,7 @@ end;
         {"v": Array(1, "integer")},
         {
             "get": ((), ("v",), lambda c: c["v"][0]),
-            "put": ((INTEGERS,), ("v",), lambda c, x: set_element(c["v"], 0, x)),
+            "put": (((0, 0, 7, MOST),), ("v",), lambda c, x: set_element(c["v"], 0, x)),
             "bump": ((INTEGERS,), ("v",), cell_bump),
         },
     ),
