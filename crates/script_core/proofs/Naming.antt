@@ -1,9 +1,9 @@
 -- Lines that name an object.
-use Rattle.std.proofs.Common.{◌≡◌, ◌↔◌, ℕ, List, [], ◌∷◌, Bool, sym, ◌∙◌, ap, subst, codes}
+use Rattle.std.proofs.Common.{◌≡◌, ◌↔◌, ℕ, List, [], ◌∷◌, Bool, ◌∙◌, ap, codes}
 use Rattle.std.specs.Prelude.{IsTrue}
 use Rattle.std.specs.Str.{str_to_ascii_lowercase}
 use Rattle.decl_core.specs.declared.object.Object.{Object}
-use Rattle.word_core.specs.Words.{Word, bare}
+use Rattle.word_core.specs.Words.{bare}
 use Rattle.word_core.proofs.Cutting.{words_unique}
 use Rattle.script_text.specs.First.{IsObjectLine}
 use Rattle.script_core.specs.Writes.{NamesObject}

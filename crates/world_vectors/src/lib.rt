@@ -1,5 +1,12 @@
-//! Tests of worlds: a list of events that is played as a whole, which no subcommand does.
+//! Tests of worlds and scripts that no case shows: a list of events that is played as a whole, and scripts whose reads and
+//! writes fail where a test wants it.
 #![tactic(auto)]
 
+#[cfg(test)]
+mod fakes;
+#[cfg(test)]
+mod faults;
+#[cfg(test)]
+mod make;
 #[cfg(test)]
 mod played;

@@ -1,10 +1,7 @@
 //! Lists of events, played as a whole.
 
+use crate::make::accepted;
 use body_core::reply::{Failure, Reply};
-use decl_read::read::read_objects;
-use exclude_core::analyse::{Accepted, analyse};
-use std::alloc::Global;
-use std::process::Abort;
 use value_core::datum::Datum;
 use world_core::event::Event;
 use world_core::world::World;
@@ -17,17 +14,6 @@ const CELL: &[u8] = b"object cell;
   entry procedure put(x : integer); begin v[0] := x end;
 end;
 ";
-
-// The object of a source that has one.
-fn accepted(rt: &impl Abort, alloc: Global, text: &[u8]) -> Accepted {
-    let objects = read_objects(alloc, text).expect(rt, "objects");
-    for (_, object) in objects {
-        return analyse(alloc, object)
-            .ok()
-            .expect(rt, "an object that is accepted");
-    }
-    panic!(rt; "no object")
-}
 
 // What the entry at a place of the history replies.
 fn reply_at(world: &World, place: usize) -> Option<Reply> {

@@ -1,6 +1,5 @@
-use Rattle.std.proofs.Common.{◌≡◌, ◌<◌, ◌++◌, ◌∙◌, ap, length, arith, slice_get, Some, sym}
+use Rattle.std.proofs.Common.{◌≡◌, ◌∙◌, ap, slice_get, Some, sym}
 use Rattle.board_core.specs.Board.{Board}
-use Rattle.script_text.specs.Answers.{started_line}
 use Rattle.script_core.proofs.Telling.{next_start}
 use Rattle.script_core.proofs.script.answer.push_starts.Goals as goal
 

@@ -1,4 +1,4 @@
-use Rattle.std.proofs.Common.{◌≡◌, ◌++◌, ◌≤◌, length, drop}
+use Rattle.std.proofs.Common.{◌≡◌, ◌++◌, drop}
 use Rattle.script_core.proofs.Telling.{told_starts}
 use Rattle.script_core.proofs.script.answer.push_starts.Given as goal
 

@@ -1,4 +1,4 @@
-use Rattle.std.proofs.Common.{◌≡◌, ◌∙◌}
+use Rattle.std.proofs.Common.{◌∙◌}
 use Rattle.script_core.proofs.Telling.{trace_told}
 use Rattle.script_core.proofs.script.answer.tell_trace.Goals as goal
 

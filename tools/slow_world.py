@@ -1,0 +1,422 @@
+"""A slow world of one object: what each line of a script has to answer, from the meaning of paths, bodies, steps and
+finishes alone. It counts starts and ends over the whole trace, and works on whole values."""
+import copy
+
+MOST = 4294967295
+CHUNK = 4096
+
+
+# What a path says, by counts of starts and ends over a whole trace. An event is ("start", OP) or ("end", OP).
+
+
+class Name:
+    """An operation in a path."""
+
+    def __init__(self, op):
+        self.op = op
+
+    def started(self, trace):
+        return running_sum(trace, lambda event: event == ("start", self.op))
+
+    def ended(self, trace):
+        return running_sum(trace, lambda event: event == ("end", self.op))
+
+    def holds(self, _):
+        return True
+
+
+class Any:
+    """`a, b`: each member as it likes."""
+
+    def __init__(self, *members):
+        self.members = [node_of(it) for it in members]
+
+    def started(self, trace):
+        return [sum(each) for each in zip(*(it.started(trace) for it in self.members))]
+
+    def ended(self, trace):
+        return [sum(each) for each in zip(*(it.ended(trace) for it in self.members))]
+
+    def holds(self, trace):
+        return all(it.holds(trace) for it in self.members)
+
+
+class Sequence:
+    """`a; b`: no member starts more often than the one before it has ended."""
+
+    def __init__(self, *members):
+        self.members = [node_of(it) for it in members]
+
+    def started(self, trace):
+        return self.members[0].started(trace)
+
+    def ended(self, trace):
+        return self.members[-1].ended(trace)
+
+    def holds(self, trace):
+        for before, after in zip(self.members, self.members[1:]):
+            if any(b > e for b, e in zip(after.started(trace), before.ended(trace))):
+                return False
+        return all(it.holds(trace) for it in self.members)
+
+
+class Bound:
+    """`n:(e)`: at most n activations are open."""
+
+    def __init__(self, most, inner):
+        self.most, self.inner = most, node_of(inner)
+
+    def started(self, trace):
+        return self.inner.started(trace)
+
+    def ended(self, trace):
+        return self.inner.ended(trace)
+
+    def holds(self, trace):
+        opened = zip(self.inner.started(trace), self.inner.ended(trace))
+        return all(b - e <= self.most for b, e in opened) and self.inner.holds(trace)
+
+
+class Burst:
+    """`[e]`: one activation, from where one of e starts while none is open to where none is open again."""
+
+    def __init__(self, inner):
+        self.inner = node_of(inner)
+
+    def turns(self, trace, is_turn):
+        opened = [b - e for b, e in zip(self.inner.started(trace), self.inner.ended(trace))]
+        return [0, *running_sum(zip(opened, opened[1:]), is_turn)[1:]]
+
+    def started(self, trace):
+        return self.turns(trace, lambda it: it[0] == 0 < it[1])
+
+    def ended(self, trace):
+        return self.turns(trace, lambda it: it[0] > 0 == it[1])
+
+    def holds(self, trace):
+        return self.inner.holds(trace)
+
+
+def node_of(written):
+    return Name(written) if isinstance(written, str) else written
+
+
+def running_sum(events, counts):
+    """How many of the events count, for each front of them."""
+    sums = [0]
+    for event in events:
+        sums.append(sums[-1] + bool(counts(event)))
+    return sums
+
+
+# What bodies do to contents, and the values of parts.
+
+
+class Refusal(Exception):
+    """A body was refused, with this word."""
+
+
+def whole(number):
+    if not 0 <= number <= MOST:
+        raise Refusal("range")
+    return number
+
+
+def element(array, at):
+    if at >= len(array):
+        raise Refusal("index")
+    return array[at]
+
+
+def set_element(array, at, value):
+    element(array, at)
+    array[at] = value
+
+
+def first(queue):
+    if not queue:
+        raise Refusal("empty")
+    return queue[0]
+
+
+def append(queue, value):
+    if len(queue) >= 1024:
+        raise Refusal("full")
+    queue.append(value)
+
+
+def lookup(table, key):
+    if key not in table:
+        raise Refusal("missing")
+    return table[key]
+
+
+class Array:
+    def __init__(self, length, elements):
+        self.opening = [0 if elements == "integer" else ""] * length
+        self.format, self.elements = (1 if elements == "integer" else 2), elements
+
+    def bytes_of(self, value):
+        return head(self.format, value) + b"".join(bytes_of_datum(it) for it in value)
+
+    def shown(self, value):
+        return "[" + " ".join(map(written, value)) + "]"
+
+
+class Queue:
+    def __init__(self, elements):
+        self.opening, self.format = [], 3 if elements == "integer" else 4
+
+    def bytes_of(self, value):
+        return head(self.format, value) + b"".join(bytes_of_datum(it) for it in value)
+
+    def shown(self, value):
+        return "<" + " ".join(map(written, value)) + ">"
+
+
+class Table:
+    def __init__(self, elements):
+        self.opening, self.format = {}, 5 if elements == "integer" else 6
+
+    def bytes_of(self, value):
+        return head(self.format, value) + b"".join(bytes_of_datum(k) + bytes_of_datum(value[k]) for k in sorted(value))
+
+    def shown(self, value):
+        return "{" + ", ".join(f"{written(k)}: {written(value[k])}" for k in sorted(value)) + "}"
+
+
+def head(form, value):
+    return bytes([1, form]) + len(value).to_bytes(2, "big")
+
+
+def bytes_of_datum(datum):
+    return datum.to_bytes(4, "big") if isinstance(datum, int) else bytes([len(datum)]) + datum.encode("ascii")
+
+
+def written(datum):
+    return str(datum) if isinstance(datum, int) else "'" + datum.replace("'", "''") + "'"
+
+
+class Operation:
+    """An operation: what its arguments are drawn from, the parts that its text names, what its body does to contents, and
+    how often it is drawn beside others."""
+
+    def __init__(self, draws, names, does, weight=1):
+        self.draws, self.names, self.does, self.weight = draws, names, does, weight
+
+    def takes(self, arguments):
+        kinds = [type(it[0]) for it in self.draws]
+        return kinds == [type(it) for it in arguments]
+
+
+class Object:
+    def __init__(self, name, text, paths, parts, operations):
+        self.name, self.text, self.paths, self.parts = name, text, paths, parts
+        self.operations = {key: Operation(*it) for key, it in operations.items()}
+
+    def opening(self):
+        return {name: copy.deepcopy(kind.opening) for name, kind in self.parts.items()}
+
+    def applied(self, op, arguments, contents):
+        """How the body of an operation ends on contents, and the contents then."""
+        after = copy.deepcopy(contents)
+        try:
+            reply = self.operations[op].does(after, *arguments)
+        except Refusal as refusal:
+            return ("refused", str(refusal)), contents
+        return ("done", reply), after
+
+    def admits(self, trace):
+        return all(it.holds(trace) for it in self.paths)
+
+
+# Runs, calls and what they lead to.
+
+
+class Disagreement(Exception):
+    """The world and the sequential object differ: a fault of this tool, or of what it is made by."""
+
+
+def pieces(count):
+    """How many steps move so many bytes."""
+    return -(-count // CHUNK)
+
+
+class Run:
+    """A running body: how it ends on the values published at its start, and the steps that it has to make."""
+
+    def __init__(self, made, op, arguments, pins):
+        self.ending, after = made.applied(op, arguments, pins)
+        self.changed = {name: after[name] for name in made.parts if after[name] != pins[name]}
+        self.needs = []
+        for name, kind in made.parts.items():
+            if name in made.operations[op].names:
+                self.needs += ["read"] * pieces(len(kind.bytes_of(pins[name])))
+        for name, value in self.changed.items():
+            self.needs += ["create", *["append"] * pieces(len(made.parts[name].bytes_of(value))), "seal"]
+
+    def step(self, works):
+        """What the step asked of its device."""
+        need = self.needs.pop(0)
+        if not works:
+            self.needs, self.changed, self.ending = [], {}, ("failed", "device")
+        return need
+
+
+class Call:
+    def __init__(self, session, op, arguments):
+        self.session, self.op, self.arguments = session, op, arguments
+        self.state, self.run = "waiting", None
+
+
+class World:
+    """An object, its calls from number 1, its trace, and what is published. An event answers the lines that it is to give."""
+
+    def __init__(self, made):
+        self.made, self.calls, self.trace, self.gone = made, [], [], set()
+        self.published = made.opening()
+        # The sequential object.
+        self.folded = made.opening()
+
+    def numbered(self, *states):
+        return [number for number, it in enumerate(self.calls, 1) if it.state in states]
+
+    def call_of(self, number):
+        return self.calls[number - 1] if 1 <= number <= len(self.calls) else None
+
+    def events(self):
+        return [(it[0], self.calls[it[1] - 1].op) for it in self.trace]
+
+    def may_start(self, op):
+        return self.made.admits([*self.events(), ("start", op)])
+
+    def admitted(self):
+        """The lines of the calls that start now: as long as one may, that of the least number."""
+        lines, asks = [], True
+        while asks:
+            asks, refused = False, set()
+            for number in self.numbered("waiting"):
+                call = self.calls[number - 1]
+                if call.op not in refused and self.may_start(call.op):
+                    call.state = "running"
+                    call.run = Run(self.made, call.op, call.arguments, copy.deepcopy(self.published))
+                    self.trace.append(("start", number))
+                    lines.append(f"started {number}")
+                    asks = True
+                    break
+                refused.add(call.op)
+        return lines
+
+    def call(self, session, op, arguments):
+        operation = self.made.operations.get(op.lower())
+        if not 1 <= session <= 1024 or session in self.gone:
+            return ["no Gone"]
+        if operation is None:
+            return ["no UnknownOp"]
+        if not operation.takes(arguments):
+            return ["no BadArgs"]
+        if any(it.session == session and it.state in ("waiting", "running") for it in self.calls):
+            return ["no SessionBusy"]
+        self.calls.append(Call(session, op.lower(), arguments))
+        return [f"call {len(self.calls)}", *self.admitted()]
+
+    def running(self, number):
+        call = self.call_of(number)
+        return call.run if call and call.state == "running" else None
+
+    def step(self, number, works):
+        run = self.running(number)
+        if run is None:
+            return ["no NotRunning"]
+        if not run.needs:
+            return ["no NoStep"]
+        return [f"step {number} {run.step(works)} {'ok' if works else 'failed'}"]
+
+    def steps(self, number):
+        run = self.running(number)
+        if run is None:
+            return ["no NotRunning"]
+        count = 0
+        while run.needs:
+            run.step(True)
+            count += 1
+        return [f"steps {number} {count}"]
+
+    def finish(self, number):
+        run = self.running(number)
+        if run is None:
+            return ["no NotRunning"]
+        if run.needs:
+            return ["no NotDone"]
+        call = self.calls[number - 1]
+        call.state = "ended"
+        self.trace.append(("end", number, run.ending))
+        self.published.update(run.changed)
+        self.fold(call, run.ending)
+        if not self.made.admits(self.events()):
+            raise Disagreement(f"the end of call {number} breaks a path")
+        return [finish_line(number, run.ending), *self.admitted()]
+
+    def fold(self, call, ending):
+        """Takes the sequential object past an end."""
+        if ending[0] != "failed":
+            folded, self.folded = self.made.applied(call.op, call.arguments, self.folded)
+            if folded != ending:
+                raise Disagreement(f"{call.op} ended with {ending}, and in the order of the finishes with {folded}")
+        self.compare()
+
+    def compare(self):
+        if self.folded != self.published:
+            raise Disagreement("what is published is not what the finishes lead to")
+
+    def cancel(self, number):
+        call = self.call_of(number)
+        if call is None:
+            return [f"cancel {number} Unknown"]
+        if call.state != "waiting":
+            return [f"cancel {number} {'Running' if call.state == 'running' else 'Ended'}"]
+        call.state = "ended"
+        return [f"cancel {number} Cancelled", *self.admitted()]
+
+    def drop(self, session):
+        if not 1 <= session <= 1024:
+            return ["no NoSession"]
+        self.gone.add(session)
+        for call in self.calls:
+            if call.session == session and call.state == "waiting":
+                call.state = "ended"
+        return [f"drop s{session}", *self.admitted()]
+
+    def show(self):
+        self.compare()
+        return shown_lines(self.made, self.published)
+
+    def trace_lines(self):
+        lines = [f"object {self.made.name}"]
+        for name, kind in self.made.parts.items():
+            lines.append(f"part {name} {kind.bytes_of(kind.opening).hex()}")
+        for event in self.trace:
+            number = event[1]
+            if event[0] == "start":
+                call = self.calls[number - 1]
+                lines.append(" ".join([f"start {number} s{call.session} {call.op}", *map(written, call.arguments)]))
+            else:
+                lines.append(f"end {number} " + ending_text(event[2], ""))
+        return lines
+
+
+def ending_text(ending, number):
+    """An ending, with a number and a space, or with nothing, behind its first word."""
+    word, more = ending
+    between = f" {number}" if number else ""
+    if word == "done":
+        return f"done{between}" if more is None else f"done{between} {written(more)}"
+    return f"{word}{between} {more}"
+
+
+def finish_line(number, ending):
+    return ending_text(ending, str(number))
+
+
+def shown_lines(made, contents):
+    return [f"{name} = {kind.shown(contents[name])}" for name, kind in made.parts.items()]
