@@ -45,8 +45,12 @@ ran_whole : (old new w v : Option (List ℕ)) (source head : List ℕ) (o : Obje
 ran_whole old new w v source head o status taken enough ready run =
     with_rest old new head (λ text. (written : List ℕ) × Appends w v written × IsScriptRun source text status written)
     (λ rest. (end : ScriptEnd) × (written : List ℕ) × Appends w v written × IsScript o (head ++ rest) end written × (status ≡ script_status end)) taken enough run
-    (λ rest end script. (script.1, script.2, subst (λ s. IsScriptRun source (head ++ rest) s script.1) (sym script.4)
-        (ran o script.0 (ready_alike source head rest (object_of o) end ready) script.3)))
+    (λ rest end script. (
+      script.1,
+      script.2,
+      subst (λ s. IsScriptRun source (head ++ rest) s script.1) (sym script.4)
+          (ran o script.0 (ready_alike source head rest (object_of o) end ready) script.3),
+    ))
 
 ran_cut : (old new w v : Option (List ℕ)) (source head : List ℕ) (o : Object) → Consumes old new head → IsHead head new → IsReady source head (object_of o)
     → IfSome new (λ rest. (written : List ℕ) × Appends w v written × IsFront o (head ++ rest) written)
@@ -95,9 +99,11 @@ pub ran_failed : (r : Result ℕ Failure) (old new w v : Option (List ℕ)) (sou
     → IfErr r (λ failure. IsFault failure × IfSome new (λ rest. (written : List ℕ) × Appends w v written × IsFront o (on ++ rest) written))
     → IfErr r (λ failure. IsFault failure × IfSome old (λ text. (written : List ℕ) × Appends w v written × IsScriptFront source text written))
 ran_failed (Ok status) old new w v source head at on o at_is on_is taken enough ready run = tt
-ran_failed (Err failure) old new w v source head at on o at_is on_is taken enough ready run =
-    (run.0, ran_cut old new w v source head o taken enough (subst (λ h. IsReady source h (object_of o)) at_is ready)
-        (subst (λ h. IfSome new (λ rest. (written : List ℕ) × Appends w v written × IsFront o (h ++ rest) written)) on_is run.1))
+ran_failed (Err failure) old new w v source head at on o at_is on_is taken enough ready run = (
+  run.0,
+  ran_cut old new w v source head o taken enough (subst (λ h. IsReady source h (object_of o)) at_is ready)
+      (subst (λ h. IfSome new (λ rest. (written : List ℕ) × Appends w v written × IsFront o (h ++ rest) written)) on_is run.1),
+)
 
 pub told_ended : (r : Result ℕ Failure) (old new w v : Option (List ℕ)) (source head at line on : List ℕ) → at ≡ head → on ≡ line → Consumes old new head → IsHead head new
     → IsTold source at line → IfOk r (λ status. Appends w v on × (status ≡ 1))
