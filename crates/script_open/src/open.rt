@@ -65,7 +65,7 @@ fn told_fault(fault: DeclFault) -> Result<DeclFault, AllocError>
 }
 
 // The line of a source that is no file of objects.
-fn fault_text(alloc: Global, fault: DeclFault) -> Result<Vec<u8>, AllocError>
+pub fn fault_text(alloc: Global, fault: DeclFault) -> Result<Vec<u8>, AllocError>
     ensures { IfOk result (λ text. (IsWantOfMemory fault → ⊥) × (text.items ≡ fault_line fault)) }
 {
     let fault = told_fault(fault)?;
@@ -75,7 +75,7 @@ fn fault_text(alloc: Global, fault: DeclFault) -> Result<Vec<u8>, AllocError>
 }
 
 // The line of an object that is refused.
-fn refused_text(alloc: Global, refused: &Refused) -> Result<Vec<u8>, AllocError>
+pub fn refused_text(alloc: Global, refused: &Refused) -> Result<Vec<u8>, AllocError>
     requires { IsWhy (object_of refused.now.object) refused.now.why }
     ensures { IfOk result (λ text. IsRefusedLine (object_of refused.now.object) text.items) }
 {
