@@ -16,7 +16,6 @@ use board_core::same::same_args;
 use decl_core::object::Operation;
 use decl_core::same::same_declaration;
 use desk_core::desk::Desk;
-use std::alloc::AllocError;
 use std::sync::Arc;
 
 // Whether an operation has this name.
@@ -26,17 +25,18 @@ fn has_name(operation: &Operation, name: &[u8]) -> bool
     operation.name.is_spelled_by(name)
 }
 
-// The first operation of this name, by a share of its own. The error is that memory was refused.
-pub(crate) fn operation_named(
-    operations: &[Arc<Operation>],
+// The first operation of this name.
+pub(crate) fn operation_named<'a>(
+    operations: &'a [Arc<Operation>],
     name: &[u8],
-) -> Option<Result<Arc<Operation>, AllocError>>
+) -> Option<&'a Arc<Operation>>
+    ensures some { IfSome result (λ x. IsFirstNamed name.now (map (λ o. arc_value o) operations.now) (arc_value x.now)) }
 {
     match operations.split_first() {
         None => None,
         Some((operation, rest)) => {
             if has_name(operation, name) {
-                Some(Arc::try_clone(operation))
+                Some(operation)
             } else {
                 operation_named(rest, name)
             }

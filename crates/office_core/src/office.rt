@@ -1,6 +1,6 @@
 //! The lock round a room.
 
-ghost use Rattle.std.specs.Prelude.{◌≡◌, ◌<◌, ◌≤◌, IfOk, IfErr, length};
+ghost use Rattle.std.specs.Prelude.{◌≡◌, ◌<◌, ◌≤◌, ◌+◌, IfOk, length, vec_capacity};
 ghost use Rattle.office_core.specs.Rooms.{RoomState};
 ghost use Rattle.office_core.specs.Submissions.{Asks, IsStartOf};
 ghost use Rattle.office_core.specs.Seats.{Receives};
@@ -45,21 +45,23 @@ fn bed_for(desk: &Desk, number: u32) -> usize
     }
 }
 
-// So many beds.
-fn beds_of(alloc: Global) -> Result<Vec<Condvar>, AllocError>
-    ensures { IfOk result (λ v. length v.items ≡ 64) }
+// Adds so many beds, for which there is room.
+fn add_beds(beds: &mut Vec<Condvar>, count: usize)
+    requires { length beds.old.items + count ≤ vec_capacity beds.old }
+    ensures { length beds.new.items ≡ length beds.old.items + count }
 {
-    let mut beds = Vec::with_capacity(alloc, BEDS)?;
-    for _ in 0..BEDS {
-        beds.push_reserved(Condvar::new());
+    if count == 0 {
+        return;
     }
-    Ok(beds)
+    beds.push_reserved(Condvar::new());
+    add_beds(beds, count - 1);
 }
 
 impl Office {
     /// An office with this room. The error is that memory was refused.
     pub fn open(alloc: Global, room: Room) -> Result<Office, AllocError> {
-        let beds = beds_of(alloc)?;
+        let mut beds = Vec::with_capacity(alloc, BEDS)?;
+        add_beds(&mut beds, BEDS);
         Ok(Office {
             room: Mutex::new(room),
             beds,

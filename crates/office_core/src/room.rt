@@ -23,6 +23,7 @@ use exclude_core::analyse::Accepted;
 use shelf_core::pins::Pins;
 use std::alloc::{AllocError, Global};
 use std::marker::Model;
+use std::sync::Arc;
 use value_core::datum::Datum;
 
 /// The most sessions that a room gives out.
@@ -174,20 +175,24 @@ impl Room {
             return Err(fault);
         }
         let operations = &self.desk.accepted().object().operations;
-        let Some(Ok(operation)) = operation_named(operations, op.as_bytes()) else {
+        let Some(operation) = operation_named(operations, op.as_bytes()) else {
+            return Err(SubmitFault::Memory);
+        };
+        let Ok(operation) = Arc::try_clone(operation) else {
             return Err(SubmitFault::Memory);
         };
         let Ok(copy) = args.to_vec(self.alloc) else {
             return Err(SubmitFault::Memory);
         };
-        match self.desk.submit(seat.session, op, args) {
-            Ok(number) => Ok(Submitted {
-                number,
-                operation,
-                args: copy,
-            }),
-            Err(fault) => Err(fault),
-        }
+        let number = match self.desk.submit(seat.session, op, args) {
+            Ok(number) => number,
+            Err(fault) => return Err(fault),
+        };
+        Ok(Submitted {
+            number,
+            operation,
+            args: copy,
+        })
     }
 
     /// Looks whether a submitted call has started, as the desk's `collect` does, where the call of that number has
@@ -204,14 +209,14 @@ impl Room {
         match self.desk.collect(submitted.number) {
             Collected::Ticket(ticket) => {
                 spend(submitted);
-                Tried::Ticket(ticket)
+                return Tried::Ticket(ticket);
             }
-            Collected::Waiting => Tried::Waiting(submitted),
+            Collected::Waiting => return Tried::Waiting(submitted),
             Collected::Cancelled => {
                 spend(submitted);
-                Tried::Cancelled
+                return Tried::Cancelled;
             }
-            Collected::Unknown => Tried::Stranger(submitted),
+            Collected::Unknown => return Tried::Stranger(submitted),
         }
     }
 
