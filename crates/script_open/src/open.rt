@@ -64,7 +64,7 @@ fn told_fault(fault: DeclFault) -> Result<DeclFault, AllocError>
     }
 }
 
-// The line of a source that is no file of objects.
+/// The line of a source that is no file of objects. The error is that memory was refused, here or where the source was read.
 pub fn fault_text(alloc: Global, fault: DeclFault) -> Result<Vec<u8>, AllocError>
     ensures { IfOk result (λ text. (IsWantOfMemory fault → ⊥) × (text.items ≡ fault_line fault)) }
 {
@@ -75,7 +75,7 @@ pub fn fault_text(alloc: Global, fault: DeclFault) -> Result<Vec<u8>, AllocError
 }
 
 // The line of an object that is refused.
-pub fn refused_text(alloc: Global, refused: &Refused) -> Result<Vec<u8>, AllocError>
+fn refused_text(alloc: Global, refused: &Refused) -> Result<Vec<u8>, AllocError>
     requires { IsWhy (object_of refused.now.object) refused.now.why }
     ensures { IfOk result (λ text. IsRefusedLine (object_of refused.now.object) text.items) }
 {
@@ -109,8 +109,8 @@ fn bad_line_text(alloc: Global) -> Result<Vec<u8>, AllocError>
     Ok(text)
 }
 
-// Whether an object is accepted.
-fn judged(alloc: Global, object: Object) -> Result<Opened, AllocError>
+/// An object accepted, or the line that it is refused by. The error is that memory was refused.
+pub fn judged(alloc: Global, object: Object) -> Result<Opened, AllocError>
     ensures { IfOk result (IsJudged (object_of object)) }
 {
     match analyse(alloc, object) {
