@@ -362,18 +362,12 @@ on_happening said event number text new legal_by leads_by fails m kept is (Happe
 on_said : {o : Object} {told : Told} {s : Serial} (said : Said) (text : List ℕ) (new : Scene) → LegalByOne → LeadsByOne → FailsOnlyWithItsDevice → Matches o told s → IsKept new
     → Does said told.world text new → Next o told s said text new
 on_said said text new legal_by leads_by fails m kept (one_event {event = event} {number = number} is so) = on_happening said event number text new legal_by leads_by fails m kept is so
-on_said {told = told} {s = s} said text new legal_by leads_by fails m kept (all_stepped {number = number} count (mid, made, inl over)) =
+on_said {told = told} {s = s} said text new legal_by leads_by fails m kept (all_stepped {number = number} count (mid, made, over)) =
     let far = on_steps number m.carries count mid made in
     let same = step_same mid new number true over.a over.answers in
     let board : new.board ≡ told.world.board = same.0 ∙ far.1 in
     stays (all_steps number) text new m kept Serially.to_end (ap (λ (b : Board). b.object) board) (ap (λ (b : Board). b.calls) board) (ap (λ (b : Board). b.history) board) (same.1 ∙ far.2)
     (carries_on s.failing far.0 (step number true) over.a over.answers (λ n h. h) (λ n e. absurd (not_by_step number n e)))
-on_said {o = o} {told = told} {s = s} said text new legal_by leads_by fails m kept (all_stepped {number = number} count (mid, made, inr (most, is))) =
-    let far = on_steps number m.carries count mid made in
-    let same : new ≡ mid = is in
-    let board : new.board ≡ told.world.board = ap (λ (w : Scene). w.board) same ∙ far.1 in
-    stays (all_steps number) text new m kept Serially.to_end (ap (λ (b : Board). b.object) board) (ap (λ (b : Board). b.calls) board) (ap (λ (b : Board). b.history) board) (ap (λ (w : Scene). w.opening) same ∙ far.2)
-    (subst (λ w. Carries o w s.failing) (sym same) far.0)
 on_said {s = s} said text new legal_by leads_by fails m kept (not_stepped {number = number} none) = stays (all_steps number) text new m kept Serially.to_end refl refl refl refl m.carries
 on_said {s = s} said text new legal_by leads_by fails m kept traced = stays a_trace text new m kept Serially.traced refl refl refl refl m.carries
 
