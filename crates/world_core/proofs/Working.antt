@@ -22,7 +22,7 @@ use Rattle.world_core.specs.declared.event.Answer.TheVariants.{Stepped}
 use Rattle.world_core.specs.declared.event.EventAnswer.{EventAnswer}
 use Rattle.world_core.specs.Answers.{Answers, stepped, no_step, step_not_running}
 use Rattle.world_core.specs.Events.{step}
-use Rattle.world_core.specs.Laws.{StepsTakeWork}
+use Rattle.world_core.specs.Laws.{StepsTakeWork, WorkIsBounded}
 use Rattle.world_core.specs.Scene.{Scene, Standing, IsRunAt}
 use Rattle.world_core.specs.Work.{work_at, work_of, most_work}
 use Rattle.world_core.proofs.Places.{some_is, length_snoc}
@@ -98,9 +98,9 @@ one_of : (n m : ℕ) (test : Bool) → n ≤ most_work → m ≤ most_work → (
 one_of n m true low later = low
 one_of n m false low later = later
 
-of_at_most : (runs : List Standing) (number : ℕ) → work_of number runs ≤ most_work
-of_at_most [] number = omega arith
-of_at_most (run ∷ runs) number = one_of (work_at run.place) (work_of number runs) (run.call.number == number) (at_most run.place) (of_at_most runs number)
+pub of_at_most : WorkIsBounded
+of_at_most number [] = omega arith
+of_at_most number (run ∷ runs) = one_of (work_at run.place) (work_of number runs) (run.call.number == number) (at_most run.place) (of_at_most number runs)
 
 -- the run of a call is its only one
 pub work_is : (runs : List Standing) (k n : ℕ) (run : Standing) → IsRunAt runs k n run → work_of n runs ≡ work_at run.place
@@ -129,6 +129,6 @@ work_set (x ∷ xs) (suc k) n run after is = elim (eqb_tells x.call.number n) [
 
 pub steps_work : StepsTakeWork
 steps_work old new number works a need answer (stepped k run after files there more moves) is =
-    (omega (arith, moves.falls, work_is old.runs k number run there, work_set old.runs k number run after there), of_at_most old.runs number)
+    omega (arith, moves.falls, work_is old.runs k number run there, work_set old.runs k number run after there)
 steps_work old new number works a need answer (no_step k run there done) is = absurd cc
 steps_work old new number works a need answer (step_not_running none) is = absurd cc

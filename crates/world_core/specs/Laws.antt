@@ -12,7 +12,7 @@ use Rattle.world_core.specs.declared.event.Answer.TheVariants.{Stepped}
 use Rattle.world_core.specs.declared.event.EventAnswer.{EventAnswer}
 use Rattle.world_core.specs.Answers.{Answers}
 use Rattle.world_core.specs.Events.{WorldEvent, step}
-use Rattle.world_core.specs.Scene.{Scene, IsNew}
+use Rattle.world_core.specs.Scene.{Scene, Standing, IsNew}
 use Rattle.world_core.specs.Plays.{Plays, finishes, HasFailedStep}
 use Rattle.world_core.specs.Work.{work_of, most_work}
 
@@ -26,7 +26,11 @@ abbrev pub RepliesAreTold : Type 0
 RepliesAreTold = (o : Object) (old new : Scene) (events : List WorldEvent) (answers : List EventAnswer) → IsNew o old → Plays old events answers new →
     map (λ (e : Noted). (e.number, e.reply)) new.board.history ≡ finishes events answers
 
--- A step takes a chunk off what its run has to do, and no run has more to do than the most: so each makes fewer than 2 ^ 59 steps.
+-- A step takes a chunk off what its run has to do.
 abbrev pub StepsTakeWork : Type 0
 StepsTakeWork = (old new : Scene) (number : ℕ) (works : Bool) (a : EventAnswer) (need : Need) (answer : StepAnswer) → Answers old (step number works) a new → a.answer ≡ Stepped need answer →
-    (work_of number new.runs + chunk ≤ work_of number old.runs) × (work_of number old.runs ≤ most_work)
+    work_of number new.runs + chunk ≤ work_of number old.runs
+
+-- No run has more to do than the most.
+abbrev pub WorkIsBounded : Type 0
+WorkIsBounded = (number : ℕ) (runs : List Standing) → work_of number runs ≤ most_work

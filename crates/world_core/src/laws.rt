@@ -1,6 +1,6 @@
 //! Laws of lists of events, over the definitions alone.
 
-ghost use Rattle.world_core.specs.Laws.{FailsOnlyWithItsDevice, RepliesAreTold, StepsTakeWork};
+ghost use Rattle.world_core.specs.Laws.{FailsOnlyWithItsDevice, RepliesAreTold, StepsTakeWork, WorkIsBounded};
 
 /// A call fails for the device only where a step of its own was made to fail, and never since a part is damaged.
 pub fn fails_only_with_its_device()
@@ -15,5 +15,6 @@ pub fn replies_are_told()
 /// Each step of a run takes a chunk off what it has to do, and no run has more to do than the most. So each run ends after
 /// fewer than 2^59 steps.
 pub fn steps_take_work()
-    ensures { StepsTakeWork }
+    ensures falls { StepsTakeWork }
+    ensures most { WorkIsBounded }
 {}
