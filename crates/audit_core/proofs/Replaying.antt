@@ -14,7 +14,7 @@ use Rattle.decl_core.specs.declared.object.Operation.{Operation}
 use Rattle.decl_core.specs.declared.object.Part.{Part}
 use Rattle.decl_core.specs.Form.{Body}
 use Rattle.decl_core.specs.Bodies.{body_of}
-use Rattle.decl_core.specs.Meaning.{Meant, done, refused, apply_body}
+use Rattle.decl_core.specs.Meaning.{done, refused, apply_body}
 use Rattle.decl_core.specs.ObjectMap.{object_of, parts_of}
 use Rattle.decl_core.specs.PartKinds.{AreKindsOf, EachKindsOf}
 use Rattle.body_core.specs.Calls.{ArgumentsFit, HoldsReads}
