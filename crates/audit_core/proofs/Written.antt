@@ -1,6 +1,6 @@
 -- The text of what happened is heard as what happened.
 use Rattle.std.proofs.Common.{◌≡◌, ℕ, ◌<◌, ◌≤◌, zero, suc, inl, inr, List, [], ◌∷◌, ◌++◌, All, length, true, refl, sym, ap, ◌∙◌, subst, arith, append_assoc, length-append, map}
-use Rattle.std.specs.Prelude.{Option, Some, None, decimal, nat_le, nat_lt, slice_get, slice_index_or}
+use Rattle.std.specs.Prelude.{◌^◌, Option, Some, None, decimal, nat_le, nat_lt, slice_get, slice_index_or}
 use Rattle.std.specs.List.{list_all}
 use Rattle.std.proofs.lemmas.Bool.Decides.{nat_tests}
 use Rattle.std.specs.Str.{str_to_ascii_lowercase}
