@@ -1,6 +1,6 @@
 -- The text of what happened is heard as what happened.
-use Rattle.std.proofs.Common.{◌≡◌, ℕ, ◌<◌, ◌≤◌, zero, suc, inl, inr, List, [], ◌∷◌, ◌++◌, All, length, true, refl, sym, ap, ◌∙◌, subst, arith, append_assoc, length-append, map}
-use Rattle.std.specs.Prelude.{◌^◌, Option, Some, None, decimal, nat_le, nat_lt, slice_get, slice_index_or}
+use Rattle.std.proofs.Common.{◌≡◌, ℕ, ◌<◌, zero, suc, inl, inr, List, [], ◌∷◌, ◌++◌, All, length, true, refl, sym, ap, ◌∙◌, subst, arith, append_assoc, length-append, map}
+use Rattle.std.specs.Prelude.{◌^◌, Some, None, decimal, nat_le, nat_lt, slice_get, slice_index_or}
 use Rattle.std.specs.List.{list_all}
 use Rattle.std.proofs.lemmas.Bool.Decides.{nat_tests}
 use Rattle.std.specs.Str.{str_to_ascii_lowercase}
@@ -10,8 +10,6 @@ use Rattle.std.proofs.lemmas.List.Elements.{All-nil, All-head, All-tail, All-pus
 use Rattle.hex.specs.Hex.{encode_lower}
 use Rattle.path_tree.specs.Identifier.{IsName}
 use Rattle.path_tree.specs.Known.{place_of}
-use Rattle.path_tree.specs.Satisfies.{SatisfiesAll}
-use Rattle.path_tree.specs.Trace.{IsFresh}
 use Rattle.path_tree.proofs.Spelling.{name_lower}
 use Rattle.value_core.specs.declared.datum.Datum.{Datum}
 use Rattle.value_core.specs.declared.kind.Kind.{Kind}
@@ -22,20 +20,19 @@ use Rattle.decl_core.specs.RefusalWord.{IsRefusalWord, IsLower}
 use Rattle.body_core.specs.declared.reply.Failure.TheVariants.{Device, Memory, Damaged}
 use Rattle.body_core.specs.declared.reply.Reply.{Reply}
 use Rattle.body_core.specs.declared.reply.Reply.TheVariants.{Done, Refused, Failed}
-use Rattle.body_core.specs.History.{IsLegal}
 use Rattle.word_core.specs.Words.{Word, bare, AreWords}
 use Rattle.word_core.specs.Data.{◌>>=◌, integer_of, session_of, session_bytes, data_of, datum_word}
 use Rattle.word_core.specs.Ending.{Ending, ending_words, ending_of, TellEnding}
 use Rattle.word_core.proofs.Written.{written_integer, written_session, written_datum}
 use Rattle.word_core.proofs.Endings.{ending_exact}
 use Rattle.word_core.proofs.Clear.{written_data}
-use Rattle.trace_core.specs.Events.{Called, Happened, began, ended, trace_of, history_of, IsRunning}
+use Rattle.trace_core.specs.Events.{Called, Happened, began, ended, IsRunning}
 use Rattle.trace_core.specs.Laws.{HasNames, IsReply, IsTold, HaveWords}
-use Rattle.trace_core.specs.Text.{TraceLine, call_started, call_ended, event_words, reply_ending, object_words, part_words, parts_words, start_words, end_words, operation_name, told_of, trace_text}
+use Rattle.trace_core.specs.Text.{call_started, call_ended, event_words, reply_ending, object_words, part_words, parts_words, start_words, end_words, operation_name, told_of, trace_text}
 use Rattle.trace_core.proofs.Reading.{trace_is_read, part_is_read}
-use Rattle.audit_core.specs.Said.{Said, Says, an_object, a_part, a_start, an_end, start_said, end_said, reply_by, refused_by, is_lower}
+use Rattle.audit_core.specs.Said.{Says, an_object, a_part, a_start, an_end, start_said, end_said, reply_by, refused_by, is_lower}
 use Rattle.audit_core.specs.Operations.{operation_names}
-use Rattle.audit_core.specs.Tells.{Heard, nothing_heard, IsObject, IsPart, IsStart, IsOpened, Tells, Tell, object_told, part_told, start_told, end_told}
+use Rattle.audit_core.specs.Tells.{Heard, nothing_heard, IsObject, IsPart, IsStart, IsOpened, Tell, object_told, part_told, start_told, end_told}
 use Rattle.audit_core.specs.Laws.{IsCallFor, AreCallsFor, AreOpening, TextIsLegal}
 use Rattle.audit_core.proofs.Following.{tell_more}
 

@@ -1,5 +1,5 @@
 -- Laws of audits.
-use Rattle.std.specs.Prelude.{◌≡◌, ℕ, ◌<◌, List, [], ◌∷◌, All, length, map, Some}
+use Rattle.std.specs.Prelude.{◌≡◌, ◌<◌, List, [], ◌∷◌, All, length, map, Some}
 use Rattle.path_tree.specs.Known.{place_of}
 use Rattle.path_tree.specs.Trace.{IsFresh}
 use Rattle.path_tree.specs.Satisfies.{SatisfiesAll}

@@ -1,4 +1,4 @@
-use Rattle.std.proofs.Common.{◌≡◌, ◌<◌, length, get_or, refl, sym, subst, Some, None}
+use Rattle.std.proofs.Common.{◌≡◌, ◌<◌, length, get_or, refl, subst, Some, None}
 use Rattle.std.specs.Arc.{arc_value}
 use Rattle.audit_core.specs.Replies.{Redone}
 use Rattle.audit_core.proofs.Replaying.{tried, must_fit, redone_at}
