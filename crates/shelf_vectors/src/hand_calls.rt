@@ -57,14 +57,8 @@ pub const C: usize = 2;
 
 pub const D: usize = 3;
 
-pub const E: usize = 4;
-
-pub const F: usize = 5;
-
-pub const G: usize = 6;
-
 // How many files a row has.
-const FILES: usize = 8;
+const FILES: usize = 4;
 
 // What a call answers whose device failed.
 const DEVICE: Result<(), HandFault> = Err(HandFault::Device);
