@@ -58,7 +58,7 @@ pub const C: usize = 2;
 pub const D: usize = 3;
 
 // How many files a row has.
-const FILES: usize = 4;
+const FILES: usize = 8;
 
 // What a call answers whose device failed.
 const DEVICE: Result<(), HandFault> = Err(HandFault::Device);
