@@ -2,20 +2,23 @@
 
 use crate::make::{Bytes, CELL, ZERO, pinned};
 use crate::rows::Happened::{End, Start};
-use crate::rows::Step::{Cancel, Finds, Finish, Leave, Open, Perform, Pins, Submit, Trace};
+use crate::rows::Step::{Cancel, Finds, Finish, Open, Perform, Pins, Submit, Trace};
 use crate::rows::Want::{Failed, Nothing, Value, Word};
 use crate::rows::Word::Number;
 use crate::rows::{Found, Step, play, play_pinned};
 use body_core::reply::Failure::{Damaged, Device};
 use desk_core::answer::Cancelled::{Cancelled, Ended, Running, Unknown};
-use shelf_core::fuse::FuseHand;
 use shelf_core::memory::MemHand;
 use shelf_core::once::OnceHand;
 use shelf_core::pins::Pins as PartPins;
 
 const ONE_CALL: &[Step] = &[
     Submit(1, "PuT", &[Number(7)], 1),
-    Open(&[], &[1]),
+    Submit(2, "get", &[], 2),
+    Open(&[2], &[1]),
+    Finds(2, Found::Waiting),
+    Cancel(2, Cancelled),
+    Finds(2, Found::Cancelled),
     Cancel(1, Running),
     Perform(1, Nothing),
     Finds(1, Found::Unknown),
@@ -29,11 +32,11 @@ const ONE_CALL: &[Step] = &[
     Cancel(1, Ended),
     Finds(0, Found::Unknown),
     Cancel(0, Unknown),
-    Finds(2, Found::Unknown),
-    Cancel(2, Unknown),
-    Submit(1, "GET", &[], 2),
-    Perform(2, Value(7)),
-    Finish(2, 2, &[]),
+    Finds(3, Found::Unknown),
+    Cancel(3, Unknown),
+    Submit(1, "GET", &[], 3),
+    Perform(3, Value(7)),
+    Finish(3, 2, &[]),
     Pins(&[2]),
 ];
 
@@ -41,83 +44,6 @@ const ONE_CALL: &[Step] = &[
 fn a_ticket_is_given_once_and_an_outcome_taken_once(rt: HostRuntime) {
     let mut hand = MemHand::new(rt.alloc());
     play(&rt, rt.alloc(), CELL, &[ZERO], &mut hand, ONE_CALL);
-}
-
-// A burst goes on while a call before it waits; of those that may start the least number does.
-const LEAST_FIRST: &[Step] = &[
-    Submit(1, "put", &[Number(1)], 1),
-    Submit(2, "bump", &[Number(2)], 2),
-    Submit(3, "get", &[], 3),
-    Submit(4, "put", &[Number(4)], 4),
-    Open(&[2, 3, 4], &[1]),
-    Finds(3, Found::Waiting),
-    Perform(1, Nothing),
-    Finish(1, 1, &[1]),
-    Open(&[3, 4], &[2]),
-    Perform(2, Nothing),
-    Finish(2, 2, &[2]),
-    Open(&[4], &[3]),
-    Submit(5, "get", &[], 5),
-    Open(&[4], &[3, 5]),
-    Perform(5, Value(3)),
-    Perform(3, Value(3)),
-    Finish(5, 3, &[]),
-    Open(&[4], &[3]),
-    Finish(3, 4, &[]),
-    Open(&[], &[4]),
-    Trace(&[
-        Start(1),
-        End(1, Nothing),
-        Start(2),
-        End(2, Nothing),
-        Start(3),
-        Start(5),
-        End(5, Value(3)),
-        End(3, Value(3)),
-        Start(4),
-    ]),
-];
-
-#[test]
-fn of_those_that_may_start_the_least_number_starts(rt: HostRuntime) {
-    let mut hand = MemHand::new(rt.alloc());
-    play(&rt, rt.alloc(), CELL, &[ZERO], &mut hand, LEAST_FIRST);
-}
-
-// A call that waits is cancelled, by hand or with its session; one that runs goes on.
-const LEAVING: &[Step] = &[
-    Submit(1, "put", &[Number(1)], 1),
-    Submit(2, "get", &[], 2),
-    Submit(3, "get", &[], 3),
-    Cancel(2, Cancelled),
-    Cancel(2, Ended),
-    Finds(2, Found::Cancelled),
-    Open(&[3], &[1]),
-    Leave(3),
-    Finds(3, Found::Cancelled),
-    Cancel(3, Ended),
-    Leave(1),
-    Leave(1),
-    Leave(0),
-    Leave(1025),
-    Open(&[], &[1]),
-    Trace(&[Start(1)]),
-    Submit(2, "get", &[], 4),
-    Open(&[4], &[1]),
-    Perform(1, Nothing),
-    Finish(1, 1, &[1]),
-    Open(&[], &[4]),
-    Perform(4, Value(1)),
-    Finish(4, 2, &[]),
-    Submit(1024, "get", &[], 5),
-    Leave(1024),
-    Open(&[], &[5]),
-];
-
-#[test]
-fn who_leaves_has_no_call_that_waits(rt: HostRuntime) {
-    let mut hand = MemHand::new(rt.alloc());
-    play(&rt, rt.alloc(), CELL, &[ZERO], &mut hand, LEAVING);
 }
 
 // What is refused or damaged changes no pin, and its path is free for the next.
@@ -219,28 +145,6 @@ const FAILS_ONCE: &[Step] = &[
 fn a_failed_call_frees_its_path_and_what_it_sealed(rt: HostRuntime) {
     let mut hand = OnceHand::new(MemHand::new(rt.alloc()), 12);
     play(&rt, rt.alloc(), PAIR, &[ZERO, ZERO], &mut hand, FAILS_ONCE);
-}
-
-const FAILS_FROM: &[Step] = &[
-    Submit(1, "left", &[Number(1)], 1),
-    Submit(2, "right", &[Number(2)], 2),
-    Submit(3, "see", &[], 3),
-    Perform(2, Nothing),
-    Perform(1, Failed(Device)),
-    Finish(1, 1, &[]),
-    Pins(&[1, 2]),
-    Open(&[], &[2, 3]),
-    Perform(3, Failed(Device)),
-    Finish(2, 2, &[2]),
-    Finish(3, 3, &[]),
-    Pins(&[1, 3]),
-    Open(&[], &[]),
-];
-
-#[test]
-fn what_was_done_before_the_device_failed_is_published(rt: HostRuntime) {
-    let mut hand = FuseHand::new(MemHand::new(rt.alloc()), 10);
-    play(&rt, rt.alloc(), PAIR, &[ZERO, ZERO], &mut hand, FAILS_FROM);
 }
 
 // Both parts begin with file 1. It is freed when no part has it any more, and nobody reads it,

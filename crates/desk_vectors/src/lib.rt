@@ -4,8 +4,6 @@
 #[cfg(test)]
 mod desks;
 #[cfg(test)]
-mod drawn;
-#[cfg(test)]
 mod make;
 #[cfg(test)]
 mod parts;
@@ -15,8 +13,6 @@ mod refusals;
 mod refused;
 #[cfg(test)]
 mod rows;
-#[cfg(test)]
-mod slow;
 #[cfg(test)]
 mod strangers;
 #[cfg(test)]

@@ -4,7 +4,7 @@ use crate::make::{Bytes, CELL, SEVEN, ZERO, accepted, has_turn_of};
 use desk_core::desk::Desk;
 use shelf_core::mem_shelf::MemShelf;
 use shelf_core::memory::MemHand;
-use shelf_core::open::{OpenFault, open_parts};
+use shelf_core::open::open_parts;
 use shelf_core::save::save_parts;
 use shelf_core::shelf::Shelf;
 use std::alloc::Global;
@@ -66,18 +66,4 @@ fn what_is_published_is_saved_and_opened_again(rt: HostRuntime) {
     assert!(rt; is_saved(&rt, alloc, &mut shelf, &mut hand));
     assert!(rt; holds(&rt, alloc, &mut shelf, SEVEN));
     assert!(rt; opened(&rt, alloc, &mut shelf, &mut hand, SEVEN).is_some());
-}
-
-// Whether the part of a cell is damaged.
-fn is_damaged(rt: &impl Abort, alloc: Global, shelf: &mut MemShelf, hand: &mut MemHand) -> bool {
-    let cell = accepted(rt, alloc, CELL);
-    open_parts(alloc, cell.object(), shelf, hand).err() == Some(OpenFault::Damaged(0))
-}
-
-#[test]
-fn a_part_that_is_cut_is_damaged(rt: HostRuntime) {
-    let mut shelf = MemShelf::new(rt.alloc());
-    let mut hand = MemHand::new(rt.alloc());
-    assert!(rt; shelf.store(b"cell.v", &SEVEN[..7]).is_ok());
-    assert!(rt; is_damaged(&rt, rt.alloc(), &mut shelf, &mut hand));
 }

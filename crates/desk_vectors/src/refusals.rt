@@ -71,25 +71,6 @@ fn cell(rt: &impl Abort, alloc: Global, hand: &mut MemHand) -> Desk {
     desk_of(rt, alloc, CELL, pins)
 }
 
-// Whether a full desk takes a call only where another that waits is cancelled.
-fn takes_one_for_another(desk: &mut Desk) -> bool {
-    is_refused(desk, 257, "get", BadArgs)
-        && is_refused(desk, 256, "put", SessionBusy)
-        && is_refused(desk, 257, "put", Full)
-        && desk.cancel(1) == Cancelled::Running
-        && is_refused(desk, 257, "put", Full)
-        && desk.cancel(2) == Cancelled::Cancelled
-        && desk.submit(257, "put", &[Datum::Integer(7)]) == Ok(257)
-        && is_refused(desk, 2, "put", Full)
-}
-
-#[test]
-fn a_full_desk_takes_a_call_where_another_is_cancelled(rt: HostRuntime) {
-    let mut hand = MemHand::new(rt.alloc());
-    let mut desk = cell(&rt, rt.alloc(), &mut hand);
-    assert!(rt; are_taken(&mut desk, 256, 0) && takes_one_for_another(&mut desk));
-}
-
 // Whether session 1 makes this many calls.
 fn has_turns(alloc: Global, desk: &mut Desk, hand: &mut MemHand, turns: u32) -> bool {
     for _ in 0..turns {

@@ -55,37 +55,20 @@ fn run(rt: &impl Abort, alloc: Global, hand: &mut MemHand, called: Called) -> (D
 }
 
 // Whether a desk hands an outcome back, and stays as it is.
-fn hands_back(desk: &mut Desk, outcome: Outcome) -> Option<Outcome> {
+fn hands_back(desk: &mut Desk, outcome: Outcome) -> bool {
+    let number = outcome.number();
     let before = look(desk);
     match desk.finish(outcome) {
-        Ok(_) => None,
-        Err(Stranger(outcome)) => {
-            if look(desk) != before {
-                return None;
-            }
-            Some(outcome)
-        }
+        Ok(_) => false,
+        Err(Stranger(outcome)) => outcome.number() == number && look(desk) == before,
     }
 }
 
-// Whether a desk takes an outcome as its next entry, and hands a copy of it back.
-fn takes_once(rt: &impl Abort, alloc: Global, desk: &mut Desk, outcome: Outcome) -> bool {
-    let copy = outcome.copy(alloc).expect(rt, "memory");
-    let place = outcome.number() as usize;
-    match desk.finish(outcome) {
-        Ok(receipt) => receipt.place == place && hands_back(desk, copy).is_some(),
-        Err(_) => false,
-    }
-}
-
-// Whether the outcome of a call of one desk is a stranger on another, and on its own the next entry, once.
+// Whether the outcome of a call of one desk is a stranger on another.
 fn is_strange(rt: &impl Abort, alloc: Global, hand: &mut MemHand, called: [Called; 2]) -> bool {
     let (mut other, _) = run(rt, alloc, hand, called[0]);
-    let (mut own, outcome) = run(rt, alloc, hand, called[1]);
-    match hands_back(&mut other, outcome) {
-        Some(outcome) => takes_once(rt, alloc, &mut own, outcome),
-        None => false,
-    }
+    let (_, outcome) = run(rt, alloc, hand, called[1]);
+    hands_back(&mut other, outcome)
 }
 
 #[test]

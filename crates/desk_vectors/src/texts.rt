@@ -1,12 +1,11 @@
 //! The text of a desk's trace.
 
-use crate::make::{Bytes, CELL, ZERO, desk_of, has_turn_of, pinned};
+use crate::make::Bytes;
 use crate::refused::{are_taken, desk_twice, pins_twice};
 use desk_core::desk::Desk;
 use shelf_core::memory::MemHand;
 use std::alloc::Global;
 use std::process::Abort;
-use value_core::datum::Datum;
 use value_core::kind::{Elem, Kind};
 use value_core::value::Value;
 
@@ -29,43 +28,6 @@ fn is_told(desk: &Desk, opening: Value, text: Bytes) -> bool {
             Err(_) => false,
         },
     }
-}
-
-const CALLS: Bytes = b"object cell
-part v 0101000100000000
-start 1 s1 put 3
-end 1 done
-start 2 s1 get
-end 2 done 3
-start 3 s1 bump 0
-end 3 refused none
-start 4 s7 bump 1
-";
-
-#[test]
-fn each_start_and_end_is_a_line(rt: HostRuntime) {
-    let mut hand = MemHand::new(rt.alloc());
-    let pins = pinned(&rt, &mut hand, &[ZERO]);
-    let mut desk = desk_of(&rt, rt.alloc(), CELL, pins);
-    let put = has_turn_of(
-        rt.alloc(),
-        &mut desk,
-        &mut hand,
-        "put",
-        &[Datum::Integer(3)],
-    );
-    let get = has_turn_of(rt.alloc(), &mut desk, &mut hand, "get", &[]);
-    let bump = has_turn_of(
-        rt.alloc(),
-        &mut desk,
-        &mut hand,
-        "bump",
-        &[Datum::Integer(0)],
-    );
-    let next = desk.submit(7, "bump", &[Datum::Integer(1)]) == Ok(4);
-    assert!(rt; put && get && bump && next);
-    let opening = zero(&rt, rt.alloc());
-    assert!(rt; is_told(&desk, opening, CALLS));
 }
 
 const START: Bytes = b"object cell

@@ -1,6 +1,6 @@
 //! What no subcommand of the program tells of objects: what stands in them, which parts their operations touch,
-//! which certificates they have, and what a writer that fails was given; and the analyser beside a slow one on
-//! drawn objects. What `pathserve check` tells stands in `cases/check`.
+//! which certificates they have, and what a writer that fails was given. What `pathserve check` tells stands in
+//! `cases/check`, and `tools/draw_objects` has a slow analyser beside it, on drawn objects.
 #![tactic(auto)]
 
 #[cfg(test)]
@@ -10,15 +10,7 @@ mod certificates;
 #[cfg(test)]
 mod contents;
 #[cfg(test)]
-mod draw_bodies;
-#[cfg(test)]
-mod draw_paths;
-#[cfg(test)]
 mod footprints;
-#[cfg(test)]
-mod pen;
-#[cfg(test)]
-mod slow;
 #[cfg(test)]
 mod texts;
 #[cfg(test)]

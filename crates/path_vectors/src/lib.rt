@@ -12,7 +12,8 @@ mod fakes;
 mod names;
 #[cfg(test)]
 mod paths_faults;
-pub mod slow;
+#[cfg(test)]
+mod slow;
 #[cfg(test)]
 mod tokens;
 #[cfg(test)]

@@ -1,3 +1,4 @@
 pub mod Naming
 pub mod Telling
 pub mod Whole
+pub mod Serializing

@@ -1,5 +1,5 @@
 -- What a line of a script does to a world, and the lines that answer it.
-use Rattle.std.specs.Prelude.{◌≡◌, ◌≢◌, ◌⊎◌, ℕ, ◌+◌, ◌-◌, ◌^◌, Bool, true, false, List, ◌++◌, length, drop, codes}
+use Rattle.std.specs.Prelude.{◌≡◌, ◌≢◌, ℕ, ◌+◌, ◌-◌, Bool, true, false, List, ◌++◌, length, drop, codes}
 use Rattle.std.specs.List.{flat_map}
 use Rattle.value_core.specs.declared.datum.Datum.{Datum}
 use Rattle.decl_core.specs.declared.object.Object.{Object}
@@ -95,9 +95,9 @@ pub record IsOver (number : ℕ) (old new : Scene) : Type 0 where
   pub answers : Answers old (step number true) a new
   pub refused : a.answer ≡ Refused NoStep
 
--- so many steps, and then the run has no step to make; after 2 ^ 64 - 1 steps no more are made
+-- so many steps, and then the run has no step to make
 abbrev pub StepsOn : ℕ → Scene → ℕ → Scene → Type 0
-StepsOn number first count last = (mid : Scene) × StepsMade number first count mid × (IsOver number mid last ⊎ ((count ≡ 2 ^ 64 - 1) × (last ≡ mid)))
+StepsOn number first count last = (mid : Scene) × StepsMade number first count mid × IsOver number mid last
 
 -- what a line that says this does to a world: the lines that answer it, and the world that it leaves
 pub data Does : Said → Scene → List ℕ → Scene → Type 0 where

@@ -1,3 +1,5 @@
 pub mod Does
 pub mod Writes
 pub mod Run
+pub mod Serial
+pub mod Laws

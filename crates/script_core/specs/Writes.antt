@@ -3,7 +3,9 @@ use Rattle.std.specs.Prelude.{◌≡◌, ℕ, Bool, true, false, List, []}
 use Rattle.std.specs.Str.{str_to_ascii_lowercase}
 use Rattle.decl_core.specs.declared.object.Object.{Object}
 use Rattle.word_core.specs.Says.{Says}
+use Rattle.board_core.specs.Sound.{IsSound}
 use Rattle.world_core.specs.Scene.{Scene, IsNew}
+use Rattle.world_core.specs.Headline.{IsSequential}
 use Rattle.script_text.specs.Said.{Said, said_of, IsSkipped}
 use Rattle.script_text.specs.First.{IsObjectLine}
 use Rattle.script_text.specs.Answers.{bad_line}
@@ -30,6 +32,11 @@ pub record NamesObject (o : Object) (line : List ℕ) : Type 0 where
   pub stands : IsObjectLine line name
   pub same : str_to_ascii_lowercase name ≡ o.name
 
+-- what holds of the world that a line leaves: its history is sequential, and its board is sound
+pub record IsKept (w : Scene) : Type 0 where
+  pub sequential : IsSequential w
+  pub sound : IsSound w.board
+
 -- the answer to the line of this number: its text, whether the script goes on, and what holds then
 pub data Writes (told : Told) (number : ℕ) (line : List ℕ) : List ℕ → Bool → Told → Type 0 where
   -- the first line names the object
@@ -38,7 +45,7 @@ pub data Writes (told : Told) (number : ℕ) (line : List ℕ) : List ℕ → Bo
   -- a blank line, or a remark
   skipped : told.named ≡ true → IsSkipped line → Writes told number line [] true told
   -- a line that says something
-  done : {text : List ℕ} {new : Scene} (said : Said) → told.named ≡ true → (IsSkipped line → ⊥) → Says said_of line said → Does said told.world text new
+  done : {text : List ℕ} {new : Scene} (said : Said) → told.named ≡ true → (IsSkipped line → ⊥) → Says said_of line said → Does said told.world text new → IsKept new
       → Writes told number line text true (record told { world = new })
   bad : told.named ≡ true → (IsSkipped line → ⊥) → ((said : Said) → Says said_of line said → ⊥) → Writes told number line (bad_line number) false told
 

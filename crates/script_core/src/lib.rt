@@ -5,4 +5,5 @@
 //! says what each line is answered, and which world it leaves.
 #![tactic(auto)]
 
+pub mod laws;
 pub mod script;

@@ -57,12 +57,6 @@ pub const C: usize = 2;
 
 pub const D: usize = 3;
 
-pub const E: usize = 4;
-
-pub const F: usize = 5;
-
-pub const G: usize = 6;
-
 // How many files a row has.
 const FILES: usize = 8;
 

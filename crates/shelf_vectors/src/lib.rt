@@ -3,13 +3,9 @@
 #![tactic(auto)]
 
 #[cfg(test)]
-mod fake_shelf;
-#[cfg(test)]
 mod folder;
 #[cfg(test)]
 mod folder_calls;
-#[cfg(test)]
-mod given_up;
 #[cfg(test)]
 mod hand_calls;
 #[cfg(test)]

@@ -1,6 +1,5 @@
 //! The parts of objects, from a shelf to a hand.
 
-use crate::fake_shelf::FakeShelf;
 use crate::part_calls::Line::{Failures, NoOpen, Opened, Opens, Shelf};
 use crate::part_calls::{
     CELL, Line, NEW_Q, NEW_T, NEW_V, OLD_Q, OLD_T, OLD_V, SEVEN, THREE, ZERO, play_in_folder,
@@ -150,21 +149,5 @@ fn opens_with_hand(rt: &impl Abort, alloc: Global, call: u64) {
 fn a_failing_hand_is_told(rt: HostRuntime) {
     for call in 0..12 {
         opens_with_hand(&rt, rt.alloc(), call);
-    }
-}
-
-const SHELF_FAILS: &[Line] = &[NoOpen(OpenFault::Device), Failures(1, 0)];
-
-const SHELF_WORKS: &[Line] = &[Opens(&[OLD_Q, OLD_T, OLD_V]), Failures(0, 0)];
-
-// Each part takes one call of the shelf.
-#[test]
-fn a_failing_shelf_is_told(rt: HostRuntime) {
-    for call in 0..6 {
-        let mut shelf = FakeShelf::new(MemShelf::new(rt.alloc()), call);
-        let mut hand = MemHand::new(rt.alloc());
-        let fails = (1..=3).contains(&call);
-        let lines = if fails { SHELF_FAILS } else { SHELF_WORKS };
-        play_over(&rt, rt.alloc(), THREE, &mut shelf, &mut hand, lines);
     }
 }

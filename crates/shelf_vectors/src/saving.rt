@@ -1,6 +1,5 @@
 //! The parts of objects, from a hand to a shelf and back.
 
-use crate::fake_shelf::FakeShelf;
 use crate::part_calls::Line::{Failures, NoSave, Opens, Puts, Saves, Shelf};
 use crate::part_calls::Pin::{File, NoFile, Resized};
 use crate::part_calls::{
@@ -158,13 +157,10 @@ const BEFORE: &[Line] = &[
     Puts(&[File(NEW_Q), File(NEW_T), File(NEW_V)]),
 ];
 
-// Made again, it succeeds.
-const MADE_AGAIN: &[Line] = &[Saves, Shelf(ALL_NEW)];
-
 // What a save tells, how many calls failed, and what the shelf has then.
 type Row = (Line, u64, &'static [Entry]);
 
-// Each part takes one call of the hand, and then one of the shelf: by the number of the call that fails.
+// Each part takes one call of the hand: by the number of the call that fails.
 const FAILING: [Row; 6] = [
     (Saves, 0, ALL_NEW),
     (NoSave(SaveFault::Device(0)), 1, NONE_NEW),
@@ -190,28 +186,10 @@ fn saves_with_hand(rt: &impl Abort, alloc: Global, three: &Object, call: u64, ro
     play(rt, alloc, &mut shelf, entries, 0);
 }
 
-// Asserts what becomes of a save where the call of the shelf of this number fails.
-fn saves_with_shelf(rt: &impl Abort, alloc: Global, three: &Object, call: u64, row: Row) {
-    let (line, failures, entries) = row;
-    let mut shelf = MemShelf::new(alloc);
-    let mut hand = MemHand::new(alloc);
-    let mut parts = Parts {
-        object: three,
-        pins: Pins::new(&[]),
-    };
-    parts.play(rt, alloc, &mut shelf, &mut hand, BEFORE);
-    let mut shelf = FakeShelf::new(shelf, call);
-    let lines = [line, Failures(failures, 0)];
-    parts.play(rt, alloc, &mut shelf, &mut hand, &lines);
-    play(rt, alloc, &mut shelf.inner, entries, 0);
-    parts.play(rt, alloc, &mut shelf.inner, &mut hand, MADE_AGAIN);
-}
-
 #[test]
 fn a_failed_save_is_told(rt: HostRuntime) {
     let three = object(&rt, rt.alloc(), THREE);
     for (call, row) in FAILING.iter().enumerate() {
         saves_with_hand(&rt, rt.alloc(), &three, call as u64, *row);
-        saves_with_shelf(&rt, rt.alloc(), &three, call as u64, *row);
     }
 }

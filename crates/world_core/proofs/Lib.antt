@@ -3,6 +3,7 @@ pub mod Beginning
 pub mod Settling
 pub mod Playing
 pub mod Finishing
+pub mod Working
 pub mod Stepping
 pub mod Showing
 pub mod Opening

@@ -37,7 +37,8 @@ use Rattle.world_core.specs.Answers.{Answers, Moves, stepped, with_starts}
 use Rattle.world_core.specs.Events.{step}
 use Rattle.world_core.specs.Scene.{Scene, Standing, IsRunAt, call_running}
 use Rattle.world_core.specs.Kept.{IsKept, IsReady, standing_of}
-use Rattle.world_core.proofs.Places.{some_is, length_set}
+use Rattle.world_core.proofs.Places.{some_is, one_place, length_set}
+use Rattle.world_core.proofs.Working.{run_within, work_falls}
 
 -- the item of one list that stands where the item of another does
 pub beside : {X Y Z : Type 0} (f : X → Z) (g : Y → Z) (xs : List X) (ys : List Y) (k : ℕ) (x : X) → map f xs ≡ map g (take (length xs) ys) → slice_get xs k ≡ Some x
@@ -177,6 +178,12 @@ map_at f [] k x at = absurd cc
 map_at f (z ∷ xs) zero x at = ap (λ y. Some (f y)) (some_is at)
 map_at f (z ∷ xs) (suc k) x at = map_at f xs k x at
 
+-- what stands in a list that another maps to
+of_map_at : {X Y : Type 0} (f : X → Y) (xs : List X) (k : ℕ) (y : Y) → slice_get (map f xs) k ≡ Some y → (x : X) × (slice_get xs k ≡ Some x) × (f x ≡ y)
+of_map_at f [] k y at = absurd cc
+of_map_at f (x ∷ xs) zero y at = (x, refl, some_is at)
+of_map_at f (x ∷ xs) (suc k) y at = of_map_at f xs k y at
+
 pub set_same : {X : Type 0} (xs : List X) (k : ℕ) (x : X) → slice_get xs k ≡ Some x → slice_set xs k x ≡ xs
 set_same [] k x at = refl
 set_same (z ∷ xs) zero x at = ap (λ y. y ∷ xs) (sym (some_is at))
@@ -226,11 +233,20 @@ pub not_running : (b : Board) (files : List File) (runs : List Slot) (values : L
 not_running b files runs values n kept all others = none_running files runs b.running n others kept.ready kept.calls all
 
 -- the run of the call of this number
-pub run_at : (files : List File) (runs : List Slot) (k n : ℕ) (slot : Slot) → Every (IsReady files) runs → slice_get runs k ≡ Some slot → slot.number ≡ n → IsRunAt (map standing_of runs) k n (standing_of slot)
-run_at files runs k n slot ready at number = record {
-  there = map_at standing_of runs k slot at;
-  number = sym (Every-at (IsReady files) runs k slot ready at).number ∙ number;
-}
+pub run_at : (b : Board) (files : List File) (runs : List Slot) (values : List Contents) (k n : ℕ) (slot : Slot) → IsKept b files runs values → slice_get runs k ≡ Some slot → slot.number ≡ n
+    → IsRunAt (map standing_of runs) k n (standing_of slot)
+run_at b files runs values k n slot kept at number =
+    let its = its_call b files runs values k slot kept at in
+    let own : (run_call slot.run).number ≡ n = sym (Every-at (IsReady files) runs k slot kept.ready at).number ∙ number in
+    record {
+      there = map_at standing_of runs k slot at;
+      number = own;
+      only = λ j other there same. (
+        let x = of_map_at standing_of runs j other there in
+        let theirs = its_call b files runs values j x.0 kept x.1 in
+        one_place (λ (r : RunningCall). r.number) b.running j k theirs.0 its.0 kept.sound.counted.apart theirs.1 its.1
+        (sym (ap (λ (c : Call). c.number) theirs.2) ∙ ap (λ (s : Standing). s.call.number) x.2 ∙ same ∙ sym own ∙ ap (λ (c : Call). c.number) its.2));
+    }
 
 -- a run that has a call to make has not ended
 pub not_ended : (place : Place) → need_at place ≢ needs.Done → ending_at place ≡ None
@@ -262,6 +278,7 @@ one_moves law works b old new runs values k slot left kept at more spares makes 
       works = λ on is. makes.works on ready.pen ready.pins (ending_by_place slot.run ∙ not_ended (run_place slot.run) more) (ending_by_place left.run ∙ is);
       fails = λ off. subst (FailsWith (run_place slot.run)) (ending_by_place left.run) (makes.fails off);
       sound = λ is. not_damaged law b old runs values k slot left.run a kept at spares.call before (makes.found ready.pen a spares.some.1 (ready.found a before)) (ending_by_place left.run ∙ is);
+      falls = work_falls (run_call slot.run) (run_place slot.run) (run_place left.run) (run_within old slot.run ready.pen) (run_within new left.run (makes.pen ready.pen)) more makes.moves;
     }
 
 abbrev table : Board → List Contents → List File → List Standing → Scene

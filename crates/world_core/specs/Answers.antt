@@ -7,7 +7,7 @@ use Rattle.body_core.specs.declared.reply.Failure.TheVariants as failures
 use Rattle.body_core.specs.declared.reply.Reply.{Reply}
 use Rattle.body_core.specs.declared.reply.Reply.TheVariants as replies
 use Rattle.body_core.specs.declared.step.Need.TheVariants as needs
-use Rattle.body_core.specs.Steps.{Place, Follows, FailsWith, need_at, ending_at, sealed_at}
+use Rattle.body_core.specs.Steps.{Place, Follows, FailsWith, need_at, ending_at, sealed_at, chunk}
 use Rattle.body_core.specs.Phases.{step_answer}
 use Rattle.body_core.specs.History.{leads_to}
 use Rattle.board_core.specs.Lists.{Among}
@@ -24,17 +24,19 @@ use Rattle.world_core.specs.declared.event.Answer.TheVariants.{Number, Stepped, 
 use Rattle.world_core.specs.declared.event.EventAnswer.{EventAnswer}
 use Rattle.world_core.specs.Events.{WorldEvent, call, step, finish, cancel, leave, look}
 use Rattle.world_core.specs.Scene.{Scene, Standing, Goes, IsRunAt, call_running}
+use Rattle.world_core.specs.Work.{work_at}
 
 -- an answer, and how many calls the event started
 abbrev pub with_starts : Answer → ℕ → EventAnswer
 with_starts answer starts = record { answer = answer; starts = starts }
 
--- A step of a run by the rule of steps: one that works does not fail for the device, one that does not work fails, and no part is found damaged.
+-- A step of a run by the rule of steps: one that works does not fail for the device, one that does not work fails, and no part is found damaged. It takes a chunk off what the run has to do.
 pub record Moves (run : Standing) (is_to_work : Bool) (after : Place) : Type 0 where
   pub follows : Follows run.call run.place after
   pub works : is_to_work ≡ true → ending_at after ≢ Some (replies.Failed failures.Device)
   pub fails : is_to_work ≡ false → FailsWith run.place (ending_at after)
   pub sound : ending_at after ≢ Some (replies.Failed failures.Damaged)
+  pub falls : work_at after + chunk ≤ work_at run.place
 
 -- The answer to an event, and what it leaves. A refused event changes nothing.
 pub data Answers (old : Scene) : WorldEvent → EventAnswer → Scene → Type 0 where

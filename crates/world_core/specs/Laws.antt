@@ -1,14 +1,20 @@
 -- Laws of lists of events.
-use Rattle.std.specs.Prelude.{◌≡◌, ◌≢◌, List, map}
+use Rattle.std.specs.Prelude.{◌≡◌, ◌≢◌, ℕ, ◌+◌, ◌≤◌, Bool, List, map}
 use Rattle.decl_core.specs.declared.object.Object.{Object}
 use Rattle.body_core.specs.declared.reply.Failure.TheVariants as failures
 use Rattle.body_core.specs.declared.reply.Reply.TheVariants as replies
+use Rattle.body_core.specs.declared.step.Need.{Need}
+use Rattle.body_core.specs.declared.step.StepAnswer.{StepAnswer}
+use Rattle.body_core.specs.Steps.{chunk}
 use Rattle.board_core.specs.Lists.{Every}
 use Rattle.board_core.specs.Calls.{Noted}
+use Rattle.world_core.specs.declared.event.Answer.TheVariants.{Stepped}
 use Rattle.world_core.specs.declared.event.EventAnswer.{EventAnswer}
-use Rattle.world_core.specs.Events.{WorldEvent}
-use Rattle.world_core.specs.Scene.{Scene, IsNew}
+use Rattle.world_core.specs.Answers.{Answers}
+use Rattle.world_core.specs.Events.{WorldEvent, step}
+use Rattle.world_core.specs.Scene.{Scene, Standing, IsNew}
 use Rattle.world_core.specs.Plays.{Plays, finishes, HasFailedStep}
+use Rattle.world_core.specs.Work.{work_of, most_work}
 
 -- From a new world, a call fails for the device only where a step of its own was made to fail, and never since a part is damaged.
 abbrev pub FailsOnlyWithItsDevice : Type 0
@@ -19,3 +25,12 @@ FailsOnlyWithItsDevice = (o : Object) (old new : Scene) (events : List WorldEven
 abbrev pub RepliesAreTold : Type 0
 RepliesAreTold = (o : Object) (old new : Scene) (events : List WorldEvent) (answers : List EventAnswer) → IsNew o old → Plays old events answers new →
     map (λ (e : Noted). (e.number, e.reply)) new.board.history ≡ finishes events answers
+
+-- A step takes a chunk off what its run has to do.
+abbrev pub StepsTakeWork : Type 0
+StepsTakeWork = (old new : Scene) (number : ℕ) (works : Bool) (a : EventAnswer) (need : Need) (answer : StepAnswer) → Answers old (step number works) a new → a.answer ≡ Stepped need answer →
+    work_of number new.runs + chunk ≤ work_of number old.runs
+
+-- No run has more to do than the most.
+abbrev pub WorkIsBounded : Type 0
+WorkIsBounded = (number : ℕ) (runs : List Standing) → work_of number runs ≤ most_work

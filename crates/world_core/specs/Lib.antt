@@ -1,6 +1,7 @@
 pub mod Names
 pub mod Events
 pub mod Scene
+pub mod Work
 pub mod Answers
 pub mod Plays
 pub mod Headline

@@ -57,10 +57,11 @@ pub record Goes (old : Scene) (between : Board) (kept : List Standing) (starts :
   pub files : new.files ≡ old.files
   pub opening : new.opening ≡ old.opening
 
--- the run of the call of this number stands at this place of the runs
+-- the run of the call of this number stands at this place of the runs, and no other run is of that call
 pub record IsRunAt (runs : List Standing) (k n : ℕ) (run : Standing) : Type 0 where
   pub there : slice_get runs k ≡ Some run
   pub number : run.call.number ≡ n
+  pub only : (j : ℕ) (other : Standing) → slice_get runs j ≡ Some other → other.call.number ≡ n → j ≡ k
 
 -- the world of an object before any event: no calls, each part with its opening value
 pub record IsNew (o : Object) (w : Scene) : Type 0 where

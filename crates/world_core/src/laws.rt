@@ -1,6 +1,6 @@
 //! Laws of lists of events, over the definitions alone.
 
-ghost use Rattle.world_core.specs.Laws.{FailsOnlyWithItsDevice, RepliesAreTold};
+ghost use Rattle.world_core.specs.Laws.{FailsOnlyWithItsDevice, RepliesAreTold, StepsTakeWork, WorkIsBounded};
 
 /// A call fails for the device only where a step of its own was made to fail, and never since a part is damaged.
 pub fn fails_only_with_its_device()
@@ -10,4 +10,11 @@ pub fn fails_only_with_its_device()
 /// The calls that finished, with the replies that they were given, are the history, in order.
 pub fn replies_are_told()
     ensures { RepliesAreTold }
+{}
+
+/// Each step of a run takes a chunk off what it has to do, and no run has more to do than the most. So each run ends after
+/// fewer than 2^59 steps.
+pub fn steps_take_work()
+    ensures falls { StepsTakeWork }
+    ensures most { WorkIsBounded }
 {}

@@ -88,6 +88,8 @@ impl Script {
         match read_line(self.alloc, line)? {
             Some(said) => {
                 answer_said(self.alloc, &mut self.world, said, out)?;
+                // Its history is sequential, and its board is sound.
+                self.world.desk().history();
                 Ok(true)
             }
             None => {

@@ -5,10 +5,8 @@ ghost use Rattle.desk_core.specs.Answers.{runs_in};
 ghost use Rattle.script_core.specs.Does.{IsStep, IsOver, StepsOn};
 
 use world_core::event::{Answer, Event};
+use world_core::laws::steps_take_work;
 use world_core::world::World;
-
-/// After so many steps a run counts as one that never ends.
-pub const MOST_STEPS: u64 = u64::MAX;
 
 // Lets a run make a step that works, if it has one.
 fn step_once(world: &mut World, number: u32) -> bool
@@ -28,10 +26,11 @@ pub fn step_to_end(world: &mut World, number: u32) -> u64
     requires { runs_in world.old.board number ≡ true }
     ensures { StepsOn number world.old result world.new }
 {
-    for count in 0..MOST_STEPS {
-        if !step_once(world, number) {
-            return count;
-        }
+    // There are fewer than 2^59.
+    steps_take_work();
+    let mut count = 0;
+    'steps: while step_once(world, number) {
+        count += 1;
     }
-    MOST_STEPS
+    count
 }

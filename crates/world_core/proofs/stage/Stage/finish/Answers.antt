@@ -36,7 +36,7 @@ returns-then-not-is_done-clause-answers c =
     let need : c.next-need.result ≡ need_at (run_place slot.run) = c.next-need.ensures.need ∙ ap (λ (s : Slot). need_at (run_place s.run)) same in
     let more : need_at (run_place slot.run) ≢ needs.Done = λ done. let yes = c.is_done.ensures.1 (need ∙ done) in let no = c.if-not-is_done.true in cc in
     subst (λ (answer : EventAnswer). Answers (scene_of c.args.self.now) (finish c.args.number) answer (scene_of c.args.self.now)) (sym c.only-then-not-is_done.ensures)
-    (not_done k (standing_of slot) (run_at (files_of c.args.self.now.hand) runs k c.args.number slot c.requires.staged.kept.ready at c.in-Some.ensures.some.2) more)
+    (not_done k (standing_of slot) (run_at c.args.self.now.desk (files_of c.args.self.now.hand) runs c.args.self.now.opening.items k c.args.number slot c.requires.staged.kept at c.in-Some.ensures.some.2) more)
 
 pub publish-requires-clause-done : goal.publish-requires-clause-done
 publish-requires-clause-done c =

@@ -69,6 +69,6 @@ returns-clause-answers c = λ slot at.
     let kept : Goes (scene_of old) (entry (sealed_at place)) (map standing_of c.remove.new.self.items) c.begin-starts.result (scene_of c.begin-starts.new.self) =
     subst (λ (ns : List NewPin). Goes (scene_of old) (entry ns) (map standing_of c.remove.new.self.items) c.begin-starts.result (scene_of c.begin-starts.new.self)) (news ∙ sealed_by_place slot.run) goes in
     let whole = subst (λ (rs : List Standing). Goes (scene_of old) (entry (sealed_at place)) rs c.begin-starts.result (scene_of c.begin-starts.new.self)) all.standing kept in
-    let told = finished c.args.place all.r (standing_of slot) (outcome_reply o) all.runs (run_at (files_of old.hand) old.runs.items c.args.place slot.number slot c.requires.staged.kept.ready at refl) all.call (sym (ending_by_place slot.run) ∙ ended_so) whole in
+    let told = finished c.args.place all.r (standing_of slot) (outcome_reply o) all.runs (run_at old.desk (files_of old.hand) old.runs.items old.opening.items c.args.place slot.number slot c.requires.staged.kept at refl) all.call (sym (ending_by_place slot.run) ∙ ended_so) whole in
     subst (λ (reply : Reply). Answers (scene_of old) (finish slot.number) (with_starts (Ended reply) c.begin-starts.result) (scene_of c.begin-starts.new.self))
     (sym (c.reply-reply.ensures ∙ ap (λ (x : Outcome). outcome_reply x) c.in-Ok.ensures.board.outcome)) told

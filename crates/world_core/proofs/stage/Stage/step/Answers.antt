@@ -50,7 +50,7 @@ returns-then-is_done-clause-answers c =
     let need : c.next-need.result ≡ need_at (run_place slot.run) = c.next-need.ensures.need ∙ ap (λ (s : Slot). need_at (run_place s.run)) same in
     let done : need_at (run_place slot.run) ≡ needs.Done = sym need ∙ c.is_done.ensures.0 c.if-is_done.true in
     subst (λ (answer : EventAnswer). Answers (scene_of c.args.self.now) (step c.args.number c.args.works) answer (scene_of c.args.self.now)) (sym c.only-then-is_done.ensures)
-    (no_step k (standing_of slot) (run_at (files_of c.args.self.now.hand) runs k c.args.number slot c.requires.staged.kept.ready at c.in-Some.ensures.some.2) done)
+    (no_step k (standing_of slot) (run_at c.args.self.now.desk (files_of c.args.self.now.hand) runs c.args.self.now.opening.items k c.args.number slot c.requires.staged.kept at c.in-Some.ensures.some.2) done)
 
 pub returns-clause-answers : goal.returns-clause-answers
 returns-clause-answers c =
@@ -73,7 +73,7 @@ returns-clause-answers c =
     let moves : Moves (standing_of own) c.args.works (run_place left.run) =
     one_moves c.chained_are_legal.ensures c.args.works c.args.self.now.desk (files_of c.args.self.now.hand) (files_of c.step_run-answer.new.hand) runs c.args.self.now.opening.items k own left c.requires.staged.kept at more spares makes in
     let run : IsRunAt (map standing_of runs) k c.args.number (standing_of own) =
-    run_at (files_of c.args.self.now.hand) runs k c.args.number own c.requires.staged.kept.ready at (ap (λ (s : Slot). s.number) same ∙ c.in-Some.ensures.some.2) in
+    run_at c.args.self.now.desk (files_of c.args.self.now.hand) runs c.args.self.now.opening.items k c.args.number own c.requires.staged.kept at (ap (λ (s : Slot). s.number) same ∙ c.in-Some.ensures.some.2) in
     let said : c.only-2.result ≡ with_starts (Stepped (need_at (run_place own.run)) (step_answer (run_ending own.run) (run_ending left.run))) 0 =
     c.only-2.ensures ∙ ap (λ (n : Need). with_starts (Stepped n c.step_run-answer.result) 0) need ∙ ap (λ (a : StepAnswer). with_starts (Stepped (need_at (run_place own.run)) a) 0) e.answer in
     subst (λ (answer : EventAnswer). Answers (scene_of c.args.self.now) (step c.args.number c.args.works) answer

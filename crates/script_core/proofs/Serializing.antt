@@ -1,0 +1,415 @@
+-- What a script writes is what the sequential object gives.
+use Rattle.std.proofs.Common.{◌≡◌, ◌≢◌, ℕ, ◌+◌, ◌-◌, ◌⊎◌, inl, inr, Bool, true, false, List, [], ◌∷◌, ◌++◌, length, map, drop, Some, refl, sym, ◌∙◌, ap, subst, arith}
+use Rattle.std.proofs.lemmas.List.{append-nil, drop_all}
+use Rattle.std.specs.List.{flat_map}
+use Rattle.std.specs.Str.Lines.{lines}
+use Rattle.value_core.specs.declared.datum.Datum.{Datum}
+use Rattle.value_core.specs.Contents.{Contents}
+use Rattle.value_core.specs.Meaning.{opening_of}
+use Rattle.decl_core.specs.Bodies.{body_of}
+use Rattle.decl_core.specs.declared.object.Object.{Object}
+use Rattle.decl_core.specs.ObjectMap.{object_of}
+use Rattle.line_core.specs.Runs.{Runs}
+use Rattle.body_core.specs.declared.reply.Failure.TheVariants as failures
+use Rattle.body_core.specs.declared.reply.Reply.{Reply}
+use Rattle.body_core.specs.declared.reply.Reply.TheVariants as replies
+use Rattle.body_core.specs.Calls.{Call}
+use Rattle.body_core.specs.Steps.{sealed_at}
+use Rattle.body_core.specs.History.{IsLegal, IsReplyOn, left_by, leads_to}
+use Rattle.body_core.specs.HistoryLaws.{LegalByOne, LeadsByOne}
+use Rattle.board_core.specs.declared.event.TraceEvent.{TraceEvent}
+use Rattle.board_core.specs.Lists.{Every, Among}
+use Rattle.board_core.specs.Calls.{AcceptedCall, RunningCall, Noted}
+use Rattle.board_core.specs.Board.{Board, call_at, joined, dismissed, released, marked, ended, entry_of}
+use Rattle.board_core.specs.Chain.{end_of as entry_end, history_of}
+use Rattle.board_core.specs.Sound.{IsRunningIn, kinds_of, event_number}
+use Rattle.desk_core.specs.Answers.{Asked, IsNamedAt}
+use Rattle.world_core.specs.Events.{WorldEvent, call, step, finish, cancel, leave, look}
+use Rattle.world_core.specs.declared.event.Refusal.TheVariants as refusals
+use Rattle.world_core.specs.declared.event.EventAnswer.{EventAnswer}
+use Rattle.world_core.specs.Names.{refusal_name}
+use Rattle.world_core.specs.Scene.{Scene, Standing, Goes, IsNew, call_running}
+use Rattle.world_core.specs.Plays.{Plays, HasFailedStep}
+use Rattle.world_core.specs.Laws.{FailsOnlyWithItsDevice}
+use Rattle.world_core.specs.Answers.{Answers, called, not_called, stepped, no_step, step_not_running, finished, not_done, finish_not_running, cancelled, not_cancelled, left, no_session, shown, not_shown}
+use Rattle.script_text.specs.Said.{Said, a_call, a_step, all_steps, a_finish, a_cancel, a_drop, a_show, a_trace}
+use Rattle.script_text.specs.Answers.{called_line, refused_line, started_line, shown_lines}
+use Rattle.script_core.specs.Does.{Does, Happens, IsEvent, IsTold, StepsMade, none_yet, one_more, answer_lines, started_lines, one_event, all_stepped, not_stepped, traced}
+use Rattle.script_core.specs.declared.script.ScriptEnd.{ScriptEnd}
+use Rattle.script_core.specs.declared.script.ScriptEnd.TheVariants.{Whole, BadLine}
+use Rattle.script_core.specs.Writes.{Told, IsBegun, IsKept, NamesObject, Writes}
+use Rattle.script_core.specs.Run.{IsScript}
+use Rattle.script_core.specs.Serial.{Serial, MayReply, AreStarts, Serially, WritesSerially, IsSerialScript}
+
+-- A world came about from a new one by events in which only these calls were made to fail.
+record Carries (o : Object) (w : Scene) (failing : List ℕ) : Type 0 where
+  start : Scene
+  begins : IsNew o start
+  events : List WorldEvent
+  told : List EventAnswer
+  plays : Plays start events told w
+  failed : (n : ℕ) → HasFailedStep n events told → Among n failing
+
+plays_on : (events : List WorldEvent) (told : List EventAnswer) (old mid new : Scene) (e : WorldEvent) (a : EventAnswer)
+    → Plays old events told mid → Answers mid e a new → Plays old (events ++ e ∷ []) (told ++ a ∷ []) new
+plays_on [] [] old mid new e a plays answer = (new, subst (λ w. Answers w e a new) plays answer, refl)
+plays_on [] (b ∷ told) old mid new e a plays answer = absurd plays
+plays_on (d ∷ events) [] old mid new e a plays answer = absurd plays
+plays_on (d ∷ events) (b ∷ told) old mid new e a plays answer = (plays.0, plays.1, plays_on events told plays.0 mid new e a plays.2 answer)
+
+-- a step that failed is an earlier one or the last one
+failed_before : (n : ℕ) (events : List WorldEvent) (told : List EventAnswer) (old mid : Scene) (e : WorldEvent) (a : EventAnswer) → Plays old events told mid
+    → HasFailedStep n (events ++ e ∷ []) (told ++ a ∷ []) → HasFailedStep n events told ⊎ (e ≡ step n false)
+failed_before n [] [] old mid e a plays (inl h) = inr h.0
+failed_before n [] [] old mid e a plays (inr h) = absurd h
+failed_before n [] (b ∷ told) old mid e a plays h = absurd plays
+failed_before n (d ∷ events) [] old mid e a plays h = absurd plays
+failed_before n (d ∷ events) (b ∷ told) old mid e a plays (inl h) = inl (inl h)
+failed_before n (d ∷ events) (b ∷ told) old mid e a plays (inr h) = later_failed n d events b told e (failed_before n events told plays.0 mid e a plays.2 h)
+  where
+    later_failed : (n : ℕ) (d : WorldEvent) (events : List WorldEvent) (b : EventAnswer) (told : List EventAnswer) (e : WorldEvent)
+        → HasFailedStep n events told ⊎ (e ≡ step n false) → HasFailedStep n (d ∷ events) (b ∷ told) ⊎ (e ≡ step n false)
+    later_failed n d events b told e (inl h) = inl (inr h)
+    later_failed n d events b told e (inr h) = inr h
+
+-- one event more
+carries_on : {o : Object} {w new : Scene} {failing : List ℕ} (later : List ℕ) → Carries o w failing → (e : WorldEvent) (a : EventAnswer) → Answers w e a new
+    → ((n : ℕ) → Among n failing → Among n later) → ((n : ℕ) → e ≡ step n false → Among n later) → Carries o new later
+carries_on {w = w} {new = new} later c e a answer more owed = record {
+  start = c.start;
+  begins = c.begins;
+  events = c.events ++ e ∷ [];
+  told = c.told ++ a ∷ [];
+  plays = plays_on c.events c.told c.start w new e a c.plays answer;
+  failed = λ n h. either_owed n (failed_before n c.events c.told c.start w e a c.plays h);
+}
+  where
+    either_owed : (n : ℕ) → HasFailedStep n c.events c.told ⊎ (e ≡ step n false) → Among n later
+    either_owed n (inl h) = more n (c.failed n h)
+    either_owed n (inr h) = owed n h
+
+-- What the sequential object has is that of a world.
+record Matches (o : Object) (told : Told) (s : Serial) : Type 0 where
+  named : s.named ≡ told.named
+  object : s.object ≡ told.world.board.object
+  calls : s.calls ≡ told.world.board.calls
+  contents : s.contents ≡ leads_to (history_of told.world.board.history) told.world.opening
+  running : Every (λ (r : RunningCall). call_at told.world.board.calls r.number ≡ Some r.call) told.world.board.running
+  carries : Carries o told.world s.failing
+
+every_running : (b : Board) (rs : List RunningCall) → Every (IsRunningIn b) rs → Every (λ (r : RunningCall). call_at b.calls r.number ≡ Some r.call) rs
+every_running b [] all = tt
+every_running b (r ∷ rs) all = (all.0.call, every_running b rs all.1)
+
+every_among : {X : Type 0} (P : X → Type 0) (xs : List X) (x : X) → Every P xs → Among x xs → P x
+every_among P [] x all here = absurd here
+every_among P (y ∷ ys) x all (inl same) = subst P same all.0
+every_among P (y ∷ ys) x all (inr later) = every_among P ys x all.1 later
+
+every_last : {X : Type 0} (P : X → Type 0) (xs : List X) (x : X) → Every P (xs ++ x ∷ []) → P x
+every_last P [] x all = all.0
+every_last P (y ∷ ys) x all = every_last P ys x all.1
+
+-- the world of a line, once it is left so: its board has the same object, these calls, and what the contents are
+matches_next : {o : Object} {told : Told} {s : Serial} (new : Scene) (next : Serial) → Matches o told s → IsKept new → next.named ≡ s.named → next.object ≡ s.object → new.board.object ≡ told.world.board.object
+    → next.calls ≡ new.board.calls → next.contents ≡ leads_to (history_of new.board.history) new.opening → Carries o new next.failing → Matches o (record told { world = new }) next
+matches_next new next m kept named object same calls contents carries = record {
+  named = named ∙ m.named;
+  object = object ∙ m.object ∙ sym same;
+  calls = calls;
+  contents = contents;
+  running = every_running new.board new.board.running kept.sound.counted.runs;
+  carries = carries;
+}
+
+-- What admission leaves as it was.
+goes_history : {old new : Scene} {between : Board} {kept : List Standing} {starts : ℕ} → Goes old between kept starts new → new.board.history ≡ between.history
+goes_history g = ap (λ (b : Board). b.history) g.board ∙ g.settles.started.history
+
+goes_calls : {old new : Scene} {between : Board} {kept : List Standing} {starts : ℕ} → Goes old between kept starts new → new.board.calls ≡ between.calls
+goes_calls g = ap (λ (b : Board). b.calls) g.board ∙ g.settles.started.calls
+
+goes_object : {old new : Scene} {between : Board} {kept : List Standing} {starts : ℕ} → Goes old between kept starts new → new.board.object ≡ between.object
+goes_object g = ap (λ (b : Board). b.object) g.board ∙ g.settles.started.object
+
+joined_history : (b : Board) (c : AcceptedCall) → (joined b c).history ≡ b.history
+unfolding joined
+joined_history b c = refl
+
+joined_calls : (b : Board) (c : AcceptedCall) → (joined b c).calls ≡ b.calls ++ c ∷ []
+unfolding joined
+joined_calls b c = refl
+
+joined_object : (b : Board) (c : AcceptedCall) → (joined b c).object ≡ b.object
+unfolding joined
+joined_object b c = refl
+
+dismissed_same : (b : Board) (n : ℕ) → ((dismissed b n).history ≡ b.history) × ((dismissed b n).calls ≡ b.calls) × ((dismissed b n).object ≡ b.object)
+unfolding dismissed
+dismissed_same b n = (refl, refl, refl)
+
+left_same : (b : Board) (n : ℕ) → ((marked (released b n) n).history ≡ b.history) × ((marked (released b n) n).calls ≡ b.calls) × ((marked (released b n) n).object ≡ b.object)
+unfolding marked released
+left_same b n = (refl, refl, refl)
+
+ended_history : (b : Board) (e : Noted) → (ended b e).history ≡ b.history ++ e ∷ []
+unfolding ended
+ended_history b e = refl
+
+ended_same : (b : Board) (e : Noted) → ((ended b e).calls ≡ b.calls) × ((ended b e).object ≡ b.object)
+unfolding ended
+ended_same b e = (refl, refl)
+
+history_snoc : (entries : List Noted) (e : Noted) → history_of (entries ++ e ∷ []) ≡ history_of entries ++ entry_end e ∷ []
+history_snoc [] e = refl
+history_snoc (d ∷ entries) e = ap (λ xs. entry_end d ∷ xs) (history_snoc entries e)
+
+-- the contents are where they were
+same_contents : (old new : Scene) (contents : List Contents) → contents ≡ leads_to (history_of old.board.history) old.opening → new.board.history ≡ old.board.history → new.opening ≡ old.opening
+    → contents ≡ leads_to (history_of new.board.history) new.opening
+same_contents old new contents is history opening =
+    is ∙ ap (λ es. leads_to (history_of es) old.opening) (sym history) ∙ ap (λ c. leads_to (history_of new.board.history) c) (sym opening)
+
+starts_are : (events : List TraceEvent) → flat_map (λ e. started_line (event_number e)) events ≡ flat_map started_line (map event_number events)
+starts_are [] = refl
+starts_are (e ∷ events) = ap (λ xs. started_line (event_number e) ++ xs) (starts_are events)
+
+are_starts : (starts : ℕ) (trace : List TraceEvent) → AreStarts (started_lines starts trace)
+are_starts starts trace = (map event_number (drop (length trace - starts) trace), starts_are (drop (length trace - starts) trace))
+
+-- an event that starts no call is answered by one line
+no_starts : (line : List ℕ) (trace : List TraceEvent) → line ++ started_lines 0 trace ≡ line
+no_starts line trace = ap (λ events. line ++ flat_map (λ e. started_line (event_number e)) events) (drop_all (length trace - 0) trace (omega arith)) ∙ append-nil line
+
+-- events that make no step fail
+not_by_call : (asked : Asked) (n : ℕ) → call asked ≡ step n false → ⊥
+not_by_call asked n is = cc
+
+not_by_step : (m n : ℕ) → step m true ≡ step n false → ⊥
+not_by_step m n is = cc
+
+by_step : (m n : ℕ) → step m false ≡ step n false → m ≡ n
+by_step m n is = cc
+
+not_by_finish : (m n : ℕ) → finish m ≡ step n false → ⊥
+not_by_finish m n is = cc
+
+not_by_cancel : (m n : ℕ) → cancel m ≡ step n false → ⊥
+not_by_cancel m n is = cc
+
+not_by_leave : (m n : ℕ) → leave m ≡ step n false → ⊥
+not_by_leave m n is = cc
+
+not_by_look : (n : ℕ) → look ≡ step n false → ⊥
+not_by_look n is = cc
+
+-- What the sequential object makes of a line that says this, and that it is the world still.
+abbrev Next : Object → Told → Serial → Said → List ℕ → Scene → Type 0
+Next o told s said text new = (next : Serial) × Serially said s text next × Matches o (record told { world = new }) next
+
+-- nothing changes for the sequential object
+stays : {o : Object} {told : Told} {s : Serial} (said : Said) (text : List ℕ) (new : Scene) → Matches o told s → IsKept new → Serially said s text s → new.board.object ≡ told.world.board.object
+    → new.board.calls ≡ told.world.board.calls → new.board.history ≡ told.world.board.history → new.opening ≡ told.world.opening → Carries o new s.failing → Next o told s said text new
+stays {told = told} {s = s} said text new m kept serially object calls history opening carries =
+    (s, serially, matches_next new s m kept refl refl object (m.calls ∙ sym calls) (same_contents told.world new s.contents m.contents history opening) carries)
+
+on_call : {o : Object} {told : Told} {s : Serial} (session : ℕ) (name : List ℕ) (arguments : List Datum) (a : EventAnswer) (new : Scene) → Matches o told s → IsKept new
+    → Answers told.world (call (record { session = session; name = name; arguments = arguments })) a new
+    → Next o told s (a_call session name arguments) (answer_lines new.board.object 0 a.answer ++ started_lines a.starts new.board.trace) new
+on_call {o = o} {told = told} {s = s} session name arguments a new m kept (called {starts = starts} accepted taken goes) =
+    let by : Answers told.world (call (record { session = session; name = name; arguments = arguments })) a new = called accepted taken goes in
+    let calls : new.board.calls ≡ told.world.board.calls ++ accepted ∷ [] = goes_calls goes ∙ joined_calls told.world.board accepted in (
+      record s { calls = s.calls ++ accepted ∷ [] },
+      Serially.called accepted
+          (record { caller = taken.asked.session; named = subst (λ x. IsNamedAt x accepted.op accepted.operation name) (sym m.object) taken.asked.named; given = taken.asked.arguments })
+          (are_starts starts new.board.trace)
+          (ap (λ (cs : List AcceptedCall). called_line (length cs + 1) ++ started_lines starts new.board.trace) (sym m.calls)),
+      matches_next new (record s { calls = s.calls ++ accepted ∷ [] }) m kept refl refl (goes_object goes ∙ joined_object told.world.board accepted)
+          (ap (λ (cs : List AcceptedCall). cs ++ accepted ∷ []) m.calls ∙ sym calls)
+          (same_contents told.world new s.contents m.contents (goes_history goes ∙ joined_history told.world.board accepted) goes.opening)
+          (carries_on s.failing m.carries (call (record { session = session; name = name; arguments = arguments })) a by (λ n h. h) (λ n is. absurd (not_by_call (record { session = session; name = name; arguments = arguments }) n is))),
+    )
+on_call {o = o} {told = told} {s = s} session name arguments a new m kept (not_called fault refused) =
+    let by : Answers told.world (call (record { session = session; name = name; arguments = arguments })) a new = not_called fault refused in
+    stays (a_call session name arguments) _ new m kept (Serially.not_called (refusal_name (refusals.Submit fault)) (no_starts (refused_line (refusal_name (refusals.Submit fault))) told.world.board.trace)) refl refl refl refl
+    (carries_on s.failing m.carries (call (record { session = session; name = name; arguments = arguments })) a by (λ n h. h) (λ n is. absurd (not_by_call (record { session = session; name = name; arguments = arguments }) n is)))
+
+-- a step changes neither the board nor the opening values
+step_same : (old new : Scene) (number : ℕ) (works : Bool) (a : EventAnswer) → Answers old (step number works) a new → (new.board ≡ old.board) × (new.opening ≡ old.opening)
+step_same old new number works a (stepped k run after files there going moves) = (refl, refl)
+step_same old new number works a (no_step k run there done) = (refl, refl)
+step_same old new number works a (step_not_running none) = (refl, refl)
+
+on_step : {o : Object} {told : Told} {s : Serial} (number : ℕ) (works : Bool) (text : List ℕ) (a : EventAnswer) (new : Scene) → Matches o told s → IsKept new → Answers told.world (step number works) a new
+    → Next o told s (a_step number works) text new
+on_step {told = told} {s = s} number true text a new m kept by =
+    let same = step_same told.world new number true a by in
+    stays (a_step number true) text new m kept Serially.to_work (ap (λ (b : Board). b.object) same.0) (ap (λ (b : Board). b.calls) same.0) (ap (λ (b : Board). b.history) same.0) same.1
+    (carries_on s.failing m.carries (step number true) a by (λ n h. h) (λ n is. absurd (not_by_step number n is)))
+on_step {told = told} {s = s} number false text a new m kept by =
+    let same = step_same told.world new number false a by in (
+      record s { failing = number ∷ s.failing },
+      Serially.to_fail,
+      matches_next new (record s { failing = number ∷ s.failing }) m kept refl refl (ap (λ (b : Board). b.object) same.0) (m.calls ∙ sym (ap (λ (b : Board). b.calls) same.0))
+          (same_contents told.world new s.contents m.contents (ap (λ (b : Board). b.history) same.0) same.1)
+          (carries_on (number ∷ s.failing) m.carries (step number false) a by (λ n h. inr h) (λ n is. inl (by_step number n is))),
+    )
+
+may_reply : (failing : List ℕ) (number : ℕ) (reply : Reply) → (reply ≡ replies.Failed failures.Device → Among number failing) → (reply ≢ replies.Failed failures.Damaged) → MayReply failing number reply
+may_reply failing number (replies.Done value) device damage = tt
+may_reply failing number (replies.Refused word) device damage = tt
+may_reply failing number (replies.Failed failures.Device) device damage = device refl
+may_reply failing number (replies.Failed failures.Memory) device damage = tt
+may_reply failing number (replies.Failed failures.Damaged) device damage = damage refl
+
+-- the number of a running call is that of its run
+number_of : (r : RunningCall) (run : Standing) (number : ℕ) → run.call ≡ call_running r → run.call.number ≡ number → r.number ≡ number
+number_of r run number is there = sym (ap (λ (c : Call). c.number) is) ∙ there
+
+on_finish : {o : Object} {told : Told} {s : Serial} (number : ℕ) (a : EventAnswer) (new : Scene) → LegalByOne → LeadsByOne → FailsOnlyWithItsDevice → Matches o told s → IsKept new
+    → Answers told.world (finish number) a new → Next o told s (a_finish number) (answer_lines new.board.object number a.answer ++ started_lines a.starts new.board.trace) new
+on_finish {o = o} {told = told} {s = s} number a new legal_by leads_by fails m kept (finished {starts = starts} k r run reply among there is ends goes) =
+    let by : Answers told.world (finish number) a new = finished k r run reply among there is ends goes in
+    let noted : Noted = entry_of r reply (sealed_at run.place) in
+    let b : Board = told.world.board in
+    let history : new.board.history ≡ b.history ++ noted ∷ [] = goes_history goes ∙ ended_history b noted in
+    let ends_are : history_of new.board.history ≡ history_of b.history ++ entry_end noted ∷ [] = ap history_of history ∙ history_snoc b.history noted in
+    let legal : IsLegal (history_of b.history ++ entry_end noted ∷ []) told.world.opening = subst (λ c. IsLegal (history_of b.history ++ entry_end noted ∷ []) c) goes.opening (subst (λ es. IsLegal es new.opening) ends_are kept.sequential.replies) in
+    let right : IsReplyOn reply (body_of r.call.operation) r.call.arguments (leads_to (history_of b.history) told.world.opening) = ((legal_by (history_of b.history) (entry_end noted) told.world.opening).0 legal).1 in
+    let is_number : r.number ≡ number = number_of r run number is there.number in
+    let carries : Carries o new s.failing = carries_on s.failing m.carries (finish number) a by (λ n h. h) (λ n e. absurd (not_by_finish number n e)) in
+    let fair = fails o carries.start new carries.events carries.told carries.begins carries.plays in
+    let device : (e : Noted) → Type 0 = λ e. e.reply ≡ replies.Failed failures.Device → HasFailedStep e.number carries.events carries.told in
+    let damage : (e : Noted) → Type 0 = λ e. e.reply ≢ replies.Failed failures.Damaged in
+    let owed : reply ≡ replies.Failed failures.Device → Among number s.failing = λ e. subst (λ n. Among n s.failing) is_number (carries.failed r.number (every_last device b.history noted (subst (Every device) history fair.0) e)) in
+    let sound : reply ≢ replies.Failed failures.Damaged = every_last damage b.history noted (subst (Every damage) history fair.1) in
+    let next : Serial = record s { contents = left_by reply (body_of r.call.operation) r.call.arguments s.contents } in
+    let found : call_at s.calls number ≡ Some r.call = ap (λ (cs : List AcceptedCall). call_at cs number) m.calls ∙ subst (λ n. call_at b.calls n ≡ Some r.call) is_number (every_among (λ (x : RunningCall). call_at b.calls x.number ≡ Some x.call) b.running r m.running among) in
+    let contents : next.contents ≡ leads_to (history_of new.board.history) new.opening =
+    ap (λ c. left_by reply (body_of r.call.operation) r.call.arguments c) m.contents
+    ∙ sym (leads_by (history_of b.history) (entry_end noted) told.world.opening)
+    ∙ ap (λ es. leads_to es told.world.opening) (sym ends_are)
+    ∙ ap (λ c. leads_to (history_of new.board.history) c) (sym goes.opening) in (
+      next,
+      Serially.finished r.call reply found (subst (λ c. IsReplyOn reply (body_of r.call.operation) r.call.arguments c) (sym m.contents) right) (may_reply s.failing number reply owed sound) (are_starts starts new.board.trace) refl,
+      matches_next new next m kept refl refl (goes_object goes ∙ (ended_same b noted).1) (m.calls ∙ sym (goes_calls goes ∙ (ended_same b noted).0)) contents carries,
+    )
+on_finish {told = told} {s = s} number a new legal_by leads_by fails m kept (not_done k run there going) =
+    let by : Answers told.world (finish number) a new = not_done k run there going in
+    stays (a_finish number) _ new m kept (Serially.not_finished (refusal_name refusals.NotDone) (no_starts (refused_line (refusal_name refusals.NotDone)) told.world.board.trace)) refl refl refl refl
+    (carries_on s.failing m.carries (finish number) a by (λ n h. h) (λ n e. absurd (not_by_finish number n e)))
+on_finish {told = told} {s = s} number a new legal_by leads_by fails m kept (finish_not_running none) =
+    let by : Answers told.world (finish number) a new = finish_not_running none in
+    stays (a_finish number) _ new m kept (Serially.not_finished (refusal_name refusals.NotRunning) (no_starts (refused_line (refusal_name refusals.NotRunning)) told.world.board.trace)) refl refl refl refl
+    (carries_on s.failing m.carries (finish number) a by (λ n h. h) (λ n e. absurd (not_by_finish number n e)))
+
+on_cancel : {o : Object} {told : Told} {s : Serial} (number : ℕ) (text : List ℕ) (a : EventAnswer) (new : Scene) → Matches o told s → IsKept new → Answers told.world (cancel number) a new
+    → Next o told s (a_cancel number) text new
+on_cancel {told = told} {s = s} number text a new m kept (cancelled waits goes) =
+    let by : Answers told.world (cancel number) a new = cancelled waits goes in
+    let same = dismissed_same told.world.board number in
+    stays (a_cancel number) text new m kept Serially.cancels_it (goes_object goes ∙ same.2) (goes_calls goes ∙ same.1) (goes_history goes ∙ same.0) goes.opening
+    (carries_on s.failing m.carries (cancel number) a by (λ n h. h) (λ n e. absurd (not_by_cancel number n e)))
+on_cancel {told = told} {s = s} number text a new m kept (not_cancelled answer other so) =
+    let by : Answers told.world (cancel number) a new = not_cancelled answer other so in
+    stays (a_cancel number) text new m kept Serially.cancels_it refl refl refl refl (carries_on s.failing m.carries (cancel number) a by (λ n h. h) (λ n e. absurd (not_by_cancel number n e)))
+
+on_leave : {o : Object} {told : Told} {s : Serial} (session : ℕ) (text : List ℕ) (a : EventAnswer) (new : Scene) → Matches o told s → IsKept new → Answers told.world (leave session) a new
+    → Next o told s (a_drop session) text new
+on_leave {told = told} {s = s} session text a new m kept (left above below goes) =
+    let by : Answers told.world (leave session) a new = left above below goes in
+    let same = left_same told.world.board session in
+    stays (a_drop session) text new m kept Serially.leaves (goes_object goes ∙ same.2) (goes_calls goes ∙ same.1) (goes_history goes ∙ same.0) goes.opening
+    (carries_on s.failing m.carries (leave session) a by (λ n h. h) (λ n e. absurd (not_by_leave session n e)))
+on_leave {told = told} {s = s} session text a new m kept (no_session none) =
+    let by : Answers told.world (leave session) a new = no_session none in
+    stays (a_drop session) text new m kept Serially.leaves refl refl refl refl (carries_on s.failing m.carries (leave session) a by (λ n h. h) (λ n e. absurd (not_by_leave session n e)))
+
+on_look : {o : Object} {told : Told} {s : Serial} (a : EventAnswer) (new : Scene) → Matches o told s → IsKept new → IsTold a.answer → Answers told.world look a new
+    → Next o told s a_show (answer_lines new.board.object 0 a.answer ++ started_lines a.starts new.board.trace) new
+on_look {told = told} {s = s} a new m kept is_told (shown values are) =
+    let by : Answers told.world look a new = shown values are in
+    let line : List ℕ = shown_lines (object_of told.world.board.object).parts values.items in
+    let same : line ≡ shown_lines (object_of s.object).parts s.contents =
+    ap (λ cs. shown_lines (object_of told.world.board.object).parts cs) (are ∙ sym m.contents) ∙ ap (λ (x : Object). shown_lines (object_of x).parts s.contents) (sym m.object) in
+    stays a_show _ new m kept (Serially.shown (no_starts line told.world.board.trace ∙ same)) refl refl refl refl (carries_on s.failing m.carries look a by (λ n h. h) (λ n e. absurd (not_by_look n e)))
+on_look a new m kept is_told not_shown = absurd ((is_told refusals.Memory refl).event refl)
+
+-- steps that work, one after another
+on_steps : {o : Object} {first : Scene} {failing : List ℕ} (number : ℕ) → Carries o first failing → (count : ℕ) (last : Scene) → StepsMade number first count last
+    → Carries o last failing × (last.board ≡ first.board) × (last.opening ≡ first.opening)
+on_steps number c count last none_yet = (c, refl, refl)
+on_steps {o = o} {first = first} {failing = failing} number c count last (one_more {count = before} {mid = mid} made is) =
+    let far = on_steps number c before mid made in
+    let same = step_same mid last number true is.a is.answers in
+    (carries_on failing far.0 (step number true) is.a is.answers (λ n h. h) (λ n e. absurd (not_by_step number n e)), same.0 ∙ far.1, same.1 ∙ far.2)
+
+-- an event that a line says
+on_event : {o : Object} {told : Told} {s : Serial} (said : Said) (event : WorldEvent) (number : ℕ) (a : EventAnswer) (new : Scene) → LegalByOne → LeadsByOne → FailsOnlyWithItsDevice → Matches o told s → IsKept new
+    → IsEvent said event number → Answers told.world event a new → IsTold a.answer → Next o told s said (answer_lines new.board.object number a.answer ++ started_lines a.starts new.board.trace) new
+on_event said event number a new legal_by leads_by fails m kept (IsEvent.calls {session = session} {name = name} {arguments = arguments}) by is_told = on_call session name arguments a new m kept by
+on_event said event number a new legal_by leads_by fails m kept (IsEvent.steps {works = works}) by is_told = on_step number works _ a new m kept by
+on_event said event number a new legal_by leads_by fails m kept IsEvent.finishes by is_told = on_finish number a new legal_by leads_by fails m kept by
+on_event said event number a new legal_by leads_by fails m kept IsEvent.cancels_it by is_told = on_cancel number _ a new m kept by
+on_event said event number a new legal_by leads_by fails m kept IsEvent.leaves by is_told = on_leave number _ a new m kept by
+on_event said event number a new legal_by leads_by fails m kept IsEvent.looks by is_told = on_look a new m kept is_told by
+
+on_happening : {o : Object} {told : Told} {s : Serial} (said : Said) (event : WorldEvent) (number : ℕ) (text : List ℕ) (new : Scene) → LegalByOne → LeadsByOne → FailsOnlyWithItsDevice → Matches o told s → IsKept new
+    → IsEvent said event number → Happens event number told.world text new → Next o told s said text new
+on_happening said event number text new legal_by leads_by fails m kept is (Happens.happens a by is_told) = on_event said event number a new legal_by leads_by fails m kept is by is_told
+
+-- what a line that says this does
+on_said : {o : Object} {told : Told} {s : Serial} (said : Said) (text : List ℕ) (new : Scene) → LegalByOne → LeadsByOne → FailsOnlyWithItsDevice → Matches o told s → IsKept new
+    → Does said told.world text new → Next o told s said text new
+on_said said text new legal_by leads_by fails m kept (one_event {event = event} {number = number} is so) = on_happening said event number text new legal_by leads_by fails m kept is so
+on_said {told = told} {s = s} said text new legal_by leads_by fails m kept (all_stepped {number = number} count (mid, made, over)) =
+    let far = on_steps number m.carries count mid made in
+    let same = step_same mid new number true over.a over.answers in
+    let board : new.board ≡ told.world.board = same.0 ∙ far.1 in
+    stays (all_steps number) text new m kept Serially.to_end (ap (λ (b : Board). b.object) board) (ap (λ (b : Board). b.calls) board) (ap (λ (b : Board). b.history) board) (same.1 ∙ far.2)
+    (carries_on s.failing far.0 (step number true) over.a over.answers (λ n h. h) (λ n e. absurd (not_by_step number n e)))
+on_said {s = s} said text new legal_by leads_by fails m kept (not_stepped {number = number} none) = stays (all_steps number) text new m kept Serially.to_end refl refl refl refl m.carries
+on_said {s = s} said text new legal_by leads_by fails m kept traced = stays a_trace text new m kept Serially.traced refl refl refl refl m.carries
+
+-- what a line is answered
+on_line : {o : Object} (told : Told) (s : Serial) (number : ℕ) (line text : List ℕ) (goes : Bool) (new : Told) → LegalByOne → LeadsByOne → FailsOnlyWithItsDevice → Matches o told s → Writes told number line text goes new
+    → (next : Serial) × WritesSerially s number line text goes next × Matches o new next
+on_line told s number line text goes new legal_by leads_by fails m (Writes.named before is) =
+    (record s { named = true }, WritesSerially.named (m.named ∙ before) (subst (λ x. NamesObject x line) (sym m.object) is), record { named = refl; object = m.object; calls = m.calls; contents = m.contents; running = m.running; carries = m.carries })
+on_line told s number line text goes new legal_by leads_by fails m (Writes.not_named before is_not) = (s, WritesSerially.not_named (m.named ∙ before) (λ h. is_not (subst (λ x. NamesObject x line) m.object h)), m)
+on_line told s number line text goes new legal_by leads_by fails m (Writes.skipped named is) = (s, WritesSerially.skipped (m.named ∙ named) is, m)
+on_line told s number line text goes new legal_by leads_by fails m (Writes.done {new = world} said named not_skipped says does kept) =
+    let next = on_said said text world legal_by leads_by fails m kept does in
+    (next.0, WritesSerially.done said (m.named ∙ named) not_skipped says next.1, next.2)
+on_line told s number line text goes new legal_by leads_by fails m (Writes.bad named not_skipped says_none) = (s, WritesSerially.bad (m.named ∙ named) not_skipped says_none, m)
+
+on_lines : {o : Object} (told : Told) (s : Serial) (number : ℕ) (ls : List (List ℕ)) (text : List ℕ) (new : Told) → LegalByOne → LeadsByOne → FailsOnlyWithItsDevice → Matches o told s → Runs Writes told number ls text new
+    → (next : Serial) × Runs WritesSerially s number ls text next × Matches o new next
+on_lines {o = o} told s number [] text new legal_by leads_by fails m (none, same) = (s, (none, refl), subst (λ t. Matches o t s) (sym same) m)
+on_lines told s number (line ∷ more) text new legal_by leads_by fails m (first, rest, mid, cut, gives, runs) =
+    let here = on_line told s number line first true mid legal_by leads_by fails m gives in
+    let later = on_lines mid here.0 (number + 1) more rest new legal_by leads_by fails here.2 runs in
+    (later.0, (first, rest, here.0, cut, here.1, later.1), later.2)
+
+-- before the first line
+abbrev first_of : Object → Serial
+first_of o = record { named = false; object = o; calls = []; contents = map opening_of (kinds_of o); failing = [] }
+
+begins_so : (o : Object) (told : Told) → IsBegun o told → Matches o told (first_of o)
+begins_so o told begun = record {
+  named = sym begun.named;
+  object = sym (ap (λ (b : Board). b.object) begun.world.board);
+  calls = sym (ap (λ (b : Board). b.calls) begun.world.board);
+  contents = sym begun.world.opening ∙ ap (λ (b : Board). leads_to (history_of b.history) told.world.opening) (sym begun.world.board);
+  running = subst (λ (b : Board). Every (λ (r : RunningCall). call_at b.calls r.number ≡ Some r.call) b.running) (sym begun.world.board) tt;
+  carries = record { start = told.world; begins = begun.world; events = []; told = []; plays = refl; failed = λ n h. absurd h };
+}
+
+pub all_serial : LegalByOne → LeadsByOne → FailsOnlyWithItsDevice → (o : Object) (text : List ℕ) (end : ScriptEnd) (written : List ℕ) → IsScript o text end written → IsSerialScript o text end written
+all_serial legal_by leads_by fails o text Whole written (start, begun, told, runs) =
+    let all = on_lines start (first_of o) 1 (lines text) written told legal_by leads_by fails (begins_so o start begun) runs in
+    (first_of o, record { named = refl; object = refl; calls = refl; contents = refl; failing = refl }, all.0, all.1)
+all_serial legal_by leads_by fails o text (BadLine k) written (start, begun, before, line, after, told, place, cut, (first, last, mid, runs, gives, made)) =
+    let all = on_lines start (first_of o) 1 before first mid legal_by leads_by fails (begins_so o start begun) runs in
+    let end = on_line mid all.0 (1 + length before) line last false told legal_by leads_by fails all.2 gives in
+    (first_of o, record { named = refl; object = refl; calls = refl; contents = refl; failing = refl }, before, line, after, end.0, place, cut, (first, last, all.0, all.1, end.1, made))
