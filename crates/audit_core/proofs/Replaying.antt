@@ -1,0 +1,100 @@
+-- Replies of the sequential object.
+use Rattle.std.proofs.Common.{◌≡◌, ℕ, zero, suc, ◌<◌, List, [], ◌∷◌, length, get_or, refl, sym, ap, ◌∙◌, subst, arith, Bool, true, false, IsTrue, map}
+use Rattle.std.specs.Prelude.{◌↔◌, Option, Some, None, option_map, slice_get, unwrap_or}
+use Rattle.std.specs.declared.sync.Arc.{Arc}
+use Rattle.std.specs.Global.{Global}
+use Rattle.std.specs.Arc.{arc_value}
+use Rattle.std.proofs.lemmas.Bool.{false≢true}
+use Rattle.std.proofs.lemmas.Option.{slice_get_read, slice_get-map}
+use Rattle.value_core.specs.declared.datum.Datum.{Datum}
+use Rattle.value_core.specs.declared.kind.Kind.{Kind}
+use Rattle.value_core.specs.Contents.{Contents, kind_of}
+use Rattle.decl_core.specs.declared.object.Object.{Object}
+use Rattle.decl_core.specs.declared.object.Operation.{Operation}
+use Rattle.decl_core.specs.declared.object.Part.{Part}
+use Rattle.decl_core.specs.Form.{Body}
+use Rattle.decl_core.specs.Bodies.{body_of}
+use Rattle.decl_core.specs.Meaning.{Meant, done, refused, apply_body}
+use Rattle.decl_core.specs.ObjectMap.{object_of, parts_of}
+use Rattle.decl_core.specs.PartKinds.{AreKindsOf, EachKindsOf}
+use Rattle.body_core.specs.Calls.{ArgumentsFit, HoldsReads}
+use Rattle.body_core.specs.Spread.{ReplyTells}
+use Rattle.body_core.specs.History.{IsReplyOn, left_by}
+use Rattle.body_core.specs.declared.reply.Reply.{Reply}
+use Rattle.body_core.specs.declared.reply.Reply.TheVariants.{Done, Refused, Failed}
+use Rattle.trace_core.specs.Events.{body_at}
+use Rattle.audit_core.specs.declared.calls.Running.{Running}
+use Rattle.audit_core.specs.Replies.{IsAnswer, Did, Redone, CanDo, Tries}
+use Rattle.audit_core.proofs.Forms.{body_is, fit_elsewhere}
+
+-- a reply that was given is the sequential object's
+given_is : (reply : Reply) (body : Body) (args : List Datum) (parts : List Contents) → IsAnswer reply → ReplyTells reply (apply_body body args parts).0
+    → IsReplyOn reply body args parts × (left_by reply body args parts ≡ (apply_body body args parts).1)
+given_is (Done r) body args parts answer tells = (tells, refl)
+given_is (Refused w) body args parts answer tells = (tells, refl)
+given_is (Failed f) body args parts answer tells = absurd answer
+
+-- and no other one is
+other_is_not : (reply given : Reply) (body : Body) (args : List Datum) (parts : List Contents) → IsAnswer reply → ReplyTells given (apply_body body args parts).0 → (reply ≡ given → ⊥)
+    → IsReplyOn reply body args parts → ⊥
+other_is_not (Done r) (Done g) body args parts answer tells other is = let e : done r ≡ done g = sym is ∙ tells in let f : r ≡ g = cc in other (ap Done f)
+other_is_not (Done r) (Refused g) body args parts answer tells other is = let e : done r ≡ refused g = sym is ∙ tells in cc
+other_is_not (Refused r) (Done g) body args parts answer tells other is = let e : refused r ≡ done g = sym is ∙ tells in cc
+other_is_not (Refused r) (Refused g) body args parts answer tells other is = let e : refused r ≡ refused g = sym is ∙ tells in let f : r ≡ g = cc in other (ap Refused f)
+other_is_not (Done r) (Failed g) body args parts answer tells other is = tells
+other_is_not (Refused r) (Failed g) body args parts answer tells other is = tells
+other_is_not (Failed r) given body args parts answer tells other is = answer
+
+-- what an operation knows of the parts holds of those of its object
+known_at : {Z : Type 0} (kinds : List Kind) (xs : List (Arc Operation Z)) (place : ℕ) (a : Arc Operation Z) → EachKindsOf kinds (map (λ (o : Operation). o.kinds.items) (map (λ x. arc_value x) xs))
+    → place < length xs → a ≡ get_or xs place a → AreKindsOf kinds (arc_value a).kinds.items
+known_at kinds [] place a all within is = absurd (omega arith)
+known_at {Z} kinds (x ∷ xs) zero a all within is = subst (λ (y : Arc Operation Z). AreKindsOf kinds (arc_value y).kinds.items) (sym is) all.0
+known_at kinds (x ∷ xs) (suc place) a all within is = known_at kinds xs place a all.1 (omega arith) is
+
+kinds_same : (parts : List Part) → map (λ p. p.1) (parts_of parts) ≡ map (λ p. p.kind) parts
+kinds_same [] = refl
+kinds_same (p ∷ parts) = ap (λ kinds. p.kind ∷ kinds) (kinds_same parts)
+
+-- a value of a kind stands where its kind does
+value_there : (parts : List Contents) (p : ℕ) (kind : Kind) → slice_get (map kind_of parts) p ≡ Some kind → (value : Contents) × (slice_get parts p ≡ Some value) × (kind_of value ≡ kind)
+value_there [] p kind is = absurd cc
+value_there (v ∷ parts) zero kind is = (v, refl, ap (λ o. unwrap_or o (kind_of v)) is)
+value_there (v ∷ parts) (suc p) kind is = value_there parts p kind is
+
+module _ (object : Object) (place : ℕ) (a : Arc Operation Global) (within : place < length object.operations.items) (is : a ≡ get_or object.operations.items place a) where
+  reads_fit : (r : Running) (parts : List Contents) → CanDo (object_of object) r parts → HoldsReads (arc_value a) parts
+  reads_fit r parts can p kind named =
+      let known = known_at (map (λ p. p.kind) object.parts.items) object.operations.items place a object.of_parts within is in
+      let there : slice_get (map kind_of parts) p ≡ Some kind = ap (λ ks. slice_get ks p) (can.kinds ∙ kinds_same object.parts.items) ∙ known p kind named.held in
+      value_there parts p kind there
+
+  tried_true : (r : Running) (reply given : Reply) (before after : List Contents) → place ≡ r.operation → IsAnswer reply → reply ≡ given → Did (arc_value a) r.arguments.items before after given
+      → Tries (object_of object) r reply before after true
+  tried_true r reply given before after here answer same did can =
+      let op = arc_value a in
+      let body : body_at (object_of object) r.operation ≡ body_of op = ap (body_at (object_of object)) (sym here) ∙ body_is object.operations.items place a within is in
+      let told = given_is reply (body_of op) r.arguments.items before answer (subst (λ g. ReplyTells g (apply_body (body_of op) r.arguments.items before).0) (sym same) did.tells) in (
+        subst (λ b. IsReplyOn reply b r.arguments.items before) (sym body) told.0,
+        did.leaves ∙ sym told.1 ∙ ap (λ b. left_by reply b r.arguments.items before) (sym body),
+        did.kinds,
+      )
+
+  tried_false : (r : Running) (reply given : Reply) (before after : List Contents) → place ≡ r.operation → IsAnswer reply → (reply ≡ given → ⊥) → Did (arc_value a) r.arguments.items before after given
+      → Tries (object_of object) r reply before after false
+  tried_false r reply given before after here answer other did can right =
+      let op = arc_value a in
+      let body : body_at (object_of object) r.operation ≡ body_of op = ap (body_at (object_of object)) (sym here) ∙ body_is object.operations.items place a within is in
+      other_is_not reply given (body_of op) r.arguments.items before answer did.tells other (subst (λ b. IsReplyOn reply b r.arguments.items before) body right)
+
+  pub tried : (r : Running) (reply given : Reply) (before after : List Contents) (b : Bool) → place ≡ r.operation → IsAnswer reply → (IsTrue b ↔ (reply ≡ given)) → Did (arc_value a) r.arguments.items before after given
+      → Tries (object_of object) r reply before after b
+  tried r reply given before after true here answer tells did = tried_true r reply given before after here answer (tells.0 refl) did
+  tried r reply given before after false here answer tells did = tried_false r reply given before after here answer (λ same. false≢true (tells.1 same)) did
+
+  pub must_fit : (r : Running) (parts : List Contents) → place ≡ r.operation → (ArgumentsFit (arc_value a) r.arguments.items → HoldsReads (arc_value a) parts → ⊥) → CanDo (object_of object) r parts → ⊥
+  must_fit r parts here none can =
+      none (fit_elsewhere object.operations.items place r.operation a r.arguments.items within is here can.fit) (reads_fit r parts can)
+
+pub redone_at : (op other : Operation) (args given : List Datum) (before after : List Contents) (found : Option Reply) → op ≡ other → args ≡ given → Redone op args before after found → Redone other given before after found
+redone_at op other args given before after found one two is = subst (λ o. Redone o given before after found) one (subst (λ xs. Redone op xs before after found) two is)

@@ -1,0 +1,10 @@
+pub mod Said
+pub mod View
+pub mod Operations
+pub mod Tells
+pub mod Parts
+pub mod Counting
+pub mod Verdicts
+pub mod Calls
+pub mod Replies
+pub mod Stands

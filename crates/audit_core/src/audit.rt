@@ -1,0 +1,63 @@
+//! The audit of a trace.
+
+ghost use Rattle.std.specs.Prelude.{◌≡◌, ◌⊎◌, ℕ, IfOk};
+ghost use Rattle.decl_core.specs.ObjectMap.{object_of};
+ghost use Rattle.audit_core.specs.Verdicts.{IsVerdict, IsLegalTrace, verdict_for};
+
+use crate::state::Audit;
+use crate::verdict::{Fault, Verdict};
+use decl_core::object::Object;
+use exclude_core::analyse::Accepted;
+use line_core::next_line;
+use std::alloc::{AllocError, Global};
+
+/// Reads a trace of an object, and tells whether it is legal, or its first fault.
+///
+/// It is legal exactly where its bytes are a trace of the format, what happened satisfies every path at each line, and
+/// the history is legal from the contents that the part lines tell. Else the first faulty line is told, by its number from
+/// 1, and of a start that paths refuse the first such path, from 1; where the lines end before that of the last part, the line
+/// behind them is bad. `Memory` says nothing of the trace.
+pub fn audit(alloc: Global, accepted: &Accepted, trace: &[u8]) -> Verdict
+    // What is answered is so, and a legal trace is answered as legal unless memory is refused.
+    ensures verdict { IsVerdict (object_of accepted.now) trace.now result }
+    ensures exact { (entries : ℕ) → IsLegalTrace (object_of accepted.now) trace.now entries → (result ≡ Verdict.Legal entries) ⊎ (result ≡ Verdict.Memory) }
+{
+    match follow(alloc, accepted.object(), trace) {
+        Ok(verdict) => verdict,
+        Err(_) => Verdict::Memory,
+    }
+}
+
+// The verdict, unless memory was refused.
+fn follow(alloc: Global, object: &Object, trace: &[u8]) -> Result<Verdict, AllocError>
+    ensures { IfOk result (IsVerdict (object_of object.now) trace.now) }
+{
+    let mut audit = Audit::new(alloc, object)?;
+    let mut number: u64 = 0;
+    let mut rest = trace;
+    'lines: while let Some((line, tail)) = next_line(rest) {
+        number += 1;
+        if let Some(fault) = audit.hear(object, line)? {
+            return Ok(verdict_of(number, fault));
+        }
+        rest = tail;
+    }
+    if audit.is_opened(object) {
+        return Ok(Verdict::Legal {
+            entries: audit.entries(),
+        });
+    }
+    Ok(Verdict::BadLine(number + 1))
+}
+
+// What is answered where the line of this number has this fault.
+fn verdict_of(number: u64, fault: Fault) -> Verdict
+    ensures { result ≡ verdict_for number fault }
+{
+    match fault {
+        Fault::Bad => Verdict::BadLine(number),
+        Fault::Breaks(path) => Verdict::BreaksPath(number, path),
+        Fault::Wrong => Verdict::WrongReply(number),
+        Fault::Stranger => Verdict::NotRunning(number),
+    }
+}

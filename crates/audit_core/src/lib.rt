@@ -1,0 +1,12 @@
+//! Audits of traces.
+#![tactic(auto)]
+
+pub mod audit;
+mod calls;
+mod counters;
+mod part;
+mod replay;
+mod said;
+mod start;
+mod state;
+pub mod verdict;
