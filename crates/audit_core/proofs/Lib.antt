@@ -10,3 +10,4 @@ pub mod Following
 pub mod Renumbering
 pub mod Exact
 pub mod Replaying
+pub mod Written

@@ -1,11 +1,10 @@
 -- Replies of the sequential object.
 use Rattle.std.proofs.Common.{◌≡◌, ℕ, zero, suc, ◌<◌, List, [], ◌∷◌, length, get_or, refl, sym, ap, ◌∙◌, subst, arith, Bool, true, false, IsTrue, map}
-use Rattle.std.specs.Prelude.{◌↔◌, Option, Some, None, option_map, slice_get, unwrap_or}
+use Rattle.std.specs.Prelude.{◌↔◌, Option, Some, slice_get, unwrap_or}
 use Rattle.std.specs.declared.sync.Arc.{Arc}
 use Rattle.std.specs.Global.{Global}
 use Rattle.std.specs.Arc.{arc_value}
 use Rattle.std.proofs.lemmas.Bool.{false≢true}
-use Rattle.std.proofs.lemmas.Option.{slice_get_read, slice_get-map}
 use Rattle.value_core.specs.declared.datum.Datum.{Datum}
 use Rattle.value_core.specs.declared.kind.Kind.{Kind}
 use Rattle.value_core.specs.Contents.{Contents, kind_of}
@@ -14,7 +13,7 @@ use Rattle.decl_core.specs.declared.object.Operation.{Operation}
 use Rattle.decl_core.specs.declared.object.Part.{Part}
 use Rattle.decl_core.specs.Form.{Body}
 use Rattle.decl_core.specs.Bodies.{body_of}
-use Rattle.decl_core.specs.Meaning.{Meant, done, refused, apply_body}
+use Rattle.decl_core.specs.Meaning.{done, refused, apply_body}
 use Rattle.decl_core.specs.ObjectMap.{object_of, parts_of}
 use Rattle.decl_core.specs.PartKinds.{AreKindsOf, EachKindsOf}
 use Rattle.body_core.specs.Calls.{ArgumentsFit, HoldsReads}

@@ -8,3 +8,4 @@ pub mod Verdicts
 pub mod Calls
 pub mod Replies
 pub mod Stands
+pub mod Laws

@@ -4,6 +4,7 @@
 pub mod audit;
 mod calls;
 mod counters;
+pub mod laws;
 mod part;
 mod replay;
 mod said;

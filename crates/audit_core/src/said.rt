@@ -122,8 +122,10 @@ fn start_said<'a>(alloc: Global, words: &[Word<'a>]) -> Result<Option<Said<'a>>,
 fn reply_of(words: &[Word]) -> Option<Reply>
     ensures { result ≡ reply_of_words (words_in words.now) }
 {
-    let ending = ending_of(words)?;
-    reply_by(&ending)
+    match ending_of(words) {
+        Some(ending) => reply_by(&ending),
+        None => None,
+    }
 }
 
 // The reply of a call that ended so.

@@ -1,0 +1,9 @@
+//! Laws of audits, over the definitions alone.
+
+ghost use Rattle.audit_core.specs.Laws.{TextIsLegal};
+
+/// The text of what happened is a legal trace, where what happened satisfies every path and its history is legal from the
+/// opening contents.
+pub fn text_is_legal()
+    ensures { TextIsLegal }
+{}
