@@ -8,7 +8,8 @@ pub const PROGRAM: &str =
 pub const PROGRAM_MORE: &str =
     "A path expression is a rule of use: `path 1:(get, put) end` lets one `get` or `put` run at a time.
 Try `pathserve paths` to play with paths by hand, `pathserve check FILE` on a file of objects,
-`pathserve run FILE SCRIPT` to call one of them, and `pathserve audit FILE TRACE` on what such a run left.
+`pathserve run FILE SCRIPT` to call one of them, `pathserve audit FILE TRACE` on what such a run left, and
+`pathserve serve FILE DIR PORT` to let many clients call.
 `pathserve SUBCOMMAND --help` says what a subcommand reads and writes, with an example.
 
 Exit status: 0 accepted, 1 refused, 2 a wrong command line or a request for help, 3 a read or a write
@@ -152,3 +153,38 @@ Where line 1 names no object the answer is `line 1 bad`, where FILE lacks it `no
 refusal of the object, is told as by `check`.
 
 Exit status: 0 the trace is legal, 1 it is not, or there was no object to audit it by.";
+
+/// What `serve` does.
+pub const SERVE: &str =
+    "Serves the objects of a file to clients on this machine, each call as soon as the paths let it start";
+
+/// What the arguments of `serve` are.
+pub const SERVE_FILE: &str = "The file with the objects, each of which `check` has to accept";
+pub const SERVE_DIR: &str =
+    "A folder: the values that an earlier run saved there are taken up, and at the end they are saved there";
+pub const SERVE_PORT: &str = "The port on 127.0.0.1 at which clients connect, 1 to 65535";
+pub const SERVE_SESSIONS: &str = "How many connections are taken in all, 1 to 64";
+
+/// What `serve` reads and writes.
+pub const SERVE_MORE: &str =
+    "Writes `listening PORT`, takes N connections, one after the other or at once, and ends when all have ended. Then it saves the
+values of all parts in DIR, with a trace for `pathserve audit`, and writes `NAME entries K` for each object. Where
+an object is refused, or a saved value is damaged, a line says so, and nothing is served.
+
+A client says `open NAME`, `call OP ARG ..`, `cancel N` and `quit`, a line each; docs/SERVING.md has the answers.
+
+Example: in another terminal, while this one waits.
+
+  $ pathserve serve examples/objects/cell.pp /tmp/cell 7000 --sessions 1
+  listening 7000
+  cell entries 2
+
+  $ printf 'open cell\\ncall put 7\\ncall get\\nquit\\n' | nc 127.0.0.1 7000
+  opened cell
+  accepted 1
+  done 1
+  accepted 2
+  done 2 7
+  bye
+
+Exit status: 0 all was served and saved, 1 something was refused or is damaged, 3 a read or write fault, 4 out of memory.";

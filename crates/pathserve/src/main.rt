@@ -5,6 +5,7 @@
 //! apart, and by which nodes.
 //! `pathserve run FILE SCRIPT` runs a script of calls, device steps and finishes on an object of a file.
 //! `pathserve audit FILE TRACE` says whether a trace of an object of a file is legal, or which line of it is not.
+//! `pathserve serve FILE DIR PORT` serves the objects of a file to clients on this machine.
 //! Exit statuses: 0 accepted, 1 refused, 2 usage (a request for help too), 3 read or write fault,
 //! 4 out of memory.
 //!
@@ -18,6 +19,7 @@ mod failure;
 mod help;
 mod request;
 mod script;
+mod serve;
 mod source;
 
 use answer::{answer_lines, check_source};
@@ -25,13 +27,19 @@ use audit::audit_trace;
 use failure::{Failure, exit_status};
 use request::{Request, request_of};
 use script::answer_script;
+use serve::serve_objects;
 use source::read_source;
 use std::fs::File;
+use std::net::{Ipv4Addr, Net, TcpListener, TcpStream};
 use std::process::ExitCode;
+use std::rt::Runtime;
+use std::sync::Wait;
+use std::thread::Threads;
+use std::io::Read;
 use std::{env, io};
 
 fn main(rt: HostRuntime) -> ExitCode {
-    let ended = run(&rt);
+    let ended = run(&rt, &mut rt.stdin());
     if let Err(failure) = &ended {
         let _ = eprint!(rt; "{failure}");
     }
@@ -39,12 +47,20 @@ fn main(rt: HostRuntime) -> ExitCode {
 }
 
 // Does what the command line asks for, and gives the exit status.
-fn run(rt: &HostRuntime) -> Result<u8, Failure> {
+fn run<R, I: Read>(rt: &R, input: &mut I) -> Result<u8, Failure>
+where
+    R: Runtime
+        + AllocGlobal
+        + Net<Listener = TcpListener, Stream = TcpStream>
+        + Threads
+        + Wait
+        + Sync,
+{
     let words: Vec<String> = env::args(rt)?.collect(rt.alloc())?;
     let words: Vec<&str> = words.iter().map(|word| word.as_str()).collect(rt.alloc())?;
     let mut writer = io::writer(rt);
     match request_of(rt.alloc(), words.as_slice())? {
-        Request::Paths => answer_lines(rt.alloc(), &mut rt.stdin(), &mut writer),
+        Request::Paths => answer_lines(rt.alloc(), input, &mut writer),
         Request::Check(path) => {
             let file = File::open(rt, path)?;
             check_source(rt.alloc(), file, &mut writer)
@@ -58,6 +74,11 @@ fn run(rt: &HostRuntime) -> Result<u8, Failure> {
             let source = read_source(rt.alloc(), File::open(rt, path)?)?;
             let trace = File::open(rt, trace)?;
             audit_trace(rt.alloc(), &source, trace, &mut writer)
+        }
+        Request::Serve(path, folder, port, sessions) => {
+            let source = read_source(rt.alloc(), File::open(rt, path)?)?;
+            let listener = TcpListener::bind(rt, (Ipv4Addr::LOCALHOST, port))?;
+            serve_objects(rt, &source, folder, &listener, sessions, &mut writer)
         }
     }
 }

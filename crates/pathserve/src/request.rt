@@ -1,7 +1,8 @@
 //! The command line.
 
 use crate::help;
-use clap::{Arg, Command, Error};
+use clap::builder::ValueParser;
+use clap::{Arg, ArgMatches, Command, Error};
 use std::alloc::{AllocError, Global};
 
 /// What a command line asks for.
@@ -15,7 +16,13 @@ pub enum Request<'a> {
     Run(&'a str, &'a str),
     /// `pathserve audit FILE TRACE`, with the paths of the two.
     Audit(&'a str, &'a str),
+    /// `pathserve serve FILE DIR PORT --sessions N`, with the paths of the two, the port, and how many connections are taken.
+    Serve(&'a str, &'a str, u16, usize),
 }
+
+// The number of connections that are taken where the command line names none, and the most.
+const SESSIONS: &str = "16";
+const MOST_SESSIONS: u64 = 64;
 
 // The commands of the program.
 fn command<'a>(alloc: Global) -> Result<Command<'a>, AllocError> {
@@ -49,6 +56,29 @@ fn command<'a>(alloc: Global) -> Result<Command<'a>, AllocError> {
         .after_help(help::AUDIT_MORE)
         .arg(objects)?
         .arg(trace)?;
+    let objects = Arg::new(alloc, "FILE")
+        .required(true)
+        .help(help::SERVE_FILE);
+    let folder = Arg::new(alloc, "DIR")
+        .required(true)
+        .help(help::SERVE_DIR);
+    let port = Arg::new(alloc, "PORT")
+        .required(true)
+        .value_parser(ValueParser::unsigned(1, 65_535))
+        .help(help::SERVE_PORT);
+    let sessions = Arg::new(alloc, "sessions")
+        .long("sessions")
+        .value_name("N")
+        .default_value(SESSIONS)
+        .value_parser(ValueParser::unsigned(1, MOST_SESSIONS))
+        .help(help::SERVE_SESSIONS);
+    let serve = Command::new(alloc, "serve")
+        .about(help::SERVE)
+        .after_help(help::SERVE_MORE)
+        .arg(objects)?
+        .arg(folder)?
+        .arg(port)?
+        .arg(sessions)?;
     Command::new(alloc, "pathserve")
         .about(help::PROGRAM)
         .after_help(help::PROGRAM_MORE)
@@ -56,7 +86,17 @@ fn command<'a>(alloc: Global) -> Result<Command<'a>, AllocError> {
         .subcommand(paths)?
         .subcommand(check)?
         .subcommand(run)?
-        .subcommand(audit)
+        .subcommand(audit)?
+        .subcommand(serve)
+}
+
+// What the words of `serve` ask for.
+fn serve_request<'a>(serve: &ArgMatches<'a>) -> Option<Request<'a>> {
+    let file = serve.get_str("FILE")?;
+    let folder = serve.get_str("DIR")?;
+    let port: u16 = serve.get_one("PORT")?;
+    let sessions: u8 = serve.get_one("sessions")?;
+    Some(Request::Serve(file, folder, port, usize::from(sessions)))
 }
 
 /// What these words, the first of which names the program, ask for.
@@ -64,7 +104,7 @@ fn command<'a>(alloc: Global) -> Result<Command<'a>, AllocError> {
 /// An error is a mistake in them or a request for help, with the text to print, or a want of memory.
 pub fn request_of<'a>(alloc: Global, words: &'a [&'a str]) -> Result<Request<'a>, Error> {
     let matches = command(alloc)?.try_get_matches_from(words)?;
-    // `check` has a file, `run` a file and a script, `audit` a file and a trace, and none can be without
+    // `check` has a file, `run` a file and a script, `audit` a file and a trace, `serve` a file, a folder and a port, and none can be without
     if let Some(run) = matches.subcommand_matches("run") {
         return Ok(match (run.get_str("FILE"), run.get_str("SCRIPT")) {
             (Some(file), Some(script)) => Request::Run(file, script),
@@ -76,6 +116,9 @@ pub fn request_of<'a>(alloc: Global, words: &'a [&'a str]) -> Result<Request<'a>
             (Some(file), Some(trace)) => Request::Audit(file, trace),
             _ => Request::Paths,
         });
+    }
+    if let Some(serve) = matches.subcommand_matches("serve") {
+        return Ok(serve_request(serve).unwrap_or(Request::Paths));
     }
     match matches.subcommand_matches("check") {
         Some(check) => match check.get_str("FILE") {

@@ -1,0 +1,178 @@
+//! A server from its start to its end.
+
+use crate::close::{Gathered, close_one, gather_all, rooms};
+use crate::folder::clear_values;
+use crate::judge::{Judged, judge};
+use crate::listen::serve_all;
+use crate::open::{NotOpened, Served, open_all};
+use crate::trouble::Trouble;
+use exclude_core::analyse::Accepted;
+use line_core::reply::push_count;
+use line_core::{LinesFault, write_whole};
+use shelf_core::dir::DirHand;
+use shelf_core::dir_shelf::DirShelf;
+use shelf_core::numbers::Numbers;
+use std::alloc::{AllocError, Global};
+use std::io::{ErrorKind, Read, Write};
+use std::net::{OpenListener, OpenStream};
+use std::rt::Files;
+use std::sync::{Arc, Wait};
+use std::thread::Threads;
+
+/// The most connections that a server takes.
+pub const MOST_SESSIONS: usize = 64;
+
+/// How a server ended.
+#[derive(Clone, Copy, Debug, PartialEq, Eq)]
+pub enum ServeEnd {
+    /// Each object was served, closed and saved.
+    Whole,
+    /// Something was refused or damaged, and a line says what.
+    Refused,
+}
+
+// The end that what went wrong comes to.
+fn end_of(trouble: Trouble) -> Result<ServeEnd, LinesFault> {
+    match trouble.fault {
+        Some(fault) => Err(fault),
+        None => {
+            if trouble.refused {
+                Ok(ServeEnd::Refused)
+            } else {
+                Ok(ServeEnd::Whole)
+            }
+        }
+    }
+}
+
+// The fault of an error of the system while something is read.
+fn read_fault(error: std::io::Error) -> LinesFault {
+    if error.kind() == ErrorKind::OutOfMemory {
+        LinesFault::Memory
+    } else {
+        LinesFault::ReadFault
+    }
+}
+
+// `listening PORT`.
+fn tell_port<L: OpenListener, W: Write>(
+    alloc: Global,
+    listener: &L,
+    writer: &mut W,
+) -> Result<(), LinesFault> {
+    let addr = listener.local_addr().map_err(read_fault)?;
+    let mut line = Vec::new(alloc);
+    push_count(&mut line, b"listening ", u64::from(addr.port()))?;
+    write_whole(writer, &line)
+}
+
+// Closes each object.
+fn close_all<R: Files + AllocGlobal + Drop, W: Write>(
+    rt: &R,
+    alloc: Global,
+    served: Served,
+    rooms: Vec<Gathered>,
+    folder: &str,
+    shelf: &mut DirShelf<R>,
+    hand: &mut DirHand<R>,
+    writer: &mut W,
+    trouble: &mut Trouble,
+) {
+    let Served { offices, openings } = served;
+    let mut openings = openings.into_iter();
+    let mut rooms = rooms.into_iter();
+    for named in offices {
+        let (Some(opening), Some(room)) = (openings.next(), rooms.next()) else {
+            return;
+        };
+        close_one(
+            rt, alloc, named, &opening, room, folder, shelf, hand, writer, trouble,
+        );
+    }
+}
+
+// Serves objects that are accepted.
+fn serve_ready<
+    R: Files + AllocGlobal + Threads + Wait + Clone + Drop + Sync,
+    L: OpenListener + Sync,
+    W: Write,
+>(
+    rt: &R,
+    alloc: Global,
+    ready: Vec<Accepted>,
+    folder: &str,
+    listener: &L,
+    sessions: usize,
+    writer: &mut W,
+) -> Result<ServeEnd, LinesFault>
+where
+    L::Stream: OpenStream + Read + Write + Drop + Send,
+{
+    let first = clear_values(rt, alloc, folder).map_err(read_fault)?;
+    let Ok(numbers) = Arc::new(alloc, Numbers::new(first)) else {
+        return Err(LinesFault::Memory);
+    };
+    let mut shelf = DirShelf::new(rt.clone()?, folder)?;
+    let mut hand = DirHand::new(rt.clone()?, folder, Arc::try_clone(&numbers)?)?;
+    let served = match open_all(alloc, ready, &mut shelf, &mut hand) {
+        Ok(served) => served,
+        Err(NotOpened::Damaged(line)) => {
+            write_whole(writer, &line)?;
+            return Ok(ServeEnd::Refused);
+        }
+        Err(NotOpened::Fault(fault)) => return Err(fault),
+    };
+    let mut rooms = rooms(alloc, served.offices.len(), sessions)?;
+    tell_port(alloc, listener, writer)?;
+    let mut trouble = Trouble::none();
+    let offices = &served.offices;
+    match serve_all(rt, alloc, listener, sessions, offices, folder, &numbers) {
+        Ok((left, all_came)) => {
+            if !all_came {
+                trouble.note(LinesFault::ReadFault);
+            }
+            gather_all(&mut rooms, left, &mut trouble);
+        }
+        Err(_) => trouble.note(LinesFault::Memory),
+    }
+    close_all(
+        rt, alloc, served, rooms, folder, &mut shelf, &mut hand, writer, &mut trouble,
+    );
+    end_of(trouble)
+}
+
+/// Serves the objects of a source to so many connections of a listener, each on threads of its own, and ends when all have
+/// ended. The parts of each object are read from the folder at the start, and saved there at the end, with its trace.
+///
+/// It writes `listening PORT` once connections are taken, and at the end `NAME entries K` for each object, in order. Where
+/// nothing is served it writes why: the fault of the source, or a line for each object that is refused, as a check does; or
+/// `part OBJECT.PART damaged`. At the end that line stands for a part that cannot be saved, and `close OBJECT refused` for an
+/// object that does not close.
+///
+/// The faults: `ReadFault` where the folder cannot be read or a part not opened, or an accept failed, after which no more
+/// connections are taken and all else is still done; `WriteFault` where a part or a trace cannot be saved or a line not be
+/// written; `Memory`. Of several the first is told.
+pub fn serve_on<
+    R: Files + AllocGlobal + Threads + Wait + Clone + Drop + Sync,
+    L: OpenListener + Sync,
+    W: Write,
+>(
+    rt: &R,
+    alloc: Global,
+    source: &[u8],
+    folder: &str,
+    listener: &L,
+    sessions: usize,
+    writer: &mut W,
+) -> Result<ServeEnd, LinesFault>
+where
+    L::Stream: OpenStream + Read + Write + Drop + Send,
+{
+    match judge(alloc, source)? {
+        Judged::Told(text) => {
+            write_whole(writer, &text)?;
+            Ok(ServeEnd::Refused)
+        }
+        Judged::Ready(ready) => serve_ready(rt, alloc, ready, folder, listener, sessions, writer),
+    }
+}
