@@ -1,19 +1,18 @@
 -- What the trace of a desk tells.
-use Rattle.std.proofs.Common.{◌≡◌, ℕ, ◌<◌, ◌≤◌, zero, suc, List, [], ◌∷◌, ◌++◌, length, refl, sym, ap, ◌∙◌, subst, arith, append_assoc, map}
+use Rattle.std.proofs.Common.{◌≡◌, ℕ, ◌≤◌, zero, suc, List, [], ◌∷◌, ◌++◌, length, refl, sym, ap, ◌∙◌, subst, arith, append_assoc, map}
 use Rattle.std.specs.Prelude.{Option, Some, None, slice_get, slice_index_or, unwrap_or}
 use Rattle.std.specs.List.{fold}
 use Rattle.std.proofs.lemmas.List.{append-nil, length-map}
 use Rattle.std.proofs.lemmas.Option.{slice_get_within}
-use Rattle.path_tree.specs.Trace.{Event, IsTrace}
+use Rattle.path_tree.specs.Trace.{IsTrace}
 use Rattle.path_tree.specs.Satisfies.{SatisfiesAll}
-use Rattle.value_core.specs.Contents.{Contents}
 use Rattle.decl_core.specs.Bodies.{body_of}
 use Rattle.decl_core.specs.ObjectForm.{ObjectForm, OperationForm}
 use Rattle.decl_core.specs.ObjectMap.{object_of, operation_of}
 use Rattle.body_core.specs.declared.reply.Reply.{Reply}
 use Rattle.body_core.specs.History as history
-use Rattle.trace_core.specs.Events.{Called, Happened, began, ended, event_of, trace_of, form_body, no_body, body_at, end_of, history_of, IsRunning}
-use Rattle.trace_core.specs.Text.{TraceLine, call_started, call_ended, trace_text, told_of}
+use Rattle.trace_core.specs.Events.{Happened, began, ended, event_of, trace_of, form_body, no_body, body_at, end_of, history_of}
+use Rattle.trace_core.specs.Text.{call_ended, trace_text, told_of}
 use Rattle.trace_core.specs.Laws.{IsReply}
 use Rattle.trace_core.proofs.Growing.{body_is_same}
 use Rattle.board_core.specs.declared.event.TraceEvent.{TraceEvent}
