@@ -1,2 +1,3 @@
 pub mod Status
 pub mod ScriptRun
+pub mod AuditRun

@@ -7,8 +7,8 @@ pub const PROGRAM: &str =
 /// What stands below the list of subcommands.
 pub const PROGRAM_MORE: &str =
     "A path expression is a rule of use: `path 1:(get, put) end` lets one `get` or `put` run at a time.
-Try `pathserve paths` to play with paths by hand, `pathserve check FILE` on a file of objects, and
-`pathserve run FILE SCRIPT` to call one of them.
+Try `pathserve paths` to play with paths by hand, `pathserve check FILE` on a file of objects,
+`pathserve run FILE SCRIPT` to call one of them, and `pathserve audit FILE TRACE` on what such a run left.
 `pathserve SUBCOMMAND --help` says what a subcommand reads and writes, with an example.
 
 Exit status: 0 accepted, 1 refused, 2 a wrong command line or a request for help, 3 a read or a write
@@ -112,3 +112,43 @@ Where line 1 names no object the answer is `bad line 1`, where FILE lacks it `no
 refusal of the object, is told as by `check`. A line that says none of the above gives `bad line K`, and ends the script.
 
 Exit status: 0 each line was answered, refusals included, 1 there was no object to run on, or a bad line.";
+
+/// What `audit` does.
+pub const AUDIT: &str =
+    "Audits a trace: did each call start only when the paths let it, and is each reply right?";
+
+/// What the first argument of `audit` is.
+pub const AUDIT_FILE: &str = "The file with the objects, one after the other, at most 65536 bytes";
+
+/// What the second argument of `audit` is.
+pub const AUDIT_TRACE: &str =
+    "The file with the trace, as the line `trace` of a script gives it; /dev/stdin, for instance, to send it by a pipe";
+
+/// What `audit` reads and writes.
+pub const AUDIT_MORE: &str =
+    "Reads FILE, and then TRACE: its line 1, `object NAME`, says which object of FILE it is of, then a line for each part tells what
+it held at first, and each further line tells the start or the end of a call. Writes one line:
+
+  legal K               each start was allowed by all paths, each reply is that of the calls done one after the other, in the
+                        order of their ends; K calls have ended
+  line N bad            line N is no line of a trace, or has no place there
+  line N breaks path P  line N starts a call that path P does not let start then; the first such path of the object
+  line N wrong reply    line N ends a call with another reply
+  line N not running    line N ends a call that does not run
+
+The first line with a fault is told. A call that failed has changed nothing, and is always right.
+
+Example: a `put` that starts while another one runs.
+
+  $ cat two_puts.trace
+  object cell
+  part v 0101000100000000
+  start 1 s1 put 7
+  start 2 s2 put 8
+  $ pathserve audit examples/objects/cell.pp two_puts.trace
+  line 4 breaks path 1
+
+Where line 1 names no object the answer is `line 1 bad`, where FILE lacks it `no object NAME`; a fault of FILE, or a
+refusal of the object, is told as by `check`.
+
+Exit status: 0 the trace is legal, 1 it is not, or there was no object to audit it by.";

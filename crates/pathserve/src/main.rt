@@ -4,6 +4,7 @@
 //! `pathserve check FILE` says of each object of a file whether its paths keep operations that conflict
 //! apart, and by which nodes.
 //! `pathserve run FILE SCRIPT` runs a script of calls, device steps and finishes on an object of a file.
+//! `pathserve audit FILE TRACE` says whether a trace of an object of a file is legal, or which line of it is not.
 //! Exit statuses: 0 accepted, 1 refused, 2 usage (a request for help too), 3 read or write fault,
 //! 4 out of memory.
 //!
@@ -12,6 +13,7 @@
 #![tactic(auto)]
 
 mod answer;
+mod audit;
 mod failure;
 mod help;
 mod request;
@@ -19,6 +21,7 @@ mod script;
 mod source;
 
 use answer::{answer_lines, check_source};
+use audit::audit_trace;
 use failure::{Failure, exit_status};
 use request::{Request, request_of};
 use script::answer_script;
@@ -50,6 +53,11 @@ fn run(rt: &HostRuntime) -> Result<u8, Failure> {
             let source = read_source(rt.alloc(), File::open(rt, path)?)?;
             let mut script = File::open(rt, script)?;
             answer_script(rt.alloc(), &source, &mut script, &mut writer)
+        }
+        Request::Audit(path, trace) => {
+            let source = read_source(rt.alloc(), File::open(rt, path)?)?;
+            let trace = File::open(rt, trace)?;
+            audit_trace(rt.alloc(), &source, trace, &mut writer)
         }
     }
 }

@@ -13,6 +13,8 @@ pub enum Request<'a> {
     Check(&'a str),
     /// `pathserve run FILE SCRIPT`, with the paths of the two.
     Run(&'a str, &'a str),
+    /// `pathserve audit FILE TRACE`, with the paths of the two.
+    Audit(&'a str, &'a str),
 }
 
 // The commands of the program.
@@ -36,13 +38,25 @@ fn command<'a>(alloc: Global) -> Result<Command<'a>, AllocError> {
         .after_help(help::RUN_MORE)
         .arg(objects)?
         .arg(script)?;
+    let objects = Arg::new(alloc, "FILE")
+        .required(true)
+        .help(help::AUDIT_FILE);
+    let trace = Arg::new(alloc, "TRACE")
+        .required(true)
+        .help(help::AUDIT_TRACE);
+    let audit = Command::new(alloc, "audit")
+        .about(help::AUDIT)
+        .after_help(help::AUDIT_MORE)
+        .arg(objects)?
+        .arg(trace)?;
     Command::new(alloc, "pathserve")
         .about(help::PROGRAM)
         .after_help(help::PROGRAM_MORE)
         .subcommand_required(true)
         .subcommand(paths)?
         .subcommand(check)?
-        .subcommand(run)
+        .subcommand(run)?
+        .subcommand(audit)
 }
 
 /// What these words, the first of which names the program, ask for.
@@ -50,10 +64,16 @@ fn command<'a>(alloc: Global) -> Result<Command<'a>, AllocError> {
 /// An error is a mistake in them or a request for help, with the text to print, or a want of memory.
 pub fn request_of<'a>(alloc: Global, words: &'a [&'a str]) -> Result<Request<'a>, Error> {
     let matches = command(alloc)?.try_get_matches_from(words)?;
-    // `check` has a file and `run` a file and a script, and neither can be without
+    // `check` has a file, `run` a file and a script, `audit` a file and a trace, and none can be without
     if let Some(run) = matches.subcommand_matches("run") {
         return Ok(match (run.get_str("FILE"), run.get_str("SCRIPT")) {
             (Some(file), Some(script)) => Request::Run(file, script),
+            _ => Request::Paths,
+        });
+    }
+    if let Some(audit) = matches.subcommand_matches("audit") {
+        return Ok(match (audit.get_str("FILE"), audit.get_str("TRACE")) {
+            (Some(file), Some(trace)) => Request::Audit(file, trace),
             _ => Request::Paths,
         });
     }

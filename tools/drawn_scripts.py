@@ -1,0 +1,234 @@
+"""The scripts that are drawn from seeds, each with what it has to answer. A script follows from its seed, so each run draws
+the same ones."""
+from drawn_objects import OBJECTS
+from slow_world import MOST, World, finish_line, shown_lines, written
+
+# Lines that say nothing.
+BAD_LINES = ("begin", "show 1", "step 1", "call s1", "call 1 x", "steps x", "finish", "cancel s1", "drop 1", "Show", "object two")
+SESSIONS = (0, 1, 2, 3, 4, 5, 6, 1024, 1025, 2000)
+UNKNOWN = ("pop", "v", "cell", "end", "get_", "path", "x1")
+REMARKS = ("#", "# it's a remark", "#call s1 get", "  # show", "# 'open")
+BLANKS = ("", " ", "     ")
+
+
+class Drawer:
+    """Numbers that follow from a seed alone."""
+
+    def __init__(self, seed):
+        self.state = seed
+        for _ in range(4):
+            self.below(2)
+
+    def below(self, limit):
+        self.state = (self.state * 6364136223846793005 + 1442695040888963407) % (1 << 64)
+        return (self.state >> 33) % limit
+
+    def one_in(self, count):
+        return self.below(count) == 0
+
+    def of(self, choices):
+        return choices[self.below(len(choices))]
+
+    def weighted(self, weights):
+        at = self.below(sum(weights.values()))
+        for choice, weight in weights.items():
+            at -= weight
+            if at < 0:
+                return choice
+        raise AssertionError
+
+
+class Script:
+    """A drawn script, as long as it grows: its lines, and what they have to answer."""
+
+    def __init__(self, seed):
+        self.seed, self.draw = seed, Drawer(seed)
+        self.made = OBJECTS[seed % len(OBJECTS)]
+        self.world = World(self.made)
+        self.lines, self.answers, self.status = [], [], 0
+        # How lines end, or none where each ends as it likes; and whether the last one lacks its end.
+        self.ends = self.draw.of((b"\n", b"\n", b"\r\n", None))
+        self.is_open = self.draw.one_in(4)
+
+    def cased(self, name):
+        return self.draw.of((name, name, name.upper(), name.capitalize(), name.swapcase()))
+
+    def number(self, number):
+        return self.draw.of(("", "", "", "", "", "0", "000")) + str(number)
+
+    def spaced(self, words):
+        """The words as a line, with more spaces now and then."""
+        if not self.draw.one_in(6):
+            return " ".join(words)
+        blanks = [" " * self.draw.below(3), *(" " * (1 + self.draw.below(3)) for _ in words[1:]), " " * self.draw.below(3)]
+        return "".join(blank + word for blank, word in zip(blanks, words)) + blanks[-1]
+
+    def add(self, words, answer):
+        self.lines.append(self.spaced(words))
+        self.answers += answer
+
+    def text(self):
+        """The bytes of the script."""
+        either = Drawer(self.seed)
+        ends = [self.ends or either.of((b"\n", b"\r\n")) for _ in self.lines]
+        if self.is_open:
+            ends[-1] = b""
+        return b"".join(line.encode("ascii") + end for line, end in zip(self.lines, ends))
+
+    def open(self):
+        self.add(["object", self.cased(self.made.name)], [])
+
+    def session(self):
+        """Mostly one that is free."""
+        busy = {it.session for it in self.world.calls if it.state in ("waiting", "running")} | self.world.gone
+        free = [it for it in SESSIONS if 1 <= it <= 1024 and it not in busy]
+        if free and not self.draw.one_in(6):
+            return self.draw.of(free)
+        return self.draw.of(SESSIONS)
+
+    def operation(self, names):
+        return self.draw.weighted({name: self.made.operations[name].weight for name in names})
+
+    def arguments(self, op):
+        return [self.draw.of(it) for it in self.made.operations[op].draws]
+
+    def wrong(self, arguments):
+        """Arguments that may not fit."""
+        how = self.draw.below(3)
+        if how == 0 or not arguments:
+            return [*arguments, self.draw.of((0, 7, "", "x"))]
+        if how == 1:
+            return arguments[:-1]
+        at = self.draw.below(len(arguments))
+        return [*arguments[:at], "7" if isinstance(arguments[at], int) else 7, *arguments[at + 1 :]]
+
+    def add_call(self, session, op, arguments):
+        texts = [self.number(it) if isinstance(it, int) else written(it) for it in arguments]
+        answer = self.world.call(session, op, arguments)
+        self.add(["call", "s" + self.number(session), op, *texts], answer)
+
+    def draw_call(self):
+        op = self.operation(self.made.operations)
+        arguments = self.arguments(op)
+        if self.draw.one_in(20):
+            arguments = self.wrong(arguments)
+        if self.draw.one_in(20):
+            op = self.draw.of(UNKNOWN)
+        self.add_call(self.session(), self.cased(op), arguments)
+
+    def any_number(self):
+        count = len(self.world.calls)
+        return self.draw.of((0, 1, count, count + 1, 65537, MOST, 1 + self.draw.below(count + 1)))
+
+    def running_number(self):
+        found = self.world.numbered("running")
+        return self.draw.of(found) if found and not self.draw.one_in(4) else self.any_number()
+
+    def step_number(self):
+        """Mostly that of a call whose run has steps left."""
+        found = [it for it in self.world.numbered("running") if self.world.running(it).needs]
+        return self.draw.of(found) if found and not self.draw.one_in(12) else self.running_number()
+
+    def finish_number(self):
+        """Mostly that of a call whose run has ended."""
+        found = [it for it in self.world.numbered("running") if not self.world.running(it).needs]
+        return self.draw.of(found) if found and not self.draw.one_in(12) else self.running_number()
+
+    def cancel_number(self):
+        found = self.world.numbered("waiting")
+        return self.draw.of(found) if found and not self.draw.one_in(3) else self.any_number()
+
+    def draw_line(self):
+        runs = self.world.numbered("running")
+        weights = {"call": 24, "step": 24, "fail": 3, "steps": 14, "finish": 20, "cancel": 4}
+        if not runs:
+            weights = {"call": 40, "step": 1, "fail": 1, "steps": 1, "finish": 1, "cancel": 8}
+        weights |= {"drop": 2, "show": 4, "trace": 2, "remark": 2, "blank": 2}
+        kind = self.draw.weighted(weights)
+        if kind == "call":
+            self.draw_call()
+        elif kind in ("step", "fail"):
+            number = self.step_number()
+            word = "ok" if kind == "step" else "fail"
+            self.add(["step", self.number(number), word], self.world.step(number, kind == "step"))
+        elif kind == "steps":
+            number = self.step_number()
+            self.add(["steps", self.number(number)], self.world.steps(number))
+        elif kind == "finish":
+            number = self.finish_number()
+            self.add(["finish", self.number(number)], self.world.finish(number))
+        elif kind == "cancel":
+            number = self.cancel_number()
+            self.add(["cancel", self.number(number)], self.world.cancel(number))
+        elif kind == "drop":
+            gone = sorted(self.world.gone)
+            session = self.draw.of(gone if gone and self.draw.one_in(3) else SESSIONS)
+            self.add(["drop", "s" + self.number(session)], self.world.drop(session))
+        elif kind == "show":
+            self.add(["show"], self.world.show())
+        elif kind == "trace":
+            self.add(["trace"], self.world.trace_lines())
+        elif kind == "remark":
+            self.lines.append(self.draw.of(REMARKS))
+        else:
+            self.lines.append(self.draw.of(BLANKS))
+
+    def draw_lines(self):
+        self.open()
+        count = self.draw.of((self.draw.below(12), self.draw.below(60), 40 + self.draw.below(160)))
+        bad = self.draw.below(count + 1) if self.draw.one_in(12) else None
+        for at in range(count):
+            if at == bad:
+                self.lines.append(self.draw.of(BAD_LINES))
+                self.answers.append(f"bad line {len(self.lines)}")
+                self.status = 1
+                self.lines += ["show", "trace"]
+                return
+            self.draw_line()
+        # A script often ends with a look at what is left.
+        if self.draw.one_in(2):
+            self.add(["show"], self.world.show())
+            self.add(["trace"], self.world.trace_lines())
+
+    def wanted(self):
+        return "".join(it + "\n" for it in self.answers)
+
+    def judged(self, answer):
+        """The part of an answer that is compared."""
+        return answer
+
+
+class InTurn(Script):
+    """A drawn script in which each call is stepped to its end and finished before the next one. Its lines on finishes and
+    contents follow from the sequential object alone."""
+
+    def draw_lines(self):
+        self.open()
+        contents, trace, number = self.made.opening(), [], 0
+        for _ in range(1 + self.draw.below(45)):
+            able = [it for it in self.made.operations if self.made.admits([*trace, ("start", it)])]
+            if not able:
+                break
+            op, number = self.operation(able), number + 1
+            arguments = self.arguments(op)
+            texts = [self.number(it) if isinstance(it, int) else written(it) for it in arguments]
+            self.add(["call", f"s{1 + self.draw.below(6)}", self.cased(op), *texts], [])
+            ending, contents = self.made.applied(op, arguments, contents)
+            self.add(["steps", str(number)], [])
+            self.add(["finish", str(number)], [finish_line(number, ending)])
+            trace += [("start", op), ("end", op)]
+            if self.draw.one_in(4):
+                self.add(["show"], shown_lines(self.made, contents))
+        self.add(["show"], shown_lines(self.made, contents))
+
+    def judged(self, answer):
+        shows = tuple(f"{name} = " for name in self.made.parts)
+        kept = [it for it in answer.splitlines(keepends=True) if it.startswith(("done ", "refused ", "failed ", *shows))]
+        return "".join(kept)
+
+
+def script_of(seed):
+    """The script of a seed: one of seven is in turn."""
+    script = (InTurn if seed % 7 == 3 else Script)(seed)
+    script.draw_lines()
+    return script
