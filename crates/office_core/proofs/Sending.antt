@@ -24,7 +24,7 @@ office_sync = search (sendable, crosses, room_send) depth 40 fits 20000
 
 -- an office as a field of a struct
 pub office_field_send : IsSend (office.the_field).row
-office_field_send = search (sendable, crosses, office_send, room_send) depth 40 fits 20000
+office_field_send = search (sendable, crosses, room_send) depth 40 fits 20000
 
 pub office_field_sync : IsSync (office.the_field).row
-office_field_sync = search (sendable, crosses, office_sync, room_send) depth 40 fits 20000
+office_field_sync = search (sendable, crosses, room_send) depth 40 fits 20000

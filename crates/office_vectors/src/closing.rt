@@ -49,7 +49,9 @@ fn is_closed(answer: Result<Closed, CloseRefused>, pins: Pins) -> bool {
         return false;
     };
     let is_cell = desk.accepted().object().name.is_spelled_by(b"cell");
-    is_cell && same_stamps(desk.opening_pins().as_slice(), pins.as_slice()) && pins.as_slice().first() == Some(&pin.stamp)
+    is_cell
+        && same_stamps(desk.opening_pins().as_slice(), pins.as_slice())
+        && pins.as_slice().first() == Some(&pin.stamp)
 }
 
 // A receipt of a `put 8` at place 1 of another room.

@@ -67,9 +67,7 @@ pub fn turn<R: Wait, H: Hand>(
     hand: &mut H,
     value: u32,
 ) -> Option<Receipt> {
-    let submitted = room
-        .submit(seat, "put", &[Datum::Integer(value)])
-        .ok()?;
+    let submitted = room.submit(seat, "put", &[Datum::Integer(value)]).ok()?;
     match room.try_start(submitted) {
         Tried::Ticket(ticket) => {
             let outcome = perform(Run::new(alloc, ticket), hand);

@@ -117,7 +117,7 @@ fn work<R: Wait>(
         receipts: Vec::new(alloc),
         is_well: true,
     };
-    let mut state = thread as u64 * 7919 + 1;
+    let mut state = (thread as u64).wrapping_mul(7919).wrapping_add(1);
     for _ in 0..CALLS {
         state = draw(state);
         if !call(rt, alloc, office, hand, &mut worked, state / 256) {
@@ -130,8 +130,8 @@ fn work<R: Wait>(
 // Whether each start of a trace is one that the path of a cell admits: gets beside gets, and a put alone.
 fn keeps_path(desk: &Desk) -> bool {
     let trace = desk.trace();
-    let mut gets = 0;
-    let mut puts = 0;
+    let mut gets = 0u32;
+    let mut puts = 0u32;
     for place in 0..trace.len() {
         match trace.get(place) {
             None => return false,
@@ -141,16 +141,16 @@ fn keeps_path(desk: &Desk) -> bool {
                     return false;
                 }
                 if is_get {
-                    gets += 1;
+                    gets = gets.wrapping_add(1);
                 } else {
-                    puts += 1;
+                    puts = puts.wrapping_add(1);
                 }
             }
             Some(TraceEvent::End(number, _)) => {
                 if is_get(desk, number) {
-                    gets -= 1;
+                    gets = gets.wrapping_sub(1);
                 } else {
-                    puts -= 1;
+                    puts = puts.wrapping_sub(1);
                 }
             }
         }
@@ -229,7 +229,12 @@ fn many_threads_close(rt: HostRuntime) {
     let mut files = MemHand::new(alloc);
     let office = Office::open(alloc, room(&rt, alloc, &mut files)).expect(&rt, "memory");
     let hand = Mutex::new(files);
-    let all = thread::map_indices(&rt, alloc, THREADS, &|thread| work(&rt, alloc, &office, &hand, thread));
+    let all = thread::map_indices(
+        &rt,
+        alloc,
+        THREADS,
+        &|thread| work(&rt, alloc, &office, &hand, thread),
+    );
     let mut seats = Vec::new(alloc);
     let mut receipts = Vec::new(alloc);
     let all = all.expect(&rt, "memory");

@@ -37,9 +37,7 @@ fn room_twice(rt: &impl Abort, alloc: Global, pins: Pins) -> Room {
 fn office_twice(rt: &impl Abort, alloc: Global, pins: Pins) -> Office {
     match Office::open(alloc, room_twice(rt, alloc, pins)) {
         Ok(office) => office,
-        Err(_) => {
-            Office::open(alloc, room_twice(rt, alloc, pins)).expect(rt, "memory")
-        }
+        Err(_) => { Office::open(alloc, room_twice(rt, alloc, pins)).expect(rt, "memory") }
     }
 }
 
@@ -92,5 +90,7 @@ fn refused_open_and_submit(rt: HostRuntime) {
     assert!(rt; refused.is_none());
     let mut room = room_twice(&rt, rt.alloc(), pins);
     let mut seat = room.seat().expect(&rt, "a seat");
-    assert!(rt; is_taken(&rt, rt.alloc(), &mut room, &mut hand, &mut seat, 1) && room.desk().runs(1));
+    assert!(rt;
+        is_taken(&rt, rt.alloc(), &mut room, &mut hand, &mut seat, 1) && room.desk().runs(1)
+    );
 }

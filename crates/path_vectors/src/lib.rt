@@ -12,8 +12,7 @@ mod fakes;
 mod names;
 #[cfg(test)]
 mod paths_faults;
-#[cfg(test)]
-mod slow;
+pub mod slow;
 #[cfg(test)]
 mod tokens;
 #[cfg(test)]

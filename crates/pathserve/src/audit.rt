@@ -1,6 +1,6 @@
 //! `pathserve audit` over any reader and writer: what it writes, and the exit status that it ends with.
 
-ghost use Rattle.std.specs.Prelude.{◌≡◌, ◌++◌, ℕ, List, ⊥, OnOk, IfOk, IfErr, IfSome, IsErrOf, codes, decimal, take};
+ghost use Rattle.std.specs.Prelude.{◌≡◌, ◌++◌, ℕ, List, OnOk, IfOk, IfErr, IfSome, IsErrOf, codes, decimal, take};
 ghost use Rattle.std.specs.Io.KnownBytes.{Appends, Keeps};
 ghost use Rattle.audit_core.specs.declared.verdict.Verdict.TheVariants as verdicts;
 ghost use Rattle.script_open.specs.Named.{NamesObject};
@@ -81,16 +81,25 @@ fn verdict_said(alloc: Global, verdict: Verdict) -> Result<Said, AllocError>
     })
 }
 
+// What is said where there is nothing to audit a trace by.
+fn lacking_said(line: Vec<u8>) -> Said
+    ensures status { result.status ≡ 1 }
+    ensures line { result.line ≡ line }
+{
+    Said {
+        status: REFUSED,
+        line,
+    }
+}
+
 // What is said of a trace that names no object.
 fn unnamed_said(alloc: Global) -> Result<Said, AllocError>
-    ensures { IfOk result (λ said. (said.status ≡ 1) × (said.line.items ≡ codes "line 1 bad\n")) }
+    ensures status { IfOk result (λ said. said.status ≡ 1) }
+    ensures line { IfOk result (λ said. said.line.items ≡ codes "line 1 bad\n") }
 {
     let mut line = Vec::new(alloc);
     line.extend_from_slice(b"line 1 bad\n")?;
-    Ok(Said {
-        status: REFUSED,
-        line,
-    })
+    Ok(lacking_said(line))
 }
 
 // What is said of a trace whose first line names an object.
@@ -98,10 +107,7 @@ fn named_said(alloc: Global, source: &[u8], text: &[u8]) -> Result<Said, AllocEr
     ensures { (name : List ℕ) → NamesObject text.now name → IfOk result (λ said. IsAuditRun source.now text.now said.status said.line.items) }
 {
     match open_script(alloc, source, text)? {
-        Opened::Told(line) => Ok(Said {
-            status: REFUSED,
-            line,
-        }),
+        Opened::Told(line) => Ok(lacking_said(line)),
         Opened::Ready(accepted) => {
             let verdict = audit(alloc, &accepted, text);
             let said = verdict_said(alloc, verdict)?;

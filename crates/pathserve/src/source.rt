@@ -19,7 +19,7 @@ pub fn read_source<R: Read + Drop>(alloc: Global, reader: R) -> io::Result<Vec<u
 
 /// All bytes that a reader gives.
 pub fn read_whole<R: Read + Drop>(alloc: Global, mut reader: R) -> io::Result<Vec<u8>>
-    ensures { IfOk result (λ text. IfSome (R.remaining reader.old) (λ all. text.items ≡ all)) }
+    ensures { IfOk result (λ text. IfSome (R.remaining reader) (λ all. text.items ≡ all)) }
 {
     let mut text = Vec::new(alloc);
     reader.read_to_end(&mut text)?;

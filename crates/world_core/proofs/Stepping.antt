@@ -242,10 +242,10 @@ run_at b files runs values k n slot kept at number =
       there = map_at standing_of runs k slot at;
       number = own;
       only = λ j other there same. (
-        let x = of_map_at standing_of runs j other there in
-        let theirs = its_call b files runs values j x.0 kept x.1 in
-        one_place (λ (r : RunningCall). r.number) b.running j k theirs.0 its.0 kept.sound.counted.apart theirs.1 its.1
-        (sym (ap (λ (c : Call). c.number) theirs.2) ∙ ap (λ (s : Standing). s.call.number) x.2 ∙ same ∙ sym own ∙ ap (λ (c : Call). c.number) its.2));
+          let x = of_map_at standing_of runs j other there in
+          let theirs = its_call b files runs values j x.0 kept x.1 in
+          one_place (λ (r : RunningCall). r.number) b.running j k theirs.0 its.0 kept.sound.counted.apart theirs.1 its.1
+          (sym (ap (λ (c : Call). c.number) theirs.2) ∙ ap (λ (s : Standing). s.call.number) x.2 ∙ same ∙ sym own ∙ ap (λ (c : Call). c.number) its.2));
     }
 
 -- a run that has a call to make has not ended

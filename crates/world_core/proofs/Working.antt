@@ -1,5 +1,5 @@
 -- The work of runs.
-use Rattle.std.proofs.Common.{◌≡◌, ◌≢◌, ℕ, zero, suc, ◌+◌, ◌-◌, ◌*◌, ◌^◌, ◌<◌, ◌≤◌, ◌⊎◌, inl, inr, Bool, true, false, ◌==◌, if◌then◌else◌, List, [], ◌∷◌, length, take, Option, Some, None, refl, sym, ◌∙◌, ap, subst, arith}
+use Rattle.std.proofs.Common.{◌≡◌, ◌≢◌, ℕ, zero, suc, ◌+◌, ◌^◌, ◌<◌, ◌≤◌, inl, inr, Bool, true, false, ◌==◌, if◌then◌else◌, List, [], ◌∷◌, length, take, Option, Some, None, refl, ◌∙◌, ap, arith}
 use Rattle.std.specs.Prelude.{slice_get, slice_set}
 use Rattle.std.proofs.lemmas.Bool.Decides.{eqb_tells}
 use Rattle.std.proofs.lemmas.List.{length-take-le}
@@ -7,23 +7,17 @@ use Rattle.shelf_core.specs.declared.file.File.{File}
 use Rattle.shelf_core.specs.declared.file.State.{State}
 use Rattle.shelf_core.specs.declared.file.State.TheVariants as states
 use Rattle.shelf_core.specs.Files.{IsOpen, file_at, open_bytes, open_of}
-use Rattle.body_core.specs.declared.judge.Change.{Change}
 use Rattle.body_core.specs.declared.phase.Phase.{Phase}
 use Rattle.body_core.specs.declared.phase.Phase.TheVariants.{Reading, Creating, Appending, Sealing, Ended}
 use Rattle.body_core.specs.declared.run.Run.{Run}
-use Rattle.body_core.specs.declared.step.Need.{Need}
 use Rattle.body_core.specs.declared.step.Need.TheVariants as needs
-use Rattle.body_core.specs.declared.step.StepAnswer.{StepAnswer}
 use Rattle.body_core.specs.Calls.{Call}
 use Rattle.body_core.specs.Phases.{PenHoldsIn}
 use Rattle.body_core.specs.Runs.{PenHolds, run_place}
 use Rattle.body_core.specs.Steps.{Place, at_read, at_create, at_append, at_seal, at_end, place_in, need_at, Follows, reads_on, reads_next, reads_last, creates, appends_on, appends_last, seals_on, seals_last, fails, stays, changed, not_changed}
-use Rattle.world_core.specs.declared.event.Answer.TheVariants.{Stepped}
-use Rattle.world_core.specs.declared.event.EventAnswer.{EventAnswer}
-use Rattle.world_core.specs.Answers.{Answers, stepped, no_step, step_not_running}
-use Rattle.world_core.specs.Events.{step}
+use Rattle.world_core.specs.Answers.{stepped, no_step, step_not_running}
 use Rattle.world_core.specs.Laws.{StepsTakeWork, WorkIsBounded}
-use Rattle.world_core.specs.Scene.{Scene, Standing, IsRunAt}
+use Rattle.world_core.specs.Scene.{Standing, IsRunAt}
 use Rattle.world_core.specs.Work.{work_at, work_of, most_work}
 use Rattle.world_core.proofs.Places.{some_is, length_snoc}
 
