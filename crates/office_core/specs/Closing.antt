@@ -1,0 +1,57 @@
+-- When a room is closed.
+use Rattle.std.specs.Prelude.{◌≡◌, ℕ, ◌+◌, ◌-◌, ◌<◌, ◌≤◌, ◌==◌, List, [], ◌∷◌, length, sum_by, slice_get, Some, Result, Ok, Err, if◌then◌else◌}
+use Rattle.board_core.specs.declared.receipt.Receipt.{Receipt}
+use Rattle.board_core.specs.Lists.{Every}
+use Rattle.board_core.specs.Calls.{Noted}
+use Rattle.board_core.specs.Board.{Board}
+use Rattle.board_core.specs.Outcomes.{IsEntryOf}
+use Rattle.office_core.specs.declared.seat.Seat.{Seat}
+use Rattle.office_core.specs.declared.room.CloseFault.{CloseFault}
+use Rattle.office_core.specs.declared.room.CloseFault.TheVariants.{Outstanding, SeatMissing, Mismatch}
+use Rattle.office_core.specs.declared.room.CloseRefused.{CloseRefused}
+use Rattle.office_core.specs.declared.room.Closed.{Closed}
+use Rattle.office_core.specs.Rooms.{RoomState}
+
+-- no call waits or runs
+abbrev pub IsIdle : Board → Type 0
+IsIdle b = length b.waiting + length b.running ≡ 0
+
+-- how many receipts a seat had
+abbrev pub count_of : Seat → ℕ
+count_of seat = seat.count
+
+-- how many seats are of a session
+abbrev pub times : ℕ → List Seat → ℕ
+times session [] = 0
+times session (seat ∷ seats) = (if seat.session == session then 1 else 0) + times session seats
+
+-- the seats are those of the sessions given out, each once, and their counts add up to so many entries
+pub record AreSeats (given : ℕ) (entries : ℕ) (seats : List Seat) : Type 0 where
+  pub all : length seats ≡ given
+  pub each : (session : ℕ) → 0 < session → session ≤ given → times session seats ≡ 1
+  pub counts : sum_by count_of seats ≡ entries
+
+abbrev pub AreSeatsOf : RoomState → List Seat → Type 0
+AreSeatsOf r seats = AreSeats r.given (length r.board.history) seats
+
+-- a receipt tells of the entry at its place
+abbrev pub Stands : List Noted → Receipt → Type 0
+Stands history r = (0 < r.place) × ((e : Noted) × (slice_get history (r.place - 1) ≡ Some e) × IsEntryOf r.noted.session r.noted.outcome e)
+
+-- the receipt at this index is of this place, and the entry there is another one
+pub record Misses (history : List Noted) (receipts : List Receipt) (k place : ℕ) : Type 0 where
+  pub receipt : Receipt
+  pub there : slice_get receipts k ≡ Some receipt
+  pub of : place ≡ receipt.place
+  pub other : Stands history receipt → ⊥
+
+-- why a room is not closed: the first cause that applies
+abbrev pub IsWhy : RoomState → List Seat → List Receipt → CloseFault → Type 0
+IsWhy r seats receipts Outstanding = IsIdle r.board → ⊥
+IsWhy r seats receipts SeatMissing = IsIdle r.board × (AreSeatsOf r seats → ⊥)
+IsWhy r seats receipts (Mismatch k place) = IsIdle r.board × AreSeatsOf r seats × Misses r.board.history receipts k place
+
+-- A room is closed where nothing is missing; a refusal hands room and seats back.
+abbrev pub Closes : RoomState → List Seat → List Receipt → Result Closed CloseRefused → Type 0
+Closes r seats receipts (Ok closed) = IsIdle r.board × AreSeatsOf r seats × Every (Stands r.board.history) receipts × (closed.desk ≡ r.board)
+Closes r seats receipts (Err refused) = IsWhy r seats receipts refused.why × (refused.room ≡ r) × (refused.seats.items ≡ seats)

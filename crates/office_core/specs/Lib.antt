@@ -1,0 +1,5 @@
+pub mod Rooms
+pub mod Submissions
+pub mod Seats
+pub mod Closing
+pub mod Receipts

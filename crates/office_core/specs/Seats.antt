@@ -1,0 +1,40 @@
+-- Seats, and what a `complete` answers.
+use Rattle.std.specs.Prelude.{◌≡◌, ℕ, ◌+◌, ◌≤◌, ◌<◌, length, Result, Ok, Err}
+use Rattle.body_core.specs.declared.outcome.Outcome.{Outcome}
+use Rattle.body_core.specs.Outcomes.{outcome_call}
+use Rattle.board_core.specs.declared.receipt.Receipt.{Receipt}
+use Rattle.board_core.specs.Lists.{Every}
+use Rattle.board_core.specs.Outcomes.{IsOf}
+use Rattle.desk_core.specs.Answers.{Finishes}
+use Rattle.office_core.specs.declared.seat.Seat.{Seat}
+use Rattle.office_core.specs.declared.seat.CompleteFault.{CompleteFault}
+use Rattle.office_core.specs.declared.seat.CompleteFault.TheVariants.{Front, Stranger}
+use Rattle.office_core.specs.Rooms.{RoomState}
+
+-- a seat of this session that has seen no place and had no receipt
+pub record IsFresh (session : ℕ) (seat : Seat) : Type 0 where
+  pub of : seat.session ≡ session
+  pub seen : seat.seen ≡ 0
+  pub count : seat.count ≡ 0
+
+-- a seat has seen this place, and counts one receipt more
+pub record Advances (old : Seat) (place : ℕ) (new : Seat) : Type 0 where
+  pub session : new.session ≡ old.session
+  pub seen : new.seen ≡ place
+  pub count : new.count ≡ old.count + 1
+
+-- What a `complete` tells of an outcome and of the seat: a receipt that holds this outcome, at a place past all that the seat had seen; or the outcome back, and the seat as it was.
+abbrev pub Receives : Seat → Outcome → Result Receipt CompleteFault → Seat → Type 0
+Receives old o (Ok r) new = (r.noted.outcome ≡ o) × (old.seen < r.place) × Advances old r.place new
+Receives old o (Err (Front seen found back)) new = (seen ≡ old.seen) × (found ≤ seen) × (back ≡ o) × (new ≡ old)
+Receives old o (Err (Stranger back)) new = (back ≡ o) × (new ≡ old)
+
+-- the place that the next entry gets is past all that the seat has seen
+abbrev pub IsAhead : RoomState → Seat → Type 0
+IsAhead r seat = seat.seen < length r.board.history + 1
+
+-- What a `complete` makes of the room: what `finish` makes of the desk's board, where the next place is past all that the seat has seen; else it is as it was.
+abbrev pub Completes : RoomState → Seat → Outcome → Result Receipt CompleteFault → RoomState → Type 0
+Completes old seat o (Ok r) new = IsAhead old seat × Finishes old.board o r new.board × (new.given ≡ old.given)
+Completes old seat o (Err (Front seen found back)) new = (found ≡ length old.board.history + 1) × (found ≤ seat.seen) × (new ≡ old)
+Completes old seat o (Err (Stranger back)) new = IsAhead old seat × Every (λ r. IsOf (outcome_call o) r → ⊥) old.board.running × (new ≡ old)

@@ -1,0 +1,91 @@
+//! What is looked up of a room.
+
+ghost use Rattle.std.specs.Prelude.{◌≡◌, ◌↔◌, ◌+◌, IsTrue, IfSome, IfNone, map, length, slice_get, Some};
+ghost use Rattle.std.specs.Arc.{arc_value};
+ghost use Rattle.decl_core.specs.ObjectMap.{operation_of};
+ghost use Rattle.board_core.specs.Lists.{Every};
+ghost use Rattle.desk_core.specs.Answers.{HasName};
+ghost use Rattle.office_core.specs.Submissions.{IsFirstNamed, IsCallOf, IsOf};
+ghost use Rattle.office_core.specs.Closing.{Stands, Misses};
+
+use crate::seat::Submitted;
+use board_core::call::Call;
+use board_core::entry::Entry;
+use board_core::receipt::Receipt;
+use board_core::same::same_args;
+use decl_core::object::Operation;
+use decl_core::same::same_declaration;
+use desk_core::desk::Desk;
+use std::sync::Arc;
+
+// Whether an operation has this name.
+fn has_name(operation: &Operation, name: &[u8]) -> bool
+    ensures { IsTrue result ↔ HasName name.now operation.now }
+{
+    operation.name.is_spelled_by(name)
+}
+
+// The first operation of this name.
+pub(crate) fn operation_named<'a>(
+    operations: &'a [Arc<Operation>],
+    name: &[u8],
+) -> Option<&'a Arc<Operation>>
+    ensures some { IfSome result (λ x. IsFirstNamed name.now (map (λ o. arc_value o) operations.now) (arc_value x.now)) }
+{
+    match operations.split_first() {
+        None => None,
+        Some((operation, rest)) => {
+            if has_name(operation, name) {
+                Some(operation)
+            } else {
+                operation_named(rest, name)
+            }
+        }
+    }
+}
+
+// Whether an accepted call has the operation and the arguments of a submission.
+fn is_call_of(call: &Call, submitted: &Submitted) -> bool
+    ensures { IsTrue result ↔ IsCallOf submitted.now call.now }
+{
+    if !same_declaration(call.operation(), &submitted.operation) {
+        return false;
+    }
+    same_args(call.args(), &submitted.args)
+}
+
+// Whether the call of that number has the operation and the arguments of a submission.
+pub(crate) fn is_of(desk: &Desk, submitted: &Submitted) -> bool
+    ensures { IsTrue result ↔ IsOf desk.now submitted.now }
+{
+    match desk.call(submitted.number) {
+        None => false,
+        Some(call) => is_call_of(call, submitted),
+    }
+}
+
+// Whether a receipt tells of the entry at its place.
+fn stands(history: &[Entry], receipt: &Receipt) -> bool
+    ensures { IsTrue result ↔ Stands history.now receipt.now }
+{
+    if receipt.place == 0 {
+        return false;
+    }
+    match history.get(receipt.place - 1) {
+        None => false,
+        Some(entry) => entry.is_entry_of(&receipt.noted),
+    }
+}
+
+// The index and the place of the first receipt that tells of no entry at its place.
+pub(crate) fn first_mismatch(history: &[Entry], receipts: &[Receipt]) -> Option<(usize, usize)>
+    ensures none { IfNone result (Every (Stands history.now) receipts.now) }
+    ensures some { IfSome result (λ k. Misses history.now receipts.now k.0 k.1) }
+{
+    for k in 0..receipts.len() {
+        if !stands(history, &receipts[k]) {
+            return Some((k, receipts[k].place));
+        }
+    }
+    None
+}

@@ -1,0 +1,9 @@
+//! Laws of receipts, over the definitions alone.
+
+ghost use Rattle.office_core.specs.Receipts.{ReceiptsAreLegal};
+
+/// Where each entry of a desk has a receipt, and each receipt stands in the history and is true, the history is
+/// legal, and it leads to what the published pins spell.
+pub fn receipts_are_legal()
+    ensures { ReceiptsAreLegal }
+{}

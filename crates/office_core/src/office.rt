@@ -1,0 +1,167 @@
+//! The lock round a room.
+
+ghost use Rattle.std.specs.Prelude.{◌≡◌, ◌<◌, ◌≤◌, ◌+◌, IfOk, length, vec_capacity};
+ghost use Rattle.office_core.specs.Rooms.{RoomState};
+ghost use Rattle.office_core.specs.Submissions.{Asks, IsStartOf};
+ghost use Rattle.office_core.specs.Seats.{Receives};
+ghost use Rattle.office_core.specs.Closing.{Closes};
+
+use crate::room::{Closed, CloseRefused, Room, SeatsFull};
+use crate::seat::{CompleteFault, Seat, Started, Submitted, Tried};
+use board_core::event::TraceEvent;
+use board_core::receipt::Receipt;
+use body_core::outcome::Outcome;
+use desk_core::answer::{Cancelled, SubmitFault};
+use desk_core::desk::Desk;
+use std::alloc::{AllocError, Global};
+use std::sync::{Condvar, Mutex, Wait};
+use value_core::datum::Datum;
+
+/// How many places there are at which waiters sleep: session `n` sleeps at `n % BEDS`.
+const BEDS: usize = 64;
+
+/// A room that threads share.
+#[derive(Drop)]
+pub struct Office {
+    room: Mutex<Room>,
+    beds: Vec<Condvar>,
+    ghost all: { length beds.items ≡ 64 },
+}
+
+// The bed of a session.
+fn bed_of(session: u32) -> usize
+    ensures { result < 64 }
+{
+    session as usize % BEDS
+}
+
+// The bed of the session that made a call.
+fn bed_for(desk: &Desk, number: u32) -> usize
+    ensures { result < 64 }
+{
+    match desk.call(number) {
+        Some(call) => bed_of(call.session()),
+        None => 0,
+    }
+}
+
+// Adds so many beds, for which there is room.
+fn add_beds(beds: &mut Vec<Condvar>, count: usize)
+    requires { length beds.old.items + count ≤ vec_capacity beds.old }
+    ensures { length beds.new.items ≡ length beds.old.items + count }
+{
+    if count == 0 {
+        return;
+    }
+    beds.push_reserved(Condvar::new());
+    add_beds(beds, count - 1);
+}
+
+impl Office {
+    /// An office with this room. The error is that memory was refused.
+    pub fn open(alloc: Global, room: Room) -> Result<Office, AllocError> {
+        let mut beds = Vec::with_capacity(alloc, BEDS)?;
+        add_beds(&mut beds, BEDS);
+        Ok(Office {
+            room: Mutex::new(room),
+            beds,
+        })
+    }
+
+    // Wakes the waiters whose calls started since the trace was so long.
+    fn wake(&self, room: &Room, before: usize) {
+        let trace = room.desk().trace();
+        for place in before..trace.len() {
+            if let Some(TraceEvent::Start(number)) = trace.get(place) {
+                self.beds[bed_for(room.desk(), number)].notify_all();
+            }
+        }
+    }
+
+    /// The next session, from 1 to 1,024. The error is that there is none left.
+    pub fn seat<R: Wait>(&self, rt: &R) -> Result<Seat, SeatsFull>
+        ensures { IfOk result (λ s. (0 < s.session) × (s.session ≤ 1024) × (s.seen ≡ 0) × (s.count ≡ 0)) }
+    {
+        self.room.lock(rt).seat()
+    }
+
+    /// Submits a call of this seat's session, as [`Room::submit`].
+    pub fn submit<R: Wait>(
+        &self,
+        rt: &R,
+        seat: &mut Seat,
+        op: &str,
+        args: &[Datum],
+    ) -> Result<Submitted, SubmitFault>
+        ensures asks { IfOk result (λ s. Asks op.now args.now s) }
+        ensures seat { seat.new ≡ seat.old }
+    {
+        // The only call that a submission may start is its own, for which nobody waits yet.
+        self.room.lock(rt).submit(seat, op, args)
+    }
+
+    /// Waits until a submitted call has started or was cancelled, as [`Room::try_start`] finds it.
+    pub fn await_start<R: Wait>(&self, rt: &R, submitted: Submitted) -> Started
+        ensures { IsStartOf submitted result }
+    {
+        let mut submitted = submitted;
+        let mut room = self.room.lock(rt);
+        for _ in rt.forever() {
+            match room.try_start(submitted) {
+                Tried::Ticket(ticket) => return Started::Ticket(ticket),
+                Tried::Cancelled => return Started::Cancelled,
+                Tried::Stranger(back) => return Started::Stranger(back),
+                Tried::Waiting(back) => {
+                    let bed = bed_for(room.desk(), back.number);
+                    submitted = back;
+                    room = self.beds[bed].wait(rt, room);
+                }
+            }
+        }
+        unreachable!()
+    }
+
+    /// Takes the outcome of a call that runs here, as [`Room::complete`].
+    pub fn complete<R: Wait>(
+        &self,
+        rt: &R,
+        seat: &mut Seat,
+        outcome: Outcome,
+    ) -> Result<Receipt, CompleteFault>
+        ensures seat { Receives seat.old outcome result seat.new }
+    {
+        let mut room = self.room.lock(rt);
+        let before = room.desk().trace().len();
+        let answer = room.complete(seat, outcome);
+        self.wake(&room, before);
+        answer
+    }
+
+    /// Takes a waiting call out, as [`Room::cancel`].
+    pub fn cancel<R: Wait>(&self, rt: &R, number: u32) -> Cancelled {
+        let mut room = self.room.lock(rt);
+        let before = room.desk().trace().len();
+        let answer = room.cancel(number);
+        if answer == Cancelled::Cancelled {
+            self.beds[bed_for(room.desk(), number)].notify_all();
+        }
+        self.wake(&room, before);
+        answer
+    }
+
+    /// A session leaves, as by [`Room::leave`].
+    pub fn leave<R: Wait>(&self, rt: &R, session: u32) {
+        let mut room = self.room.lock(rt);
+        let before = room.desk().trace().len();
+        room.leave(session);
+        self.beds[bed_of(session)].notify_all();
+        self.wake(&room, before);
+    }
+
+    /// Takes the room out of the lock and closes it, as [`Room::close`].
+    pub fn close(self, seats: Vec<Seat>, receipts: &[Receipt]) -> Result<Closed, CloseRefused>
+        ensures { (r : RoomState) × Closes r seats.items receipts.now result }
+    {
+        self.room.into_inner().close(seats, receipts)
+    }
+}

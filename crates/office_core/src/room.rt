@@ -1,0 +1,303 @@
+//! What lies under the lock.
+
+ghost use Rattle.std.specs.Prelude.{◌≡◌, ◌+◌, ◌≤◌, ◌<◌, length, IfOk, IfErr, OnOk, OnErr, Ok, Err};
+ghost use Rattle.board_core.specs.Board.{opened, Rests};
+ghost use Rattle.board_core.specs.Sound.{IsSound};
+ghost use Rattle.desk_core.specs.Answers.{Cancels};
+ghost use Rattle.board_core.specs.Started.{Settles};
+ghost use Rattle.board_core.specs.Board.{released, marked};
+ghost use Rattle.std.specs.Prelude.{◌⊎◌};
+ghost use Rattle.office_core.specs.Rooms.{Submits};
+ghost use Rattle.office_core.specs.Submissions.{Asks, IsOf, Tells, Tries};
+ghost use Rattle.office_core.specs.Seats.{IsFresh, Advances, Receives, Completes};
+ghost use Rattle.office_core.specs.Closing.{Closes};
+
+use crate::find::{first_mismatch, is_of, operation_named};
+use crate::seat::{CompleteFault, Seat, Submitted, Tried};
+use crate::seats::are_seats;
+use board_core::receipt::Receipt;
+use body_core::outcome::Outcome;
+use desk_core::answer::{Cancelled, Collected, Stranger, SubmitFault};
+use desk_core::desk::Desk;
+use exclude_core::analyse::Accepted;
+use shelf_core::pins::Pins;
+use std::alloc::{AllocError, Global};
+use std::marker::Model;
+use std::sync::Arc;
+use value_core::datum::Datum;
+
+/// The most sessions that a room gives out.
+pub const MOST_SESSIONS: u32 = 1024;
+
+/// A desk, and how many sessions were given out.
+///
+/// A contract sees it as a board and that number. The board is that of a desk: what holds of each such board
+/// (`IsSound`, `Rests`) holds of it, as [`Room::desk`] says.
+#[derive(Drop)]
+pub struct Room {
+    alloc: Global,
+    desk: Desk,
+    given: u32,
+}
+
+impl Model for Room {
+    ghost use Rattle.office_core.specs.Rooms.{RoomState};
+    ghost use Rattle.desk_core.specs.contracts.desk.Desk as d;
+    ghost use Rattle.std.specs.Prelude.{◌≤◌};
+    ghost use Rattle.std.specs.Coded.{codes};
+
+    ghost Value = { RoomState };
+
+    ghost coded = { Prim.hlevel (codes, d.the_row.coded) };
+
+    ghost view = { λ r. record { board = r.desk; given = r.given } };
+
+    ghost invariant = { λ r. r.given ≤ 1024 };
+}
+
+/// All sessions are given out.
+#[derive(Clone, Copy, Debug, PartialEq, Eq)]
+pub struct SeatsFull;
+
+/// Why a room is not closed. The first that applies is told.
+#[derive(Clone, Copy, Debug, PartialEq, Eq)]
+pub enum CloseFault {
+    /// A call waits or runs.
+    Outstanding,
+    /// The seats are not those of the sessions given out, each once, or their counts do not add up to the
+    /// history's length.
+    SeatMissing,
+    /// The receipt of this index, from 0, the first such one, does not tell of the entry at its place.
+    Mismatch { receipt: usize, place: usize },
+}
+
+/// What a refused close hands back, and why it was refused.
+#[derive(Drop)]
+pub struct CloseRefused {
+    pub room: Room,
+    pub seats: Vec<Seat>,
+    pub why: CloseFault,
+}
+
+/// What is left of a room when all is done.
+#[derive(Drop)]
+pub struct Closed {
+    /// The desk.
+    pub desk: Desk,
+}
+
+// A seat that has seen nothing.
+fn new_seat(session: u32) -> Seat
+    ensures { IsFresh session result }
+{
+    Seat {
+        session,
+        seen: 0,
+        count: 0,
+    }
+}
+
+// The seat that has seen this place, and counts one receipt more.
+fn seat_after(seat: &Seat, place: usize) -> Seat
+    requires { seat.now.seen < place }
+    ensures { Advances seat.now place result }
+{
+    Seat {
+        session: seat.session,
+        seen: place,
+        count: seat.count + 1,
+    }
+}
+
+// Takes apart a submission that has been answered.
+fn spend(submitted: Submitted) {
+    let Submitted {
+        number: _,
+        operation: _,
+        args: _,
+    } = submitted;
+}
+
+impl Room {
+    /// A room with the desk that `Desk::open` gives, and no sessions given out. The error is that memory was
+    /// refused.
+    pub fn open(alloc: Global, accepted: Accepted, pins: Pins) -> Result<Room, AllocError>
+        requires { length pins ≡ length accepted.parts.items }
+        ensures { IfOk result (λ r. r ≡ record { board = opened accepted pins; given = 0 }) }
+    {
+        let desk = Desk::open(alloc, accepted, pins)?;
+        Ok(Room {
+            alloc,
+            desk,
+            given: 0,
+        })
+    }
+
+    /// The desk.
+    pub fn desk(&self) -> &Desk
+        ensures desk { result.now ≡ self.now.board }
+        ensures sound { IsSound self.now.board }
+        ensures rests { Rests self.now.board }
+    {
+        let _history = self.desk.history();
+        &self.desk
+    }
+
+    /// The next session, from 1 to 1,024. The error is that there is none left, and nothing is changed.
+    pub fn seat(&mut self) -> Result<Seat, SeatsFull>
+        ensures ok { IfOk result (λ seat. IsFresh (self.old.given + 1) seat × (self.old.given < 1024) × (self.new.given ≡ self.old.given + 1)) }
+        ensures full { OnErr result ((1024 ≤ self.old.given) × (self.new.given ≡ self.old.given)) }
+        ensures board { self.new.board ≡ self.old.board }
+    {
+        if self.given >= MOST_SESSIONS {
+            return Err(SeatsFull);
+        }
+        self.given += 1;
+        Ok(new_seat(self.given))
+    }
+
+    /// Takes a call of this seat's session, as the desk's `submit` does. The errors are those of `submit`, in its
+    /// order, and change nothing.
+    pub fn submit(
+        &mut self,
+        seat: &mut Seat,
+        op: &str,
+        args: &[Datum],
+    ) -> Result<Submitted, SubmitFault>
+        ensures asks { IfOk result (λ s. Asks op.now args.now s) }
+        ensures board { IfOk result (λ s. Submits self.old.board (record { session = seat.old.session; name = op.now; arguments = args.now }) (Ok s.number) self.new.board) }
+        ensures accepted { IfOk result (λ s. IsOf self.new.board s) }
+        ensures refused { IfErr result (λ fault. Submits self.old.board (record { session = seat.old.session; name = op.now; arguments = args.now }) (Err fault) self.new.board) }
+        ensures given { self.new.given ≡ self.old.given }
+        ensures seat { seat.new ≡ seat.old }
+    {
+        if let Some(fault) = self.desk.refusal(seat.session, op, args) {
+            return Err(fault);
+        }
+        let operations = &self.desk.accepted().object().operations;
+        let Some(operation) = operation_named(operations, op.as_bytes()) else {
+            return Err(SubmitFault::Memory);
+        };
+        let Ok(operation) = Arc::try_clone(operation) else {
+            return Err(SubmitFault::Memory);
+        };
+        let Ok(copy) = args.to_vec(self.alloc) else {
+            return Err(SubmitFault::Memory);
+        };
+        let number = match self.desk.submit(seat.session, op, args) {
+            Ok(number) => number,
+            Err(fault) => return Err(fault),
+        };
+        Ok(Submitted {
+            number,
+            operation,
+            args: copy,
+        })
+    }
+
+    /// Looks whether a submitted call has started, as the desk's `collect` does, where the call of that number has
+    /// the operation and the arguments of the submission; else, and where `collect` knows of no such call, the
+    /// submission is a stranger, and nothing is changed. It takes no memory.
+    pub fn try_start(&mut self, submitted: Submitted) -> Tried
+        ensures tells { Tells submitted result }
+        ensures room { Tries self.old submitted result self.new }
+    {
+        let _history = self.desk.history();
+        if !is_of(&self.desk, &submitted) {
+            return Tried::Stranger(submitted);
+        }
+        match self.desk.collect(submitted.number) {
+            Collected::Ticket(ticket) => {
+                spend(submitted);
+                return Tried::Ticket(ticket);
+            }
+            Collected::Waiting => return Tried::Waiting(submitted),
+            Collected::Cancelled => {
+                spend(submitted);
+                return Tried::Cancelled;
+            }
+            Collected::Unknown => return Tried::Stranger(submitted),
+        }
+    }
+
+    /// Takes the outcome of a call that runs here, as the desk's `finish` does: the seat has then seen the place of
+    /// its entry, and counts one receipt more. It takes no memory.
+    ///
+    /// The errors, in this order, hand the outcome back and change nothing: the place that it would get is not past
+    /// the greatest that the seat has seen (`Front`), or no running call has it (`Stranger`).
+    pub fn complete(&mut self, seat: &mut Seat, outcome: Outcome) -> Result<Receipt, CompleteFault>
+        ensures seat { Receives seat.old outcome result seat.new }
+        ensures room { Completes self.old seat.old outcome result self.new }
+    {
+        let found = self.desk.history().len() + 1;
+        let seen = seat.seen;
+        if found <= seen {
+            return Err(CompleteFault::Front {
+                seen,
+                found,
+                outcome,
+            });
+        }
+        let receipt = match self.desk.finish(outcome) {
+            Ok(receipt) => receipt,
+            Err(Stranger(outcome)) => return Err(CompleteFault::Stranger(outcome)),
+        };
+        *seat = seat_after(seat, receipt.place);
+        Ok(receipt)
+    }
+
+    /// Takes a waiting call out, as the desk's `cancel` does. It takes no memory.
+    pub fn cancel(&mut self, number: u32) -> Cancelled
+        ensures board { Cancels self.old.board number result self.new.board }
+        ensures given { self.new.given ≡ self.old.given }
+    {
+        self.desk.cancel(number)
+    }
+
+    /// A session leaves, as by the desk's `disconnect`. It takes no memory.
+    pub fn leave(&mut self, session: u32)
+        ensures left { 0 < session → session ≤ 1024 → Settles (marked (released self.old.board session) session) self.new.board }
+        ensures none { (session ≡ 0) ⊎ (1024 < session) → self.new.board ≡ self.old.board }
+        ensures given { self.new.given ≡ self.old.given }
+    {
+        self.desk.disconnect(session);
+    }
+
+    /// Ends the work: where no call waits or runs, the seats are those of the sessions given out, each once, their
+    /// counts add up to the history's length, and each receipt tells of the entry at its place. It takes no memory.
+    ///
+    /// The errors hand room and seats back, with the first cause of [`CloseFault`] that applies.
+    pub fn close(self, seats: Vec<Seat>, receipts: &[Receipt]) -> Result<Closed, CloseRefused>
+        ensures { Closes self seats.items receipts.now result }
+    {
+        if !self.desk.is_idle() {
+            return Err(CloseRefused {
+                room: self,
+                seats,
+                why: CloseFault::Outstanding,
+            });
+        }
+        if !are_seats(&seats, self.given, self.desk.history().len()) {
+            return Err(CloseRefused {
+                room: self,
+                seats,
+                why: CloseFault::SeatMissing,
+            });
+        }
+        match first_mismatch(self.desk.history(), receipts) {
+            Some((receipt, place)) => Err(CloseRefused {
+                room: self,
+                seats,
+                why: CloseFault::Mismatch { receipt, place },
+            }),
+            None => {
+                let Room {
+                    alloc: _,
+                    desk,
+                    given: _,
+                } = self;
+                Ok(Closed { desk })
+            }
+        }
+    }
+}

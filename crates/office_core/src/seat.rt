@@ -1,0 +1,79 @@
+//! Seats, submissions and their answers.
+
+ghost use Rattle.std.specs.Prelude.{◌≡◌, ◌≤◌};
+
+use body_core::outcome::Outcome;
+use body_core::ticket::Ticket;
+use decl_core::object::Operation;
+use std::sync::Arc;
+use value_core::datum::Datum;
+
+/// A session that was given out: the greatest place of the history that it has seen, and how many receipts it had.
+#[derive(Debug, Drop)]
+pub struct Seat {
+    pub(crate) session: u32,
+    pub(crate) seen: usize,
+    pub(crate) count: usize,
+    // each receipt was of a place of its own
+    ghost few: { count ≤ seen },
+}
+
+impl Seat {
+    /// Its session, from 1 to 1,024.
+    pub fn session(&self) -> u32
+        ensures { result ≡ self.now.session }
+    {
+        self.session
+    }
+}
+
+/// An accepted call that is waited for. It has to be spent, by a wait for its start.
+pub struct Submitted {
+    pub(crate) number: u32,
+    pub(crate) operation: Arc<Operation>,
+    pub(crate) args: Vec<Datum>,
+}
+
+impl Submitted {
+    /// Its number, from 1.
+    pub fn number(&self) -> u32
+        ensures { result ≡ self.now.number }
+    {
+        self.number
+    }
+}
+
+/// What a wait for a start answers.
+pub enum Started {
+    /// The call runs, and this is its ticket. It is given once.
+    Ticket(Ticket),
+    /// The call was cancelled.
+    Cancelled,
+    /// No call of this number, operation and arguments waits, was cancelled, or runs with its ticket left.
+    Stranger(Submitted),
+}
+
+/// What a look for a start answers.
+pub enum Tried {
+    /// The call runs, and this is its ticket. It is given once.
+    Ticket(Ticket),
+    /// The call was cancelled.
+    Cancelled,
+    /// The call waits.
+    Waiting(Submitted),
+    /// No call of this number, operation and arguments waits, was cancelled, or runs with its ticket left.
+    Stranger(Submitted),
+}
+
+/// Why an outcome was not taken. It is handed back.
+#[derive(Drop)]
+pub enum CompleteFault {
+    /// The place that the outcome would get is not past the greatest that the seat has seen.
+    Front {
+        seen: usize,
+        found: usize,
+        outcome: Outcome,
+    },
+    /// No running call has this outcome.
+    Stranger(Outcome),
+}
