@@ -1,15 +1,14 @@
 -- What is found in a list, and what is known of it there.
-use Rattle.std.proofs.Common.{◌≡◌, ◌∙◌, ap, sym, subst, refl, ℕ, zero, suc, ◌<◌, ◌+◌, ◌-◌, arith, Bool, List, [], ◌∷◌, ◌++◌, length, inl, inr, Option, Some, None}
-use Rattle.std.specs.Prelude.{IsTrue, ◌↔◌, ◌⊎◌, slice_get, take}
-use Rattle.std.proofs.lemmas.Option.{same_Some, none-some}
+use Rattle.std.proofs.Common.{◌≡◌, ◌∙◌, ap, sym, subst, ℕ, zero, suc, ◌+◌, arith, Bool, List, [], ◌∷◌, ◌++◌, length, inl, inr, Option, Some}
+use Rattle.std.specs.Prelude.{IsTrue, ◌↔◌, slice_get, take}
+use Rattle.std.proofs.lemmas.Option.{same_Some}
 use Rattle.value_core.specs.declared.datum.Datum.{Datum}
 use Rattle.decl_core.specs.declared.object.Operation.{Operation}
 use Rattle.decl_core.specs.ObjectMap.{operation_of}
 use Rattle.body_core.specs.declared.ticket.Ticket.{Ticket}
-use Rattle.body_core.specs.Tickets.{ticket_call}
 use Rattle.body_core.specs.Calls.{Call}
 use Rattle.board_core.specs.Lists.{Every}
-use Rattle.board_core.specs.Calls.{AcceptedCall, RunningCall, Noted}
+use Rattle.board_core.specs.Calls.{AcceptedCall}
 use Rattle.board_core.specs.Board.{Board, call_at, joined, bodies}
 use Rattle.board_core.specs.Started.{Settles}
 use Rattle.board_core.specs.Sound.{IsSound, IsRunningIn}
@@ -18,7 +17,7 @@ use Rattle.board_core.proofs.Traces.{call_at-new}
 use Rattle.desk_core.specs.declared.answer.Collected.TheVariants as collected
 use Rattle.desk_core.specs.Answers.{Asked, IsTaken, Collects, HasName}
 use Rattle.office_core.specs.declared.seat.Submitted.{Submitted}
-use Rattle.office_core.specs.Submissions.{IsOf, IsCallOf, IsTicketOf, IsFirstNamed, Asks, submitted_operation, submitted_args}
+use Rattle.office_core.specs.Submissions.{IsOf, IsTicketOf, IsFirstNamed, Asks, submitted_operation, submitted_args}
 
 -- a test of what was found is a test of what there is
 pub is_there : {X : Type 0} (P : X → Type 0) (found : Option X) (e : X) (test : Bool) → found ≡ Some e → IsTrue test ↔ P e → IsTrue test ↔ ((x : X) × (found ≡ Some x) × P x)

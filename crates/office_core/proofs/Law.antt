@@ -1,19 +1,16 @@
 -- What receipts say of a closed desk.
-use Rattle.std.proofs.Common.{false, ◌≡◌, ◌∙◌, ap, sym, subst, refl, ℕ, zero, suc, ◌<◌, ◌+◌, ◌-◌, arith, List, [], ◌∷◌, length, Some}
+use Rattle.std.proofs.Common.{false, ◌≡◌, ◌∙◌, ap, sym, subst, refl, ℕ, suc, ◌+◌, ◌-◌, arith, List, [], ◌∷◌, Some}
 use Rattle.std.specs.Prelude.{slice_get}
 use Rattle.std.proofs.lemmas.Option.{same_Some}
 use Rattle.shelf_core.specs.declared.hand.Stamp.{Stamp}
 use Rattle.shelf_core.specs.Device.{Assignment}
-use Rattle.body_core.specs.declared.new_pins.NewPin.{NewPin}
 use Rattle.body_core.specs.declared.outcome.Outcome.{Outcome}
-use Rattle.body_core.specs.declared.reply.Reply.{Reply}
 use Rattle.body_core.specs.Truths.{IsTrueOf}
 use Rattle.body_core.specs.Outcomes.{outcome_call, outcome_reply, outcome_news}
 use Rattle.board_core.specs.declared.receipt.Receipt.{Receipt}
-use Rattle.board_core.specs.declared.part_pin.PartPin.{PartPin}
-use Rattle.board_core.specs.Lists.{Every, Among}
-use Rattle.board_core.specs.Calls.{Noted, RunningCall, noted_of}
-use Rattle.board_core.specs.Board.{Board, entry_of}
+use Rattle.board_core.specs.Lists.{Every}
+use Rattle.board_core.specs.Calls.{Noted, RunningCall}
+use Rattle.board_core.specs.Board.{entry_of}
 use Rattle.board_core.specs.Chain.{IsTrueEntry}
 use Rattle.board_core.specs.Sound.{kinds_of}
 use Rattle.board_core.specs.Outcomes.{IsEntryOf}
@@ -21,7 +18,7 @@ use Rattle.board_core.proofs.Lists.{Every-among}
 use Rattle.board_core.proofs.BoardLaws.{truth_is_noted}
 use Rattle.board_core.proofs.Law.{chained_are_legal}
 use Rattle.office_core.specs.Closing.{Stands}
-use Rattle.office_core.specs.Receipts.{IsTrueReceipt, HaveReceipts, ReceiptsAreLegal}
+use Rattle.office_core.specs.Receipts.{IsTrueReceipt, ReceiptsAreLegal}
 
 -- the call of an entry, as it ran by an outcome's pins
 abbrev as_ran : Noted → List Stamp → RunningCall
@@ -62,6 +59,6 @@ pub receipts_are_legal : ReceiptsAreLegal
 receipts_are_legal a b receipts contents sound stands have holds shows =
     let true_one : (k : ℕ) (e : Noted) → slice_get b.history k ≡ Some e → IsTrueEntry a e =
     λ k e at.
-        let r = have k e at in
-        receipt_true a b.history receipts k e r.0 at r.2 (Every-among (Stands b.history) receipts r.0 stands r.1) (Every-among (IsTrueReceipt a) receipts r.0 holds r.1) in
+    let r = have k e at in
+    receipt_true a b.history receipts k e r.0 at r.2 (Every-among (Stands b.history) receipts r.0 stands r.1) (Every-among (IsTrueReceipt a) receipts r.0 holds r.1) in
     chained_are_legal a (kinds_of b.object) b.opening b.pins b.history contents sound.pinned.entries sound.pinned.chained shows (every_place (IsTrueEntry a) b.history true_one)

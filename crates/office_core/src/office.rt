@@ -6,7 +6,7 @@ ghost use Rattle.office_core.specs.Submissions.{Asks, IsStartOf, Tells};
 ghost use Rattle.office_core.specs.Seats.{Receives};
 ghost use Rattle.office_core.specs.Closing.{Closes};
 
-use crate::room::{Closed, CloseRefused, Room, SeatsFull};
+use crate::room::{CloseRefused, Closed, Room, SeatsFull};
 use crate::seat::{CompleteFault, Seat, Started, Submitted, Tried};
 use board_core::event::TraceEvent;
 use board_core::receipt::Receipt;

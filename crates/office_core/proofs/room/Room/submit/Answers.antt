@@ -1,12 +1,12 @@
-use Rattle.std.proofs.Common.{◌≡◌, ◌∙◌, ap, sym, subst, refl, ◌+◌, length, map}
+use Rattle.std.proofs.Common.{◌≡◌, ◌∙◌, ap, subst, refl, ◌+◌, length, map}
 use Rattle.std.specs.Arc.{arc_value}
 use Rattle.decl_core.specs.declared.object.Object.{Object}
-use Rattle.board_core.specs.Board.{Board, joined, bodies}
+use Rattle.board_core.specs.Board.{joined, bodies}
 use Rattle.board_core.specs.Started.{Settles}
 use Rattle.board_core.specs.Calls.{AcceptedCall}
-use Rattle.desk_core.specs.Answers.{Asked, IsTaken, IsRefused, HasName}
+use Rattle.desk_core.specs.Answers.{Asked, IsTaken, IsRefused}
 use Rattle.office_core.specs.Rooms.{RoomState}
-use Rattle.office_core.specs.Submissions.{IsOf, IsFirstNamed}
+use Rattle.office_core.specs.Submissions.{IsFirstNamed}
 use Rattle.office_core.proofs.Found.{asks_is, joined_is}
 use Rattle.office_core.proofs.room.Room.submit.Goals as goal
 

@@ -1,10 +1,9 @@
 use Rattle.std.proofs.Common.{◌≡◌, ap, sym, subst, refl}
-use Rattle.board_core.specs.Board.{Board}
 use Rattle.board_core.proofs.Traces.{true_false}
 use Rattle.desk_core.specs.declared.answer.Collected.TheVariants as collected
 use Rattle.desk_core.specs.Answers.{Collects}
 use Rattle.office_core.specs.Rooms.{RoomState}
-use Rattle.office_core.specs.Submissions.{IsOf, IsTicketOf}
+use Rattle.office_core.specs.Submissions.{IsOf}
 use Rattle.office_core.proofs.Found.{ticket_is}
 use Rattle.office_core.proofs.room.Room.try_start.Goals as goal
 
