@@ -1,5 +1,5 @@
 -- What was written, line by line.
-use Rattle.std.proofs.Common.{◌≡◌, ℕ, ◌+◌, ◌-◌, ◌<◌, ◌≤◌, List, [], ◌∷◌, ◌++◌, length, take, refl, sym, ap, subst, ◌∙◌, append-nil, append_assoc, arith, Option, Some, None, Bool, true, false, inl, inr}
+use Rattle.std.proofs.Common.{◌≡◌, ℕ, zero, suc, ◌+◌, ◌-◌, ◌<◌, ◌≤◌, List, [], ◌∷◌, ◌++◌, length, take, refl, sym, ap, subst, ◌∙◌, append-nil, append_assoc, arith, Option, Some, None, Bool, true, false, inl, inr}
 use Rattle.std.specs.Prelude.{IsTrue, ◌⊎◌}
 use Rattle.std.specs.Io.KnownBytes.{Appends}
 use Rattle.std.specs.List.{flat_map}
@@ -217,17 +217,45 @@ wrote true NoMemory heard start now held notes receipts h is = memory_fault hear
 wrote true Fine heard start now held notes receipts h is = whole_fault heard start now receipts (wrote_lines start now held notes receipts is (h refl))
 
 -- where all is fine, all is whole
-pub whole_at : (start now : Option (List ℕ)) (held : List ℕ) (health : Health) (notes : List Note) → health ≡ Fine → IsWritten start now held health notes → IsWhole start now held notes
+whole_at : (start now : Option (List ℕ)) (held : List ℕ) (health : Health) (notes : List Note) → health ≡ Fine → IsWritten start now held health notes → IsWhole start now held notes
 whole_at start now held health notes fine is = subst (λ h. IsWritten start now held h notes) fine is
 
+-- a line that is added, where all was fine
+pub one_added : (start now : Option (List ℕ)) (held text : List ℕ) (notes more : List Note) (line : Said) (health : Health) (added : Bool) → health ≡ Fine → added ≡ true
+    → IsWritten start now held health notes → Adds held text notes more line added → IsWritten start now text health more
+one_added start now held text notes more line health added fine is_added is adds =
+    subst (λ h. IsWritten start now text h more) (sym fine) (one_held start now held text notes more line (whole_at start now held health notes fine is) (subst (Adds held text notes more line) is_added adds))
+
+-- a line that is not added
+pub none_added : (start now : Option (List ℕ)) (held text : List ℕ) (notes more : List Note) (line : Said) (health : Health) (added : Bool) → health ≡ Fine → added ≡ false
+    → IsWritten start now held health notes → Adds held text notes more line added → IsWhole start now text more
+none_added start now held text notes more line health added fine not_added is adds =
+    none_held start now held text notes more line (whole_at start now held health notes fine is) (subst (Adds held text notes more line) not_added adds)
+
 -- where nothing is broken, all is whole
-pub unbroken : (start now : Option (List ℕ)) (held : List ℕ) (health : Health) (notes : List Note) → (health ≡ Broken → ⊥) → IsWritten start now held health notes → IsWhole start now held notes
+unbroken : (start now : Option (List ℕ)) (held : List ℕ) (health : Health) (notes : List Note) → (health ≡ Broken → ⊥) → IsWritten start now held health notes → IsWhole start now held notes
 unbroken start now held Fine notes never is = is
 unbroken start now held NoMemory notes never is = is
 unbroken start now held Broken notes never is = absurd (never refl)
 
 -- and where all is whole, nothing is broken
-pub still_unbroken : (start now : Option (List ℕ)) (held : List ℕ) (health : Health) (notes : List Note) → (health ≡ Broken → ⊥) → IsWhole start now held notes → IsWritten start now held health notes
+still_unbroken : (start now : Option (List ℕ)) (held : List ℕ) (health : Health) (notes : List Note) → (health ≡ Broken → ⊥) → IsWhole start now held notes → IsWritten start now held health notes
 still_unbroken start now held Fine notes never is = is
 still_unbroken start now held NoMemory notes never is = is
 still_unbroken start now held Broken notes never is = absurd (never refl)
+
+not_so : {A : Type 0} (told : Bool) → told ≡ false → (A → told ≡ true) → A → ⊥
+not_so told no_it_is so a = let h = so a in cc
+
+-- what is held back is sent, where nothing was broken
+pub was_sent : (start old new : Option (List ℕ)) (held left : List ℕ) (notes : List Note) (health : Health) (broken gone : Bool) → (health ≡ Broken → broken ≡ true) → broken ≡ false → gone ≡ true
+    → IsWritten start old held health notes → Sends old new held left gone → IsWritten start new left health notes
+was_sent start old new held left notes health broken gone tells unbroken_now is_gone is sends =
+    let never = not_so broken unbroken_now tells in
+    still_unbroken start new left health notes never (all_sent start old new held left notes (unbroken start old held health notes never is) (subst (Sends old new held left) is_gone sends))
+
+-- and where that fails, a front of it is
+pub was_cut : (start old new : Option (List ℕ)) (held left : List ℕ) (notes : List Note) (health : Health) (broken gone : Bool) → (health ≡ Broken → broken ≡ true) → broken ≡ false → gone ≡ false
+    → IsWritten start old held health notes → Sends old new held left gone → IsCut start new notes
+was_cut start old new held left notes health broken gone tells unbroken_now not_gone is sends =
+    some_sent start old new held left notes (unbroken start old held health notes (not_so broken unbroken_now tells) is) (subst (Sends old new held left) not_gone sends)

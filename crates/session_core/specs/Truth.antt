@@ -2,7 +2,7 @@
 use Rattle.std.specs.Prelude.{List}
 use Rattle.shelf_core.specs.Device.{Assignment}
 use Rattle.body_core.specs.declared.outcome.Outcome.{Outcome}
-use Rattle.body_core.specs.Outcomes.{outcome_call, outcome_reply, outcome_news}
+use Rattle.body_core.specs.Outcomes.{outcome_call, outcome_reply, outcome_pins}
 use Rattle.body_core.specs.Truths.{IsTrueOf}
 use Rattle.board_core.specs.declared.receipt.Receipt.{Receipt}
 use Rattle.board_core.specs.Lists.{Every}
@@ -14,7 +14,7 @@ Keeps {H} agrees old new = (a : Assignment) → agrees new a → agrees old a
 
 -- an outcome is true of an assignment
 abbrev pub OutcomeIsTrue : Assignment → Outcome → Type 0
-OutcomeIsTrue a o = IsTrueOf a (outcome_call o) (outcome_reply o) (outcome_news o)
+OutcomeIsTrue a o = IsTrueOf a (outcome_call o) (outcome_reply o) (outcome_pins o)
 
 -- the entry of each receipt is true of each assignment that agrees with the hand
 abbrev pub AreTrue : {H : Type 0} → (H → Assignment → Type 0) → H → List Receipt → Type 0

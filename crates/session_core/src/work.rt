@@ -1,6 +1,7 @@
 //! The worker of a session.
 
-ghost use Rattle.std.specs.Prelude.{◌≡◌, ◌++◌, ◌∷◌, [], IfSome};
+ghost use Rattle.std.specs.Prelude.{◌≡◌, ◌<◌, ◌++◌, ◌∷◌, [], IfSome, IsTrue};
+ghost use Rattle.std.specs.Vec.{vec_len, vec_capacity};
 ghost use Rattle.shelf_core.specs.Device.{Assignment};
 ghost use Rattle.office_core.specs.Receipts.{IsTrueReceipt};
 ghost use Rattle.session_core.specs.Truth.{Keeps, AreTrue, OutcomeIsTrue};
@@ -190,7 +191,8 @@ fn make_room<R: Wait, W: Write + Drop, J: Start>(
     output: &Mutex<Output<W, J>>,
     receipts: &mut Vec<Receipt>,
 ) -> bool
-    ensures { receipts.new.items ≡ receipts.old.items }
+    ensures same { receipts.new.items ≡ receipts.old.items }
+    ensures room { IsTrue result → vec_len receipts.new < vec_capacity receipts.new }
 {
     if receipts.reserve(1).is_err() {
         return false;
@@ -225,6 +227,7 @@ fn serve_at<R: Wait, W: Write + Drop, H: Hand + Drop, J: Start>(
 
 // Keeps a receipt.
 fn keep(receipts: &mut Vec<Receipt>, receipt: Receipt)
+    requires { vec_len receipts.now < vec_capacity receipts.now }
     ensures { receipts.new.items ≡ receipts.old.items ++ receipt ∷ [] }
 {
     receipts.push_reserved(receipt);
