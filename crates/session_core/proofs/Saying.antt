@@ -244,8 +244,8 @@ still_unbroken start now held Fine notes never is = is
 still_unbroken start now held NoMemory notes never is = is
 still_unbroken start now held Broken notes never is = absurd (never refl)
 
-not_so : {A : Type 0} (told : Bool) → told ≡ false → (A → told ≡ true) → A → ⊥
-not_so told no_it_is so a = let h = so a in cc
+not_so : {A : Type 0} (b : Bool) → b ≡ false → (A → b ≡ true) → A → ⊥
+not_so b no_it_is so a = let h = so a in cc
 
 -- what is held back is sent, where nothing was broken
 pub was_sent : (start old new : Option (List ℕ)) (held left : List ℕ) (notes : List Note) (health : Health) (broken gone : Bool) → (health ≡ Broken → broken ≡ true) → broken ≡ false → gone ≡ true
