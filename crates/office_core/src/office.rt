@@ -45,6 +45,18 @@ fn bed_for(desk: &Desk, number: u32) -> usize
     }
 }
 
+// The beds of the sessions whose calls started since the trace was so long, a bit each.
+fn started(desk: &Desk, before: usize) -> u64 {
+    let trace = desk.trace();
+    let mut beds = 0u64;
+    for place in before..trace.len() {
+        if let Some(TraceEvent::Start(number)) = trace.get(place) {
+            beds |= 1u64 << bed_for(desk, number);
+        }
+    }
+    beds
+}
+
 // Adds so many beds, for which there is room.
 fn add_beds(beds: &mut Vec<Condvar>, count: usize)
     requires { length beds.old.items + count ≤ vec_capacity beds.old }
@@ -68,12 +80,14 @@ impl Office {
         })
     }
 
-    // Wakes the waiters whose calls started since the trace was so long.
-    fn wake(&self, room: &Room, before: usize) {
-        let trace = room.desk().trace();
-        for place in before..trace.len() {
-            if let Some(TraceEvent::Start(number)) = trace.get(place) {
-                self.beds[bed_for(room.desk(), number)].notify_all();
+    // Wakes who sleeps in these beds.
+    fn wake(&self, beds: u64) {
+        if beds == 0 {
+            return;
+        }
+        for bed in 0..BEDS {
+            if (beds >> bed) & 1 == 1 {
+                self.beds[bed].notify_all();
             }
         }
     }
@@ -140,7 +154,9 @@ impl Office {
         let mut room = self.room.lock(rt);
         let before = room.desk().trace().len();
         let answer = room.complete(seat, outcome);
-        self.wake(&room, before);
+        let beds = started(room.desk(), before);
+        drop(room);
+        self.wake(beds);
         answer
     }
 
@@ -149,10 +165,11 @@ impl Office {
         let mut room = self.room.lock(rt);
         let before = room.desk().trace().len();
         let answer = room.cancel(number);
+        let beds = started(room.desk(), before) | 1u64 << bed_for(room.desk(), number);
+        drop(room);
         if answer == Cancelled::Cancelled {
-            self.beds[bed_for(room.desk(), number)].notify_all();
+            self.wake(beds);
         }
-        self.wake(&room, before);
         answer
     }
 
@@ -161,8 +178,9 @@ impl Office {
         let mut room = self.room.lock(rt);
         let before = room.desk().trace().len();
         room.leave(session);
-        self.beds[bed_of(session)].notify_all();
-        self.wake(&room, before);
+        let beds = started(room.desk(), before) | 1u64 << bed_of(session);
+        drop(room);
+        self.wake(beds);
     }
 
     /// Takes the room out of the lock and closes it, as [`Room::close`].

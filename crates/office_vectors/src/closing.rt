@@ -1,0 +1,175 @@
+//! When a room and an office are closed.
+
+use crate::make::{finish, room, stuck, turn};
+use board_core::receipt::Receipt;
+use board_core::same::same_stamps;
+use body_core::perform::perform;
+use body_core::run::Run;
+use office_core::office::Office;
+use office_core::room::{CloseFault, CloseRefused, Closed, Room};
+use office_core::seat::{Seat, Started};
+use shelf_core::memory::MemHand;
+use shelf_core::pins::Pins;
+use std::alloc::Global;
+use std::process::Abort;
+use std::sync::Wait;
+use value_core::datum::Datum;
+
+// The room that a refused close hands back, with so many entries, and its seats.
+fn refused(
+    rt: &impl Abort,
+    answer: Result<Closed, CloseRefused>,
+    why: CloseFault,
+    entries: usize,
+) -> (Room, Vec<Seat>) {
+    match answer {
+        Ok(_) => panic!(rt; "closed"),
+        Err(refused) => {
+            assert!(rt; refused.why == why && refused.room.desk().history().len() == entries);
+            let CloseRefused {
+                room,
+                seats,
+                why: _,
+            } = refused;
+            (room, seats)
+        }
+    }
+}
+
+// Whether this is the closed desk of a cell that had these pins, with one entry that read by them.
+fn is_closed(answer: Result<Closed, CloseRefused>, pins: Pins) -> bool {
+    let Ok(closed) = answer else {
+        return false;
+    };
+    let desk = closed.desk;
+    let [entry] = desk.history() else {
+        return false;
+    };
+    let [pin] = entry.pins() else {
+        return false;
+    };
+    let is_cell = desk.accepted().object().name.is_spelled_by(b"cell");
+    is_cell && same_stamps(desk.opening_pins().as_slice(), pins.as_slice()) && pins.as_slice().first() == Some(&pin.stamp)
+}
+
+// A receipt of a `put 8` at place 1 of another room.
+fn foreign<R: Abort + Wait>(rt: &R, alloc: Global) -> Receipt {
+    let mut hand = MemHand::new(alloc);
+    let mut other = room(rt, alloc, &mut hand);
+    let mut seat = other.seat().expect(rt, "a seat");
+    turn(rt, alloc, &mut other, &mut seat, &mut hand, 8).expect(rt, "a receipt")
+}
+
+fn one(rt: &impl Abort, alloc: Global, receipt: Receipt) -> Vec<Receipt> {
+    let mut all = Vec::new(alloc);
+    all.push(receipt).expect(rt, "memory");
+    all
+}
+
+#[test]
+fn a_room_closes_with_its_seat_and_its_receipt(rt: HostRuntime) {
+    let alloc = rt.alloc();
+    let mut hand = MemHand::new(alloc);
+    let mut room = room(&rt, alloc, &mut hand);
+    let pins = room.desk().pins();
+    let mut seat = room.seat().expect(&rt, "a seat");
+    let own = turn(&rt, alloc, &mut room, &mut seat, &mut hand, 7).expect(&rt, "a receipt");
+    let foreign = one(&rt, alloc, foreign(&rt, alloc));
+    let own = one(&rt, alloc, own);
+    let why = CloseFault::SeatMissing;
+    let (room, mut seats) = refused(&rt, room.close(Vec::new(alloc), &[]), why, 1);
+    seats.push(seat).expect(&rt, "memory");
+    let why = CloseFault::Mismatch {
+        receipt: 0,
+        place: 1,
+    };
+    let (room, seats) = refused(&rt, room.close(seats, &foreign), why, 1);
+    assert!(rt; is_closed(room.close(seats, &own), pins));
+}
+
+// Makes a call of `put` in an office from beginning to end.
+fn put<R: Wait>(
+    rt: &R,
+    alloc: Global,
+    office: &Office,
+    seat: &mut Seat,
+    hand: &mut MemHand,
+    value: u32,
+) -> Option<Receipt> {
+    let submitted = office
+        .submit(rt, seat, "put", &[Datum::Integer(value)])
+        .ok()?;
+    finish(rt, alloc, office, seat, hand, submitted)
+}
+
+// Whether a submission of one office is a stranger in another one, and starts in its own.
+fn is_stranger<R: Wait>(
+    rt: &R,
+    alloc: Global,
+    office: &Office,
+    other: &Office,
+    seat: &mut Seat,
+    hand: &mut MemHand,
+) -> bool {
+    let Ok(submitted) = office.submit(rt, seat, "get", &[]) else {
+        return false;
+    };
+    match other.await_start(rt, submitted) {
+        Started::Ticket(ticket) => {
+            perform(Run::new(alloc, ticket), hand);
+            false
+        }
+        Started::Cancelled => false,
+        Started::Stranger(back) => {
+            match office.await_start(rt, back) {
+                Started::Ticket(ticket) => {
+                    perform(Run::new(alloc, ticket), hand);
+                    true
+                }
+                Started::Cancelled => false,
+                Started::Stranger(back) => stuck(rt, back),
+            }
+        }
+    }
+}
+
+#[test]
+fn an_office_closes_with_its_seat_and_its_receipt(rt: HostRuntime) {
+    let alloc = rt.alloc();
+    let mut hand = MemHand::new(alloc);
+    let room = room(&rt, alloc, &mut hand);
+    let pins = room.desk().pins();
+    let office = Office::open(alloc, room).expect(&rt, "memory");
+    let mut seat = office.seat(&rt).expect(&rt, "a seat");
+    let own = put(&rt, alloc, &office, &mut seat, &mut hand, 7).expect(&rt, "a receipt");
+    let foreign = one(&rt, alloc, foreign(&rt, alloc));
+    let own = one(&rt, alloc, own);
+    let why = CloseFault::SeatMissing;
+    let (room, mut seats) = refused(&rt, office.close(Vec::new(alloc), &[]), why, 1);
+    seats.push(seat).expect(&rt, "memory");
+    let why = CloseFault::Mismatch {
+        receipt: 0,
+        place: 1,
+    };
+    let office = Office::open(alloc, room).expect(&rt, "memory");
+    let (room, seats) = refused(&rt, office.close(seats, &foreign), why, 1);
+    let office = Office::open(alloc, room).expect(&rt, "memory");
+    assert!(rt; is_closed(office.close(seats, &own), pins));
+}
+
+#[test]
+fn a_call_that_runs_keeps_an_office_open(rt: HostRuntime) {
+    let alloc = rt.alloc();
+    let mut hand = MemHand::new(alloc);
+    let first = Office::open(alloc, room(&rt, alloc, &mut hand)).expect(&rt, "memory");
+    let other = Office::open(alloc, room(&rt, alloc, &mut hand)).expect(&rt, "memory");
+    let mut seat = first.seat(&rt).expect(&rt, "a seat");
+    assert!(rt; is_stranger(&rt, alloc, &first, &other, &mut seat, &mut hand));
+    let (room, seats) = refused(
+        &rt,
+        first.close(Vec::new(alloc), &[]),
+        CloseFault::Outstanding,
+        0,
+    );
+    assert!(rt; room.desk().runs(1) && seats.is_empty());
+}

@@ -1,0 +1,123 @@
+//! Objects, files, rooms and whole calls, as the tests make them.
+
+use board_core::receipt::Receipt;
+use body_core::perform::perform;
+use body_core::run::Run;
+use decl_read::read::read_objects;
+use exclude_core::analyse::{Accepted, analyse};
+use office_core::office::Office;
+use office_core::room::Room;
+use office_core::seat::{Seat, Started, Submitted, Tried};
+use shelf_core::hand::Hand;
+use shelf_core::pins::Pins;
+use shelf_core::whole::put;
+use std::alloc::Global;
+use std::process::Abort;
+use std::sync::Wait;
+use value_core::datum::Datum;
+
+/// The array `[0]`.
+pub const ZERO: &[u8] = b"\x01\x01\x00\x01\x00\x00\x00\x00";
+
+/// An object with one part.
+pub const CELL: &[u8] = b"object cell;
+  path 1:([get], put) end;
+  var v : array [1] of integer;
+  entry function get : integer; begin get := v[0] end;
+  entry procedure put(x : integer); begin v[0] := x end;
+end;
+";
+
+/// The cell, accepted, where there is memory for it.
+pub fn cell(alloc: Global) -> Option<Accepted> {
+    let objects = read_objects(alloc, CELL).ok()?;
+    for (_, object) in objects {
+        return analyse(alloc, object).ok();
+    }
+    None
+}
+
+/// The pins of a cell that is `[0]`, where there is memory for its file.
+pub fn pins<H: Hand>(hand: &mut H) -> Option<Pins> {
+    let stamp = put(hand, ZERO).ok()?;
+    Some(Pins::new(&[stamp]))
+}
+
+/// A room with a cell under these pins, where there is memory for it.
+pub fn room_of(alloc: Global, pins: Pins) -> Option<Room> {
+    let cell = cell(alloc)?;
+    if pins.len() != cell.object().parts.len() {
+        return None;
+    }
+    Room::open(alloc, cell, pins).ok()
+}
+
+/// A room with a cell, over files of this hand.
+pub fn room<H: Hand>(rt: &impl Abort, alloc: Global, hand: &mut H) -> Room {
+    let pins = pins(hand).expect(rt, "a file");
+    room_of(alloc, pins).expect(rt, "a room")
+}
+
+/// Makes a call of `put` on a room from beginning to end.
+pub fn turn<R: Wait, H: Hand>(
+    rt: &R,
+    alloc: Global,
+    room: &mut Room,
+    seat: &mut Seat,
+    hand: &mut H,
+    value: u32,
+) -> Option<Receipt> {
+    let submitted = room
+        .submit(seat, "put", &[Datum::Integer(value)])
+        .ok()?;
+    match room.try_start(submitted) {
+        Tried::Ticket(ticket) => {
+            let outcome = perform(Run::new(alloc, ticket), hand);
+            room.complete(seat, outcome).ok()
+        }
+        Tried::Cancelled => None,
+        Tried::Waiting(back) => {
+            stuck(rt, back);
+            None
+        }
+        Tried::Stranger(back) => {
+            stuck(rt, back);
+            None
+        }
+    }
+}
+
+/// A submission that nobody answers as a test wants it has to be spent, and cannot be: the test never ends.
+pub fn stuck<R: Wait>(rt: &R, submitted: Submitted) -> bool {
+    let mut submitted = submitted;
+    for _ in rt.forever() {
+        submitted = same(submitted);
+    }
+    unreachable!()
+}
+
+fn same(submitted: Submitted) -> Submitted {
+    submitted
+}
+
+/// Waits for a call, performs and completes it.
+pub fn finish<R: Wait, H: Hand>(
+    rt: &R,
+    alloc: Global,
+    office: &Office,
+    seat: &mut Seat,
+    hand: &mut H,
+    submitted: Submitted,
+) -> Option<Receipt> {
+    match office.await_start(rt, submitted) {
+        Started::Ticket(ticket) => {
+            let outcome = perform(Run::new(alloc, ticket), hand);
+            office.complete(rt, seat, outcome).ok()
+        }
+        Started::Cancelled => None,
+        Started::Stranger(back) => {
+            stuck(rt, back);
+            None
+        }
+    }
+}
