@@ -27,6 +27,7 @@ end;
 /// An object whose `remove` waits for a `deposit`.
 pub const BUFFER: &[u8] = b"object buffer;
   path 5:(deposit; remove) end;
+  path 1:(deposit, remove) end;
   var box : queue of integer;
   entry procedure deposit(x : integer); begin append(box, x) end;
   entry function remove : integer; begin remove := first(box); take(box) end;

@@ -138,5 +138,6 @@ fn quit_waits_for_the_call_before_it(rt: HostRuntime) {
         || written(shared, alloc, &all, hand, QUITS, &count),
         || cancels(shared, &all, &count),
     );
-    assert!(rt; bytes.as_slice() == b"opened buffer\naccepted 1\ncancelled 1\nbye\n");
+    let told: &[u8] = b"opened buffer\naccepted 1\ncancelled 1\nbye\n";
+    assert!(rt; bytes.as_slice() == told);
 }
