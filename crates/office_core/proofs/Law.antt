@@ -5,8 +5,11 @@ use Rattle.std.proofs.lemmas.Option.{same_Some}
 use Rattle.shelf_core.specs.declared.hand.Stamp.{Stamp}
 use Rattle.shelf_core.specs.Device.{Assignment}
 use Rattle.body_core.specs.declared.outcome.Outcome.{Outcome}
+use Rattle.body_core.specs.declared.new_pins.NewPin.{NewPin}
+use Rattle.body_core.specs.declared.reply.Reply.{Reply}
+use Rattle.body_core.specs.declared.reply.Reply.TheVariants as replies
 use Rattle.body_core.specs.Truths.{IsTrueOf}
-use Rattle.body_core.specs.Outcomes.{outcome_call, outcome_reply, outcome_news}
+use Rattle.body_core.specs.Outcomes.{outcome_call, outcome_reply, outcome_news, outcome_pins, new_if_done}
 use Rattle.board_core.specs.declared.receipt.Receipt.{Receipt}
 use Rattle.board_core.specs.Lists.{Every}
 use Rattle.board_core.specs.Calls.{Noted, RunningCall}
@@ -24,8 +27,14 @@ use Rattle.office_core.specs.Receipts.{IsTrueReceipt, ReceiptsAreLegal}
 abbrev as_ran : Noted → List Stamp → RunningCall
 as_ran e pins = record { number = e.number; call = record { session = e.session; op = 0; operation = e.operation; arguments = e.arguments }; pins = pins; taken = false }
 
+-- what is kept of the new pins is kept again
+again : (reply : Reply) (news : List NewPin) → new_if_done reply (new_if_done reply news) ≡ new_if_done reply news
+again (replies.Done value) news = refl
+again (replies.Refused word) news = refl
+again (replies.Failed failure) news = refl
+
 -- the entry that is made of this call and outcome is the entry
-entry_is : (e : Noted) (o : Outcome) (from : ℕ) → IsEntryOf from o e → entry_of (as_ran e (outcome_call o).pins) (outcome_reply o) (outcome_news o) ≡ e
+entry_is : (e : Noted) (o : Outcome) (from : ℕ) → IsEntryOf from o e → entry_of (as_ran e (outcome_call o).pins) (outcome_reply o) (outcome_pins o) ≡ e
 entry_is e o from is =
     λ i. record {
       number = e.number;
@@ -34,14 +43,14 @@ entry_is e o from is =
       arguments = e.arguments;
       reply = sym is.reply i;
       pins = sym is.pins i;
-      news = sym is.news i;
+      news = (again (outcome_reply o) (outcome_news o) ∙ sym is.news) i;
     }
 
 -- where the outcome of a receipt is true, so is the entry that it tells of
-entry_true : (a : Assignment) (e : Noted) (o : Outcome) (from : ℕ) → IsEntryOf from o e → IsTrueOf a (outcome_call o) (outcome_reply o) (outcome_news o) → IsTrueEntry a e
+entry_true : (a : Assignment) (e : Noted) (o : Outcome) (from : ℕ) → IsEntryOf from o e → IsTrueOf a (outcome_call o) (outcome_reply o) (outcome_pins o) → IsTrueEntry a e
 entry_true a e o from is holds =
     subst (IsTrueEntry a) (entry_is e o from is)
-    (truth_is_noted a (outcome_call o) (as_ran e (outcome_call o).pins) (outcome_reply o) (outcome_news o) (record { number = is.number; operation = is.operation; arguments = is.arguments; pins = refl }) holds)
+    (truth_is_noted a (outcome_call o) (as_ran e (outcome_call o).pins) (outcome_reply o) (outcome_pins o) (record { number = is.number; operation = is.operation; arguments = is.arguments; pins = refl }) holds)
 
 -- each item has it, where the item at each place has it
 every_place : {X : Type 0} (P : X → Type 0) (xs : List X) → ((k : ℕ) (x : X) → slice_get xs k ≡ Some x → P x) → Every P xs

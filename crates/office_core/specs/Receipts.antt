@@ -4,7 +4,7 @@ use Rattle.value_core.specs.Contents.{Contents}
 use Rattle.shelf_core.specs.Device.{Assignment}
 use Rattle.body_core.specs.Truths.{IsTrueOf}
 use Rattle.body_core.specs.History.{IsLegal, leads_to}
-use Rattle.body_core.specs.Outcomes.{outcome_call, outcome_reply, outcome_news}
+use Rattle.body_core.specs.Outcomes.{outcome_call, outcome_reply, outcome_pins}
 use Rattle.board_core.specs.declared.receipt.Receipt.{Receipt}
 use Rattle.board_core.specs.Lists.{Every, Among}
 use Rattle.board_core.specs.Calls.{Noted}
@@ -15,7 +15,7 @@ use Rattle.office_core.specs.Closing.{Stands}
 
 -- the outcome that a receipt holds is true of an assignment
 abbrev pub IsTrueReceipt : Assignment → Receipt → Type 0
-IsTrueReceipt a r = IsTrueOf a (outcome_call r.noted.outcome) (outcome_reply r.noted.outcome) (outcome_news r.noted.outcome)
+IsTrueReceipt a r = IsTrueOf a (outcome_call r.noted.outcome) (outcome_reply r.noted.outcome) (outcome_pins r.noted.outcome)
 
 -- each entry has a receipt
 abbrev pub HaveReceipts : List Noted → List Receipt → Type 0

@@ -2,7 +2,7 @@
 
 ghost use Rattle.std.specs.Prelude.{◌≡◌, ◌<◌, ◌≤◌, ◌+◌, IfOk, length, vec_capacity};
 ghost use Rattle.office_core.specs.Rooms.{RoomState};
-ghost use Rattle.office_core.specs.Submissions.{Asks, IsStartOf};
+ghost use Rattle.office_core.specs.Submissions.{Asks, IsStartOf, Tells};
 ghost use Rattle.office_core.specs.Seats.{Receives};
 ghost use Rattle.office_core.specs.Closing.{Closes};
 
@@ -112,6 +112,13 @@ impl Office {
     {
         // The only call that a submission may start is its own, for which nobody waits yet.
         self.room.lock(rt).submit(seat, op, args)
+    }
+
+    /// Looks whether a submitted call has started or was cancelled, as [`Room::try_start`]. It does not wait for that.
+    pub fn try_start<R: Wait>(&self, rt: &R, submitted: Submitted) -> Tried
+        ensures { Tells submitted result }
+    {
+        self.room.lock(rt).try_start(submitted)
     }
 
     /// Waits until a submitted call has started or was cancelled, as [`Room::try_start`] finds it.

@@ -1,0 +1,261 @@
+-- What was written, line by line.
+use Rattle.std.proofs.Common.{◌≡◌, ℕ, zero, suc, ◌+◌, ◌-◌, ◌<◌, ◌≤◌, List, [], ◌∷◌, ◌++◌, length, take, refl, sym, ap, subst, ◌∙◌, append-nil, append_assoc, arith, Option, Some, None, Bool, true, false, inl, inr}
+use Rattle.std.specs.Prelude.{IsTrue, ◌⊎◌}
+use Rattle.std.specs.Io.KnownBytes.{Appends}
+use Rattle.std.specs.List.{flat_map}
+use Rattle.std.proofs.lemmas.Bool.{cases_lt}
+use Rattle.std.proofs.lemmas.List.{take-append-le}
+use Rattle.std.proofs.Math.Seq.{take-append-add}
+use Rattle.std.proofs.lemmas.List.Concat.{flat_map-append}
+use Rattle.body_core.specs.declared.reply.Failure.TheVariants as failures
+use Rattle.body_core.specs.declared.reply.Reply.{Reply}
+use Rattle.body_core.specs.declared.reply.Reply.TheVariants as replies
+use Rattle.body_core.specs.Outcomes.{outcome_call, outcome_reply}
+use Rattle.board_core.specs.declared.receipt.Receipt.{Receipt}
+use Rattle.board_core.specs.Lists.{Every}
+use Rattle.session_text.specs.declared.line.Line.TheVariants as lines
+use Rattle.session_text.specs.declared.line.Refusal.{Refusal}
+use Rattle.session_text.specs.declared.line.Refusal.TheVariants as refusals
+use Rattle.session_text.specs.Requests.{Request, opens, calls, cancels, quits}
+use Rattle.session_text.specs.Answers.{Said, opened, ended, told, said_text, MayAnswer}
+use Rattle.session_core.specs.declared.note.Note.{Note}
+use Rattle.session_core.specs.declared.output.Health.{Health}
+use Rattle.session_core.specs.declared.output.Health.TheVariants.{Fine, NoMemory, Broken}
+use Rattle.session_core.specs.declared.end.SessionFault.{SessionFault}
+use Rattle.session_core.specs.declared.end.SessionFault.TheVariants as faults
+use Rattle.session_core.specs.declared.end.HearFault.{HearFault}
+use Rattle.session_core.specs.declared.end.HearFault.TheVariants as hears
+use Rattle.session_core.specs.Notes.{kind_of, value_of, note_at, reply_from}
+use Rattle.session_core.specs.Written.{note_of, notes_of, lines_text, IsWhole, IsCut, IsWritten, Adds, Sends, IsNoted, AreNoted, IsTold, IsOfSession, AreOfSession, WroteLines, WroteFront, HasWritten, heard_fault, or_memory, told_fault}
+
+-- nothing was sent
+nothing_sent : (start : Option (List ℕ)) → Appends start start []
+nothing_sent None = tt
+nothing_sent (Some xs) = sym (append-nil xs)
+
+pub fresh : (start now : Option (List ℕ)) (held : List ℕ) (notes : List Note) → now ≡ start → held ≡ [] → notes ≡ [] → IsWhole start now held notes
+fresh start now held notes at none unnoted = ([], [], sym unnoted, subst (λ k. Appends start k []) (sym at) (nothing_sent start), none)
+
+more_bytes : (start old new : Option (List ℕ)) (front back : List ℕ) → Appends start old front → Appends old new back → Appends start new (front ++ back)
+more_bytes None old new front back a b = tt
+more_bytes (Some xs) None new front back a b = absurd a
+more_bytes (Some xs) (Some ys) None front back a b = absurd b
+more_bytes (Some xs) (Some ys) (Some zs) front back a b = b ∙ ap (λ w. w ++ back) a ∙ append_assoc xs front back
+
+at_end : {A : Type 0} (f : Said → List A) (said : List Said) (line : Said) → flat_map f (said ++ line ∷ []) ≡ flat_map f said ++ f line
+at_end f said line = flat_map-append f said (line ∷ []) ∙ ap (λ w. flat_map f said ++ w) (append-nil (f line))
+
+-- one line more is held back
+pub one_held : (start now : Option (List ℕ)) (held text : List ℕ) (notes more : List Note) (line : Said) → IsWhole start now held notes → Adds held text notes more line true → IsWhole start now text more
+one_held start now held text notes more line (sent, kept, noted, bytes, are) (grown, marked) = (
+  sent,
+  kept ++ line ∷ [],
+  ap (λ w. notes_of sent ++ w) (at_end note_of kept line) ∙ sym (append_assoc (notes_of sent) (notes_of kept) (note_of line)) ∙ ap (λ w. w ++ note_of line) noted ∙ sym marked,
+  bytes,
+  grown ∙ ap (λ w. w ++ said_text line) are ∙ sym (at_end said_text kept line),
+)
+
+-- none is
+pub none_held : (start now : Option (List ℕ)) (held text : List ℕ) (notes more : List Note) (line : Said) → IsWhole start now held notes → Adds held text notes more line false → IsWhole start now text more
+none_held start now held text notes more line (sent, kept, noted, bytes, are) (same, unmarked) = (sent, kept, noted ∙ sym unmarked, bytes, same ∙ are)
+
+-- all lines that were held back are sent
+pub all_sent : (start old new : Option (List ℕ)) (held left : List ℕ) (notes : List Note) → IsWhole start old held notes → Sends old new held left true → IsWhole start new left notes
+all_sent start old new held left notes (sent, kept, noted, bytes, are) (gone, none) = (
+  sent ++ kept,
+  [],
+  append-nil (notes_of (sent ++ kept)) ∙ flat_map-append note_of sent kept ∙ noted,
+  subst (Appends start new) (sym (flat_map-append said_text sent kept)) (more_bytes start old new (lines_text sent) (lines_text kept) bytes (subst (Appends old new) are gone)),
+  none,
+)
+
+-- a front of some lines is whole lines, and a front of one more
+pub record IsFront (said : List Said) (count : ℕ) : Type 0 where
+  pub sent : List Said
+  pub last : Said
+  pub lost : List Said
+  pub part : ℕ
+  pub notes : notes_of said ≡ notes_of sent ++ notes_of (last ∷ lost)
+  pub bytes : take count (lines_text said) ≡ lines_text sent ++ take part (said_text last)
+
+one_more_sent : (line : Said) (said : List Said) (count : ℕ) → IsFront said count → IsFront (line ∷ said) (length (said_text line) + count)
+one_more_sent line said count front = record {
+  sent = line ∷ front.sent;
+  last = front.last;
+  lost = front.lost;
+  part = front.part;
+  notes = ap (λ w. note_of line ++ w) front.notes ∙ sym (append_assoc (note_of line) (notes_of front.sent) (notes_of (front.last ∷ front.lost)));
+  bytes = take-append-add (said_text line) (lines_text said) count ∙ ap (λ w. said_text line ++ w) front.bytes ∙ sym (append_assoc (said_text line) (lines_text front.sent) (take front.part (said_text front.last)))
+}
+
+within_first : (line : Said) (said : List Said) (count : ℕ) → count ≤ length (said_text line) → IsFront (line ∷ said) count
+within_first line said count short = record {
+  sent = [];
+  last = line;
+  lost = said;
+  part = count;
+  notes = refl;
+  bytes = take-append-le count (said_text line) (lines_text said) short
+}
+
+take_none : (count : ℕ) → take count (lines_text []) ≡ []
+take_none zero = refl
+take_none (suc count) = refl
+
+no_lines : (count : ℕ) → IsFront [] count
+no_lines count = record {
+  sent = [];
+  last = told lines.Bye;
+  lost = [];
+  part = 0;
+  notes = refl;
+  bytes = take_none count
+}
+
+short_or_long : (count size : ℕ) → (count ≤ size) ⊎ ((rest : ℕ) × (count ≡ size + rest))
+short_or_long count size = elim (cases_lt size count) [
+  | inl long ↦ inr (count - size, omega (arith, long))
+  | inr short ↦ inl (omega (arith, short))
+]
+
+front_of : (said : List Said) (count : ℕ) → IsFront said count
+front_of [] count = no_lines count
+front_of (line ∷ said) count = elim (short_or_long count (length (said_text line))) [
+  | inl short ↦ within_first line said count short
+  | inr long ↦ subst (IsFront (line ∷ said)) (sym long.1) (one_more_sent line said long.0 (front_of said long.0))
+]
+
+-- a front of the lines that were held back is sent
+pub some_sent : (start old new : Option (List ℕ)) (held left : List ℕ) (notes : List Note) → IsWhole start old held notes → Sends old new held left false → IsCut start new notes
+some_sent start old new held left notes (sent, kept, noted, bytes, are) (count, gone) =
+    let front = front_of kept count in (
+  sent ++ front.sent,
+  front.last,
+  front.lost,
+  front.part,
+  ap (λ w. w ++ notes_of (front.last ∷ front.lost)) (flat_map-append note_of sent front.sent) ∙ append_assoc (notes_of sent) (notes_of front.sent) (notes_of (front.last ∷ front.lost))
+  ∙ ap (λ w. notes_of sent ++ w) (sym front.notes) ∙ noted,
+  subst (Appends start new)
+  (ap (λ w. lines_text sent ++ w) (ap (take count) are ∙ front.bytes) ∙ sym (append_assoc (lines_text sent) (lines_text front.sent) (take front.part (said_text front.last)))
+  ∙ ap (λ w. w ++ take front.part (said_text front.last)) (sym (flat_map-append said_text sent front.sent)))
+  (more_bytes start old new (lines_text sent) (take count held) bytes gone),
+)
+
+refused_line : (refusal : Refusal) → (q : Option Request) × MayAnswer q (told (lines.Refused refusal))
+refused_line refusals.BadLine = (None, tt)
+refused_line refusals.LineTooLong = (None, tt)
+refused_line refusals.NotOpen = (Some (cancels 0), tt)
+refused_line refusals.Opened = (Some (opens []), tt)
+refused_line refusals.NoObject = (Some (opens []), tt)
+refused_line refusals.Full = (Some (opens []), tt)
+
+reply_back : (r : Reply) → reply_from (kind_of r) (value_of r) ≡ r
+reply_back (replies.Done None) = refl
+reply_back (replies.Done (Some d)) = refl
+reply_back (replies.Refused word) = refl
+reply_back (replies.Failed failures.Device) = refl
+reply_back (replies.Failed failures.Memory) = refl
+reply_back (replies.Failed failures.Damaged) = refl
+
+same_reply : (r s : Reply) → kind_of r ≡ kind_of s → value_of r ≡ value_of s → r ≡ s
+same_reply r s k v = sym (reply_back r) ∙ ap (λ n. reply_from n (value_of r)) k ∙ ap (reply_from (kind_of s)) v ∙ reply_back s
+
+told_by : (receipts : List Receipt) (n : ℕ) (r : Reply) → IsNoted receipts (note_at n r) → IsTold receipts n r
+told_by [] n r h = h
+told_by (x ∷ receipts) n r (inl h) = inl (h.0, same_reply (outcome_reply x.noted.outcome) r h.1 h.2)
+told_by (x ∷ receipts) n r (inr h) = inr (told_by receipts n r h)
+
+-- a line whose notes are of receipts is of the session
+line_of_session : (receipts : List Receipt) (line : Said) → AreNoted receipts (note_of line) → IsOfSession receipts line
+line_of_session receipts (opened name) h = inl (Some (opens name), refl)
+line_of_session receipts (ended n r) h = inr (n, r, refl, told_by receipts n r h.0)
+line_of_session receipts (told (lines.Refused refusal)) h = inl (refused_line refusal)
+line_of_session receipts (told (lines.Unsubmitted fault)) h = inl (Some (calls [] []), tt)
+line_of_session receipts (told (lines.Accepted n)) h = inl (Some (calls [] []), tt)
+line_of_session receipts (told (lines.Withdrawn n)) h = inl (Some (calls [] []), tt)
+line_of_session receipts (told (lines.Cancel n answer)) h = inl (Some (cancels n), refl)
+line_of_session receipts (told lines.Bye) h = inl (Some quits, tt)
+
+noted_parts : (receipts : List Receipt) (xs ys : List Note) → AreNoted receipts (xs ++ ys) → AreNoted receipts xs × AreNoted receipts ys
+noted_parts receipts [] ys h = (tt, h)
+noted_parts receipts (x ∷ xs) ys h = let r = noted_parts receipts xs ys h.1 in ((h.0, r.0), r.1)
+
+lines_of_session : (receipts : List Receipt) (said : List Said) → AreNoted receipts (notes_of said) → AreOfSession receipts said
+lines_of_session receipts [] h = tt
+lines_of_session receipts (line ∷ said) h =
+    let r = noted_parts receipts (note_of line) (notes_of said) h in
+    (line_of_session receipts line r.0, lines_of_session receipts said r.1)
+
+wrote_lines : (start now : Option (List ℕ)) (held : List ℕ) (notes : List Note) (receipts : List Receipt) → IsWhole start now held notes → AreNoted receipts notes → WroteLines start now receipts
+wrote_lines start now held notes receipts (sent, kept, noted, bytes, are) h =
+    (sent, lines_of_session receipts sent (noted_parts receipts (notes_of sent) (notes_of kept) (subst (AreNoted receipts) (sym noted) h)).0, bytes)
+
+wrote_front : (start now : Option (List ℕ)) (notes : List Note) (receipts : List Receipt) → IsCut start now notes → AreNoted receipts notes → WroteFront start now receipts
+wrote_front start now notes receipts (sent, last, lost, count, noted, bytes) h =
+    let parts = noted_parts receipts (notes_of sent) (notes_of (last ∷ lost)) (subst (AreNoted receipts) (sym noted) h) in
+    (sent, last, count, lines_of_session receipts sent parts.0, line_of_session receipts last (noted_parts receipts (note_of last) (notes_of lost) parts.1).0, bytes)
+
+-- a fault that leaves whole lines
+whole_fault : (heard : Option HearFault) (start now : Option (List ℕ)) (receipts : List Receipt) → WroteLines start now receipts → HasWritten start now receipts (heard_fault heard)
+whole_fault None start now receipts is = is
+whole_fault (Some hears.LineTooLong) start now receipts is = is
+whole_fault (Some hears.ReadFault) start now receipts is = is
+whole_fault (Some hears.Memory) start now receipts is = is
+
+memory_fault : (heard : Option HearFault) (start now : Option (List ℕ)) (receipts : List Receipt) → WroteLines start now receipts → HasWritten start now receipts (or_memory (heard_fault heard))
+memory_fault None start now receipts is = is
+memory_fault (Some hears.LineTooLong) start now receipts is = is
+memory_fault (Some hears.ReadFault) start now receipts is = is
+memory_fault (Some hears.Memory) start now receipts is = is
+
+-- what was written, by the fault that is told
+pub wrote : (accounted : Bool) (health : Health) (heard : Option HearFault) (start now : Option (List ℕ)) (held : List ℕ) (notes : List Note) (receipts : List Receipt)
+    → (IsTrue accounted → AreNoted receipts notes) → IsWritten start now held health notes → HasWritten start now receipts (told_fault accounted health heard)
+wrote false health heard start now held notes receipts h is = tt
+wrote true Broken heard start now held notes receipts h is = wrote_front start now notes receipts is (h refl)
+wrote true NoMemory heard start now held notes receipts h is = memory_fault heard start now receipts (wrote_lines start now held notes receipts is (h refl))
+wrote true Fine heard start now held notes receipts h is = whole_fault heard start now receipts (wrote_lines start now held notes receipts is (h refl))
+
+-- where all is fine, all is whole
+whole_at : (start now : Option (List ℕ)) (held : List ℕ) (health : Health) (notes : List Note) → health ≡ Fine → IsWritten start now held health notes → IsWhole start now held notes
+whole_at start now held health notes fine is = subst (λ h. IsWritten start now held h notes) fine is
+
+-- a line that is added, where all was fine
+pub one_added : (start now : Option (List ℕ)) (held text : List ℕ) (notes more : List Note) (line : Said) (health : Health) (added : Bool) → health ≡ Fine → added ≡ true
+    → IsWritten start now held health notes → Adds held text notes more line added → IsWritten start now text health more
+one_added start now held text notes more line health added fine is_added is adds =
+    subst (λ h. IsWritten start now text h more) (sym fine) (one_held start now held text notes more line (whole_at start now held health notes fine is) (subst (Adds held text notes more line) is_added adds))
+
+-- a line that is not added
+pub none_added : (start now : Option (List ℕ)) (held text : List ℕ) (notes more : List Note) (line : Said) (health : Health) (added : Bool) → health ≡ Fine → added ≡ false
+    → IsWritten start now held health notes → Adds held text notes more line added → IsWhole start now text more
+none_added start now held text notes more line health added fine not_added is adds =
+    none_held start now held text notes more line (whole_at start now held health notes fine is) (subst (Adds held text notes more line) not_added adds)
+
+-- where nothing is broken, all is whole
+unbroken : (start now : Option (List ℕ)) (held : List ℕ) (health : Health) (notes : List Note) → (health ≡ Broken → ⊥) → IsWritten start now held health notes → IsWhole start now held notes
+unbroken start now held Fine notes never is = is
+unbroken start now held NoMemory notes never is = is
+unbroken start now held Broken notes never is = absurd (never refl)
+
+-- and where all is whole, nothing is broken
+still_unbroken : (start now : Option (List ℕ)) (held : List ℕ) (health : Health) (notes : List Note) → (health ≡ Broken → ⊥) → IsWhole start now held notes → IsWritten start now held health notes
+still_unbroken start now held Fine notes never is = is
+still_unbroken start now held NoMemory notes never is = is
+still_unbroken start now held Broken notes never is = absurd (never refl)
+
+not_so : {A : Type 0} (b : Bool) → b ≡ false → (A → b ≡ true) → A → ⊥
+not_so b no_it_is so a = let h = so a in cc
+
+-- what is held back is sent, where nothing was broken
+pub was_sent : (start old new : Option (List ℕ)) (held left : List ℕ) (notes : List Note) (health : Health) (broken gone : Bool) → (health ≡ Broken → broken ≡ true) → broken ≡ false → gone ≡ true
+    → IsWritten start old held health notes → Sends old new held left gone → IsWritten start new left health notes
+was_sent start old new held left notes health broken gone tells unbroken_now is_gone is sends =
+    let never = not_so broken unbroken_now tells in
+    still_unbroken start new left health notes never (all_sent start old new held left notes (unbroken start old held health notes never is) (subst (Sends old new held left) is_gone sends))
+
+-- and where that fails, a front of it is
+pub was_cut : (start old new : Option (List ℕ)) (held left : List ℕ) (notes : List Note) (health : Health) (broken gone : Bool) → (health ≡ Broken → broken ≡ true) → broken ≡ false → gone ≡ false
+    → IsWritten start old held health notes → Sends old new held left gone → IsCut start new notes
+was_cut start old new held left notes health broken gone tells unbroken_now not_gone is sends =
+    some_sent start old new held left notes (unbroken start old held health notes (not_so broken unbroken_now tells) is) (subst (Sends old new held left) not_gone sends)

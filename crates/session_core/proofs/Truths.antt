@@ -1,0 +1,17 @@
+-- Receipts stay true.
+use Rattle.std.proofs.Common.{◌≡◌, List, [], ◌∷◌, ◌++◌, subst, sym}
+use Rattle.std.specs.Prelude.{Option, None, Some}
+use Rattle.shelf_core.specs.Device.{Assignment}
+use Rattle.board_core.specs.declared.receipt.Receipt.{Receipt}
+use Rattle.board_core.specs.Lists.{Every}
+use Rattle.board_core.proofs.Lists.{Every-snoc}
+use Rattle.office_core.specs.Receipts.{IsTrueReceipt}
+use Rattle.session_core.specs.Truth.{Keeps, AreTrue, OutcomeIsTrue}
+
+pub still_true : {H : Type 0} (agrees : H → Assignment → Type 0) (old new : H) (rs more : List Receipt) → more ≡ rs → Keeps agrees old new → AreTrue agrees old rs → AreTrue agrees new more
+still_true agrees old new rs more same keeps are a h = subst (Every (IsTrueReceipt a)) (sym same) (are a (keeps a h))
+
+pub more_true : {H : Type 0} (agrees : H → Assignment → Type 0) (old middle new : H) (rs between more : List Receipt) (r : Receipt) → between ≡ rs → more ≡ between ++ r ∷ [] → Keeps agrees old middle → Keeps agrees middle new
+    → ((a : Assignment) → agrees middle a → IsTrueReceipt a r) → AreTrue agrees old rs → AreTrue agrees new more
+more_true agrees old middle new rs between more r same grown keeps later is are a h =
+    subst (Every (IsTrueReceipt a)) (sym grown) (Every-snoc (IsTrueReceipt a) between r (still_true agrees old middle rs between same keeps are a (later a h)) (is a (later a h)))

@@ -1,0 +1,8 @@
+use Rattle.std.proofs.Common.{subst, sym}
+use Rattle.session_core.specs.Written.{HasWritten}
+use Rattle.session_core.proofs.Saying.{wrote}
+use Rattle.session_core.proofs.end.conclude.Goals as goal
+
+pub returns : goal.returns
+returns c = λ start now held is. subst (HasWritten start now c.args.receipts.now) (sym c.fault_of.ensures)
+    (wrote c.are_noted-accounted.result c.args.health c.args.heard start now held c.args.notes.now c.args.receipts.now c.are_noted-accounted.ensures is)

@@ -1,0 +1,132 @@
+//! How a session ended.
+
+ghost use Rattle.std.specs.Prelude.{◌≡◌, ◌↔◌, IsTrue, List, ℕ, Option};
+ghost use Rattle.session_core.specs.Written.{IsNoteOf, IsNoted, AreNoted, IsWritten, HasWritten, heard_fault as heard_in, or_memory as or_memory_in, told_fault};
+
+use crate::note::{Note, kind, value};
+use crate::output::Health;
+use board_core::receipt::Receipt;
+use office_core::seat::Seat;
+
+/// Why a session ended, where it was not by `quit` or the end of its input.
+#[derive(Clone, Copy, Debug, PartialEq, Eq)]
+pub enum SessionFault {
+    /// A line has more than 4,096 bytes.
+    LineTooLong,
+    /// A read failed.
+    ReadFault,
+    /// A write failed. The lines that were written are whole but for the last one.
+    WriteFault,
+    /// Memory was refused.
+    Memory,
+    /// The last line of a call that was written is of no receipt.
+    LogMixed,
+}
+
+/// What the reading thread met.
+#[derive(Clone, Copy, Debug, PartialEq, Eq)]
+pub enum HearFault {
+    /// A line has more than 4,096 bytes.
+    LineTooLong,
+    /// A read failed.
+    ReadFault,
+    /// Memory was refused.
+    Memory,
+}
+
+/// What a session hands back.
+#[derive(Drop)]
+pub struct SessionEnd<W: Drop, H: Drop> {
+    /// The object that was opened, by its place among the offices.
+    pub object: Option<usize>,
+    /// The seat there.
+    pub seat: Option<Seat>,
+    /// The receipts of its calls, in order.
+    pub receipts: Vec<Receipt>,
+    /// The writer.
+    pub writer: W,
+    /// The hand on which its calls were performed.
+    pub hand: H,
+    /// Why it ended: `LogMixed`, or else `WriteFault`, or else the first of the others that was met, in the order in which
+    /// they are declared.
+    pub fault: Option<SessionFault>,
+}
+
+// Whether a receipt has the number and the reply of a note.
+fn is_note_of(receipt: &Receipt, note: &Note) -> bool
+    ensures { IsTrue result → IsNoteOf receipt.now note.now }
+{
+    let reply = receipt.noted.reply();
+    receipt.noted.number() == note.number
+        && kind(&reply) == note.kind
+        && value(&reply).is_same(&note.value)
+}
+
+// Whether one of the receipts has.
+fn is_noted(receipts: &[Receipt], note: &Note) -> bool
+    ensures { IsTrue result → IsNoted receipts.now note.now }
+{
+    match receipts {
+        [] => false,
+        [receipt, rest @ ..] => is_note_of(receipt, note) || is_noted(rest, note),
+    }
+}
+
+// Whether each note is of a receipt.
+fn are_noted(receipts: &[Receipt], notes: &[Note]) -> bool
+    ensures { IsTrue result → AreNoted receipts.now notes.now }
+{
+    match notes {
+        [] => true,
+        [note, rest @ ..] => is_noted(receipts, note) && are_noted(receipts, rest),
+    }
+}
+
+// The fault that was met in reading.
+fn heard_fault(heard: Option<HearFault>) -> Option<SessionFault>
+    ensures { result ≡ heard_in heard }
+{
+    match heard {
+        Some(HearFault::LineTooLong) => Some(SessionFault::LineTooLong),
+        Some(HearFault::ReadFault) => Some(SessionFault::ReadFault),
+        Some(HearFault::Memory) => Some(SessionFault::Memory),
+        None => None,
+    }
+}
+
+// That fault, or else a want of memory.
+fn or_memory(fault: Option<SessionFault>) -> Option<SessionFault>
+    ensures { result ≡ or_memory_in fault }
+{
+    match fault {
+        Some(fault) => Some(fault),
+        None => Some(SessionFault::Memory),
+    }
+}
+
+// The fault that is told.
+fn fault_of(accounted: bool, health: Health, heard: Option<HearFault>) -> Option<SessionFault>
+    ensures { result ≡ told_fault accounted health heard }
+{
+    if !accounted {
+        return Some(SessionFault::LogMixed);
+    }
+    match health {
+        Health::Broken => Some(SessionFault::WriteFault),
+        Health::NoMemory => or_memory(heard_fault(heard)),
+        Health::Fine => heard_fault(heard),
+    }
+}
+
+/// The fault that is told, by the notes of what was written and the receipts.
+pub(crate) fn conclude(
+    receipts: &[Receipt],
+    notes: &[Note],
+    health: Health,
+    heard: Option<HearFault>,
+) -> Option<SessionFault>
+    ensures { (start now : Option (List ℕ)) (held : List ℕ) → IsWritten start now held health notes.now → HasWritten start now receipts.now result }
+{
+    let accounted = are_noted(receipts, notes);
+    fault_of(accounted, health, heard)
+}

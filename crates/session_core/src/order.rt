@@ -1,0 +1,66 @@
+//! What the reading thread tells the worker.
+
+use office_core::office::Office;
+use office_core::seat::Seat;
+use path_tree::name::Name;
+use session_text::line::Refusal;
+use value_core::datum::Datum;
+
+/// An object, by its name, and its office.
+#[derive(Drop)]
+pub struct Named {
+    /// The name of the object.
+    pub name: Name,
+    /// Its office.
+    pub office: Office,
+}
+
+/// Offices that a session may open, each under a place and a name.
+pub trait Offices {
+    /// The office at a place, from 0.
+    fn office(&self, at: usize) -> Option<&Office>;
+
+    /// The place of the object of this name.
+    fn place_of(&self, name: &Name) -> Option<usize>;
+}
+
+impl Offices for Vec<Named> {
+    fn office(&self, at: usize) -> Option<&Office> {
+        match self.get(at) {
+            Some(named) => Some(&named.office),
+            None => None,
+        }
+    }
+
+    fn place_of(&self, name: &Name) -> Option<usize> {
+        self.iter()
+            .position(|o| o.name.as_bytes() == name.as_bytes())
+    }
+}
+
+/// What the worker does for a line.
+#[derive(Drop)]
+pub(crate) enum Order {
+    /// It submits a call, and sees to it.
+    Call(Name, Vec<Datum>),
+    /// It tells that a line is refused, behind the calls before it.
+    Refuse(Refusal),
+    /// It takes leave, behind the calls before it.
+    Quit,
+}
+
+/// What the reading thread tells the worker, in the order of the lines.
+#[derive(Drop)]
+pub(crate) enum Message {
+    /// The object at this place was opened, with this seat.
+    Seat(usize, Seat),
+    /// What to do, in order.
+    Orders(Vec<Order>),
+}
+
+fn is_shared<T: Sync>(_shared: &T) {}
+
+/// Such offices may be shared by threads.
+pub fn offices_are_shared(offices: &Vec<Named>) {
+    is_shared(offices)
+}

@@ -1,0 +1,107 @@
+//! Lines of a blocking reader.
+
+use bytes::BytesMut;
+use std::alloc::Global;
+use std::io::{self, Read};
+use tokio_util::codec::{Decoder, LinesCodec, LinesCodecError};
+
+/// The most bytes of a line before its LF, a CR counted.
+pub const MOST_LINE_BYTES: usize = 4096;
+
+// The bytes of one read.
+const PIECE: usize = 4096;
+
+/// What comes next.
+#[derive(Debug, Drop)]
+pub enum Next {
+    /// A line, without its end.
+    Line(String),
+    /// A line that is no text.
+    NoText,
+    /// The input ended.
+    End,
+    /// A line has more than 4,096 bytes.
+    LineTooLong,
+    /// A read failed.
+    ReadFault,
+    /// Memory was refused.
+    Memory,
+}
+
+/// A reader that is cut into lines.
+#[derive(Drop)]
+pub struct LineReader<I: Read + Drop> {
+    reader: I,
+    buffer: BytesMut,
+    codec: LinesCodec,
+    ended: bool,
+}
+
+impl<I: Read + Drop> LineReader<I> {
+    /// Nothing is read yet.
+    pub fn new(alloc: Global, reader: I) -> LineReader<I> {
+        LineReader {
+            reader,
+            buffer: BytesMut::new(alloc),
+            codec: LinesCodec::new_with_max_length(MOST_LINE_BYTES),
+            ended: false,
+        }
+    }
+
+    /// What comes next in the bytes that were read, or `None` where more have to be read for it.
+    pub fn ready(&mut self) -> Option<Next> {
+        let answer = if self.ended {
+            self.codec.decode_eof(&mut self.buffer)
+        } else {
+            self.codec.decode(&mut self.buffer)
+        };
+        match answer {
+            Ok(Some(line)) => Some(Next::Line(line)),
+            Ok(None) => { if self.ended { Some(Next::End) } else { None } }
+            Err(LinesCodecError::MaxLineLengthExceeded) => Some(Next::LineTooLong),
+            Err(LinesCodecError::Io(e)) => {
+                if e.kind() == io::ErrorKind::OutOfMemory {
+                    Some(Next::Memory)
+                } else {
+                    Some(Next::NoText)
+                }
+            }
+        }
+    }
+
+    // Reads once. It answers what ends the reading.
+    fn fill(&mut self) -> Option<Next> {
+        let mut piece = [0u8; PIECE];
+        match self.reader.read(&mut piece) {
+            Ok(0) => {
+                self.ended = true;
+                None
+            }
+            Ok(n) => {
+                if self.buffer.extend_from_slice(&piece[..n]).is_err() {
+                    return Some(Next::Memory);
+                }
+                None
+            }
+            Err(e) => {
+                if e.kind() == io::ErrorKind::Interrupted {
+                    return None;
+                }
+                Some(Next::ReadFault)
+            }
+        }
+    }
+
+    /// What comes next. It reads until that is known.
+    pub fn next(&mut self) -> Next {
+        for _ in 0..u64::MAX {
+            if let Some(next) = self.ready() {
+                return next;
+            }
+            if let Some(next) = self.fill() {
+                return next;
+            }
+        }
+        Next::ReadFault
+    }
+}

@@ -1,0 +1,6 @@
+pub mod Requests
+pub mod View
+pub mod Table
+pub mod Lines
+pub mod Answers
+pub mod Laws

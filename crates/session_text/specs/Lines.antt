@@ -1,0 +1,64 @@
+-- The texts of the lines that a session writes.
+use Rattle.std.specs.Prelude.{ℕ, List, [], ◌∷◌, codes, decimal}
+use Rattle.body_core.specs.declared.reply.Reply.{Reply}
+use Rattle.desk_core.specs.declared.answer.SubmitFault.{SubmitFault}
+use Rattle.desk_core.specs.declared.answer.SubmitFault.TheVariants as faults
+use Rattle.desk_core.specs.declared.answer.Cancelled.{Cancelled}
+use Rattle.desk_core.specs.declared.answer.Cancelled.TheVariants as answers
+use Rattle.word_core.specs.Words.{bare, line_of}
+use Rattle.script_text.specs.Answers.{refused_line, finished_line, cancelled_line}
+use Rattle.session_text.specs.declared.line.Refusal.{Refusal}
+use Rattle.session_text.specs.declared.line.Refusal.TheVariants as refusals
+use Rattle.session_text.specs.declared.line.Line.{Line}
+use Rattle.session_text.specs.declared.line.Line.TheVariants as lines
+
+abbrev pub refusal_name : Refusal → List ℕ
+refusal_name refusals.BadLine = codes "BadLine"
+refusal_name refusals.LineTooLong = codes "LineTooLong"
+refusal_name refusals.NotOpen = codes "NotOpen"
+refusal_name refusals.Opened = codes "Opened"
+refusal_name refusals.NoObject = codes "NoObject"
+refusal_name refusals.Full = codes "Full"
+
+abbrev pub fault_name : SubmitFault → List ℕ
+fault_name faults.Gone = codes "Gone"
+fault_name faults.UnknownOp = codes "UnknownOp"
+fault_name faults.BadArgs = codes "BadArgs"
+fault_name faults.SessionBusy = codes "SessionBusy"
+fault_name faults.Full = codes "Full"
+fault_name faults.HistoryFull = codes "HistoryFull"
+fault_name faults.Memory = codes "Memory"
+
+abbrev pub cancel_name : Cancelled → List ℕ
+cancel_name answers.Cancelled = codes "Cancelled"
+cancel_name answers.Running = codes "Running"
+cancel_name answers.Ended = codes "Ended"
+cancel_name answers.Unknown = codes "Unknown"
+
+-- `accepted N`
+abbrev pub accepted_text : ℕ → List ℕ
+accepted_text n = line_of (bare (codes "accepted") ∷ bare (decimal n) ∷ [])
+
+-- `cancelled N`
+abbrev pub withdrawn_text : ℕ → List ℕ
+withdrawn_text n = line_of (bare (codes "cancelled") ∷ bare (decimal n) ∷ [])
+
+-- `bye`
+abbrev pub bye_text : List ℕ
+bye_text = line_of (bare (codes "bye") ∷ [])
+
+abbrev pub line_text : Line → List ℕ
+line_text (lines.Refused refusal) = refused_line (refusal_name refusal)
+line_text (lines.Unsubmitted fault) = refused_line (fault_name fault)
+line_text (lines.Accepted n) = accepted_text n
+line_text (lines.Withdrawn n) = withdrawn_text n
+line_text (lines.Cancel n answer) = cancelled_line n (cancel_name answer)
+line_text lines.Bye = bye_text
+
+-- `opened NAME`
+abbrev pub opened_text : List ℕ → List ℕ
+opened_text name = line_of (bare (codes "opened") ∷ bare name ∷ [])
+
+-- the last line of a call that has a receipt: `done N`, `done N VALUE`, `refused N WORD` or `failed N WORD`
+abbrev pub ended_text : ℕ → Reply → List ℕ
+ended_text n reply = finished_line n reply

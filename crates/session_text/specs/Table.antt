@@ -1,0 +1,24 @@
+-- The table of sessions: what is done for a line.
+use Rattle.std.specs.Prelude.{◌≡◌, ◌⊎◌, ℕ, List, Bool, true, false}
+use Rattle.session_text.specs.declared.line.Refusal.TheVariants as refusals
+use Rattle.session_text.specs.declared.session.Action.{Action}
+use Rattle.session_text.specs.declared.session.Action.TheVariants as actions
+use Rattle.session_text.specs.Requests.{Request, opens, calls, cancels, quits}
+use Rattle.session_text.specs.View.{IsRequest}
+
+-- what is done for a request, by whether an object is opened
+abbrev pub Does : Bool → Request → Action → Type 0
+Does true (opens name) action = action ≡ actions.Answer refusals.Opened
+Does false (opens name) (actions.Open n) = n ≡ name
+Does true (calls op args) (actions.Call o v) = (o ≡ op) × (v.items ≡ args)
+Does false (calls op args) action = action ≡ actions.Answer refusals.NotOpen
+Does true (cancels n) action = action ≡ actions.Cancel n
+Does false (cancels n) action = action ≡ actions.Answer refusals.NotOpen
+Does b quits action = action ≡ actions.Quit
+Does b q action = ⊥
+
+-- a line that asks for something gets that, and any other is a bad line
+abbrev pub Takes : Bool → List ℕ → Action → Type 0
+Takes opened line action =
+    ((q : Request) × IsRequest line q × Does opened q action)
+    ⊎ (((q : Request) → IsRequest line q → ⊥) × (action ≡ actions.Answer refusals.BadLine))

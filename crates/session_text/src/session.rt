@@ -1,0 +1,92 @@
+//! What is done for the lines of a session.
+
+ghost use Rattle.std.specs.Prelude.{◌≡◌, IfOk, false};
+ghost use Rattle.session_text.specs.Table.{Does, Takes};
+ghost use Rattle.session_text.specs.View.{request_view};
+
+use crate::line::Refusal;
+use crate::request::{Request, read_line};
+use path_tree::name::Name;
+use std::alloc::{AllocError, Global};
+use value_core::datum::Datum;
+
+/// What is done for a line.
+#[derive(Drop)]
+pub enum Action {
+    /// An object of this name is to be opened.
+    Open(Name),
+    /// A call of this operation is to be submitted, with these arguments.
+    Call(Name, Vec<Datum>),
+    /// The call of this number is to be cancelled.
+    Cancel(u32),
+    /// The session ends, behind its calls.
+    Quit,
+    /// The line is refused.
+    Answer(Refusal),
+}
+
+/// What a session knows of itself: whether an object is opened.
+#[derive(Debug, Drop)]
+pub struct Session {
+    pub(crate) is_open: bool,
+}
+
+impl Session {
+    /// A session in which nothing is opened.
+    pub fn new() -> Session
+        ensures { result.is_open ≡ false }
+    {
+        Session { is_open: false }
+    }
+
+    /// What is done for a line, by the table of sessions. A line that asks for nothing is answered `BadLine`; `open` where an
+    /// object is opened `Opened`, `call` and `cancel` where none is `NotOpen`.
+    ///
+    /// The error is that memory was refused.
+    pub fn feed(&self, alloc: Global, line: &[u8]) -> Result<Action, AllocError>
+        ensures { IfOk result (Takes self.now.is_open line.now) }
+    {
+        match read_line(alloc, line)? {
+            Some(request) => Ok(done_for(self.is_open, request)),
+            None => Ok(Action::Answer(Refusal::BadLine)),
+        }
+    }
+
+    /// Tells how the opening of an object went.
+    pub fn opened(&mut self, went: bool)
+        ensures { self.new.is_open ≡ went }
+    {
+        self.is_open = went;
+    }
+
+    /// Whether an object is opened.
+    pub fn is_open(&self) -> bool
+        ensures { result ≡ self.now.is_open }
+    {
+        self.is_open
+    }
+}
+
+// What is done for a request.
+fn done_for(is_open: bool, request: Request) -> Action
+    ensures { Does is_open (request_view request) result }
+{
+    match request {
+        Request::Open(name) => if is_open {
+            Action::Answer(Refusal::Opened)
+        } else {
+            Action::Open(name)
+        },
+        Request::Call(name, arguments) => if is_open {
+            Action::Call(name, arguments)
+        } else {
+            Action::Answer(Refusal::NotOpen)
+        },
+        Request::Cancel(number) => if is_open {
+            Action::Cancel(number)
+        } else {
+            Action::Answer(Refusal::NotOpen)
+        },
+        Request::Quit => Action::Quit,
+    }
+}

@@ -1,0 +1,9 @@
+//! Sessions, over the public calls of `session_core`.
+#![tactic(auto)]
+
+#[cfg(test)]
+mod lines;
+#[cfg(test)]
+mod make;
+#[cfg(test)]
+mod waiting;

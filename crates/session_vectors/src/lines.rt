@@ -1,0 +1,117 @@
+//! What a session answers, and how it ends.
+
+use crate::make::{CELL, Pieces, Short, offices};
+use board_core::receipt::Receipt;
+use office_core::seat::Seat;
+use session_core::end::SessionFault;
+use session_core::order::Named;
+use session_core::serve::serve_session;
+use std::alloc::Global;
+use std::process::Abort;
+use std::sync::Wait;
+use std::thread::Threads;
+
+// The array `[0]`.
+const ZERO: &[u8] = b"\x01\x01\x00\x01\x00\x00\x00\x00";
+
+// Lines, and what answers them.
+const ASKED: &[u8] = b"open cell\ncancel 7\ndance\nquit\n";
+const ASKED_TOLD: &[u8] = b"opened cell\ncancel 7 Unknown\nno BadLine\nbye\n";
+const CALLED: &[u8] = b"open cell\ncall put 7\ncall get\nquit\n";
+const CALLED_TOLD: &[u8] = b"opened cell\naccepted 1\ndone 1\naccepted 2\ndone 2 7\nbye\n";
+const WRONG: &[u8] = b"dance\r\ncall get\nopen nothing\n OPEN  cell\nopen CELL \nopen cell\ncall put\ncall pop\ncall GET 'a\x01'\nquit\n";
+const WRONG_TOLD: &[u8] = b"no BadLine\nno NotOpen\nno NoObject\nno BadLine\nopened cell\nno Opened\nno BadArgs\nno UnknownOp\nno BadLine\nbye\n";
+
+// Whether the office of an object is closed with this seat and these receipts.
+fn is_closed(all: Vec<Named>, seats: Vec<Seat>, receipts: &[Receipt]) -> bool {
+    let mut seats = Some(seats);
+    for named in all {
+        let Some(seats) = seats.take() else {
+            return false;
+        };
+        return named.office.close(seats, receipts).is_ok();
+    }
+    false
+}
+
+// Plays a session over these lines, so many bytes a read, with a writer that takes so many bytes. It answers whether what was
+// written is a front of what is expected, as long as the writer takes it, whether the fault is this one, and whether the
+// office is closed with the seat and the receipts.
+fn plays<R: Abort + Threads + Wait + Sync>(
+    rt: &R,
+    alloc: Global,
+    lines: &[u8],
+    step: usize,
+    fails: bool,
+    takes: usize,
+    told: &[u8],
+    fault: Option<SessionFault>,
+) -> bool {
+    let (all, hand) = offices(rt, alloc, CELL, ZERO);
+    let reader = Pieces {
+        bytes: lines.to_vec(alloc).expect(rt, "memory"),
+        at: 0,
+        step,
+        fails,
+    };
+    let writer = Short {
+        bytes: Vec::new(alloc),
+        left: takes,
+    };
+    let end = serve_session(rt, alloc, reader, writer, &all, hand);
+    let mut seats = Vec::new(alloc);
+    if let Some(seat) = end.seat {
+        seats.push(seat).expect(rt, "memory");
+    }
+    let len = told.len().min(takes);
+    end.writer.bytes.as_slice() == &told[..len] && end.fault == fault && is_closed(all, seats, &end.receipts)
+}
+
+// The same for a session without a fault, whole, in pieces and in single bytes.
+fn answers<R: Abort + Threads + Wait + Sync>(rt: &R, alloc: Global, lines: &[u8], told: &[u8]) {
+    for step in [1, 7, 4096] {
+        assert!(rt; plays(rt, alloc, lines, step, false, 4096, told, None));
+    }
+}
+
+#[test]
+fn sessions_answer_by_the_table(rt: HostRuntime) {
+    let alloc = rt.alloc();
+    answers(&rt, alloc, ASKED, ASKED_TOLD);
+    answers(&rt, alloc, CALLED, CALLED_TOLD);
+    answers(&rt, alloc, WRONG, WRONG_TOLD);
+}
+
+#[test]
+fn a_write_fails_at_each_byte(rt: HostRuntime) {
+    let alloc = rt.alloc();
+    for takes in 0..CALLED_TOLD.len() {
+        let fault = Some(SessionFault::WriteFault);
+        assert!(rt; plays(&rt, alloc, CALLED, 4096, false, takes, CALLED_TOLD, fault));
+    }
+}
+
+// So many letters, and a line end.
+fn letters(rt: &impl Abort, alloc: Global, count: usize) -> Vec<u8> {
+    let mut line = Vec::new(alloc);
+    line.resize(count, b'x').expect(rt, "memory");
+    line.extend_from_slice(b"\nquit\n").expect(rt, "memory");
+    line
+}
+
+#[test]
+fn a_line_is_too_long(rt: HostRuntime) {
+    let alloc = rt.alloc();
+    let long = letters(&rt, alloc, 4096);
+    assert!(rt; plays(&rt, alloc, &long, 4096, false, 4096, b"no BadLine\nbye\n", None));
+    let longer = letters(&rt, alloc, 4097);
+    let fault = Some(SessionFault::LineTooLong);
+    assert!(rt; plays(&rt, alloc, &longer, 4096, false, 4096, b"no LineTooLong\n", fault));
+}
+
+#[test]
+fn a_read_fails(rt: HostRuntime) {
+    let alloc = rt.alloc();
+    let fault = Some(SessionFault::ReadFault);
+    assert!(rt; plays(&rt, alloc, b"open cell\ndan", 4096, true, 4096, b"opened cell\n", fault));
+}

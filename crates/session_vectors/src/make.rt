@@ -1,0 +1,115 @@
+//! Objects, offices, readers and writers, as the tests make them.
+
+use decl_read::read::read_objects;
+use exclude_core::analyse::{Accepted, analyse};
+use office_core::office::Office;
+use office_core::room::Room;
+use path_tree::name::Name;
+use session_core::order::Named;
+use shelf_core::hand::Hand;
+use shelf_core::memory::MemHand;
+use shelf_core::pins::Pins;
+use shelf_core::whole::put;
+use std::alloc::Global;
+use std::io;
+use std::io::{Read, Write};
+use std::process::Abort;
+
+/// An object with one part, of one number.
+pub const CELL: &[u8] = b"object cell;
+  path 1:([get], put) end;
+  var v : array [1] of integer;
+  entry function get : integer; begin get := v[0] end;
+  entry procedure put(x : integer); begin v[0] := x end;
+end;
+";
+
+/// An object whose `remove` waits for a `deposit`.
+pub const BUFFER: &[u8] = b"object buffer;
+  path 5:(deposit; remove) end;
+  path 1:(deposit, remove) end;
+  var box : queue of integer;
+  entry procedure deposit(x : integer); begin append(box, x) end;
+  entry function remove : integer; begin remove := first(box); take(box) end;
+end;
+";
+
+// The object of a text, accepted, where there is memory for it.
+fn accepted(alloc: Global, text: &[u8]) -> Option<(Name, Accepted)> {
+    let objects = read_objects(alloc, text).ok()?;
+    for (_, object) in objects {
+        let name = object.name.copy(alloc).ok()?;
+        let accepted = analyse(alloc, object).ok()?;
+        return Some((name, accepted));
+    }
+    None
+}
+
+// A room with the object of a text, whose one part is spelled so.
+fn room_of(alloc: Global, text: &[u8], part: &[u8], hand: &mut MemHand) -> Option<(Name, Room)> {
+    let (name, accepted) = accepted(alloc, text)?;
+    let stamp = put(hand, part).ok()?;
+    let pins = Pins::new(&[stamp]);
+    if pins.len() != accepted.object().parts.len() {
+        return None;
+    }
+    let room = Room::open(alloc, accepted, pins).ok()?;
+    Some((name, room))
+}
+
+/// The office of the object of a text, whose one part is spelled so, and the hand that its file is on.
+pub fn offices(rt: &impl Abort, alloc: Global, text: &[u8], part: &[u8]) -> (Vec<Named>, MemHand) {
+    let mut hand = MemHand::new(alloc);
+    let (name, room) = room_of(alloc, text, part, &mut hand).expect(rt, "a room");
+    let office = Office::open(alloc, room).expect(rt, "memory");
+    let mut all = Vec::new(alloc);
+    all.push(Named { name, office }).expect(rt, "memory");
+    (all, hand)
+}
+
+/// A reader that gives so many bytes a read, and fails at the end or not.
+#[derive(Drop)]
+pub struct Pieces {
+    pub bytes: Vec<u8>,
+    pub at: usize,
+    pub step: usize,
+    pub fails: bool,
+}
+
+impl Read for Pieces {
+    fn read(&mut self, buf: &mut [u8]) -> io::Result<usize> {
+        if self.at >= self.bytes.len() {
+            if self.fails {
+                return Err(io::Error::from(io::ErrorKind::Other));
+            }
+            return Ok(0);
+        }
+        let rest = &self.bytes[self.at..];
+        let len = rest.len().min(buf.len()).min(self.step);
+        buf[..len].copy_from_slice(&rest[..len]);
+        self.at += len;
+        Ok(len)
+    }
+}
+
+/// A writer that takes so many bytes, and then no more.
+#[derive(Drop)]
+pub struct Short {
+    pub bytes: Vec<u8>,
+    pub left: usize,
+}
+
+impl Write for Short {
+    fn write(&mut self, buf: &[u8]) -> io::Result<usize> {
+        let len = buf.len().min(self.left);
+        if len == 0 || self.bytes.extend_from_slice(&buf[..len]).is_err() {
+            return Ok(0);
+        }
+        self.left -= len;
+        Ok(len)
+    }
+
+    fn flush(&mut self) -> io::Result<()> {
+        Ok(())
+    }
+}

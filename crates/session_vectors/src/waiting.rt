@@ -1,0 +1,143 @@
+//! Calls that wait.
+
+use crate::make::{BUFFER, offices};
+use session_core::order::Named;
+use session_core::serve::serve_session;
+use shelf_core::memory::MemHand;
+use std::alloc::Global;
+use std::io;
+use std::io::{Read, Write};
+use std::process::Abort;
+use std::sync::Wait;
+use std::sync::atomic::{AtomicU64, Ordering};
+use std::sync::Arc;
+use std::thread;
+use std::thread::Threads;
+
+// The queue `<>`.
+const EMPTY: &[u8] = b"\x01\x03\x00\x00";
+
+// After so many turns nobody comes any more.
+const MOST_TURNS: u64 = 100_000_000;
+
+// Turns until so many lines were written.
+fn await_lines(written: &AtomicU64, count: u64) {
+    for _ in 0..MOST_TURNS {
+        if written.load(Ordering::SeqCst) >= count {
+            break;
+        }
+    }
+}
+
+// A reader that gives each line only once so many lines were written.
+#[derive(Drop)]
+struct Gate {
+    lines: &'static [(u64, &'static [u8])],
+    written: Arc<AtomicU64>,
+}
+
+impl Read for Gate {
+    fn read(&mut self, buf: &mut [u8]) -> io::Result<usize> {
+        match self.lines {
+            [] => Ok(0),
+            [(count, line), rest @ ..] => {
+                await_lines(&self.written, *count);
+                let len = line.len().min(buf.len());
+                buf[..len].copy_from_slice(&line[..len]);
+                self.lines = rest;
+                Ok(len)
+            }
+        }
+    }
+}
+
+// A writer that counts the lines that were written.
+#[derive(Drop)]
+struct Counted {
+    bytes: Vec<u8>,
+    written: Arc<AtomicU64>,
+}
+
+impl Write for Counted {
+    fn write(&mut self, buf: &[u8]) -> io::Result<usize> {
+        if self.bytes.extend_from_slice(buf).is_err() {
+            return Ok(0);
+        }
+        for byte in buf {
+            if *byte == b'\n' {
+                self.written.fetch_add(1, Ordering::SeqCst);
+            }
+        }
+        Ok(buf.len())
+    }
+
+    fn flush(&mut self) -> io::Result<()> {
+        Ok(())
+    }
+}
+
+// What a session writes on a buffer that is empty, each of its lines coming once so many lines were written.
+fn written<R: Abort + Threads + Wait + Sync>(
+    rt: &R,
+    alloc: Global,
+    all: &Vec<Named>,
+    hand: MemHand,
+    lines: &'static [(u64, &'static [u8])],
+    written: &Arc<AtomicU64>,
+) -> Vec<u8> {
+    let reader = Gate {
+        lines,
+        written: Arc::try_clone(written).expect(rt, "memory"),
+    };
+    let writer = Counted {
+        bytes: Vec::new(alloc),
+        written: Arc::try_clone(written).expect(rt, "memory"),
+    };
+    let end = serve_session(rt, alloc, reader, writer, all, hand);
+    assert!(rt; end.fault.is_none() && end.receipts.is_empty());
+    end.writer.bytes
+}
+
+const CANCELS: &[(u64, &[u8])] = &[
+    (0, b"open buffer\n"),
+    (1, b"call remove\n"),
+    (2, b"cancel 1\n"),
+    (4, b"quit\n"),
+];
+
+#[test]
+fn cancel_meets_waiter(rt: HostRuntime) {
+    let alloc = rt.alloc();
+    let (all, hand) = offices(&rt, alloc, BUFFER, EMPTY);
+    let count = Arc::new(alloc, AtomicU64::new(0)).expect(&rt, "memory");
+    let bytes = written(&rt, alloc, &all, hand, CANCELS, &count);
+    let told = bytes.as_slice();
+    let early: &[u8] = b"opened buffer\naccepted 1\ncancelled 1\ncancel 1 Cancelled\nbye\n";
+    let late: &[u8] = b"opened buffer\naccepted 1\ncancel 1 Cancelled\ncancelled 1\nbye\n";
+    assert!(rt; told == early || told == late);
+}
+
+// Cancels call 1 once it was accepted.
+fn cancels<R: Wait>(rt: &R, all: &Vec<Named>, count: &AtomicU64) {
+    await_lines(count, 2);
+    if let Some(named) = all.first() {
+        named.office.cancel(rt, 1);
+    }
+}
+
+const QUITS: &[(u64, &[u8])] = &[(0, b"open buffer\ncall remove\nquit\n")];
+
+#[test]
+fn quit_waits_for_the_call_before_it(rt: HostRuntime) {
+    let alloc = rt.alloc();
+    let (all, hand) = offices(&rt, alloc, BUFFER, EMPTY);
+    let count = Arc::new(alloc, AtomicU64::new(0)).expect(&rt, "memory");
+    let shared = &rt;
+    let (bytes, _) = thread::join(
+        shared,
+        || written(shared, alloc, &all, hand, QUITS, &count),
+        || cancels(shared, &all, &count),
+    );
+    let told: &[u8] = b"opened buffer\naccepted 1\ncancelled 1\nbye\n";
+    assert!(rt; bytes.as_slice() == told);
+}
