@@ -66,11 +66,9 @@ fn gather(rooms: &mut Vec<Gathered>, left: Left) -> Result<(), AllocError> {
 }
 
 /// Puts what the sessions left to their objects.
-pub fn gather_all(rooms: &mut Vec<Gathered>, all: Vec<Option<Left>>, trouble: &mut Trouble) {
+pub fn gather_all(rooms: &mut Vec<Gathered>, all: Vec<Left>, trouble: &mut Trouble) {
     for left in all {
-        if let Some(left) = left {
-            trouble.heed_memory(gather(rooms, left));
-        }
+        trouble.heed_memory(gather(rooms, left));
     }
 }
 

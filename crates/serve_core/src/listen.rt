@@ -12,7 +12,7 @@ use std::alloc::{AllocError, Global};
 use std::io::{Read, Write};
 use std::net::{OpenListener, OpenStream};
 use std::rt::Files;
-use std::sync::{Arc, Wait};
+use std::sync::{Arc, Mutex, Wait};
 use std::thread;
 use std::thread::Threads;
 
@@ -96,10 +96,49 @@ fn serve_next<
     serve_stream(rt, alloc, stream, offices, folder, numbers)
 }
 
+// What one of the threads of a server comes to.
+#[derive(Drop)]
+enum Came {
+    // Whether each connection came.
+    All(bool),
+    // What a session left, if it had a connection and could begin.
+    One(Option<Left>),
+}
+
+// Takes the connections, or serves one of them.
+fn take_part<
+    R: Files + AllocGlobal + Threads + Wait + Clone + Drop + Sync,
+    L: OpenListener + Sync,
+    O: Offices + Sync,
+>(
+    rt: &R,
+    alloc: Global,
+    listener: &L,
+    sessions: usize,
+    ends: (&Mutex<Option<Sender<L::Stream>>>, &Receiver<L::Stream>),
+    offices: &O,
+    folder: &str,
+    numbers: &Arc<Numbers>,
+    part: usize,
+) -> Came
+where
+    L::Stream: OpenStream + Read + Write + Drop + Send,
+{
+    let (to, from) = ends;
+    if part > 0 {
+        return Came::One(serve_next(rt, alloc, from, offices, folder, numbers));
+    }
+    let to = to.lock(rt).take();
+    match to {
+        Some(to) => Came::All(accept_all(rt, listener, to, sessions)),
+        None => Came::All(false),
+    }
+}
+
 /// Serves so many connections, each on threads of its own, until all have ended. It gives what the sessions left, and whether
 /// each connection came: after a failed accept no more are taken.
 ///
-/// The error is that memory was refused before the first connection was taken.
+/// The error is that memory was refused; of what the sessions left nothing is known then.
 pub fn serve_all<
     R: Files + AllocGlobal + Threads + Wait + Clone + Drop + Sync,
     L: OpenListener + Sync,
@@ -112,19 +151,38 @@ pub fn serve_all<
     offices: &O,
     folder: &str,
     numbers: &Arc<Numbers>,
-) -> Result<(Vec<Option<Left>>, bool), AllocError>
+) -> Result<(Vec<Left>, bool), AllocError>
 where
     L::Stream: OpenStream + Read + Write + Drop + Send,
 {
+    let mut left = Vec::with_capacity(alloc, sessions)?;
     let (to, from) = crossbeam_channel::unbounded(alloc)?;
-    let (left, all_came) = thread::join(
-        rt,
-        || {
-            thread::map_indices(rt, alloc, sessions, &|_| {
-                serve_next(rt, alloc, &from, offices, folder, numbers)
-            })
-        },
-        move || accept_all(rt, listener, to, sessions),
-    );
-    Ok((left?, all_came))
+    let to = Mutex::new(Some(to));
+    let parts = sessions.saturating_add(1);
+    let came = thread::map_indices(rt, alloc, parts, &|part| {
+        take_part(
+            rt,
+            alloc,
+            listener,
+            sessions,
+            (&to, &from),
+            offices,
+            folder,
+            numbers,
+            part,
+        )
+    })?;
+    let mut all_came = true;
+    for one in came {
+        match one {
+            Came::All(all) => all_came = all,
+            Came::One(Some(one)) => {
+                if left.push(one).is_err() {
+                    return Err(AllocError);
+                }
+            }
+            Came::One(None) => {}
+        }
+    }
+    Ok((left, all_came))
 }
