@@ -5,14 +5,12 @@ use session_core::order::Named;
 use session_core::serve::serve_session;
 use shelf_core::memory::MemHand;
 use std::alloc::Global;
-use std::io;
 use std::io::{Read, Write};
 use std::process::Abort;
-use std::sync::Wait;
 use std::sync::atomic::{AtomicU64, Ordering};
-use std::sync::Arc;
-use std::thread;
+use std::sync::{Arc, Wait};
 use std::thread::Threads;
+use std::{io, thread};
 
 // The queue `<>`.
 const EMPTY: &[u8] = b"\x01\x03\x00\x00";
