@@ -93,7 +93,8 @@ fn written<R: Abort + Threads + Wait + Sync>(
     };
     let end = serve_session(rt, alloc, reader, writer, all, hand);
     assert!(rt; end.fault.is_none() && end.receipts.is_empty());
-    end.writer.bytes
+    let Counted { bytes, written: _ } = end.writer;
+    bytes
 }
 
 const CANCELS: &[(u64, &[u8])] = &[
