@@ -1,6 +1,7 @@
 //! Calls that wait.
 
 use crate::make::{BUFFER, offices};
+use session_core::end::SessionEnd;
 use session_core::order::Named;
 use session_core::serve::serve_session;
 use shelf_core::memory::MemHand;
@@ -91,9 +92,16 @@ fn written<R: Abort + Threads + Wait + Sync>(
         bytes: Vec::new(alloc),
         written: Arc::try_clone(written).expect(rt, "memory"),
     };
-    let end = serve_session(rt, alloc, reader, writer, all, hand);
-    assert!(rt; end.fault.is_none() && end.receipts.is_empty());
-    let Counted { bytes, written: _ } = end.writer;
+    let SessionEnd {
+        object: _,
+        seat: _,
+        receipts,
+        writer,
+        hand: _,
+        fault,
+    } = serve_session(rt, alloc, reader, writer, all, hand);
+    let Counted { bytes, written: _ } = writer;
+    assert!(rt; fault.is_none() && receipts.is_empty());
     bytes
 }
 
