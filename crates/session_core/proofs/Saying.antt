@@ -1,5 +1,5 @@
 -- What was written, line by line.
-use Rattle.std.proofs.Common.{◌≡◌, ℕ, zero, suc, ◌+◌, ◌-◌, ◌<◌, ◌≤◌, List, [], ◌∷◌, ◌++◌, length, take, refl, sym, ap, subst, ◌∙◌, append-nil, append_assoc, arith, Option, Some, None, Bool, true, false, inl, inr}
+use Rattle.std.proofs.Common.{◌≡◌, ℕ, zero, suc, ◌+◌, ◌-◌, ◌≤◌, List, [], ◌∷◌, ◌++◌, length, take, refl, sym, ap, subst, ◌∙◌, append-nil, append_assoc, arith, Option, Some, None, Bool, true, false, inl, inr}
 use Rattle.std.specs.Prelude.{IsTrue, ◌⊎◌}
 use Rattle.std.specs.Io.KnownBytes.{Appends}
 use Rattle.std.specs.List.{flat_map}
@@ -10,9 +10,8 @@ use Rattle.std.proofs.lemmas.List.Concat.{flat_map-append}
 use Rattle.body_core.specs.declared.reply.Failure.TheVariants as failures
 use Rattle.body_core.specs.declared.reply.Reply.{Reply}
 use Rattle.body_core.specs.declared.reply.Reply.TheVariants as replies
-use Rattle.body_core.specs.Outcomes.{outcome_call, outcome_reply}
+use Rattle.body_core.specs.Outcomes.{outcome_reply}
 use Rattle.board_core.specs.declared.receipt.Receipt.{Receipt}
-use Rattle.board_core.specs.Lists.{Every}
 use Rattle.session_text.specs.declared.line.Line.TheVariants as lines
 use Rattle.session_text.specs.declared.line.Refusal.{Refusal}
 use Rattle.session_text.specs.declared.line.Refusal.TheVariants as refusals
@@ -21,8 +20,6 @@ use Rattle.session_text.specs.Answers.{Said, opened, ended, told, said_text, May
 use Rattle.session_core.specs.declared.note.Note.{Note}
 use Rattle.session_core.specs.declared.output.Health.{Health}
 use Rattle.session_core.specs.declared.output.Health.TheVariants.{Fine, NoMemory, Broken}
-use Rattle.session_core.specs.declared.end.SessionFault.{SessionFault}
-use Rattle.session_core.specs.declared.end.SessionFault.TheVariants as faults
 use Rattle.session_core.specs.declared.end.HearFault.{HearFault}
 use Rattle.session_core.specs.declared.end.HearFault.TheVariants as hears
 use Rattle.session_core.specs.Notes.{kind_of, value_of, note_at, reply_from}
@@ -85,7 +82,7 @@ one_more_sent line said count front = record {
   lost = front.lost;
   part = front.part;
   notes = ap (λ w. note_of line ++ w) front.notes ∙ sym (append_assoc (note_of line) (notes_of front.sent) (notes_of (front.last ∷ front.lost)));
-  bytes = take-append-add (said_text line) (lines_text said) count ∙ ap (λ w. said_text line ++ w) front.bytes ∙ sym (append_assoc (said_text line) (lines_text front.sent) (take front.part (said_text front.last)))
+  bytes = take-append-add (said_text line) (lines_text said) count ∙ ap (λ w. said_text line ++ w) front.bytes ∙ sym (append_assoc (said_text line) (lines_text front.sent) (take front.part (said_text front.last)));
 }
 
 within_first : (line : Said) (said : List Said) (count : ℕ) → count ≤ length (said_text line) → IsFront (line ∷ said) count
@@ -95,7 +92,7 @@ within_first line said count short = record {
   lost = said;
   part = count;
   notes = refl;
-  bytes = take-append-le count (said_text line) (lines_text said) short
+  bytes = take-append-le count (said_text line) (lines_text said) short;
 }
 
 take_none : (count : ℕ) → take count (lines_text []) ≡ []
@@ -109,7 +106,7 @@ no_lines count = record {
   lost = [];
   part = 0;
   notes = refl;
-  bytes = take_none count
+  bytes = take_none count;
 }
 
 short_or_long : (count size : ℕ) → (count ≤ size) ⊎ ((rest : ℕ) × (count ≡ size + rest))
@@ -129,17 +126,17 @@ front_of (line ∷ said) count = elim (short_or_long count (length (said_text li
 pub some_sent : (start old new : Option (List ℕ)) (held left : List ℕ) (notes : List Note) → IsWhole start old held notes → Sends old new held left false → IsCut start new notes
 some_sent start old new held left notes (sent, kept, noted, bytes, are) (count, gone) =
     let front = front_of kept count in (
-  sent ++ front.sent,
-  front.last,
-  front.lost,
-  front.part,
-  ap (λ w. w ++ notes_of (front.last ∷ front.lost)) (flat_map-append note_of sent front.sent) ∙ append_assoc (notes_of sent) (notes_of front.sent) (notes_of (front.last ∷ front.lost))
-  ∙ ap (λ w. notes_of sent ++ w) (sym front.notes) ∙ noted,
-  subst (Appends start new)
-  (ap (λ w. lines_text sent ++ w) (ap (take count) are ∙ front.bytes) ∙ sym (append_assoc (lines_text sent) (lines_text front.sent) (take front.part (said_text front.last)))
-  ∙ ap (λ w. w ++ take front.part (said_text front.last)) (sym (flat_map-append said_text sent front.sent)))
-  (more_bytes start old new (lines_text sent) (take count held) bytes gone),
-)
+      sent ++ front.sent,
+      front.last,
+      front.lost,
+      front.part,
+      ap (λ w. w ++ notes_of (front.last ∷ front.lost)) (flat_map-append note_of sent front.sent) ∙ append_assoc (notes_of sent) (notes_of front.sent) (notes_of (front.last ∷ front.lost))
+          ∙ ap (λ w. notes_of sent ++ w) (sym front.notes) ∙ noted,
+      subst (Appends start new)
+          (ap (λ w. lines_text sent ++ w) (ap (take count) are ∙ front.bytes) ∙ sym (append_assoc (lines_text sent) (lines_text front.sent) (take front.part (said_text front.last)))
+          ∙ ap (λ w. w ++ take front.part (said_text front.last)) (sym (flat_map-append said_text sent front.sent)))
+          (more_bytes start old new (lines_text sent) (take count held) bytes gone),
+    )
 
 refused_line : (refusal : Refusal) → (q : Option Request) × MayAnswer q (told (lines.Refused refusal))
 refused_line refusals.BadLine = (None, tt)

@@ -1,12 +1,11 @@
 -- Receipts stay true.
 use Rattle.std.proofs.Common.{◌≡◌, List, [], ◌∷◌, ◌++◌, subst, sym}
-use Rattle.std.specs.Prelude.{Option, None, Some}
 use Rattle.shelf_core.specs.Device.{Assignment}
 use Rattle.board_core.specs.declared.receipt.Receipt.{Receipt}
 use Rattle.board_core.specs.Lists.{Every}
 use Rattle.board_core.proofs.Lists.{Every-snoc}
 use Rattle.office_core.specs.Receipts.{IsTrueReceipt}
-use Rattle.session_core.specs.Truth.{Keeps, AreTrue, OutcomeIsTrue}
+use Rattle.session_core.specs.Truth.{Keeps, AreTrue}
 
 pub still_true : {H : Type 0} (agrees : H → Assignment → Type 0) (old new : H) (rs more : List Receipt) → more ≡ rs → Keeps agrees old new → AreTrue agrees old rs → AreTrue agrees new more
 still_true agrees old new rs more same keeps are a h = subst (Every (IsTrueReceipt a)) (sym same) (are a (keeps a h))

@@ -76,7 +76,12 @@ fn tell_opened<R: Wait, W: Write + Drop, J: Start>(
 }
 
 // Hands over what is not yet handed over.
-fn hand_over<R: Wait>(rt: &R, alloc: Global, to: &Sender<Message>, orders: &mut Vec<Order>) -> Goes {
+fn hand_over<R: Wait>(
+    rt: &R,
+    alloc: Global,
+    to: &Sender<Message>,
+    orders: &mut Vec<Order>,
+) -> Goes {
     if orders.is_empty() {
         return Goes::On;
     }

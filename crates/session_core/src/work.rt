@@ -22,9 +22,8 @@ use session_text::line::Line;
 use shelf_core::hand::{Hand, Stamp};
 use std::alloc::Global;
 use std::io::Write;
-use std::mem;
-use std::str;
 use std::sync::{Mutex, Wait};
+use std::{mem, str};
 use value_core::datum::Datum;
 
 /// What the worker leaves.
@@ -98,11 +97,13 @@ fn completed<R: Wait>(rt: &R, office: &Office, seat: &mut Seat, outcome: Outcome
     for _ in rt.forever() {
         match office.complete(rt, seat, outcome) {
             Ok(receipt) => return receipt,
-            Err(CompleteFault::Front {
-                seen: _,
-                found: _,
-                outcome: back,
-            }) => outcome = back,
+            Err(
+                CompleteFault::Front {
+                    seen: _,
+                    found: _,
+                    outcome: back,
+                },
+            ) => outcome = back,
             Err(CompleteFault::Stranger(back)) => outcome = back,
         }
     }
@@ -179,9 +180,7 @@ fn call_on<R: Wait, W: Write + Drop, H: Hand, J: Start>(
     let outcome = performed(alloc, ticket, hand);
     let receipt = completed(rt, office, seat, outcome);
     let reply = receipt.noted.reply();
-    let _said = output
-        .lock(rt)
-        .say_ended(receipt.noted.number(), &reply);
+    let _said = output.lock(rt).say_ended(receipt.noted.number(), &reply);
     Some(receipt)
 }
 

@@ -3,7 +3,6 @@ use Rattle.std.proofs.Common.{◌≡◌, ℕ, true, List, [], ◌∷◌, refl, a
 use Rattle.std.specs.Prelude.{Some, codes}
 use Rattle.std.specs.Str.{bytes_eq}
 use Rattle.std.proofs.lemmas.Slice.Eq.{bytes_eq-Decides}
-use Rattle.value_core.specs.declared.datum.Datum.{Datum}
 use Rattle.word_core.specs.Words.{Word, bare, quoted}
 use Rattle.word_core.specs.Data.{integer_of, data_of, bare_of, only_bare, only_integer, at_end}
 use Rattle.script_text.proofs.Choices.{none_some, some_same, choose, found_by}

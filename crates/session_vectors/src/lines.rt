@@ -16,11 +16,18 @@ const ZERO: &[u8] = b"\x01\x01\x00\x01\x00\x00\x00\x00";
 
 // Lines, and what answers them.
 const ASKED: &[u8] = b"open cell\ncancel 7\ndance\nquit\n";
+
 const ASKED_TOLD: &[u8] = b"opened cell\ncancel 7 Unknown\nno BadLine\nbye\n";
+
 const CALLED: &[u8] = b"open cell\ncall put 7\ncall get\nquit\n";
+
 const CALLED_TOLD: &[u8] = b"opened cell\naccepted 1\ndone 1\naccepted 2\ndone 2 7\nbye\n";
-const WRONG: &[u8] = b"dance\r\ncall get\nopen nothing\n OPEN  cell\nopen CELL \nopen cell\ncall put\ncall pop\ncall GET 'a\x01'\nquit\n";
-const WRONG_TOLD: &[u8] = b"no BadLine\nno NotOpen\nno NoObject\nno BadLine\nopened cell\nno Opened\nno BadArgs\nno UnknownOp\nno BadLine\nbye\n";
+
+const WRONG: &[u8] =
+    b"dance\r\ncall get\nopen nothing\n OPEN  cell\nopen CELL \nopen cell\ncall put\ncall pop\ncall GET 'a\x01'\nquit\n";
+
+const WRONG_TOLD: &[u8] =
+    b"no BadLine\nno NotOpen\nno NoObject\nno BadLine\nopened cell\nno Opened\nno BadArgs\nno UnknownOp\nno BadLine\nbye\n";
 
 // Whether the office of an object is closed with this seat and these receipts.
 fn is_closed(all: Vec<Named>, seats: Vec<Seat>, receipts: &[Receipt]) -> bool {
@@ -64,7 +71,9 @@ fn plays<R: Abort + Threads + Wait + Sync>(
         seats.push(seat).expect(rt, "memory");
     }
     let len = told.len().min(takes);
-    end.writer.bytes.as_slice() == &told[..len] && end.fault == fault && is_closed(all, seats, &end.receipts)
+    end.writer.bytes.as_slice() == &told[..len]
+        && end.fault == fault
+        && is_closed(all, seats, &end.receipts)
 }
 
 // The same for a session without a fault, whole, in pieces and in single bytes.
@@ -103,15 +112,48 @@ fn letters(rt: &impl Abort, alloc: Global, count: usize) -> Vec<u8> {
 fn a_line_is_too_long(rt: HostRuntime) {
     let alloc = rt.alloc();
     let long = letters(&rt, alloc, 4096);
-    assert!(rt; plays(&rt, alloc, &long, 4096, false, 4096, b"no BadLine\nbye\n", None));
+    assert!(rt;
+        plays(
+            &rt,
+            alloc,
+            &long,
+            4096,
+            false,
+            4096,
+            b"no BadLine\nbye\n",
+            None
+        )
+    );
     let longer = letters(&rt, alloc, 4097);
     let fault = Some(SessionFault::LineTooLong);
-    assert!(rt; plays(&rt, alloc, &longer, 4096, false, 4096, b"no LineTooLong\n", fault));
+    assert!(rt;
+        plays(
+            &rt,
+            alloc,
+            &longer,
+            4096,
+            false,
+            4096,
+            b"no LineTooLong\n",
+            fault
+        )
+    );
 }
 
 #[test]
 fn a_read_fails(rt: HostRuntime) {
     let alloc = rt.alloc();
     let fault = Some(SessionFault::ReadFault);
-    assert!(rt; plays(&rt, alloc, b"open cell\ndan", 4096, true, 4096, b"opened cell\n", fault));
+    assert!(rt;
+        plays(
+            &rt,
+            alloc,
+            b"open cell\ndan",
+            4096,
+            true,
+            4096,
+            b"opened cell\n",
+            fault
+        )
+    );
 }

@@ -1,18 +1,17 @@
 //! Calls that wait.
 
 use crate::make::{BUFFER, offices};
+use session_core::end::SessionEnd;
 use session_core::order::Named;
 use session_core::serve::serve_session;
 use shelf_core::memory::MemHand;
 use std::alloc::Global;
-use std::io;
 use std::io::{Read, Write};
 use std::process::Abort;
-use std::sync::Wait;
 use std::sync::atomic::{AtomicU64, Ordering};
-use std::sync::Arc;
-use std::thread;
+use std::sync::{Arc, Wait};
 use std::thread::Threads;
+use std::{io, thread};
 
 // The queue `<>`.
 const EMPTY: &[u8] = b"\x01\x03\x00\x00";
@@ -93,9 +92,17 @@ fn written<R: Abort + Threads + Wait + Sync>(
         bytes: Vec::new(alloc),
         written: Arc::try_clone(written).expect(rt, "memory"),
     };
-    let end = serve_session(rt, alloc, reader, writer, all, hand);
-    assert!(rt; end.fault.is_none() && end.receipts.is_empty());
-    end.writer.bytes
+    let SessionEnd {
+        object: _,
+        seat: _,
+        receipts,
+        writer,
+        hand: _,
+        fault,
+    } = serve_session(rt, alloc, reader, writer, all, hand);
+    let Counted { bytes, written: _ } = writer;
+    assert!(rt; fault.is_none() && receipts.is_empty());
+    bytes
 }
 
 const CANCELS: &[(u64, &[u8])] = &[
