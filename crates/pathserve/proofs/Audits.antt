@@ -1,5 +1,5 @@
 -- What is said of the text of a trace is what an audit writes.
-use Rattle.std.proofs.Common.{◌≡◌, ◌⊎◌, inl, inr, ℕ, List, sym, subst}
+use Rattle.std.proofs.Common.{◌≡◌, ◌⊎◌, inl, inr, ℕ, List, ◌++◌, sym, ap, subst, ◌∙◌, append_assoc}
 use Rattle.std.specs.Prelude.{codes}
 use Rattle.decl_core.specs.declared.object.Object.{Object}
 use Rattle.decl_core.specs.ObjectMap.{object_of}
@@ -9,6 +9,10 @@ use Rattle.audit_core.specs.Verdicts.{IsVerdict, IsLegalTrace}
 use Rattle.audit_core.specs.declared.verdict.Verdict.{Verdict}
 use Rattle.audit_core.specs.declared.verdict.Verdict.TheVariants as verdicts
 use Rattle.pathserve.specs.AuditRun.{audit_status, verdict_line, IsAudited, IsAuditRun, unnamed, lacking, audited}
+
+-- what was added in two parts was added
+pub joined : (old a b mid new : List ℕ) → mid ≡ old ++ a → new ≡ mid ++ b → new ≡ old ++ (a ++ b)
+joined old a b mid new first second = second ∙ ap (λ r. r ++ b) first ∙ append_assoc old a b
 
 -- no object is named
 pub unnamed_run : (source text written : List ℕ) (status : ℕ) → ((name : List ℕ) → NamesObject text name → ⊥) → status ≡ 1 → written ≡ codes "line 1 bad\n"
