@@ -1,0 +1,4 @@
+//! The trace of a desk is legal, where its history is.
+#![tactic(auto)]
+
+pub mod laws;
