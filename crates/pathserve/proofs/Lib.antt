@@ -1,3 +1,4 @@
 pub mod Fronts
 pub mod Checks
 pub mod Scripts
+pub mod Audits

@@ -41,7 +41,8 @@ fn push_breach(out: &mut Vec<u8>, line: u64, path: usize) -> Result<(), AllocErr
     ensures { OnOk result (out.new.items ≡ out.old.items ++ verdict_line (verdicts.BreaksPath line path)) }
 {
     push_number(out, b"line ", line)?;
-    push_count(out, b" breaks path ", path as u64)
+    push_count(out, b" breaks path ", path as u64)?;
+    Ok(())
 }
 
 // Adds the line of a verdict. A want of memory has none.
@@ -84,7 +85,7 @@ fn verdict_said(alloc: Global, verdict: Verdict) -> Result<Said, AllocError>
 // What is said where there is nothing to audit a trace by.
 fn lacking_said(line: Vec<u8>) -> Said
     ensures status { result.status ≡ 1 }
-    ensures line { result.line ≡ line }
+    ensures line { result.line.items ≡ line.items }
 {
     Said {
         status: REFUSED,
@@ -125,7 +126,7 @@ fn audit_said(alloc: Global, source: &[u8], text: &[u8]) -> Result<Said, AllocEr
             let said = unnamed_said(alloc)?;
             Ok(said)
         }
-        Some(_) => {
+        Some(_name) => {
             let said = named_said(alloc, source, text)?;
             Ok(said)
         }
