@@ -32,7 +32,7 @@ use source::read_source;
 use std::fs::File;
 use std::net::{Ipv4Addr, Net, TcpListener, TcpStream};
 use std::process::ExitCode;
-use std::rt::Runtime;
+use std::rt::{Files, Runtime};
 use std::sync::Wait;
 use std::thread::Threads;
 use std::io::Read;
@@ -50,10 +50,12 @@ fn main(rt: HostRuntime) -> ExitCode {
 fn run<R, I: Read>(rt: &R, input: &mut I) -> Result<u8, Failure>
 where
     R: Runtime
+        + Files<File = File>
         + AllocGlobal
         + Net<Listener = TcpListener, Stream = TcpStream>
         + Threads
         + Wait
+        + Send
         + Sync,
 {
     let words: Vec<String> = env::args(rt)?.collect(rt.alloc())?;

@@ -1,15 +1,51 @@
-//! `pathserve serve` over any runtime, listener and writer.
-
-ghost use Rattle.std.specs.Prelude.{◌≡◌};
+//! `pathserve serve` over any runtime, hands and writer.
 
 use crate::answer::{ACCEPTED, REFUSED};
 use crate::failure::Failure;
-use serve_core::serve::{ServeEnd, serve_on};
-use std::io::{Read, Write};
-use std::net::{OpenListener, OpenStream};
+use serve_core::folder::{number_above, value_numbers};
+use serve_core::serve::{Place, ServeEnd, serve_on};
+use shelf_core::dir::DirHand;
+use shelf_core::hand::Hand;
+use shelf_core::numbers::Numbers;
+use std::alloc::AllocError;
+use std::io::Write;
+use std::net::TcpListener;
 use std::rt::Files;
-use std::sync::Wait;
+use std::sync::{Arc, Wait};
 use std::thread::Threads;
+
+// Numbers from this one on, which hands share.
+fn numbers_from<R: AllocGlobal>(rt: &R, first: u64) -> Result<Arc<Numbers>, AllocError> {
+    match Arc::new(rt.alloc(), Numbers::new(first)) {
+        Ok(numbers) => Ok(numbers),
+        Err(_) => Err(AllocError),
+    }
+}
+
+/// A folder and a hand on it for each of so many sessions. It touches no file.
+///
+/// A failure is `ReadFault` where the folder cannot be read, or `Memory`.
+pub fn place_of<'a, R: Files + AllocGlobal + Clone + Drop>(
+    rt: &R,
+    folder: &'a str,
+    sessions: usize,
+) -> Result<Place<'a, DirHand<R>>, Failure> {
+    let left = value_numbers(rt, rt.alloc(), folder)?;
+    let numbers = numbers_from(rt, number_above(&left))?;
+    let mut hands = Vec::new(rt.alloc());
+    for _ in 0..sessions {
+        let hand = DirHand::new(rt.clone()?, folder, Arc::try_clone(&numbers)?)?;
+        if hands.push(hand).is_err() {
+            return Err(Failure::Memory);
+        }
+    }
+    Ok(Place {
+        folder,
+        left,
+        numbers,
+        hands,
+    })
+}
 
 fn status_of_serve(end: ServeEnd) -> u8 {
     match end {
@@ -18,26 +54,23 @@ fn status_of_serve(end: ServeEnd) -> u8 {
     }
 }
 
-/// `pathserve serve`: serves the objects of a source to so many connections of a listener, over the parts in a folder, and gives
-/// the exit status: 0 where each object was served, closed and saved, 1 where a line says what was refused or damaged.
+/// `pathserve serve`: serves the objects of a source to a connection of the listener for each hand, over the parts in a folder,
+/// and gives the exit status: 0 where each object was served, closed and saved, 1 where a line says what was refused or
+/// damaged.
 ///
 /// A failure is `ReadFault`, `WriteFault` or `Memory`, the first that was met. What did not hang on it was still done.
 pub fn serve_objects<
     R: Files + AllocGlobal + Threads + Wait + Clone + Drop + Sync,
-    L: OpenListener + Sync,
+    H: Hand + Drop + Send,
     W: Write,
 >(
     rt: &R,
     source: &[u8],
-    folder: &str,
-    listener: &L,
-    sessions: usize,
+    place: Place<'_, H>,
+    listener: &TcpListener,
     writer: &mut W,
-) -> Result<u8, Failure>
-where
-    L::Stream: OpenStream + Read + Write + Drop + Send,
-{
-    match serve_on(rt, rt.alloc(), source, folder, listener, sessions, writer) {
+) -> Result<u8, Failure> {
+    match serve_on(rt, rt.alloc(), source, place, listener, writer) {
         Ok(end) => Ok(status_of_serve(end)),
         Err(fault) => Err(Failure::from(fault)),
     }

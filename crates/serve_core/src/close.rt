@@ -3,8 +3,8 @@
 use crate::listen::Left;
 use crate::open::push_damaged;
 use crate::trouble::Trouble;
-use desk_core::desk::Desk;
 use board_core::receipt::Receipt;
+use desk_core::desk::Desk;
 use line_core::reply::{push_count, push_reply};
 use line_core::{LinesFault, write_whole};
 use office_core::seat::Seat;
@@ -112,6 +112,8 @@ fn save<S: Shelf, H: Hand, W: Write>(
     writer: &mut W,
     trouble: &mut Trouble,
 ) {
+    // The board is sound: each part has a pin.
+    desk.history();
     let object = desk.accepted().object();
     match save_parts(alloc, object, &desk.pins(), shelf, hand) {
         Ok(()) => {}

@@ -2,7 +2,7 @@
 
 ghost use Rattle.std.specs.Prelude.{◌≡◌, ◌<◌, ◌≤◌, ◌^◌, IfOk, IfSome};
 
-use std::alloc::Global;
+use std::alloc::{AllocError, Global};
 use std::rt::Files;
 use std::{fs, io};
 
@@ -21,9 +21,15 @@ fn number_of(digits: &[u8]) -> Option<u64>
         if !digit.is_ascii_digit() {
             return None;
         }
-        number = number.checked_mul(10)?.checked_add(u64::from(*digit - b'0'))?;
+        number = number
+            .checked_mul(10)?
+            .checked_add(u64::from(*digit - b'0'))?;
     }
-    if number < END_OF_NUMBERS { Some(number) } else { None }
+    if number < END_OF_NUMBERS {
+        Some(number)
+    } else {
+        None
+    }
 }
 
 /// The number of a value file by its name: N of `N.val`, in decimal without leading zeros and below 2^63. `None` for any
@@ -35,8 +41,10 @@ pub fn value_number(name: &str) -> Option<u64>
     number_of(digits.as_bytes())
 }
 
-// The numbers of the value files of a folder.
-fn value_numbers<R: Files + AllocGlobal + Clone + Drop>(
+/// The numbers of the value files of a folder, which an earlier run left.
+///
+/// The error is that of reading the folder.
+pub fn value_numbers<R: Files + AllocGlobal + Clone + Drop>(
     rt: &R,
     alloc: Global,
     folder: &str,
@@ -51,8 +59,8 @@ fn value_numbers<R: Files + AllocGlobal + Clone + Drop>(
     Ok(numbers)
 }
 
-// A number above these, at least 1.
-fn number_above(numbers: &[u64]) -> u64 {
+/// The number with which a run begins: one above the greatest of these, or 1.
+pub fn number_above(numbers: &[u64]) -> u64 {
     let mut next = 1;
     for number in numbers {
         if *number >= next {
@@ -62,19 +70,18 @@ fn number_above(numbers: &[u64]) -> u64 {
     next
 }
 
-/// Removes the value files of a folder, which an earlier run left, and gives the number with which the next one begins: one
-/// above the greatest that was found, or 1. A file that can't be removed is left; its number is not given out again.
+/// Removes the value files of these numbers from a folder. One that can't be removed is left.
 ///
-/// The error is that of reading the folder.
-pub fn clear_values<R: Files + AllocGlobal + Clone + Drop>(
+/// The error is that memory was refused.
+pub fn remove_values<R: Files>(
     rt: &R,
     alloc: Global,
     folder: &str,
-) -> io::Result<u64> {
-    let numbers = value_numbers(rt, alloc, folder)?;
-    for number in &numbers {
+    numbers: &[u64],
+) -> Result<(), AllocError> {
+    for number in numbers {
         let path = format!(in alloc; "{folder}/{number}.val")?;
         let _ = fs::remove_file(rt, path.as_str());
     }
-    Ok(number_above(&numbers))
+    Ok(())
 }

@@ -1,18 +1,15 @@
 //! Connections, each of them served on threads of its own.
 
-use crossbeam_channel::{Receiver, Sender};
 use board_core::receipt::Receipt;
+use crossbeam_channel::{Receiver, Sender};
 use office_core::seat::Seat;
 use session_core::end::SessionEnd;
 use session_core::order::Offices;
 use session_core::serve::serve_session;
-use shelf_core::dir::DirHand;
-use shelf_core::numbers::Numbers;
+use shelf_core::hand::Hand;
 use std::alloc::{AllocError, Global};
-use std::io::{Read, Write};
-use std::net::{OpenListener, OpenStream};
-use std::rt::Files;
-use std::sync::{Arc, Mutex, Wait};
+use std::net::{TcpListener, TcpStream};
+use std::sync::{Mutex, Wait};
 use std::thread;
 use std::thread::Threads;
 
@@ -26,15 +23,12 @@ pub struct Left {
 }
 
 // Takes so many connections and hands each to a session. It answers whether all came.
-fn accept_all<R: Wait, L: OpenListener>(
+fn accept_all<R: Wait>(
     rt: &R,
-    listener: &L,
-    to: Sender<L::Stream>,
+    listener: &TcpListener,
+    to: Sender<TcpStream>,
     sessions: usize,
-) -> bool
-where
-    L::Stream: OpenStream + Send,
-{
+) -> bool {
     for _ in 0..sessions {
         let Ok((stream, _)) = listener.accept() else {
             return false;
@@ -48,21 +42,17 @@ where
     true
 }
 
-// A session over a connection.
-fn serve_stream<
-    R: Files + AllocGlobal + Threads + Wait + Clone + Drop + Sync,
-    S: OpenStream + Read + Write + Drop + Send,
-    O: Offices + Sync,
->(
+// The next connection, and the session over it, with the next hand.
+fn serve_next<R: Threads + Wait + Sync, H: Hand + Drop + Send, O: Offices + Sync>(
     rt: &R,
     alloc: Global,
-    stream: S,
+    streams: &Receiver<TcpStream>,
+    hands: &Receiver<H>,
     offices: &O,
-    folder: &str,
-    numbers: Arc<Numbers>,
 ) -> Option<Left> {
+    let stream = streams.recv(rt).ok()?;
+    let hand = hands.recv(rt).ok()?;
     let writer = stream.try_clone().ok()?;
-    let hand = DirHand::new(rt.clone().ok()?, folder, numbers).ok()?;
     let SessionEnd {
         object,
         seat,
@@ -78,24 +68,6 @@ fn serve_stream<
     })
 }
 
-// The next connection, and the session over it.
-fn serve_next<
-    R: Files + AllocGlobal + Threads + Wait + Clone + Drop + Sync,
-    S: OpenStream + Read + Write + Drop + Send,
-    O: Offices + Sync,
->(
-    rt: &R,
-    alloc: Global,
-    from: &Receiver<S>,
-    offices: &O,
-    folder: &str,
-    numbers: &Arc<Numbers>,
-) -> Option<Left> {
-    let stream = from.recv(rt).ok()?;
-    let numbers = Arc::try_clone(numbers).ok()?;
-    serve_stream(rt, alloc, stream, offices, folder, numbers)
-}
-
 // What one of the threads of a server comes to.
 #[derive(Drop)]
 enum Came {
@@ -106,27 +78,19 @@ enum Came {
 }
 
 // Takes the connections, or serves one of them.
-fn take_part<
-    R: Files + AllocGlobal + Threads + Wait + Clone + Drop + Sync,
-    L: OpenListener + Sync,
-    O: Offices + Sync,
->(
+fn take_part<R: Threads + Wait + Sync, H: Hand + Drop + Send, O: Offices + Sync>(
     rt: &R,
     alloc: Global,
-    listener: &L,
+    listener: &TcpListener,
     sessions: usize,
-    ends: (&Mutex<Option<Sender<L::Stream>>>, &Receiver<L::Stream>),
+    to: &Mutex<Option<Sender<TcpStream>>>,
+    streams: &Receiver<TcpStream>,
+    hands: &Receiver<H>,
     offices: &O,
-    folder: &str,
-    numbers: &Arc<Numbers>,
     part: usize,
-) -> Came
-where
-    L::Stream: OpenStream + Read + Write + Drop + Send,
-{
-    let (to, from) = ends;
+) -> Came {
     if part > 0 {
-        return Came::One(serve_next(rt, alloc, from, offices, folder, numbers));
+        return Came::One(serve_next(rt, alloc, streams, hands, offices));
     }
     let to = to.lock(rt).take();
     match to {
@@ -135,43 +99,46 @@ where
     }
 }
 
-/// Serves so many connections, each on threads of its own, until all have ended. It gives what the sessions left, and whether
-/// each connection came: after a failed accept no more are taken.
+/// Serves a connection for each hand, each on threads of its own, until all have ended. It gives what the sessions left, and
+/// whether each connection came: after a failed accept no more are taken.
 ///
 /// The error is that memory was refused; of what the sessions left nothing is known then.
-pub fn serve_all<
-    R: Files + AllocGlobal + Threads + Wait + Clone + Drop + Sync,
-    L: OpenListener + Sync,
-    O: Offices + Sync,
->(
+pub fn serve_all<R: Threads + Wait + Sync, H: Hand + Drop + Send, O: Offices + Sync>(
     rt: &R,
     alloc: Global,
-    listener: &L,
-    sessions: usize,
+    listener: &TcpListener,
+    hands: Vec<H>,
     offices: &O,
-    folder: &str,
-    numbers: &Arc<Numbers>,
-) -> Result<(Vec<Left>, bool), AllocError>
-where
-    L::Stream: OpenStream + Read + Write + Drop + Send,
-{
+) -> Result<(Vec<Left>, bool), AllocError> {
+    let sessions = hands.len();
     let mut left = Vec::with_capacity(alloc, sessions)?;
-    let (to, from) = crossbeam_channel::unbounded(alloc)?;
+    let (to, streams) = crossbeam_channel::unbounded(alloc)?;
+    let (hand_to, free_hands) = crossbeam_channel::unbounded(alloc)?;
+    for hand in hands {
+        if hand_to.send(rt, hand).is_err() {
+            return Err(AllocError);
+        }
+    }
     let to = Mutex::new(Some(to));
     let parts = sessions.saturating_add(1);
-    let came = thread::map_indices(rt, alloc, parts, &|part| {
-        take_part(
-            rt,
-            alloc,
-            listener,
-            sessions,
-            (&to, &from),
-            offices,
-            folder,
-            numbers,
-            part,
-        )
-    })?;
+    let came = thread::map_indices(
+        rt,
+        alloc,
+        parts,
+        &|part| {
+            take_part(
+                rt,
+                alloc,
+                listener,
+                sessions,
+                &to,
+                &streams,
+                &free_hands,
+                offices,
+                part,
+            )
+        },
+    )?;
     let mut all_came = true;
     for one in came {
         match one {

@@ -1,5 +1,7 @@
 //! The offices of accepted objects, whose parts are read from a folder.
 
+ghost use Rattle.std.specs.Prelude.{◌≡◌, length, IfOk};
+
 use exclude_core::analyse::Accepted;
 use line_core::LinesFault;
 use office_core::office::Office;
@@ -42,11 +44,7 @@ impl From<AllocError> for NotOpened {
 }
 
 /// Adds `part OBJECT.PART damaged`, the part by its place.
-pub fn push_damaged(
-    out: &mut Vec<u8>,
-    accepted: &Accepted,
-    part: usize,
-) -> Result<(), AllocError> {
+pub fn push_damaged(out: &mut Vec<u8>, accepted: &Accepted, part: usize) -> Result<(), AllocError> {
     let object = accepted.object();
     out.extend_from_slice(b"part ")?;
     out.extend_from_slice(object.name.as_bytes())?;
@@ -63,7 +61,9 @@ fn parts_of<S: Shelf, H: Hand>(
     accepted: &Accepted,
     shelf: &mut S,
     hand: &mut H,
-) -> Result<(Pins, Vec<Value>), NotOpened> {
+) -> Result<(Pins, Vec<Value>), NotOpened>
+    ensures { IfOk result (λ opened. length opened.0 ≡ length accepted.now.parts.items) }
+{
     match open_parts(alloc, accepted.object(), shelf, hand) {
         Ok(opened) => Ok(opened),
         Err(OpenFault::Damaged(part)) => {

@@ -1,7 +1,7 @@
 //! A server from its start to its end.
 
 use crate::close::{Gathered, close_one, gather_all, rooms};
-use crate::folder::clear_values;
+use crate::folder::remove_values;
 use crate::judge::{Judged, judge};
 use crate::listen::serve_all;
 use crate::open::{NotOpened, Served, open_all};
@@ -11,16 +11,27 @@ use line_core::reply::push_count;
 use line_core::{LinesFault, write_whole};
 use shelf_core::dir::DirHand;
 use shelf_core::dir_shelf::DirShelf;
+use shelf_core::hand::Hand;
 use shelf_core::numbers::Numbers;
 use std::alloc::{AllocError, Global};
-use std::io::{ErrorKind, Read, Write};
-use std::net::{OpenListener, OpenStream};
+use std::io::{ErrorKind, Write};
+use std::net::TcpListener;
 use std::rt::Files;
 use std::sync::{Arc, Wait};
 use std::thread::Threads;
 
-/// The most connections that a server takes.
-pub const MOST_SESSIONS: usize = 64;
+/// Where a server keeps its files, and the hands of its sessions: it takes a connection for each.
+#[derive(Drop)]
+pub struct Place<'a, H: Drop> {
+    /// The folder.
+    pub folder: &'a str,
+    /// The numbers of the value files that an earlier run left there.
+    pub left: Vec<u64>,
+    /// Numbers above these, from which each of the hands draws.
+    pub numbers: Arc<Numbers>,
+    /// A hand on the folder for each session.
+    pub hands: Vec<H>,
+}
 
 /// How a server ended.
 #[derive(Clone, Copy, Debug, PartialEq, Eq)]
@@ -55,9 +66,9 @@ fn read_fault(error: std::io::Error) -> LinesFault {
 }
 
 // `listening PORT`.
-fn tell_port<L: OpenListener, W: Write>(
+fn tell_port<W: Write>(
     alloc: Global,
-    listener: &L,
+    listener: &TcpListener,
     writer: &mut W,
 ) -> Result<(), LinesFault> {
     let addr = listener.local_addr().map_err(read_fault)?;
@@ -94,26 +105,20 @@ fn close_all<R: Files + AllocGlobal + Drop, W: Write>(
 // Serves objects that are accepted.
 fn serve_ready<
     R: Files + AllocGlobal + Threads + Wait + Clone + Drop + Sync,
-    L: OpenListener + Sync,
+    H: Hand + Drop + Send,
     W: Write,
 >(
     rt: &R,
     alloc: Global,
     ready: Vec<Accepted>,
-    folder: &str,
-    listener: &L,
-    sessions: usize,
+    place: Place<'_, H>,
+    listener: &TcpListener,
     writer: &mut W,
-) -> Result<ServeEnd, LinesFault>
-where
-    L::Stream: OpenStream + Read + Write + Drop + Send,
-{
-    let first = clear_values(rt, alloc, folder).map_err(read_fault)?;
-    let Ok(numbers) = Arc::new(alloc, Numbers::new(first)) else {
-        return Err(LinesFault::Memory);
-    };
+) -> Result<ServeEnd, LinesFault> {
+    remove_values(rt, alloc, place.folder, &place.left)?;
+    let folder = place.folder;
     let mut shelf = DirShelf::new(rt.clone()?, folder)?;
-    let mut hand = DirHand::new(rt.clone()?, folder, Arc::try_clone(&numbers)?)?;
+    let mut hand = DirHand::new(rt.clone()?, folder, place.numbers)?;
     let served = match open_all(alloc, ready, &mut shelf, &mut hand) {
         Ok(served) => served,
         Err(NotOpened::Damaged(line)) => {
@@ -122,11 +127,11 @@ where
         }
         Err(NotOpened::Fault(fault)) => return Err(fault),
     };
-    let mut rooms = rooms(alloc, served.offices.len(), sessions)?;
+    let mut rooms = rooms(alloc, served.offices.len(), place.hands.len())?;
     tell_port(alloc, listener, writer)?;
     let mut trouble = Trouble::none();
     let offices = &served.offices;
-    match serve_all(rt, alloc, listener, sessions, offices, folder, &numbers) {
+    match serve_all(rt, alloc, listener, place.hands, offices) {
         Ok((left, all_came)) => {
             if !all_came {
                 trouble.note(LinesFault::ReadFault);
@@ -136,7 +141,15 @@ where
         Err(_) => trouble.note(LinesFault::Memory),
     }
     close_all(
-        rt, alloc, served, rooms, folder, &mut shelf, &mut hand, writer, &mut trouble,
+        rt,
+        alloc,
+        served,
+        rooms,
+        folder,
+        &mut shelf,
+        &mut hand,
+        writer,
+        &mut trouble,
     );
     end_of(trouble)
 }
@@ -154,25 +167,21 @@ where
 /// written; `Memory`. Of several the first is told.
 pub fn serve_on<
     R: Files + AllocGlobal + Threads + Wait + Clone + Drop + Sync,
-    L: OpenListener + Sync,
+    H: Hand + Drop + Send,
     W: Write,
 >(
     rt: &R,
     alloc: Global,
     source: &[u8],
-    folder: &str,
-    listener: &L,
-    sessions: usize,
+    place: Place<'_, H>,
+    listener: &TcpListener,
     writer: &mut W,
-) -> Result<ServeEnd, LinesFault>
-where
-    L::Stream: OpenStream + Read + Write + Drop + Send,
-{
+) -> Result<ServeEnd, LinesFault> {
     match judge(alloc, source)? {
         Judged::Told(text) => {
             write_whole(writer, &text)?;
             Ok(ServeEnd::Refused)
         }
-        Judged::Ready(ready) => serve_ready(rt, alloc, ready, folder, listener, sessions, writer),
+        Judged::Ready(ready) => serve_ready(rt, alloc, ready, place, listener, writer),
     }
 }
