@@ -160,9 +160,12 @@ pub const SERVE: &str =
 
 /// What the arguments of `serve` are.
 pub const SERVE_FILE: &str = "The file with the objects, each of which `check` has to accept";
+
 pub const SERVE_DIR: &str =
     "A folder: the values that an earlier run saved there are taken up, and at the end they are saved there";
+
 pub const SERVE_PORT: &str = "The port on 127.0.0.1 at which clients connect, 1 to 65535";
+
 pub const SERVE_SESSIONS: &str = "How many connections are taken in all, 1 to 64";
 
 /// What `serve` reads and writes.

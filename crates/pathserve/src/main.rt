@@ -27,42 +27,60 @@ use audit::audit_trace;
 use failure::{Failure, exit_status};
 use request::{Request, request_of};
 use script::answer_script;
-use serve::serve_objects;
+use serve::{place_of, serve_objects};
+use serve_core::serve::Place;
+use shelf_core::dir::DirHand;
 use source::read_source;
 use std::fs::File;
-use std::net::{Ipv4Addr, Net, TcpListener, TcpStream};
+use std::net::{Ipv4Addr, TcpListener};
 use std::process::ExitCode;
-use std::rt::{Files, Runtime};
-use std::sync::Wait;
-use std::thread::Threads;
-use std::io::Read;
 use std::{env, io};
 
+// What is done of a command line before any thread is started.
+enum Prepared {
+    // All, with the exit status.
+    Ended(u8),
+    // A source is to be served, over this place and this listener.
+    Serves(Vec<u8>, Place<DirHand<HostRuntime>>, TcpListener),
+}
+
 fn main(rt: HostRuntime) -> ExitCode {
-    let ended = run(&rt, &mut rt.stdin());
+    let ended = match prepared(&rt) {
+        Ok(Prepared::Ended(status)) => Ok(status),
+        Ok(Prepared::Serves(source, place, listener)) => {
+            serve_objects(&rt, &source, place, &listener, &mut io::writer(&rt))
+        }
+        Err(failure) => Err(failure),
+    };
     if let Err(failure) = &ended {
         let _ = eprint!(rt; "{failure}");
     }
     ExitCode::from(exit_status(&ended))
 }
 
-// Does what the command line asks for, and gives the exit status.
-fn run<R, I: Read>(rt: &R, input: &mut I) -> Result<u8, Failure>
-where
-    R: Runtime
-        + Files<File = File>
-        + AllocGlobal
-        + Net<Listener = TcpListener, Stream = TcpStream>
-        + Threads
-        + Wait
-        + Send
-        + Sync,
-{
+// Does what the command line asks for, as far as it takes no threads.
+fn prepared(rt: &HostRuntime) -> Result<Prepared, Failure> {
     let words: Vec<String> = env::args(rt)?.collect(rt.alloc())?;
     let words: Vec<&str> = words.iter().map(|word| word.as_str()).collect(rt.alloc())?;
-    let mut writer = io::writer(rt);
     match request_of(rt.alloc(), words.as_slice())? {
-        Request::Paths => answer_lines(rt.alloc(), input, &mut writer),
+        Request::Serve(path, folder, port, sessions) => {
+            let source = read_source(rt.alloc(), File::open(rt, path)?)?;
+            let listener = TcpListener::bind(rt, (Ipv4Addr::LOCALHOST, port))?;
+            let place = place_of(rt, folder, sessions)?;
+            Ok(Prepared::Serves(source, place, listener))
+        }
+        request => {
+            let status = run(rt, request)?;
+            Ok(Prepared::Ended(status))
+        }
+    }
+}
+
+// Does what is asked for, and gives the exit status.
+fn run(rt: &HostRuntime, request: Request<'_>) -> Result<u8, Failure> {
+    let mut writer = io::writer(rt);
+    match request {
+        Request::Paths => answer_lines(rt.alloc(), &mut rt.stdin(), &mut writer),
         Request::Check(path) => {
             let file = File::open(rt, path)?;
             check_source(rt.alloc(), file, &mut writer)
@@ -77,10 +95,7 @@ where
             let trace = File::open(rt, trace)?;
             audit_trace(rt.alloc(), &source, trace, &mut writer)
         }
-        Request::Serve(path, folder, port, sessions) => {
-            let source = read_source(rt.alloc(), File::open(rt, path)?)?;
-            let listener = TcpListener::bind(rt, (Ipv4Addr::LOCALHOST, port))?;
-            serve_objects(rt, &source, folder, &listener, sessions, &mut writer)
-        }
+        // `prepared` has it.
+        Request::Serve(_, _, _, _) => Ok(0),
     }
 }

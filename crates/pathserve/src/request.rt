@@ -22,6 +22,7 @@ pub enum Request<'a> {
 
 // The number of connections that are taken where the command line names none, and the most.
 const SESSIONS: &str = "16";
+
 const MOST_SESSIONS: u64 = 64;
 
 // The commands of the program.
@@ -59,9 +60,7 @@ fn command<'a>(alloc: Global) -> Result<Command<'a>, AllocError> {
     let objects = Arg::new(alloc, "FILE")
         .required(true)
         .help(help::SERVE_FILE);
-    let folder = Arg::new(alloc, "DIR")
-        .required(true)
-        .help(help::SERVE_DIR);
+    let folder = Arg::new(alloc, "DIR").required(true).help(help::SERVE_DIR);
     let port = Arg::new(alloc, "PORT")
         .required(true)
         .value_parser(ValueParser::unsigned(1, 65_535))

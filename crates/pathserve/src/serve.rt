@@ -25,11 +25,11 @@ fn numbers_from<R: AllocGlobal>(rt: &R, first: u64) -> Result<Arc<Numbers>, Allo
 /// A folder and a hand on it for each of so many sessions. It touches no file.
 ///
 /// A failure is `ReadFault` where the folder cannot be read, or `Memory`.
-pub fn place_of<'a, R: Files + AllocGlobal + Clone + Drop>(
+pub fn place_of<R: Files + AllocGlobal + Clone + Drop>(
     rt: &R,
-    folder: &'a str,
+    folder: &str,
     sessions: usize,
-) -> Result<Place<'a, DirHand<R>>, Failure> {
+) -> Result<Place<DirHand<R>>, Failure> {
     let left = value_numbers(rt, rt.alloc(), folder)?;
     let numbers = numbers_from(rt, number_above(&left))?;
     let mut hands = Vec::new(rt.alloc());
@@ -39,6 +39,7 @@ pub fn place_of<'a, R: Files + AllocGlobal + Clone + Drop>(
             return Err(Failure::Memory);
         }
     }
+    let folder = String::from_str(rt.alloc(), folder)?;
     Ok(Place {
         folder,
         left,
@@ -66,7 +67,7 @@ pub fn serve_objects<
 >(
     rt: &R,
     source: &[u8],
-    place: Place<'_, H>,
+    place: Place<H>,
     listener: &TcpListener,
     writer: &mut W,
 ) -> Result<u8, Failure> {

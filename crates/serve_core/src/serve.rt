@@ -22,9 +22,9 @@ use std::thread::Threads;
 
 /// Where a server keeps its files, and the hands of its sessions: it takes a connection for each.
 #[derive(Drop)]
-pub struct Place<'a, H: Drop> {
+pub struct Place<H: Drop> {
     /// The folder.
-    pub folder: &'a str,
+    pub folder: String,
     /// The numbers of the value files that an earlier run left there.
     pub left: Vec<u64>,
     /// Numbers above these, from which each of the hands draws.
@@ -111,14 +111,20 @@ fn serve_ready<
     rt: &R,
     alloc: Global,
     ready: Vec<Accepted>,
-    place: Place<'_, H>,
+    place: Place<H>,
     listener: &TcpListener,
     writer: &mut W,
 ) -> Result<ServeEnd, LinesFault> {
-    remove_values(rt, alloc, place.folder, &place.left)?;
-    let folder = place.folder;
+    let Place {
+        folder,
+        left,
+        numbers,
+        hands,
+    } = place;
+    let folder = folder.as_str();
+    remove_values(rt, alloc, folder, &left)?;
     let mut shelf = DirShelf::new(rt.clone()?, folder)?;
-    let mut hand = DirHand::new(rt.clone()?, folder, place.numbers)?;
+    let mut hand = DirHand::new(rt.clone()?, folder, numbers)?;
     let served = match open_all(alloc, ready, &mut shelf, &mut hand) {
         Ok(served) => served,
         Err(NotOpened::Damaged(line)) => {
@@ -127,11 +133,11 @@ fn serve_ready<
         }
         Err(NotOpened::Fault(fault)) => return Err(fault),
     };
-    let mut rooms = rooms(alloc, served.offices.len(), place.hands.len())?;
+    let mut rooms = rooms(alloc, served.offices.len(), hands.len())?;
     tell_port(alloc, listener, writer)?;
     let mut trouble = Trouble::none();
     let offices = &served.offices;
-    match serve_all(rt, alloc, listener, place.hands, offices) {
+    match serve_all(rt, alloc, listener, hands, offices) {
         Ok((left, all_came)) => {
             if !all_came {
                 trouble.note(LinesFault::ReadFault);
@@ -173,7 +179,7 @@ pub fn serve_on<
     rt: &R,
     alloc: Global,
     source: &[u8],
-    place: Place<'_, H>,
+    place: Place<H>,
     listener: &TcpListener,
     writer: &mut W,
 ) -> Result<ServeEnd, LinesFault> {
