@@ -45,7 +45,7 @@ enum Prepared {
 }
 
 fn main(rt: HostRuntime) -> ExitCode {
-    let ended = match prepared(&rt) {
+    let ended = match prepare(&rt) {
         Ok(Prepared::Ended(status)) => Ok(status),
         Ok(Prepared::Serves(source, place, listener)) => {
             serve_objects(&rt, &source, place, &listener, &mut io::writer(&rt))
@@ -59,7 +59,7 @@ fn main(rt: HostRuntime) -> ExitCode {
 }
 
 // Does what the command line asks for, as far as it takes no threads.
-fn prepared(rt: &HostRuntime) -> Result<Prepared, Failure> {
+fn prepare(rt: &HostRuntime) -> Result<Prepared, Failure> {
     let words: Vec<String> = env::args(rt)?.collect(rt.alloc())?;
     let words: Vec<&str> = words.iter().map(|word| word.as_str()).collect(rt.alloc())?;
     match request_of(rt.alloc(), words.as_slice())? {
@@ -95,7 +95,7 @@ fn run(rt: &HostRuntime, request: Request<'_>) -> Result<u8, Failure> {
             let trace = File::open(rt, trace)?;
             audit_trace(rt.alloc(), &source, trace, &mut writer)
         }
-        // `prepared` has it.
+        // `prepare` has it.
         Request::Serve(_, _, _, _) => Ok(0),
     }
 }
