@@ -12,6 +12,4 @@ mod limits;
 #[cfg(test)]
 mod memory;
 #[cfg(test)]
-mod model;
-#[cfg(test)]
 mod rows;
