@@ -9,6 +9,7 @@ use shelf_core::memory::MemHand;
 use shelf_core::once::OnceHand;
 use shelf_core::pins::Pins;
 use std::alloc::Global;
+use std::process::Abort;
 use value_core::datum::Datum;
 
 /// An object with two parts, of which one operation has both.

@@ -1,8 +1,8 @@
 //! What every hand does: in memory here, and in a folder by a line of `folder`.
 
 use crate::hand_calls::Call::{
-    Append, Create, Discard, Failures, NoAppend, NoRead, NoRetire, NoSeal, Read, Resized, Retire, Seal,
-    Stamped,
+    Append, Create, Discard, Failures, NoAppend, NoRead, NoRetire, NoSeal, Read, Resized, Retire,
+    Seal, Stamped,
 };
 use crate::hand_calls::{A, B, C, Call, FileRow};
 use shelf_core::hand::{Hand, Stamp};
