@@ -15,17 +15,16 @@ const CELL: &[u8] = b"object cell;
 end;
 ";
 
-// What the entry at a place of the history replies.
-fn reply_at(world: &World, place: usize) -> Option<Reply> {
+// Whether the entry at a place of the history replies so.
+fn replies(world: &World, place: usize, want: Reply) -> bool {
     match world.desk().history().get(place) {
-        Some(entry) => Some(entry.reply()),
-        None => None,
+        Some(entry) => entry.reply() == want,
+        None => false,
     }
 }
 
 #[test]
 fn events_are_played_in_order(rt: HostRuntime) {
-    let alloc = rt.alloc();
     let events = [
         Event::Call(1, "put", &[Datum::Integer(7)]),
         Event::Call(2, "GET", &[]),
@@ -44,11 +43,13 @@ fn events_are_played_in_order(rt: HostRuntime) {
         Event::Cancel(3),
         Event::Drop(3),
     ];
-    let world = World::play(alloc, accepted(&rt, alloc, CELL), &events).expect(&rt, "memory");
-    assert!(&rt; world.desk().history().len() == 3);
-    assert!(&rt; reply_at(&world, 0) == Some(Reply::Done(None)));
-    assert!(&rt; reply_at(&world, 1) == Some(Reply::Done(Some(Datum::Integer(7)))));
-    assert!(&rt; reply_at(&world, 2) == Some(Reply::Failed(Failure::Device)));
-    let desk = world.end();
-    assert!(&rt; desk.is_idle());
+    let cell = accepted(&rt, rt.alloc(), CELL);
+    let world = World::play(rt.alloc(), cell, &events).expect(&rt, "memory");
+    assert!(&rt;
+        world.desk().history().len() == 3
+            && replies(&world, 0, Reply::Done(None))
+            && replies(&world, 1, Reply::Done(Some(Datum::Integer(7))))
+            && replies(&world, 2, Reply::Failed(Failure::Device))
+    );
+    assert!(&rt; world.end().is_idle());
 }
