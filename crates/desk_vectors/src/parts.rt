@@ -184,3 +184,39 @@ fn a_failing_hand_is_told(rt: HostRuntime) {
         goes_by(&rt, rt.alloc(), pair.object(), call);
     }
 }
+
+// What comes of opening where the shelf has these bytes of the second part, and of saving a second pin of those.
+fn told(
+    rt: &impl Abort,
+    alloc: Global,
+    object: &Object,
+    stored: Bytes,
+    saved: Bytes,
+) -> (Option<OpenFault>, Option<SaveFault>) {
+    let mut shelf = MemShelf::new(alloc);
+    let mut hand = MemHand::new(alloc);
+    assert!(rt; shelf.store(b"pair.b", stored).is_ok());
+    let pins = pinned(rt, &mut hand, &[SEVEN, saved]);
+    comes_to(alloc, object, &pins, &mut shelf, &mut hand)
+}
+
+// Bytes that spell no array of one integer: one less, one more, none, another format, another kind, another length.
+const DAMAGED: [Bytes; 6] = [
+    b"\x01\x01\x00\x01\x00\x00\x00",
+    b"\x01\x01\x00\x01\x00\x00\x00\x07\x00",
+    b"",
+    b"\x02\x01\x00\x01\x00\x00\x00\x07",
+    b"\x01\x03\x00\x01\x00\x00\x00\x07",
+    b"\x01\x01\x00\x02\x00\x00\x00\x07\x00\x00\x00\x07",
+];
+
+#[test]
+fn damaged_parts_are_told(rt: HostRuntime) {
+    let pair = accepted(&rt, rt.alloc(), PAIR);
+    for bytes in DAMAGED {
+        let opened = told(&rt, rt.alloc(), pair.object(), bytes, SEVEN);
+        let saved = told(&rt, rt.alloc(), pair.object(), SEVEN, bytes);
+        assert!(rt; opened == (Some(OpenFault::Damaged(1)), None));
+        assert!(rt; saved == (None, Some(SaveFault::Damaged(1))));
+    }
+}
