@@ -1,4 +1,4 @@
-//! When an office is closed. (What a room answers is proved.)
+//! When a room and an office are closed.
 
 use crate::make::{finish, room, stuck, turn};
 use board_core::receipt::Receipt;
@@ -66,6 +66,27 @@ fn one(rt: &impl Abort, alloc: Global, receipt: Receipt) -> Vec<Receipt> {
     let mut all = Vec::new(alloc);
     all.push(receipt).expect(rt, "memory");
     all
+}
+
+#[test]
+fn a_room_closes_with_its_seat_and_its_receipt(rt: HostRuntime) {
+    let alloc = rt.alloc();
+    let mut hand = MemHand::new(alloc);
+    let mut room = room(&rt, alloc, &mut hand);
+    let pins = room.desk().pins();
+    let mut seat = room.seat().expect(&rt, "a seat");
+    let own = turn(&rt, alloc, &mut room, &mut seat, &mut hand, 7).expect(&rt, "a receipt");
+    let foreign = one(&rt, alloc, foreign(&rt, alloc));
+    let own = one(&rt, alloc, own);
+    let why = CloseFault::SeatMissing;
+    let (room, mut seats) = refused(&rt, room.close(Vec::new(alloc), &[]), why, 1);
+    seats.push(seat).expect(&rt, "memory");
+    let why = CloseFault::Mismatch {
+        receipt: 0,
+        place: 1,
+    };
+    let (room, seats) = refused(&rt, room.close(seats, &foreign), why, 1);
+    assert!(rt; is_closed(room.close(seats, &own), pins));
 }
 
 // Makes a call of `put` in an office from beginning to end.

@@ -55,6 +55,14 @@ fn is_answered(rt: &impl Abort, alloc: Global, reader: &mut Choppy) {
 }
 
 #[test]
+fn a_script_may_come_in_any_pieces(rt: HostRuntime) {
+    for most in 1..5 {
+        is_answered(&rt, rt.alloc(), &mut Choppy::new(SCRIPT, most));
+    }
+    is_answered(&rt, rt.alloc(), &mut Choppy::new(SCRIPT, 65_536));
+}
+
+#[test]
 fn a_read_that_a_signal_broke_is_made_again(rt: HostRuntime) {
     for fails_at in 0..4 {
         let mut reader = Choppy::failing(SCRIPT, 50, fails_at, ErrorKind::Interrupted);

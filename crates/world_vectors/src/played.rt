@@ -15,16 +15,17 @@ const CELL: &[u8] = b"object cell;
 end;
 ";
 
-// Whether the entry at a place of the history replies so.
-fn replies(world: &World, place: usize, want: Reply) -> bool {
+// What the entry at a place of the history replies.
+fn reply_at(world: &World, place: usize) -> Option<Reply> {
     match world.desk().history().get(place) {
-        Some(entry) => entry.reply() == want,
-        None => false,
+        Some(entry) => Some(entry.reply()),
+        None => None,
     }
 }
 
 #[test]
 fn events_are_played_in_order(rt: HostRuntime) {
+    let alloc = rt.alloc();
     let events = [
         Event::Call(1, "put", &[Datum::Integer(7)]),
         Event::Call(2, "GET", &[]),
@@ -43,13 +44,11 @@ fn events_are_played_in_order(rt: HostRuntime) {
         Event::Cancel(3),
         Event::Drop(3),
     ];
-    let cell = accepted(&rt, rt.alloc(), CELL);
-    let world = World::play(rt.alloc(), cell, &events).expect(&rt, "memory");
-    assert!(&rt;
-        world.desk().history().len() == 3
-            && replies(&world, 0, Reply::Done(None))
-            && replies(&world, 1, Reply::Done(Some(Datum::Integer(7))))
-            && replies(&world, 2, Reply::Failed(Failure::Device))
-    );
-    assert!(&rt; world.end().is_idle());
+    let world = World::play(alloc, accepted(&rt, alloc, CELL), &events).expect(&rt, "memory");
+    assert!(&rt; world.desk().history().len() == 3);
+    assert!(&rt; reply_at(&world, 0) == Some(Reply::Done(None)));
+    assert!(&rt; reply_at(&world, 1) == Some(Reply::Done(Some(Datum::Integer(7)))));
+    assert!(&rt; reply_at(&world, 2) == Some(Reply::Failed(Failure::Device)));
+    let desk = world.end();
+    assert!(&rt; desk.is_idle());
 }
