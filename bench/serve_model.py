@@ -1,0 +1,161 @@
+#!/usr/bin/env python3
+"""Measures `pathserve serve` on loads of several kinds, beside what a small model makes of the paths.
+
+usage: bench/serve_model.py [--program FILE] [--calls N] [--runs N]
+
+Calls that the paths let overlap share the processors: they come to 1 / machine a second, where `machine` is what a call takes of all
+processors, server and load together; but a connection makes one call at a time, so no more than connections / latency.
+Calls that exclude each other take turns: 1 / held, where `held` is the time from one such start to the next. Three cases are measured
+to get these numbers, and marked `*`; what the model says of the others follows from them:
+
+  latency  of a `get` over one connection
+  machine  of a `get` over 16 connections, and of a `put` by the processor time that 16 connections of puts took
+  held     by a `put` over 16 connections
+
+A row a case: calls a second as measured (the median of the runs) and by the model, and the ratio. The program is
+crates/pathserve/out/pathserve unless another is named; N calls a case, 48,000 where it is not given, in 3 runs. It needs `cc`. The load
+runs on the same machine, so the figures are of both. It is no part of the gate.
+"""
+import argparse
+import os
+import pathlib
+import socket
+import statistics
+import subprocess
+import tempfile
+
+TOP = pathlib.Path(__file__).resolve().parent.parent
+PROGRAM = TOP / "crates" / "pathserve" / "out" / "pathserve"
+CELL = """object {name};
+  path {path} end;
+  var v : array [1] of integer;
+  entry function get : integer; begin get := v[0] end;
+  entry procedure put(x : integer); begin v[0] := x end;
+end;
+"""
+SHARED = "1:([get], put)"
+BUFFER = (TOP / "examples" / "objects" / "bounded_buffer.pp").read_text(encoding="ascii")
+GETS, MIXED = "get", ",".join(["get"] * 9 + ["put 7"])
+
+
+class Case:
+    """A title, a source of objects, the groups of the load, and what the model says: a function of the numbers."""
+
+    def __init__(self, title, source, groups, rate):
+        self.title, self.source, self.groups, self.rate = title, source, groups, rate
+
+    def words(self, calls):
+        """The groups as the load takes them: the calls are spread over all connections."""
+        connections = sum(it[1] for it in self.groups)
+        return [f"{name}:{count}:{calls // connections}:{kinds}" for name, count, kinds in self.groups]
+
+
+def gets(connections):
+    return Case(f"get, {connections} connections", CELL.format(name="cell", path=SHARED), [("cell", connections, GETS)],
+                lambda it: min(connections / it.latency, 1 / it.machine_get))
+
+
+def puts(objects, connections):
+    """Puts of so many objects, over so many connections in all."""
+    names = [f"cell{it}" for it in range(objects)]
+    source = "".join(CELL.format(name=it, path=SHARED) for it in names)
+    return Case(f"put, {objects} objects, {connections} connections", source, [(it, connections // objects, "put 7") for it in names],
+                lambda it: min(objects / it.held, 1 / it.machine_put))
+
+
+CASES = [
+    gets(1),
+    gets(2),
+    gets(16),
+    gets(64),
+    puts(1, 16),
+    puts(1, 64),
+    puts(2, 16),
+    puts(4, 16),
+    puts(8, 16),
+    Case("one put in ten, 16 connections", CELL.format(name="cell", path=SHARED), [("cell", 16, MIXED)],
+         lambda it: 10 / (9 * it.machine_get + it.held)),
+    Case("get, one at a time (1:(get, put)), 16 connections", CELL.format(name="cell", path="1:(get, put)"), [("cell", 16, GETS)],
+         lambda it: 1 / it.held),
+    Case("bounded buffer, 8 put and 8 get", BUFFER, [("bounded_buffer", 8, "put 'bread'"), ("bounded_buffer", 8, GETS)],
+         lambda it: 1 / it.held),
+]
+
+
+class Numbers:
+    """The numbers of the model, from the cases that are measured for them."""
+
+    def __init__(self, found):
+        alone, shared, excluded = (found[it] for it in (CASES[0], CASES[2], CASES[4]))
+        self.used = {CASES[0], CASES[2], CASES[4]}
+        self.latency, self.machine_get, self.held = 1 / alone.rate, 1 / shared.rate, 1 / excluded.rate
+        self.machine_put = excluded.processor / (os.cpu_count() or 1)
+
+
+class Measured:
+    """Calls a second, and the processor seconds of a call, of the server and of the load."""
+
+    def __init__(self, runs):
+        self.rate = statistics.median(calls / seconds for calls, seconds, _, _ in runs)
+        self.server, self.load = (statistics.median(it[at] / it[0] for it in runs) for at in (2, 3))
+        self.processor = self.server + self.load
+
+
+def free_port():
+    with socket.socket() as it:
+        it.bind(("127.0.0.1", 0))
+        return it.getsockname()[1]
+
+
+def ran(program, load, case, calls):
+    """One run: calls, seconds, the processor seconds of the server and of the load."""
+    connections = sum(it[1] for it in case.groups)
+    with tempfile.TemporaryDirectory() as folder:
+        source, port = pathlib.Path(folder) / "source.pp", str(free_port())
+        source.write_text(case.source, encoding="ascii")
+        words = [program, "serve", source, folder, port, "--sessions", str(connections)]
+        with subprocess.Popen(words, stdout=subprocess.PIPE, text=True) as server:
+            try:
+                if not server.stdout.readline().startswith("listening"):
+                    raise SystemExit(f"{case.title}: the server does not listen")
+                done = subprocess.run([load, port, *case.words(calls)], capture_output=True, text=True, timeout=300)
+                if done.returncode:
+                    raise SystemExit(f"{case.title}: {done.stderr}")
+                server.stdout.read()
+                _, status, used = os.wait4(server.pid, 0)
+                server.returncode = os.waitstatus_to_exitcode(status)
+            finally:
+                if server.returncode is None:
+                    server.kill()
+    if server.returncode:
+        raise SystemExit(f"{case.title}: the server ended with status {server.returncode}")
+    told = done.stdout.split()
+    return int(told[1]), float(told[3]), used.ru_utime + used.ru_stime, float(told[5])
+
+
+def main():
+    parser = argparse.ArgumentParser(description=__doc__, formatter_class=argparse.RawDescriptionHelpFormatter)
+    parser.add_argument("--program", type=pathlib.Path, default=PROGRAM)
+    parser.add_argument("--calls", type=int, default=48_000)
+    parser.add_argument("--runs", type=int, default=3)
+    args = parser.parse_args()
+    with tempfile.TemporaryDirectory() as folder:
+        load = pathlib.Path(folder) / "load"
+        subprocess.run(["cc", "-O2", "-pthread", "-o", load, TOP / "bench" / "load.c"], check=True)
+        # The runs go round the cases, so that what else the machine does falls on all.
+        runs = {it: [] for it in CASES}
+        for _ in range(args.runs):
+            for case in CASES:
+                runs[case].append(ran(args.program, load, case, args.calls))
+    found = {case: Measured(some) for case, some in runs.items()}
+    numbers = Numbers(found)
+    for case, it in found.items():
+        said = case.rate(numbers)
+        print(f"{case.title:50} {it.rate:8.0f}  model {said:8.0f}  ratio {it.rate / said:5.2f}  processor us a call: "
+              f"server {it.server * 1e6:5.1f}, load {it.load * 1e6:5.1f}{'  *' if case in numbers.used else ''}")
+    print(f"latency {numbers.latency * 1e6:.1f} us, machine {numbers.machine_get * 1e6:.1f} us a get, {numbers.machine_put * 1e6:.1f} us a put, "
+          f"held {numbers.held * 1e6:.1f} us; processors {os.cpu_count()}, load of the machine {os.getloadavg()[0]:.1f}")
+
+
+if __name__ == "__main__":
+    main()
