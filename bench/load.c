@@ -4,7 +4,8 @@
  * build: cc -O2 -pthread -o load load.c
  *
  * Each connection of a group opens the object and makes CALLS calls, which go round its list; the next connection begins one
- * further in the list. Prints `calls N seconds S processor P`, the processor time of this program; ends with 1 where a call was not done.
+ * further in the list. Then prints `calls N seconds S processor P`, the processor time of this program, and says `quit` when its
+ * standard input ends. Ends with 1 where a call was not done.
  */
 #include <arpa/inet.h>
 #include <netinet/tcp.h>
@@ -85,6 +86,7 @@ static void *talk(void *argument)
             fail("a call was not done");
     }
     pthread_barrier_wait(&ready);
+    pthread_barrier_wait(&ready);
     say(it, "quit", "");
     hears(it, "bye");
     close(it->socket);
@@ -140,10 +142,14 @@ int main(int words, char **word)
     double begin = now();
     pthread_barrier_wait(&ready);
     double seconds = now() - begin;
-    for (int k = 0; k < count; k++)
-        pthread_join(threads[k], NULL);
     getrusage(RUSAGE_SELF, &used);
     printf("calls %d seconds %.4f processor %.4f\n", calls, seconds,
            (double)(used.ru_utime.tv_sec + used.ru_stime.tv_sec) + (double)(used.ru_utime.tv_usec + used.ru_stime.tv_usec) / 1e6);
+    fflush(stdout);
+    while (getchar() != EOF)
+        ;
+    pthread_barrier_wait(&ready);
+    for (int k = 0; k < count; k++)
+        pthread_join(threads[k], NULL);
     return 0;
 }

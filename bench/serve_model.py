@@ -13,8 +13,8 @@ to get these numbers, and marked `*`; what the model says of the others follows 
   held     by a `put` over 16 connections
 
 A row a case: calls a second as measured (the median of the runs) and by the model, and the ratio. The program is
-crates/pathserve/out/pathserve unless another is named; N calls a case, 48,000 where it is not given, in 3 runs. It needs `cc`. The load
-runs on the same machine, so the figures are of both. It is no part of the gate.
+crates/pathserve/out/pathserve unless another is named; N calls a case, 48,000 where it is not given, but 3,000 a connection at most. It
+needs `cc`. The load runs on the same machine, so the figures are of both. It is no part of the gate.
 """
 import argparse
 import os
@@ -35,6 +35,8 @@ end;
 """
 SHARED = "1:([get], put)"
 BUFFER = (TOP / "examples" / "objects" / "bounded_buffer.pp").read_text(encoding="ascii")
+# The calls of a connection at most.
+MOST = 3_000
 GETS, MIXED = "get", ",".join(["get"] * 9 + ["put 7"])
 
 
@@ -47,7 +49,7 @@ class Case:
     def words(self, calls):
         """The groups as the load takes them: the calls are spread over all connections."""
         connections = sum(it[1] for it in self.groups)
-        return [f"{name}:{count}:{calls // connections}:{kinds}" for name, count, kinds in self.groups]
+        return [f"{name}:{count}:{min(calls // connections, MOST)}:{kinds}" for name, count, kinds in self.groups]
 
 
 def gets(connections):
@@ -107,8 +109,26 @@ def free_port():
         return it.getsockname()[1]
 
 
+def processor_time(process):
+    """The processor seconds of a process that runs, its threads included."""
+    fields = pathlib.Path(f"/proc/{process}/stat").read_text(encoding="ascii").rpartition(")")[2].split()
+    return (int(fields[11]) + int(fields[12])) / os.sysconf("SC_CLK_TCK")
+
+
+def loaded(load, port, server, words):
+    """Loads a server: calls, seconds, the processor seconds of the server and of the load."""
+    used = processor_time(server)
+    with subprocess.Popen([load, port, *words], stdin=subprocess.PIPE, stdout=subprocess.PIPE, text=True) as it:
+        told = it.stdout.readline().split()
+        used = processor_time(server) - used
+        it.stdin.close()
+        if it.wait():
+            raise SystemExit("the load failed")
+    return int(told[1]), float(told[3]), used, float(told[5])
+
+
 def ran(program, load, case, calls):
-    """One run: calls, seconds, the processor seconds of the server and of the load."""
+    """One run of a case."""
     connections = sum(it[1] for it in case.groups)
     with tempfile.TemporaryDirectory() as folder:
         source, port = pathlib.Path(folder) / "source.pp", str(free_port())
@@ -118,19 +138,13 @@ def ran(program, load, case, calls):
             try:
                 if not server.stdout.readline().startswith("listening"):
                     raise SystemExit(f"{case.title}: the server does not listen")
-                done = subprocess.run([load, port, *case.words(calls)], capture_output=True, text=True, timeout=300)
-                if done.returncode:
-                    raise SystemExit(f"{case.title}: {done.stderr}")
-                server.stdout.read()
-                _, status, used = os.wait4(server.pid, 0)
-                server.returncode = os.waitstatus_to_exitcode(status)
+                found = loaded(load, port, server.pid, case.words(calls))
+                server.communicate(timeout=300)
             finally:
-                if server.returncode is None:
-                    server.kill()
+                server.kill()
     if server.returncode:
         raise SystemExit(f"{case.title}: the server ended with status {server.returncode}")
-    told = done.stdout.split()
-    return int(told[1]), float(told[3]), used.ru_utime + used.ru_stime, float(told[5])
+    return found
 
 
 def main():
