@@ -3,18 +3,18 @@
 
 usage: bench/serve_model.py [--program FILE] [--calls N] [--runs N]
 
-Calls that the paths let overlap share the processors: they come to 1 / machine a second, where `machine` is what a call takes of all
-processors, server and load together; but a connection makes one call at a time, so no more than connections / latency.
-Calls that exclude each other take turns: 1 / held, where `held` is the time from one such start to the next. Three cases are measured
-to get these numbers, and marked `*`; what the model says of the others follows from them:
+Calls that the paths let overlap share the processors: 1 / machine a second, where `machine` is what a call takes of all processors,
+server and load together; but a connection makes one call at a time, so no more than connections / latency. Calls that exclude each other
+take turns: 1 / held a second and object, where `held` is the time from one such start to the next. The model takes its numbers from the
+cases marked `*`: `machine` of a get and `held` of a put, each over 16 connections, and what each operation takes over one
+connection, its latency. Of an operation X
 
-  latency  of a `get` over one connection
-  machine  of a `get` over 16 connections, and of a `put` by the processor time that 16 connections of puts took
-  held     by a `put` over 16 connections
+  machine = machine of get + (latency of X - latency of get) / processors
+  held    = held by put    + (latency of X - latency of put)
 
-A row a case: calls a second as measured (the median of the runs) and by the model, and the ratio. The program is
-crates/pathserve/out/pathserve unless another is named; N calls a case, 48,000 where it is not given, but 3,000 a connection at most. It
-needs `cc`. The load runs on the same machine, so the figures are of both. It is no part of the gate.
+A row a case: calls a second as measured (the median of the runs, and the least and the most) and by the model, and the ratio. The
+program is crates/pathserve/out/pathserve unless another is named; N calls a case, 16,000 where it is not given, but 3,000 a connection
+at most; 9 runs. It needs `cc`. The load runs on the same machine, so the figures are of both. It is no part of the gate.
 """
 import argparse
 import os
@@ -37,6 +37,7 @@ SHARED = "1:([get], put)"
 BUFFER = (TOP / "examples" / "objects" / "bounded_buffer.pp").read_text(encoding="ascii")
 # The calls of a connection at most.
 MOST = 3_000
+PROCESSORS = os.cpu_count() or 1
 GETS, MIXED = "get", ",".join(["get"] * 9 + ["put 7"])
 
 
@@ -53,54 +54,67 @@ class Case:
 
 
 def gets(connections):
-    return Case(f"get, {connections} connections", CELL.format(name="cell", path=SHARED), [("cell", connections, GETS)],
-                lambda it: min(connections / it.latency, 1 / it.machine_get))
+    return Case(f"get, connections: {connections}", CELL.format(name="cell", path=SHARED), [("cell", connections, GETS)],
+                lambda it: min(connections / it.latency["get"], 1 / it.machine("get")))
 
 
 def puts(objects, connections):
     """Puts of so many objects, over so many connections in all."""
     names = [f"cell{it}" for it in range(objects)]
     source = "".join(CELL.format(name=it, path=SHARED) for it in names)
-    return Case(f"put, {objects} objects, {connections} connections", source, [(it, connections // objects, "put 7") for it in names],
-                lambda it: min(objects / it.held, 1 / it.machine_put))
+
+    def rate(numbers):
+        alone = connections / numbers.latency["put"]
+        return alone if connections == 1 else min(alone, objects / numbers.held("put"), 1 / numbers.machine("put"))
+
+    return Case(f"put, connections: {connections}, objects: {objects}", source, [(it, connections // objects, "put 7") for it in names], rate)
 
 
+# What the numbers of the model are taken from: an operation over one connection, and 16 connections that overlap or take turns.
+ALONE = {"get": gets(1), "put": puts(1, 1), "buffer": Case("bounded buffer, connections: 1, put and get in turn", BUFFER,
+         [("bounded_buffer", 1, "put 'bread',get")], lambda it: 1 / it.latency["buffer"])}
+OVERLAP, TURNS = gets(16), puts(1, 16)
 CASES = [
-    gets(1),
+    *ALONE.values(),
+    OVERLAP,
+    TURNS,
     gets(2),
-    gets(16),
+    gets(4),
     gets(64),
-    puts(1, 16),
     puts(1, 64),
     puts(2, 16),
     puts(4, 16),
     puts(8, 16),
-    Case("one put in ten, 16 connections", CELL.format(name="cell", path=SHARED), [("cell", 16, MIXED)],
-         lambda it: 10 / (9 * it.machine_get + it.held)),
-    Case("get, one at a time (1:(get, put)), 16 connections", CELL.format(name="cell", path="1:(get, put)"), [("cell", 16, GETS)],
-         lambda it: 1 / it.held),
+    Case("one put in ten gets, connections: 16", CELL.format(name="cell", path=SHARED), [("cell", 16, MIXED)],
+         lambda it: 10 / (9 * it.machine("get") + it.held("put"))),
+    Case("get by 1:(get, put), connections: 16", CELL.format(name="cell", path="1:(get, put)"), [("cell", 16, GETS)],
+         lambda it: 1 / it.held("get")),
     Case("bounded buffer, 8 put and 8 get", BUFFER, [("bounded_buffer", 8, "put 'bread'"), ("bounded_buffer", 8, GETS)],
-         lambda it: 1 / it.held),
+         lambda it: 1 / it.held("buffer")),
 ]
 
 
 class Numbers:
-    """The numbers of the model, from the cases that are measured for them."""
+    """The numbers of the model, in seconds, from the cases that are measured for them."""
 
     def __init__(self, found):
-        alone, shared, excluded = (found[it] for it in (CASES[0], CASES[2], CASES[4]))
-        self.used = {CASES[0], CASES[2], CASES[4]}
-        self.latency, self.machine_get, self.held = 1 / alone.rate, 1 / shared.rate, 1 / excluded.rate
-        self.machine_put = excluded.processor / (os.cpu_count() or 1)
+        self.latency = {name: 1 / found[it].rate for name, it in ALONE.items()}
+        self.overlap, self.turn = 1 / found[OVERLAP].rate, 1 / found[TURNS].rate
+
+    def machine(self, name):
+        return self.overlap + (self.latency[name] - self.latency["get"]) / PROCESSORS
+
+    def held(self, name):
+        return self.turn + self.latency[name] - self.latency["put"]
 
 
 class Measured:
     """Calls a second, and the processor seconds of a call, of the server and of the load."""
 
     def __init__(self, runs):
-        self.rate = statistics.median(calls / seconds for calls, seconds, _, _ in runs)
+        self.rates = sorted(calls / seconds for calls, seconds, _, _ in runs)
+        self.rate = statistics.median(self.rates)
         self.server, self.load = (statistics.median(it[at] / it[0] for it in runs) for at in (2, 3))
-        self.processor = self.server + self.load
 
 
 def free_port():
@@ -150,8 +164,8 @@ def ran(program, load, case, calls):
 def main():
     parser = argparse.ArgumentParser(description=__doc__, formatter_class=argparse.RawDescriptionHelpFormatter)
     parser.add_argument("--program", type=pathlib.Path, default=PROGRAM)
-    parser.add_argument("--calls", type=int, default=48_000)
-    parser.add_argument("--runs", type=int, default=3)
+    parser.add_argument("--calls", type=int, default=16_000)
+    parser.add_argument("--runs", type=int, default=9)
     args = parser.parse_args()
     with tempfile.TemporaryDirectory() as folder:
         load = pathlib.Path(folder) / "load"
@@ -162,13 +176,15 @@ def main():
             for case in CASES:
                 runs[case].append(ran(args.program, load, case, args.calls))
     found = {case: Measured(some) for case, some in runs.items()}
-    numbers = Numbers(found)
+    numbers, taken = Numbers(found), {*ALONE.values(), OVERLAP, TURNS}
+    print(f"{'case':49} {'calls a second':>14} {'least':>8} {'most':>8} {'model':>8} {'ratio':>6}  processor us of server, load")
     for case, it in found.items():
         said = case.rate(numbers)
-        print(f"{case.title:50} {it.rate:8.0f}  model {said:8.0f}  ratio {it.rate / said:5.2f}  processor us a call: "
-              f"server {it.server * 1e6:5.1f}, load {it.load * 1e6:5.1f}{'  *' if case in numbers.used else ''}")
-    print(f"latency {numbers.latency * 1e6:.1f} us, machine {numbers.machine_get * 1e6:.1f} us a get, {numbers.machine_put * 1e6:.1f} us a put, "
-          f"held {numbers.held * 1e6:.1f} us; processors {os.cpu_count()}, load of the machine {os.getloadavg()[0]:.1f}")
+        print(f"{case.title:49} {it.rate:14.0f} {it.rates[0]:8.0f} {it.rates[-1]:8.0f} {said:8.0f} {it.rate / said:6.2f}  "
+              f"{it.server * 1e6:.1f}, {it.load * 1e6:.1f}{' *' if case in taken else ''}")
+    alone = ", ".join(f"{name} {it * 1e6:.1f}" for name, it in numbers.latency.items())
+    print(f"us: latency {alone}; machine of a get {numbers.overlap * 1e6:.1f}, held by a put {numbers.turn * 1e6:.1f}; "
+          f"processors {PROCESSORS}, load of the machine {os.getloadavg()[0]:.1f}")
 
 
 if __name__ == "__main__":
