@@ -1,11 +1,12 @@
 /* Loads a server of objects: each connection makes its calls one after the other, and all do so at once.
  *
- * usage: load PORT GROUP ..    (a GROUP is OBJECT:CONNECTIONS:CALLS:CALL,CALL,.. as in "cell:8:1000:get,put 7")
+ * usage: load PORT GROUP ..    (a GROUP is OBJECT:CONNECTIONS:CALLS:CALL,CALL,.. as in "cell:8:1000:get,put #")
  * build: cc -O2 -pthread -o load load.c
  *
  * Each connection of a group opens the object and makes CALLS calls, which go round its list; the next connection begins one
- * further in the list. Then prints `calls N seconds S processor P`, the processor time of this program, and says `quit` when its
- * standard input ends. Ends with 1 where a call was not done.
+ * further in the list. A `#` is a number that no other call of the group has: a put of what is there already writes nothing. Then it
+ * prints `calls N seconds S processor P`, the processor time of this program, and says `quit` when its standard input ends. Ends
+ * with 1 where a call was not done.
  */
 #include <arpa/inet.h>
 #include <netinet/tcp.h>
@@ -64,6 +65,17 @@ static void say(struct connection *it, const char *word, const char *text)
         fail("a line was not sent");
 }
 
+/* Makes the next call: its text with a number of its own in place of a `#`. */
+static void call(struct connection *it, int made)
+{
+    const char *kind = it->kind[(it->begin + made) % it->kinds], *mark = strchr(kind, '#');
+    char text[256];
+
+    if (mark)
+        snprintf(text, sizeof text, "%.*s%d%s", (int)(mark - kind), kind, it->begin * 1000000 + made + 1, mark + 1);
+    say(it, "call ", mark ? text : kind);
+}
+
 static void *talk(void *argument)
 {
     struct connection *it = argument;
@@ -81,7 +93,7 @@ static void *talk(void *argument)
         fail("the object was not opened");
     pthread_barrier_wait(&ready);
     for (int made = 0; made < it->calls; made++) {
-        say(it, "call ", it->kind[(it->begin + made) % it->kinds]);
+        call(it, made);
         if (!hears(it, "accepted ") || !hears(it, "done "))
             fail("a call was not done");
     }

@@ -14,7 +14,8 @@ connection, its latency. Of an operation X
 
 A row a case: calls a second as measured (the median of the runs, and the least and the most) and by the model, and the ratio. The
 program is crates/pathserve/out/pathserve unless another is named; N calls a case, 16,000 where it is not given, but 3,000 a connection
-at most; 9 runs. It needs `cc`. The load runs on the same machine, so the figures are of both. It is no part of the gate.
+at most; 9 runs. The folders are made where TMPDIR says. It needs `cc`. The load runs on the same machine, so the figures are of
+both. It is no part of the gate.
 """
 import argparse
 import os
@@ -38,7 +39,7 @@ BUFFER = (TOP / "examples" / "objects" / "bounded_buffer.pp").read_text(encoding
 # The calls of a connection at most.
 MOST = 3_000
 PROCESSORS = os.cpu_count() or 1
-GETS, MIXED = "get", ",".join(["get"] * 9 + ["put 7"])
+GETS, MIXED = "get", ",".join(["get"] * 9 + ["put #"])
 
 
 class Case:
@@ -67,7 +68,7 @@ def puts(objects, connections):
         alone = connections / numbers.latency["put"]
         return alone if connections == 1 else min(alone, objects / numbers.held("put"), 1 / numbers.machine("put"))
 
-    return Case(f"put, connections: {connections}, objects: {objects}", source, [(it, connections // objects, "put 7") for it in names], rate)
+    return Case(f"put, connections: {connections}, objects: {objects}", source, [(it, connections // objects, "put #") for it in names], rate)
 
 
 # What the numbers of the model are taken from: an operation over one connection, and 16 connections that overlap or take turns.
