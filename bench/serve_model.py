@@ -1,7 +1,7 @@
 #!/usr/bin/env python3
 """Measures `pathserve serve` on loads of several kinds, beside what a small model makes of the paths.
 
-usage: bench/serve_model.py [--program FILE] [--calls N] [--runs N]
+usage: bench/serve_model.py [--program FILE] [--calls N] [--runs N] [--rows]
 
 Calls that the paths let overlap share the processors: 1 / machine a second, where `machine` is what a call takes of all processors,
 server and load together; but a connection makes one call at a time, so no more than connections / latency. Calls that exclude each other
@@ -15,7 +15,7 @@ connection, its latency. Of an operation X
 A row a case: calls a second as measured (the median of the runs, and the least and the most) and by the model, and the ratio. The
 program is crates/pathserve/out/pathserve unless another is named; N calls a case, 16,000 where it is not given, but 3,000 a connection
 at most; 9 runs. The folders are made where TMPDIR says. It needs `cc`. The load runs on the same machine, so the figures are of
-both. It is no part of the gate.
+both. --rows prints the rows as docs/SERVING.md has them. It is no part of the gate.
 """
 import argparse
 import os
@@ -54,8 +54,12 @@ class Case:
         return [f"{name}:{count}:{min(calls // connections, MOST)}:{kinds}" for name, count, kinds in self.groups]
 
 
+def counted(connections):
+    return f"{connections} connection{'s' * (connections > 1)}"
+
+
 def gets(connections):
-    return Case(f"get, connections: {connections}", CELL.format(name="cell", path=SHARED), [("cell", connections, GETS)],
+    return Case(f"get of `{SHARED}`, {counted(connections)}", CELL.format(name="cell", path=SHARED), [("cell", connections, GETS)],
                 lambda it: min(connections / it.latency["get"], 1 / it.machine("get")))
 
 
@@ -68,11 +72,11 @@ def puts(objects, connections):
         alone = connections / numbers.latency["put"]
         return alone if connections == 1 else min(alone, objects / numbers.held("put"), 1 / numbers.machine("put"))
 
-    return Case(f"put, connections: {connections}, objects: {objects}", source, [(it, connections // objects, "put #") for it in names], rate)
+    return Case(f"put{f' of {objects} objects' * (objects > 1)}, {counted(connections)}", source, [(it, connections // objects, "put #") for it in names], rate)
 
 
 # What the numbers of the model are taken from: an operation over one connection, and 16 connections that overlap or take turns.
-ALONE = {"get": gets(1), "put": puts(1, 1), "buffer": Case("bounded buffer, connections: 1, put and get in turn", BUFFER,
+ALONE = {"get": gets(1), "put": puts(1, 1), "buffer": Case("bounded buffer, 1 connection, put and get in turn", BUFFER,
          [("bounded_buffer", 1, "put 'bread',get")], lambda it: 1 / it.latency["buffer"])}
 OVERLAP, TURNS = gets(16), puts(1, 16)
 CASES = [
@@ -86,11 +90,11 @@ CASES = [
     puts(2, 16),
     puts(4, 16),
     puts(8, 16),
-    Case("one put in ten gets, connections: 16", CELL.format(name="cell", path=SHARED), [("cell", 16, MIXED)],
+    Case("one put in ten gets, 16 connections", CELL.format(name="cell", path=SHARED), [("cell", 16, MIXED)],
          lambda it: 10 / (9 * it.machine("get") + it.held("put"))),
-    Case("get by 1:(get, put), connections: 16", CELL.format(name="cell", path="1:(get, put)"), [("cell", 16, GETS)],
+    Case("get of `1:(get, put)`, 16 connections", CELL.format(name="cell", path="1:(get, put)"), [("cell", 16, GETS)],
          lambda it: 1 / it.held("get")),
-    Case("bounded buffer, 8 put and 8 get", BUFFER, [("bounded_buffer", 8, "put 'bread'"), ("bounded_buffer", 8, GETS)],
+    Case("bounded buffer, 8 connections put and 8 get", BUFFER, [("bounded_buffer", 8, "put 'bread'"), ("bounded_buffer", 8, GETS)],
          lambda it: 1 / it.held("buffer")),
 ]
 
@@ -162,11 +166,27 @@ def ran(program, load, case, calls):
     return found
 
 
+def print_table(found, numbers, taken):
+    print(f"{'case':51} {'calls a second':>14} {'least':>8} {'most':>8} {'model':>8} {'ratio':>6}  processor us of server, load")
+    for case, it in found.items():
+        said = case.rate(numbers)
+        print(f"{case.title:51} {it.rate:14.0f} {it.rates[0]:8.0f} {it.rates[-1]:8.0f} {said:8.0f} {it.rate / said:6.2f}  "
+              f"{it.server * 1e6:.1f}, {it.load * 1e6:.1f}{' *' if case in taken else ''}")
+
+
+def print_rows(found, numbers, taken):
+    for case, it in found.items():
+        said = case.rate(numbers)
+        model = "taken from it | " if case in taken else f"{said:,.0f} | {it.rate / said:.2f} "
+        print(f"| {case.title} | {it.rate:,.0f} | {it.rates[0]:,.0f} to {it.rates[-1]:,.0f} | {model}|")
+
+
 def main():
     parser = argparse.ArgumentParser(description=__doc__, formatter_class=argparse.RawDescriptionHelpFormatter)
     parser.add_argument("--program", type=pathlib.Path, default=PROGRAM)
     parser.add_argument("--calls", type=int, default=16_000)
     parser.add_argument("--runs", type=int, default=9)
+    parser.add_argument("--rows", action="store_true")
     args = parser.parse_args()
     with tempfile.TemporaryDirectory() as folder:
         load = pathlib.Path(folder) / "load"
@@ -178,11 +198,7 @@ def main():
                 runs[case].append(ran(args.program, load, case, args.calls))
     found = {case: Measured(some) for case, some in runs.items()}
     numbers, taken = Numbers(found), {*ALONE.values(), OVERLAP, TURNS}
-    print(f"{'case':49} {'calls a second':>14} {'least':>8} {'most':>8} {'model':>8} {'ratio':>6}  processor us of server, load")
-    for case, it in found.items():
-        said = case.rate(numbers)
-        print(f"{case.title:49} {it.rate:14.0f} {it.rates[0]:8.0f} {it.rates[-1]:8.0f} {said:8.0f} {it.rate / said:6.2f}  "
-              f"{it.server * 1e6:.1f}, {it.load * 1e6:.1f}{' *' if case in taken else ''}")
+    (print_rows if args.rows else print_table)(found, numbers, taken)
     alone = ", ".join(f"{name} {it * 1e6:.1f}" for name, it in numbers.latency.items())
     print(f"us: latency {alone}; machine of a get {numbers.overlap * 1e6:.1f}, held by a put {numbers.turn * 1e6:.1f}; "
           f"processors {PROCESSORS}, load of the machine {os.getloadavg()[0]:.1f}")
