@@ -84,7 +84,7 @@ impl Audit {
             Some(Said::Start(number, session, name, arguments)) => {
                 self.hear_start(object, number, session, name, arguments)
             }
-            Some(Said::End(number, reply)) => self.hear_end(object, number, reply),
+            Some(Said::End(number, told)) => self.hear_end(object, number, told.reply()),
         }
     }
 
