@@ -1,4 +1,4 @@
-use Rattle.std.proofs.Common.{List, sym, ◌∙◌, Some, None}
+use Rattle.std.proofs.Common.{List, sym, ◌∙◌, Some}
 use Rattle.std.proofs.lemmas.Bool.{false≢true}
 use Rattle.value_core.specs.declared.datum.Datum.{Datum}
 use Rattle.word_core.proofs.Lines.{shorter}
