@@ -1,9 +1,12 @@
 //! Replies as lines of a trace tell them.
 
-ghost use Rattle.std.specs.Prelude.{◌≡◌, ◌∷◌, ◌&&◌, Some, nat_le, length, IfOk, option_map, codes};
+ghost use Rattle.std.specs.Prelude.{◌≡◌, ◌∷◌, ◌&&◌, ◌↔◌, IsTrue, false, Some, None, nat_le, length, IfOk, option_map, codes};
 ghost use Rattle.std.specs.List.{list_all};
+ghost use Rattle.value_core.specs.declared.datum.Datum.TheVariants.{Integer};
 ghost use Rattle.word_core.specs.Words.{bare};
 ghost use Rattle.word_core.specs.View.{word_of};
+ghost use Rattle.body_core.specs.declared.reply.Reply.TheVariants.{Done};
+ghost use Rattle.audit_core.specs.Replies.{IsAnswer, IsFailure};
 ghost use Rattle.audit_core.specs.Said.{refused_by as refused_in, failed_by as failed_in, reply_of as reply_of_words, reply_behind, is_lower as is_lower_letter, is_refusal_text as is_refusal_word};
 ghost use Rattle.audit_core.specs.Reads.{Reads, done_reply as done_in, text_reply as text_in};
 ghost use Rattle.audit_core.specs.View.{told_view};
@@ -30,15 +33,58 @@ pub enum ToldReply {
 }
 
 impl ToldReply {
-    /// The reply itself.
-    pub fn reply(&self) -> Reply
-        ensures { result ≡ told_view self.now }
+    /// Whether it is that of a call that failed.
+    pub fn is_failure(&self) -> bool
+        ensures failure { IsTrue result → IsFailure (told_view self.now) }
+        ensures answer { result ≡ false → IsAnswer (told_view self.now) }
     {
         match self {
-            ToldReply::Nothing => Reply::Done(None),
-            ToldReply::Integer(number) => Reply::Done(Some(Datum::Integer(*number))),
-            ToldReply::Other(reply) => **reply,
+            ToldReply::Nothing => false,
+            ToldReply::Integer(_) => false,
+            ToldReply::Other(reply) => is_failed(reply),
         }
+    }
+
+    /// Whether it is this reply.
+    pub fn is_same(&self, given: &Reply) -> bool
+        ensures { IsTrue result ↔ (told_view self.now ≡ given.now) }
+    {
+        match self {
+            ToldReply::Nothing => is_nothing(given),
+            ToldReply::Integer(number) => is_integer(given, *number),
+            ToldReply::Other(reply) => reply.is_same(given),
+        }
+    }
+}
+
+fn is_failed(reply: &Reply) -> bool
+    ensures failure { IsTrue result → IsFailure reply.now }
+    ensures answer { result ≡ false → IsAnswer reply.now }
+{
+    match reply {
+        Reply::Done(_) => false,
+        Reply::Refused(_) => false,
+        Reply::Failed(_) => true,
+    }
+}
+
+// Whether a reply is that of a procedure that was done.
+fn is_nothing(reply: &Reply) -> bool
+    ensures { IsTrue result ↔ (Done None ≡ reply.now) }
+{
+    match reply {
+        Reply::Done(None) => true,
+        _ => false,
+    }
+}
+
+// Whether a reply is that of a function that was done and replies this integer.
+fn is_integer(reply: &Reply, number: u32) -> bool
+    ensures { IsTrue result ↔ (Done (Some (Integer number)) ≡ reply.now) }
+{
+    match reply {
+        Reply::Done(Some(Datum::Integer(given))) => *given == number,
+        _ => false,
     }
 }
 
