@@ -21,6 +21,7 @@ IsAnswer (Done reply) = Unit {0}
 IsAnswer (Refused word) = Unit {0}
 IsAnswer (Failed failure) = ⊥
 
+-- the reply of a call that failed
 abbrev pub IsFailure : Reply → Type 0
 IsFailure (Done reply) = ⊥
 IsFailure (Refused word) = ⊥

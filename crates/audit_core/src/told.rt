@@ -21,7 +21,7 @@ use word_core::next::{Next, next_word};
 use word_core::number::integer_of;
 use word_core::word::Word;
 
-/// The reply that a line tells. A long one lies apart, so that what a line says is small and is handed on at no cost.
+/// The reply that a line tells. A long one lies apart, so that what a line says is small and cheap to hand on.
 #[derive(Drop)]
 pub enum ToldReply {
     /// `done`.
