@@ -1,0 +1,76 @@
+"""What the tools share that serve objects: the program, a port, and what a trace says beside what clients were told."""
+import pathlib
+import random
+import re
+import socket
+import subprocess
+
+TOP = pathlib.Path(__file__).resolve().parent.parent
+PROGRAM = TOP / "crates" / "pathserve" / "out" / "pathserve"
+SECONDS = 60
+LAST_LINE = re.compile(r"(done|refused|failed|cancelled) (\d+)(?: (.*))?")
+# Ports that the system gives to no connection of its own accord.
+PORTS = range(10_000, 32_000)
+
+
+def free_port():
+    """A port that nobody listens on, drawn, so that those of two servers that start together differ."""
+    while True:
+        with socket.socket() as it:
+            try:
+                it.bind(("127.0.0.1", random.choice(PORTS)))
+            except OSError:
+                continue
+            return it.getsockname()[1]
+
+
+class Told:
+    """What one connection was told: the object that it opened, and how each of its calls ended."""
+
+    def __init__(self):
+        self.object, self.ends, self.wrong = None, {}, []
+
+    def hear(self, line):
+        """Keeps what a line tells."""
+        if line.startswith("opened "):
+            self.object = line.removeprefix("opened ")
+        if not (found := LAST_LINE.fullmatch(line)):
+            return
+        number = int(found[2])
+        if number in self.ends:
+            self.wrong.append(f"call {number} ended twice")
+        self.ends[number] = found[1] + (f" {found[3]}" if found[3] is not None else "")
+
+
+def ended_calls(trace):
+    """What a trace says of how each call ended."""
+    found = {}
+    for line in trace.splitlines():
+        words = line.split(" ", 2)
+        if words[0] == "end":
+            found[int(words[1])] = words[2]
+    return found
+
+
+def audited(objects, trace):
+    """What `pathserve audit` says of a trace."""
+    words = [PROGRAM, "audit", objects, trace]
+    return subprocess.run(words, capture_output=True, text=True, check=False, timeout=SECONDS).stdout
+
+
+def traced_wrongly(objects, folder, name, all_told, entries):
+    """What the trace of an object in a folder has wrong: it has to be legal, with so many entries, and to end each call as it
+    was told."""
+    trace = folder / f"{name}.trace"
+    if not trace.exists():
+        return [f"{name}: no trace"]
+    ends = ended_calls(trace.read_text(encoding="ascii"))
+    said = audited(objects, trace)
+    is_whole = said == f"legal {entries}\n" and len(ends) == entries
+    wrong = [] if is_whole else [f"{name}: {entries} entries, {len(ends)} ends in the trace, audit says {said!r}"]
+    for number, told in ((number, end) for it in all_told if it.object == name for number, end in it.ends.items()):
+        if told == "cancelled" and number in ends:
+            wrong.append(f"{name}: call {number} was told cancelled, and ended")
+        elif told != "cancelled" and ends.get(number) != told:
+            wrong.append(f"{name}: call {number} was told {told!r}, and ended {ends.get(number)!r}")
+    return wrong
