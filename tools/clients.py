@@ -187,7 +187,12 @@ class Program(Client):
             raise Wrong(f"the client ended with status {self.ran.returncode}")
 
     def act(self, step, piece):
-        raise Wrong(f"a program can't do this: {step.form}")
+        """The one step that is a program's own: it ends with another status than 0."""
+        if step.form != "fails":
+            raise Wrong(f"a program can't do this: {step.form}")
+        super().hear_end()
+        if not self.ran.wait(max(self.end - time.monotonic(), 0.01)):
+            raise Wrong("the client ended with status 0")
 
     def close(self):
         self.ran.kill()

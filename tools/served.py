@@ -4,24 +4,28 @@ import random
 import re
 import socket
 import subprocess
+import threading
 
 TOP = pathlib.Path(__file__).resolve().parent.parent
 PROGRAM = TOP / "crates" / "pathserve" / "out" / "pathserve"
 SECONDS = 60
 LAST_LINE = re.compile(r"(done|refused|failed|cancelled) (\d+)(?: (.*))?")
-# Ports that the system gives to no connection of its own accord.
-PORTS = range(10_000, 32_000)
+# Ports that the system gives to no connection of its own accord, in an order of this process.
+PORTS = iter(random.sample(range(10_000, 32_000), 22_000))
+TURN = threading.Lock()
 
 
 def free_port():
-    """A port that nobody listens on, drawn, so that those of two servers that start together differ."""
-    while True:
-        with socket.socket() as it:
-            try:
-                it.bind(("127.0.0.1", random.choice(PORTS)))
-            except OSError:
-                continue
-            return it.getsockname()[1]
+    """A port that nobody listens on, another one each time."""
+    with TURN:
+        for port in PORTS:
+            with socket.socket() as it:
+                try:
+                    it.bind(("127.0.0.1", port))
+                except OSError:
+                    continue
+                return port
+    raise OSError("no port is free")
 
 
 class Told:

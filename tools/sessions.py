@@ -16,6 +16,7 @@ FORMS = {
     "sends no more": re.compile(r"(\w+) sends no more"),
     "resets": re.compile(r"(\w+) resets"),
     "ends": re.compile(r"(\w+) ends"),
+    "fails": re.compile(r"(\w+) fails"),
     "hears nothing": re.compile(r"(\w+) hears nothing"),
     "server starts": re.compile(r"(server) starts(?: (?P<text>.*))?"),
     "server ends": re.compile(r"(server) ends"),
@@ -172,7 +173,7 @@ def folder_faults(wanted, place):
     for name, held in wanted:
         if name == "*.val":
             count, _, least = held.partition(" above ")
-            if len(values) != int(count) or (least and values and values[0] <= int(least)):
+            if (count and len(values) != int(count)) or (least and values and values[0] <= int(least)):
                 faults.append(f"the value files {values}, not {held}")
         elif name.rstrip("/") not in names:
             faults.append(f"no {name}")
