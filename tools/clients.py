@@ -133,7 +133,7 @@ class Connection(Client):
         for at in range(0, len(text), piece or len(text)):
             self.it.sendall(text[at : at + (piece or len(text))])
             while piece and unread(self.port, self.own) and time.monotonic() < self.end:
-                time.sleep(0)
+                time.sleep(0.0002)
 
     def press(self, text):
         """Sends a text as far as it is taken."""
