@@ -16,15 +16,13 @@ TURN = threading.Lock()
 
 
 def free_port():
-    """A port that nobody listens on, another one each time."""
+    """A port that nobody listens on, another one each time. It is not bound to see that: a child between its fork and its exec
+    would have it bound on."""
     with TURN:
         for port in PORTS:
             with socket.socket() as it:
-                try:
-                    it.bind(("127.0.0.1", port))
-                except OSError:
-                    continue
-                return port
+                if it.connect_ex(("127.0.0.1", port)):
+                    return port
     raise OSError("no port is free")
 
 
