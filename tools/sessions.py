@@ -23,6 +23,7 @@ FORMS = {
     "server is killed": re.compile(r"(server) is killed"),
     "port is taken": re.compile(r"(port) is taken"),
     "folder is removed": re.compile(r"(folder) is removed"),
+    "file holds": re.compile(r"(file) (?P<text>\S+ holds [0-9a-f]*)"),
 }
 # Steps of one connection that follow one another are one step.
 JOINED = ("sends", "hears among")
@@ -53,7 +54,7 @@ class Story(Case):
 
 def form_of(line):
     """The form of a step, who does it, and its text."""
-    for form in ("server starts", "server ends", "server is killed", "port is taken", "folder is removed", *FORMS):
+    for form in (*(it for it in FORMS if " " in it), *FORMS):
         if found := FORMS[form].fullmatch(line):
             return form, found[1], found.groupdict().get("text") or ""
     return None
