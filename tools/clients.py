@@ -14,6 +14,8 @@ from served import Told
 # more, in seconds.
 QUIET, PRESSES = 0.2, 1
 RESET = struct.pack("ii", 1, 0)
+# The most bytes that are read at a time for a line, or that are kept of what a server writes.
+MOST_BYTES = 1 << 20
 
 
 class Wrong(Exception):
@@ -43,6 +45,8 @@ class Client:
         while b"\n" not in self.rest and not self.is_over:
             if not self.await_more(self.end - time.monotonic()):
                 raise Wrong("nothing comes")
+            if len(self.rest) > MOST_BYTES or time.monotonic() > self.end:
+                raise Wrong("what comes has no end")
         line, mark, self.rest = self.rest.partition(b"\n")
         if not mark and not line:
             return None
@@ -125,7 +129,7 @@ class Connection(Client):
         return self.it.recv(1 << 16)
 
     def note(self, line):
-        self.told.hear(line.decode("ascii").rstrip("\n"))
+        self.told.hear(line.decode("ascii", "replace").rstrip("\n"))
 
     def send(self, text, piece):
         """Sends a text, so many bytes at once, each piece once the one before it was read."""
