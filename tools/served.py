@@ -27,21 +27,27 @@ def free_port():
 
 
 class Told:
-    """What one connection was told: the object that it opened, and how each of its calls ended."""
+    """What one connection was told: the object that it opened, and how each of its calls ended. A call has to end before the
+    next one is accepted, or anything else is answered but a cancel."""
 
     def __init__(self):
-        self.object, self.ends, self.wrong = None, {}, []
+        self.object, self.ends, self.wrong, self.call = None, {}, [], None
 
     def hear(self, line):
         """Keeps what a line tells."""
-        if line.startswith("opened "):
-            self.object = line.removeprefix("opened ")
-        if not (found := LAST_LINE.fullmatch(line)):
-            return
-        number = int(found[2])
-        if number in self.ends:
-            self.wrong.append(f"call {number} ended twice")
-        self.ends[number] = found[1] + (f" {found[3]}" if found[3] is not None else "")
+        if found := LAST_LINE.fullmatch(line):
+            number = int(found[2])
+            if number != self.call:
+                self.wrong.append(f"call {number} ended, where {self.call or 'none'} was accepted")
+            self.ends[number] = found[1] + (f" {found[3]}" if found[3] is not None else "")
+            self.call = None
+        elif line != "no LineTooLong" and not line.startswith("cancel "):
+            if self.call:
+                self.wrong.append(f"{line!r} was told before call {self.call} ended")
+            if line.startswith("opened "):
+                self.object = line.removeprefix("opened ")
+            if line.startswith("accepted "):
+                self.call = int(line.removeprefix("accepted "))
 
 
 def ended_calls(trace):
