@@ -1,18 +1,11 @@
-//! What no case of `cases/paths` can show: the tokens of a text, names that are compared, counters beside a slow
-//! program that follows the definitions, and runs whose reads and writes fail where a test wants it.
+//! What no case of `cases/paths` can show: the tokens of a text, and runs whose reads and writes
+//! fail where a test wants it. (`tools/draw_paths` runs the program beside a slow one that follows the definitions.)
 #![tactic(auto)]
 
 #[cfg(test)]
-mod agreement;
-#[cfg(test)]
-mod counters;
-#[cfg(test)]
 mod fakes;
 #[cfg(test)]
-mod names;
-#[cfg(test)]
 mod paths_faults;
-pub mod slow;
 #[cfg(test)]
 mod tokens;
 #[cfg(test)]

@@ -41,18 +41,30 @@ fn is_answered(rt: &impl Abort, alloc: Global, reader: &mut Choppy) {
     assert!(rt; end == Ok(PathsEnd::Whole) && out.as_slice() == READERS_WRITERS_ANSWERS);
 }
 
-// Asserts that the read of this number, which fails, leaves a front of the answers.
-fn is_broken_off(rt: &impl Abort, alloc: Global, fails_at: u64) {
-    let mut reader = Choppy::failing(READERS_WRITERS, 1, fails_at, ErrorKind::Other);
+// How many lines end in a text.
+fn line_ends(text: &[u8]) -> usize {
+    let mut count = 0usize;
+    for byte in text {
+        if *byte == b'\n' {
+            count = count.wrapping_add(1);
+        }
+    }
+    count
+}
+
+// Asserts that the read of this number, which fails, leaves a front of the answers: one to each line that came before it.
+fn is_broken_off(rt: &impl Abort, alloc: Global, fails_at: usize) {
+    let mut reader = Choppy::failing(READERS_WRITERS, 1, fails_at as u64, ErrorKind::Other);
     let mut out = Vec::new(alloc);
     let end = run_paths(alloc, &mut reader, &mut out);
+    let came = line_ends(READERS_WRITERS.get(..fails_at).unwrap_or(READERS_WRITERS));
     let is_front = READERS_WRITERS_ANSWERS.starts_with(out.as_slice());
-    assert!(rt; end == Err(PathsFault::ReadFault) && is_front);
+    assert!(rt; end == Err(PathsFault::ReadFault) && is_front && line_ends(out.as_slice()) == came);
 }
 
 #[test]
 fn a_failed_read_is_a_read_fault(rt: HostRuntime) {
-    for fails_at in 0..=READERS_WRITERS.len() as u64 {
+    for fails_at in 0..=READERS_WRITERS.len() {
         is_broken_off(&rt, rt.alloc(), fails_at);
     }
 }
@@ -186,20 +198,4 @@ fn a_write_that_a_signal_broke_is_made_again(rt: HostRuntime) {
         Ok(PathsEnd::Whole),
         2,
     );
-}
-
-// How many lines end in a text.
-fn line_ends(text: &[u8]) -> usize {
-    text.iter().filter(|byte| **byte == b'\n').count()
-}
-
-#[test]
-fn each_line_that_came_is_answered_before_a_read_that_fails(rt: HostRuntime) {
-    for fails_at in 0..=READERS_WRITERS.len() {
-        let mut reader = Choppy::failing(READERS_WRITERS, 1, fails_at as u64, ErrorKind::Other);
-        let mut out = Vec::new(rt.alloc());
-        let end = run_paths(rt.alloc(), &mut reader, &mut out);
-        let came = line_ends(&READERS_WRITERS[..fails_at]);
-        assert!(rt; end == Err(PathsFault::ReadFault) && line_ends(out.as_slice()) == came);
-    }
 }
