@@ -4,6 +4,8 @@ import pathlib
 import re
 
 TOP = pathlib.Path(__file__).resolve().parent.parent
+# Cases of a server, which `tools/run_sessions` runs.
+SERVED = TOP / "cases" / "serve"
 ESCAPES = {"n": b"\n", "r": b"\r", "t": b"\t", "\\": b"\\", "^": b"^", "|": b"|", "#": b"#", "*": b"*"}
 PIECE = re.compile(r"(\d+)(\+?)\*")
 BLOCK = re.compile(r"(\w+) block (\d+) of (\S+)")
@@ -226,6 +228,10 @@ def escaped(text):
 class Reader:
     """Makes the cases of one block."""
 
+    # The sections that may stand in a case beside its inputs, and those of which one has to be there.
+    NAMES = ("rows", "output", "error", "reads", "faults", "output, one more", "fronts", "growths")
+    KINDS = ("output", "reads", "faults")
+
     def __init__(self, file, header, block):
         self.file, self.block = file, block
         self.in_lines = header.get("marks") == "in lines"
@@ -245,13 +251,13 @@ class Reader:
                 self.files[head[:-1]] = rest
             elif head == "output:":
                 self.sections["output"] = escaped(stored(rest))
-            elif name in ("rows", "output", "error", "reads", "faults", "output, one more", "fronts", "growths") or name.isupper():
+            elif name in self.NAMES or name.isupper():
                 self.sections[name] = lines_of(section)
             else:
                 raise BadCase(f"line {section[0]}: no such section: {name!r}")
-        kinds = [it for it in ("output", "reads", "faults") if it in self.sections]
+        kinds = [it for it in self.KINDS if it in self.sections]
         if len(kinds) != 1:
-            raise BadCase(f"line {block.line}: one of output, reads and faults has to be there")
+            raise BadCase(f"line {block.line}: one of {', '.join(self.KINDS)} has to be there")
         self.kind = kinds[0]
 
     def rows(self):
@@ -344,12 +350,25 @@ def cases_of(path):
             yield from Reader(file, header, one).cases()
 
 
-def files(chosen):
-    """The files of cases at or below these paths, or all."""
+def files(chosen, served=False):
+    """The files of cases at or below these paths, or all: those of a server, or the others."""
     found = []
     for path in chosen or [TOP / "cases"]:
         found += sorted(path.rglob("*.cases")) if path.is_dir() else [path]
-    return found
+    return [it for it in found if it.is_relative_to(SERVED) == served]
+
+
+def chosen_cases(words, read, served=False):
+    """The cases that the words name, each file read so, and the files that are not in the notation."""
+    paths = [pathlib.Path(it).resolve() for it in words if pathlib.Path(it).exists()]
+    titles = [it for it in words if not pathlib.Path(it).exists()]
+    found, bad = [], []
+    for path in files(paths, served):
+        try:
+            found += read(path)
+        except (BadCase, KeyError, OSError, UnicodeDecodeError, ValueError) as error:
+            bad.append(f"{path.relative_to(TOP)}: {error}")
+    return [it for it in found if not titles or any(title in it.title for title in titles)], bad
 
 
 class Placed:

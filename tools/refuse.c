@@ -1,6 +1,6 @@
 // A library to preload: it refuses one growth of memory, the one whose number, counted from 1, stands
 // in the environment as REFUSE_GROWTH, or each growth between one of REFUSE_MARK bytes and the next of one byte
-// more; and then it makes the file that REFUSE_NOTE names.
+// more; and then it makes the file that REFUSE_NOTE names. Growths of all threads are counted together.
 #include <errno.h>
 #include <fcntl.h>
 #include <stdlib.h>
@@ -32,7 +32,7 @@ static int is_refused(size_t size) {
         starves = size == strtoul(mark, NULL, 10);
         return 0;
     }
-    if (starves || (number != NULL && ++growths == strtoul(number, NULL, 10))) {
+    if (starves || (number != NULL && __atomic_add_fetch(&growths, 1, __ATOMIC_RELAXED) == strtoul(number, NULL, 10))) {
         return refuse(note);
     }
     return 0;

@@ -1,0 +1,204 @@
+"""Clients of a server that do the steps of a case: connections, and programs that make connections of their own."""
+import os
+import select
+import shlex
+import socket
+import struct
+import subprocess
+import time
+
+from cases import TOP, read_text
+from served import Told
+
+# How long a client that must hear nothing listens, and how long one that sends what is taken waits for the server to take
+# more, in seconds.
+QUIET, PRESSES = 0.2, 1
+RESET = struct.pack("ii", 1, 0)
+# The most bytes that are read at a time for a line, or that are kept of what a server writes.
+MOST_BYTES = 1 << 20
+
+
+class Wrong(Exception):
+    """Something else came than the case says."""
+
+
+class Client:
+    """What is heard of a client, line by line, up to a time."""
+
+    def __init__(self):
+        self.rest, self.is_over, self.skips, self.end = b"", False, False, 0
+
+    def await_more(self, seconds):
+        """Whether something comes within so many seconds. It is kept; at the end of all that comes `is_over` is set."""
+        if self.is_over or not select.select([self.fileno()], [], [], max(seconds, 0))[0]:
+            return self.is_over
+        try:
+            piece = self.read()
+        except ConnectionResetError:
+            piece = b""
+        self.rest += piece
+        self.is_over = not piece
+        return True
+
+    def line(self):
+        """The next line, or none where no more comes."""
+        while b"\n" not in self.rest and not self.is_over:
+            if not self.await_more(self.end - time.monotonic()):
+                raise Wrong("nothing comes")
+            if len(self.rest) > MOST_BYTES or time.monotonic() > self.end:
+                raise Wrong("what comes has no end")
+        line, mark, self.rest = self.rest.partition(b"\n")
+        if not mark and not line:
+            return None
+        self.note(line + mark)
+        return line + mark
+
+    def note(self, line):
+        """Keeps what a line tells."""
+
+    def hear(self, text):
+        """The next line is this one; `...` is any lines up to the next one that is said."""
+        if text == "...":
+            self.skips = True
+            return
+        wanted = read_text([text], "").bytes
+        found = self.line()
+        while self.skips and found not in (wanted, None):
+            found = self.line()
+        self.skips = False
+        if found != wanted:
+            raise Wrong(f"{wanted!r} was expected, and {found!r} came")
+
+    def hear_among(self, texts):
+        """The next lines are these, in some order."""
+        wanted = sorted(read_text([it], "").bytes for it in texts)
+        found = [self.line() for _ in wanted]
+        if None in found or sorted(found) != wanted:
+            raise Wrong(f"{wanted!r} were expected in some order, and {found!r} came")
+
+    def hear_nothing(self):
+        if self.rest or self.await_more(QUIET):
+            raise Wrong(f"nothing was expected, and {self.rest!r} came" + (", and the end" if self.is_over else ""))
+
+    def hear_end(self):
+        found = self.line()
+        while self.skips and found is not None:
+            found = self.line()
+        if found is not None:
+            raise Wrong(f"the end was expected, and {found!r} came")
+
+    def do(self, step, piece):
+        """Does a step: `piece` is how many bytes are sent at once, or 0."""
+        if step.form == "hears":
+            self.hear(step.texts[0])
+        elif step.form == "hears among":
+            self.hear_among(step.texts)
+        elif step.form == "hears nothing":
+            self.hear_nothing()
+        elif step.form == "ends":
+            self.hear_end()
+        else:
+            self.act(step, piece)
+
+
+def unread(port, own):
+    """How many bytes that a connection sent to a port of this machine stand there and were not read."""
+    ends = f":{port:04X}", f":{own:04X}"
+    with open("/proc/net/tcp", encoding="ascii") as table:
+        for line in table:
+            _, local, remote, _, queues, *_ = line.split()
+            if local.endswith(ends[0]) and remote.endswith(ends[1]):
+                return int(queues.partition(":")[2], 16)
+    return 0
+
+
+class Connection(Client):
+    """A connection to a server on this machine."""
+
+    def __init__(self, port, seconds):
+        super().__init__()
+        self.port, self.told = port, Told()
+        self.it = socket.create_connection(("127.0.0.1", port), seconds)
+        self.it.setsockopt(socket.IPPROTO_TCP, socket.TCP_NODELAY, 1)
+        self.own = self.it.getsockname()[1]
+
+    def fileno(self):
+        return self.it.fileno()
+
+    def read(self):
+        return self.it.recv(1 << 16)
+
+    def note(self, line):
+        self.told.hear(line.decode("ascii", "replace").rstrip("\n"))
+
+    def send(self, text, piece):
+        """Sends a text, so many bytes at once, each piece once the one before it was read."""
+        self.it.settimeout(max(self.end - time.monotonic(), 0.01))
+        for at in range(0, len(text), piece or len(text)):
+            self.it.sendall(text[at : at + (piece or len(text))])
+            while piece and unread(self.port, self.own) and time.monotonic() < self.end:
+                time.sleep(0.0002)
+
+    def press(self, text):
+        """Sends a text as far as it is taken."""
+        self.it.settimeout(PRESSES)
+        try:
+            self.it.sendall(text)
+        except TimeoutError:
+            pass
+
+    def close(self):
+        self.it.close()
+
+    def act(self, step, piece):
+        text = read_text(step.texts).bytes
+        if step.form == "sends":
+            self.send(text, piece)
+        elif step.form == "presses":
+            self.press(text)
+        elif step.form == "sends no more":
+            self.it.shutdown(socket.SHUT_WR)
+        elif step.form in ("hangs up", "resets"):
+            if step.form == "resets":
+                self.it.setsockopt(socket.SOL_SOCKET, socket.SO_LINGER, RESET)
+            self.close()
+
+
+class Program(Client):
+    """A client that is a program: what it prints is heard. A C source is compiled for it."""
+
+    def __init__(self, text, port, room):
+        super().__init__()
+        name, *words = shlex.split(text)
+        if name.endswith(".c"):
+            built = str(room / os.path.basename(name).removesuffix(".c"))
+            subprocess.run(["cc", "-Wall", "-Wextra", "-Werror", "-o", built, TOP / name], check=True)
+            name = built
+        else:
+            name = str(TOP / name)
+        words = [str(port) if it == "PORT" else it for it in words]
+        self.ran = subprocess.Popen([name, *words], stdout=subprocess.PIPE, stderr=subprocess.STDOUT, stdin=subprocess.DEVNULL)
+
+    def fileno(self):
+        return self.ran.stdout.fileno()
+
+    def read(self):
+        return os.read(self.fileno(), 1 << 16)
+
+    def hear_end(self):
+        super().hear_end()
+        if self.ran.wait(max(self.end - time.monotonic(), 0.01)):
+            raise Wrong(f"the client ended with status {self.ran.returncode}")
+
+    def act(self, step, piece):
+        """The one step that is a program's own: it ends with another status than 0."""
+        if step.form != "fails":
+            raise Wrong(f"a program can't do this: {step.form}")
+        super().hear_end()
+        if not self.ran.wait(max(self.end - time.monotonic(), 0.01)):
+            raise Wrong("the client ended with status 0")
+
+    def close(self):
+        self.ran.kill()
+        self.ran.wait()
+        self.ran.stdout.close()

@@ -1,0 +1,13 @@
+"""The library that refuses growths of memory (refuse.c), built for a program that is run with it."""
+import pathlib
+import subprocess
+
+TOP = pathlib.Path(__file__).resolve().parent.parent
+
+
+def build(folder):
+    """The preload library, built in a folder."""
+    library = pathlib.Path(folder) / "librefuse.so"
+    words = ["cc", "-O2", "-shared", "-fPIC", "-o", str(library), str(TOP / "tools" / "refuse.c")]
+    subprocess.run(words, check=True)
+    return library

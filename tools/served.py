@@ -1,0 +1,84 @@
+"""What the tools share that serve objects: the program, a port, and what a trace says beside what clients were told."""
+import pathlib
+import random
+import re
+import socket
+import subprocess
+import threading
+
+TOP = pathlib.Path(__file__).resolve().parent.parent
+PROGRAM = TOP / "crates" / "pathserve" / "out" / "pathserve"
+SECONDS = 60
+LAST_LINE = re.compile(r"(done|refused|failed|cancelled) (\d+)(?: (.*))?")
+# Ports that the system gives to no connection of its own accord, in an order of this process.
+PORTS = iter(random.sample(range(10_000, 32_000), 22_000))
+TURN = threading.Lock()
+
+
+def free_port():
+    """A port that nobody listens on, another one each time. It is not bound to see that: a child between its fork and its exec
+    would have it bound on."""
+    with TURN:
+        for port in PORTS:
+            with socket.socket() as it:
+                if it.connect_ex(("127.0.0.1", port)):
+                    return port
+    raise OSError("no port is free")
+
+
+class Told:
+    """What one connection was told: the object that it opened, and how each of its calls ended. A call has to end before the
+    next one is accepted, or anything else is answered but a cancel."""
+
+    def __init__(self):
+        self.object, self.ends, self.wrong, self.call = None, {}, [], None
+
+    def hear(self, line):
+        """Keeps what a line tells."""
+        if found := LAST_LINE.fullmatch(line):
+            number = int(found[2])
+            if number != self.call:
+                self.wrong.append(f"call {number} ended, where {self.call or 'none'} was accepted")
+            self.ends[number] = found[1] + (f" {found[3]}" if found[3] is not None else "")
+            self.call = None
+        elif line != "no LineTooLong" and not line.startswith("cancel "):
+            if self.call:
+                self.wrong.append(f"{line!r} was told before call {self.call} ended")
+            if line.startswith("opened "):
+                self.object = line.removeprefix("opened ")
+            if line.startswith("accepted "):
+                self.call = int(line.removeprefix("accepted "))
+
+
+def ended_calls(trace):
+    """What a trace says of how each call ended."""
+    found = {}
+    for line in trace.splitlines():
+        words = line.split(" ", 2)
+        if words[0] == "end":
+            found[int(words[1])] = words[2]
+    return found
+
+
+def audited(objects, trace):
+    """What `pathserve audit` says of a trace."""
+    words = [PROGRAM, "audit", objects, trace]
+    return subprocess.run(words, capture_output=True, text=True, check=False, timeout=SECONDS).stdout
+
+
+def traced_wrongly(objects, folder, name, all_told, entries):
+    """What the trace of an object in a folder has wrong: it has to be legal, with so many entries, and to end each call as it
+    was told."""
+    trace = folder / f"{name}.trace"
+    if not trace.exists():
+        return [f"{name}: no trace"]
+    ends = ended_calls(trace.read_text(encoding="ascii"))
+    said = audited(objects, trace)
+    is_whole = said == f"legal {entries}\n" and len(ends) == entries
+    wrong = [] if is_whole else [f"{name}: {entries} entries, {len(ends)} ends in the trace, audit says {said!r}"]
+    for number, told in ((number, end) for it in all_told if it.object == name for number, end in it.ends.items()):
+        if told == "cancelled" and number in ends:
+            wrong.append(f"{name}: call {number} was told cancelled, and ended")
+        elif told != "cancelled" and ends.get(number) != told:
+            wrong.append(f"{name}: call {number} was told {told!r}, and ended {ends.get(number)!r}")
+    return wrong
