@@ -1,7 +1,9 @@
 //! Connections, each of them served on threads of its own.
 
+use crate::trouble::{Trouble, fault_of};
 use board_core::receipt::Receipt;
 use crossbeam_channel::{Receiver, Sender};
+use line_core::LinesFault;
 use office_core::seat::Seat;
 use session_core::end::SessionEnd;
 use session_core::order::Offices;
@@ -12,6 +14,10 @@ use std::net::{TcpListener, TcpStream};
 use std::sync::{Mutex, Wait};
 use std::thread;
 use std::thread::Threads;
+use std::time::Duration;
+
+// How long a read waits where nothing comes, in milliseconds.
+const PAUSE: u64 = 250;
 
 /// What a session leaves to its object.
 #[derive(Drop)]
@@ -22,37 +28,43 @@ pub struct Left {
     pub receipts: Vec<Receipt>,
 }
 
-// Takes so many connections and hands each to a session. It answers whether all came.
+// Takes so many connections and hands each to a session. The error is why not all came.
 fn accept_all<R: Wait>(
     rt: &R,
     listener: &TcpListener,
     to: Sender<TcpStream>,
     sessions: usize,
-) -> bool {
+) -> Result<(), LinesFault> {
     for _ in 0..sessions {
-        let Ok((stream, _)) = listener.accept() else {
-            return false;
-        };
-        // An answer goes out at once. Where the system can't do that, it goes out all the same.
-        let _ = stream.set_nodelay(true);
+        let (stream, _) = listener.accept().map_err(fault_of)?;
+        prepare(&stream);
         if to.send(rt, stream).is_err() {
-            return false;
+            return Err(LinesFault::Memory);
         }
     }
-    true
+    Ok(())
 }
 
-// The next connection, and the session over it, with the next hand.
+// Has answers go out at once, and a read return after a while where nothing comes. Where the system can't do that, it is done
+// without.
+fn prepare(stream: &TcpStream) {
+    let _ = stream.set_nodelay(true);
+    let _ = stream.set_read_timeout(Some(Duration::from_millis(PAUSE)));
+}
+
+// The next connection, and the session over it, with the next hand. Where no connection comes it is `None`. The error is that the
+// connection could not be served.
 fn serve_next<R: Threads + Wait + Sync, H: Hand + Drop + Send, O: Offices + Sync>(
     rt: &R,
     alloc: Global,
     streams: &Receiver<TcpStream>,
     hands: &Receiver<H>,
     offices: &O,
-) -> Option<Left> {
-    let stream = streams.recv(rt).ok()?;
-    let hand = hands.recv(rt).ok()?;
-    let writer = stream.try_clone().ok()?;
+) -> Result<Option<Left>, LinesFault> {
+    let (Ok(stream), Ok(hand)) = (streams.recv(rt), hands.recv(rt)) else {
+        return Ok(None);
+    };
+    let writer = stream.try_clone().map_err(fault_of)?;
     let SessionEnd {
         object,
         seat,
@@ -61,20 +73,20 @@ fn serve_next<R: Threads + Wait + Sync, H: Hand + Drop + Send, O: Offices + Sync
         hand: _,
         fault: _,
     } = serve_session(rt, alloc, stream, writer, offices, hand);
-    Some(Left {
+    Ok(Some(Left {
         object,
         seat,
         receipts,
-    })
+    }))
 }
 
 // What one of the threads of a server comes to.
 #[derive(Drop)]
 enum Came {
-    // Whether each connection came.
-    All(bool),
+    // Why not all connections came, if so.
+    All(Result<(), LinesFault>),
     // What a session left, if it had a connection and could begin.
-    One(Option<Left>),
+    One(Result<Option<Left>, LinesFault>),
 }
 
 // Takes the connections, or serves one of them.
@@ -95,12 +107,12 @@ fn take_part<R: Threads + Wait + Sync, H: Hand + Drop + Send, O: Offices + Sync>
     let to = to.lock(rt).take();
     match to {
         Some(to) => Came::All(accept_all(rt, listener, to, sessions)),
-        None => Came::All(false),
+        None => Came::All(Ok(())),
     }
 }
 
-/// Serves a connection for each hand, each on threads of its own, until all have ended. It gives what the sessions left, and
-/// whether each connection came: after a failed accept no more are taken.
+/// Serves a connection for each hand, each on threads of its own, until all have ended. It gives what the sessions left. A failed
+/// accept is noted as a `ReadFault`, and no more connections are taken; so is a connection that cannot be served.
 ///
 /// The error is that memory was refused; of what the sessions left nothing is known then.
 pub fn serve_all<R: Threads + Wait + Sync, H: Hand + Drop + Send, O: Offices + Sync>(
@@ -109,7 +121,8 @@ pub fn serve_all<R: Threads + Wait + Sync, H: Hand + Drop + Send, O: Offices + S
     listener: &TcpListener,
     hands: Vec<H>,
     offices: &O,
-) -> Result<(Vec<Left>, bool), AllocError> {
+    trouble: &mut Trouble,
+) -> Result<Vec<Left>, AllocError> {
     let sessions = hands.len();
     let mut left = Vec::with_capacity(alloc, sessions)?;
     let (to, streams) = crossbeam_channel::unbounded(alloc)?;
@@ -139,17 +152,17 @@ pub fn serve_all<R: Threads + Wait + Sync, H: Hand + Drop + Send, O: Offices + S
             )
         },
     )?;
-    let mut all_came = true;
     for one in came {
         match one {
-            Came::All(all) => all_came = all,
-            Came::One(Some(one)) => {
+            Came::All(all) => trouble.heed(all),
+            Came::One(Ok(Some(one))) => {
                 if left.push(one).is_err() {
                     return Err(AllocError);
                 }
             }
-            Came::One(None) => {}
+            Came::One(Ok(None)) => {}
+            Came::One(Err(fault)) => trouble.note(fault),
         }
     }
-    Ok((left, all_came))
+    Ok(left)
 }
