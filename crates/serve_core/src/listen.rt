@@ -89,7 +89,8 @@ enum Came {
     One(Result<Option<Left>, LinesFault>),
 }
 
-// Takes the connections, or serves one of them.
+// Serves a connection, or takes them all. The last part takes them: it is the one that is never kept back for want of a thread, and
+// each other part waits for it.
 fn take_part<R: Threads + Wait + Sync, H: Hand + Drop + Send, O: Offices + Sync>(
     rt: &R,
     alloc: Global,
@@ -101,7 +102,7 @@ fn take_part<R: Threads + Wait + Sync, H: Hand + Drop + Send, O: Offices + Sync>
     offices: &O,
     part: usize,
 ) -> Came {
-    if part > 0 {
+    if part < sessions {
         return Came::One(serve_next(rt, alloc, streams, hands, offices));
     }
     let to = to.lock(rt).take();
@@ -111,7 +112,7 @@ fn take_part<R: Threads + Wait + Sync, H: Hand + Drop + Send, O: Offices + Sync>
     }
 }
 
-/// Serves a connection for each hand, each on threads of its own, until all have ended. It gives what the sessions left. A failed
+/// Serves a connection for each hand, each on threads of its own where these can be made, until all have ended. It gives what the sessions left. A failed
 /// accept is noted as a `ReadFault`, and no more connections are taken; so is a connection that cannot be served.
 ///
 /// The error is that memory was refused; of what the sessions left nothing is known then.

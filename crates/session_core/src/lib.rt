@@ -17,5 +17,6 @@ pub mod output;
 pub mod reader;
 mod reading;
 mod relay;
+mod room;
 pub mod serve;
 mod work;

@@ -110,6 +110,7 @@ pub(crate) fn listen<R: Wait, I: Read + Drop, W: Write + Drop, J: Start, O: Offi
     output: &Mutex<Output<W, J>>,
     relay: &Relay<I>,
 ) {
+    relay.arrive(rt);
     for _ in rt.forever() {
         let Ok(ear) = from.recv(rt) else {
             break;

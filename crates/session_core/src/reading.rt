@@ -1,7 +1,6 @@
 //! The reading side of a session, as the first thread has it: in its hands, or lent to the second thread.
 
 use crate::ear::{Ear, Heard};
-use crate::end::HearFault;
 use crate::relay::Relay;
 use crossbeam_channel::{SendError, Sender};
 use session_text::session::Action;
@@ -58,16 +57,17 @@ impl<'a, I: Read + Drop> Reading<'a, I> {
         }
     }
 
-    /// Lends it to the second thread, where it is not lent. It answers whether the second thread has it.
+    /// Lends it to the second thread, where that runs. It answers whether the second thread has it.
     pub(crate) fn lend<R: Wait>(&mut self, rt: &R) -> bool {
+        if !self.relay.is_there(rt) {
+            return false;
+        }
         let Some(ear) = self.ear.take() else {
             return true;
         };
         match self.to.send(rt, ear) {
             Ok(()) => true,
             Err(SendError::Disconnected(back)) | Err(SendError::OutOfMemory(back)) => {
-                let mut back = back;
-                back.end(Some(HearFault::Memory));
                 self.ear = Some(back);
                 false
             }

@@ -18,6 +18,8 @@ struct Pending<I: Read + Drop> {
     is_idle: bool,
     // Whether it does nothing more.
     is_over: bool,
+    // Whether the second thread runs.
+    is_there: bool,
 }
 
 /// What the second thread heard, and the reading side once it gives it back.
@@ -37,10 +39,21 @@ impl<I: Read + Drop> Relay<I> {
                     ear: None,
                     is_idle: false,
                     is_over: false,
+                    is_there: false,
                 },
             ),
             came: Condvar::new(),
         }
+    }
+
+    /// The second thread runs.
+    pub(crate) fn arrive<R: Wait>(&self, rt: &R) {
+        self.pending.lock(rt).is_there = true;
+    }
+
+    /// Whether the second thread runs. It does not where no thread can be made, or not yet.
+    pub(crate) fn is_there<R: Wait>(&self, rt: &R) -> bool {
+        self.pending.lock(rt).is_there
     }
 
     /// Whether the first thread wants the reading side: it has nothing else to do, or it has ended.

@@ -89,7 +89,7 @@ fn serve_from<
 /// leaves its object, also behind a `quit` that stands behind a waiting call: the waiting call is cancelled, calls not yet
 /// submitted are answered `no Gone`, a running call is completed. A read that is interrupted or whose time runs out is no
 /// fault. Where `quit` was read behind a waiting call, the end comes with the next read that returns, so a reader whose reads
-/// never time out may hold it up. The receipts are true of each assignment that agrees with the hand given back, and what was written are
+/// never time out may hold it up. Where no second thread can be made, nothing is read while a call waits. The receipts are true of each assignment that agrees with the hand given back, and what was written are
 /// whole lines of the table or of receipts; with `WriteFault` such lines, and a front of one more. Files whose retire
 /// failed are tried again later, and left at the end.
 pub fn serve_session<

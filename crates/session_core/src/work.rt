@@ -12,6 +12,7 @@ use crate::order::Offices;
 use crate::output::{Output, Start};
 use crate::ear::Heard;
 use crate::reading::Reading;
+use crate::room::make_room_in;
 use board_core::receipt::Receipt;
 use body_core::outcome::Outcome;
 use body_core::perform::perform;
@@ -81,8 +82,29 @@ fn awaited<R: Wait>(rt: &R, office: &Office, submitted: Submitted) -> Option<Tic
     unreachable!()
 }
 
-// The same, for a submission just made. A call that does not start soon is waited for in this way: the lines that are held back
-// are sent, and the second thread reads meanwhile. Where that can't be, the session leaves its object, so that nothing waits.
+// The same, while the second thread reads. As long as that thread does not run, it looks again and again.
+fn awaited_beside<R: Wait, I: Read + Drop>(
+    rt: &R,
+    office: &Office,
+    reading: &mut Reading<'_, I>,
+    submitted: Submitted,
+) -> Option<Ticket> {
+    let mut submitted = submitted;
+    for _ in rt.forever() {
+        if reading.lend(rt) {
+            return awaited(rt, office, submitted);
+        }
+        match office.try_start_within(rt, submitted, Duration::from_millis(BRIEF)) {
+            Tried::Ticket(ticket) => return Some(ticket),
+            Tried::Cancelled => return None,
+            Tried::Waiting(back) => submitted = back,
+            Tried::Stranger(back) => submitted = back,
+        }
+    }
+    unreachable!()
+}
+
+// The same, for a submission just made. Before a call is waited for that does not start soon, the lines that are held back are sent.
 fn started<R: Wait, I: Read + Drop, W: Write + Drop, J: Start>(
     rt: &R,
     office: &Office,
@@ -96,10 +118,7 @@ fn started<R: Wait, I: Read + Drop, W: Write + Drop, J: Start>(
         Tried::Cancelled => None,
         Tried::Waiting(back) => {
             flush(rt, office, output, seat);
-            if !reading.lend(rt) {
-                office.leave(rt, seat.session());
-            }
-            awaited(rt, office, back)
+            awaited_beside(rt, office, reading, back)
         }
         Tried::Stranger(back) => awaited(rt, office, back),
     }
@@ -219,10 +238,7 @@ fn make_room<R: Wait, W: Write + Drop, J: Start>(
     ensures same { receipts.new.items ≡ receipts.old.items }
     ensures room { IsTrue result → vec_len receipts.new < vec_capacity receipts.new }
 {
-    if receipts.reserve(1).is_err() {
-        return false;
-    }
-    output.lock(rt).make_room()
+    make_room_in(receipts) && output.lock(rt).make_room()
 }
 
 // One call, where there is room for its receipt.
