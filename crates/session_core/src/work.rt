@@ -1,8 +1,10 @@
 //! The first thread of a session: it does the calls, and reads too, as long as no call waits.
 
-ghost use Rattle.std.specs.Prelude.{◌≡◌, ◌<◌, ◌++◌, ◌∷◌, [], IfSome, IsTrue};
+ghost use Rattle.std.specs.Prelude.{◌≡◌, ◌↔◌, ◌<◌, ◌++◌, ◌∷◌, [], IfSome, IsTrue};
 ghost use Rattle.std.specs.Vec.{vec_len, vec_capacity};
 ghost use Rattle.shelf_core.specs.Device.{Assignment};
+ghost use Rattle.body_core.specs.Runs.{PenHolds, SoFar};
+ghost use Rattle.body_core.specs.declared.step.Need.TheVariants as Need;
 ghost use Rattle.office_core.specs.Receipts.{IsTrueReceipt};
 ghost use Rattle.session_core.specs.Truth.{Keeps, AreTrue, OutcomeIsTrue};
 
@@ -17,6 +19,7 @@ use board_core::receipt::Receipt;
 use body_core::outcome::Outcome;
 use body_core::perform::perform;
 use body_core::run::Run;
+use body_core::step::Need;
 use body_core::ticket::Ticket;
 use desk_core::answer::SubmitFault;
 use office_core::office::Office;
@@ -124,12 +127,39 @@ fn started<R: Wait, I: Read + Drop, W: Write + Drop, J: Start>(
     }
 }
 
+// Whether a run has ended, by the call that it makes next.
+fn is_done(need: Need) -> bool
+    ensures { IsTrue result ↔ (need ≡ Need.Done) }
+{
+    match need {
+        Need::Done => true,
+        Need::Read => false,
+        Need::Create => false,
+        Need::Append => false,
+        Need::Seal => false,
+    }
+}
+
+// Steps until the run has ended. To look for an outcome before each step, as `perform` does, costs more than the step.
+fn stepped<H: Hand>(run: Run, hand: &mut H) -> Run
+    ensures kept { Keeps H.agrees hand.old hand.new }
+    ensures pen { PenHolds (H.pending hand.old) run → PenHolds (H.pending hand.new) result }
+    ensures found { PenHolds (H.pending hand.old) run → (a : Assignment) → H.agrees hand.new a → SoFar a run → SoFar a result }
+{
+    let mut run = run;
+    while !is_done(run.next()) {
+        run.step(hand);
+    }
+    run
+}
+
 // Runs a started call.
 fn performed<H: Hand>(alloc: Global, ticket: Ticket, hand: &mut H) -> Outcome
     ensures kept { Keeps H.agrees hand.old hand.new }
     ensures told { (a : Assignment) → H.agrees hand.new a → OutcomeIsTrue a result }
 {
     let run = Run::new(alloc, ticket);
+    let run = stepped(run, hand);
     perform(run, hand)
 }
 
