@@ -15,6 +15,7 @@ use desk_core::answer::{Cancelled, SubmitFault};
 use desk_core::desk::Desk;
 use std::alloc::{AllocError, Global};
 use std::sync::{Condvar, Mutex, Wait};
+use std::time::Duration;
 use value_core::datum::Datum;
 
 /// How many places there are at which waiters sleep: session `n` sleeps at `n % BEDS`.
@@ -119,6 +120,22 @@ impl Office {
         ensures { Tells submitted result }
     {
         self.room.lock(rt).try_start(submitted)
+    }
+
+    /// The same, but where the call waits it first waits for it, at most so long.
+    pub fn try_start_within<R: Wait>(&self, rt: &R, submitted: Submitted, most: Duration) -> Tried
+        ensures { Tells submitted result }
+    {
+        let mut room = self.room.lock(rt);
+        let waiting = match room.try_start(submitted) {
+            Tried::Waiting(back) => back,
+            other => return other,
+        };
+        let bed = &self.beds[bed_for(room.desk(), waiting.number)];
+        let seen = bed.notifications();
+        drop(room);
+        bed.sleep(rt, seen, most);
+        self.room.lock(rt).try_start(waiting)
     }
 
     /// Waits until a submitted call has started or was cancelled, as [`Room::try_start`] finds it.

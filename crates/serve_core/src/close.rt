@@ -62,6 +62,7 @@ fn gather(rooms: &mut Vec<Gathered>, left: Left) -> Result<(), AllocError> {
         };
     }
     let mut receipts = receipts;
+    room.receipts.reserve_exact(receipts.len())?;
     room.receipts.append(&mut receipts)
 }
 

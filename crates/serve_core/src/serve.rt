@@ -5,7 +5,7 @@ use crate::folder::remove_values;
 use crate::judge::{Judged, judge};
 use crate::listen::serve_all;
 use crate::open::{NotOpened, Served, open_all};
-use crate::trouble::Trouble;
+use crate::trouble::{Trouble, fault_of};
 use exclude_core::analyse::Accepted;
 use line_core::reply::push_count;
 use line_core::{LinesFault, write_whole};
@@ -14,7 +14,7 @@ use shelf_core::dir_shelf::DirShelf;
 use shelf_core::hand::Hand;
 use shelf_core::numbers::Numbers;
 use std::alloc::{AllocError, Global};
-use std::io::{ErrorKind, Write};
+use std::io::Write;
 use std::net::TcpListener;
 use std::rt::Files;
 use std::sync::{Arc, Wait};
@@ -56,22 +56,13 @@ fn end_of(trouble: Trouble) -> Result<ServeEnd, LinesFault> {
     }
 }
 
-// The fault of an error of the system while something is read.
-fn read_fault(error: std::io::Error) -> LinesFault {
-    if error.kind() == ErrorKind::OutOfMemory {
-        LinesFault::Memory
-    } else {
-        LinesFault::ReadFault
-    }
-}
-
 // `listening PORT`.
 fn tell_port<W: Write>(
     alloc: Global,
     listener: &TcpListener,
     writer: &mut W,
 ) -> Result<(), LinesFault> {
-    let addr = listener.local_addr().map_err(read_fault)?;
+    let addr = listener.local_addr().map_err(fault_of)?;
     let mut line = Vec::new(alloc);
     push_count(&mut line, b"listening ", u64::from(addr.port()))?;
     write_whole(writer, &line)
@@ -137,13 +128,8 @@ fn serve_ready<
     tell_port(alloc, listener, writer)?;
     let mut trouble = Trouble::none();
     let offices = &served.offices;
-    match serve_all(rt, alloc, listener, hands, offices) {
-        Ok((left, all_came)) => {
-            if !all_came {
-                trouble.note(LinesFault::ReadFault);
-            }
-            gather_all(&mut rooms, left, &mut trouble);
-        }
+    match serve_all(rt, alloc, listener, hands, offices, &mut trouble) {
+        Ok(left) => gather_all(&mut rooms, left, &mut trouble),
         Err(_) => trouble.note(LinesFault::Memory),
     }
     close_all(

@@ -4,6 +4,16 @@ ghost use Rattle.std.specs.Prelude.{◌≡◌};
 
 use line_core::LinesFault;
 use std::alloc::AllocError;
+use std::io::{Error, ErrorKind};
+
+/// The fault of an error of the system while something is read.
+pub fn fault_of(error: Error) -> LinesFault {
+    if error.kind() == ErrorKind::OutOfMemory {
+        LinesFault::Memory
+    } else {
+        LinesFault::ReadFault
+    }
+}
 
 /// What a server met and did not end for.
 #[derive(Clone, Copy, Debug, PartialEq, Eq)]

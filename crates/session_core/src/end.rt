@@ -1,7 +1,7 @@
 //! How a session ended.
 
 ghost use Rattle.std.specs.Prelude.{◌≡◌, ◌↔◌, IsTrue, List, ℕ, Option};
-ghost use Rattle.session_core.specs.Written.{IsNoteOf, IsNoted, AreNoted, IsWritten, HasWritten, heard_fault as heard_in, or_memory as or_memory_in, told_fault};
+ghost use Rattle.session_core.specs.Written.{IsNoteOf, AreNoted, IsWritten, HasWritten, heard_fault as heard_in, or_memory as or_memory_in, told_fault};
 
 use crate::note::{Note, kind, value};
 use crate::output::Health;
@@ -62,24 +62,23 @@ fn is_note_of(receipt: &Receipt, note: &Note) -> bool
         && value(&reply).is_same(&note.value)
 }
 
-// Whether one of the receipts has.
-fn is_noted(receipts: &[Receipt], note: &Note) -> bool
-    ensures { IsTrue result → IsNoted receipts.now note.now }
-{
-    match receipts {
-        [] => false,
-        [receipt, rest @ ..] => is_note_of(receipt, note) || is_noted(rest, note),
-    }
-}
-
-// Whether each note is of a receipt.
+// Whether each note is of a receipt. Both are in the order of the calls, so each note is looked for behind the receipt of the
+// one before it, and each receipt is looked at once.
 fn are_noted(receipts: &[Receipt], notes: &[Note]) -> bool
     ensures { IsTrue result → AreNoted receipts.now notes.now }
 {
-    match notes {
-        [] => true,
-        [note, rest @ ..] => is_noted(receipts, note) && are_noted(receipts, rest),
+    let mut receipts = receipts;
+    let mut notes = notes;
+    while let Some((receipt, later)) = receipts.split_first() {
+        let Some((note, rest)) = notes.split_first() else {
+            return true;
+        };
+        if is_note_of(receipt, note) {
+            notes = rest;
+        }
+        receipts = later;
     }
+    notes.is_empty()
 }
 
 // The fault that was met in reading.

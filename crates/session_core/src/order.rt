@@ -1,10 +1,7 @@
-//! What the reading thread tells the worker.
+//! The offices that a session may open.
 
 use office_core::office::Office;
-use office_core::seat::Seat;
 use path_tree::name::Name;
-use session_text::line::Refusal;
-use value_core::datum::Datum;
 
 /// An object, by its name, and its office.
 #[derive(Drop)]
@@ -36,26 +33,6 @@ impl Offices for Vec<Named> {
         self.iter()
             .position(|o| o.name.as_bytes() == name.as_bytes())
     }
-}
-
-/// What the worker does for a line.
-#[derive(Drop)]
-pub(crate) enum Order {
-    /// It submits a call, and sees to it.
-    Call(Name, Vec<Datum>),
-    /// It tells that a line is refused, behind the calls before it.
-    Refuse(Refusal),
-    /// It takes leave, behind the calls before it.
-    Quit,
-}
-
-/// What the reading thread tells the worker, in the order of the lines.
-#[derive(Drop)]
-pub(crate) enum Message {
-    /// The object at this place was opened, with this seat.
-    Seat(usize, Seat),
-    /// What to do, in order.
-    Orders(Vec<Order>),
 }
 
 fn is_shared<T: Sync>(_shared: &T) {}

@@ -10,6 +10,7 @@ ghost use Rattle.session_core.specs.declared.note.Note.{Note};
 ghost use Rattle.session_core.specs.Written.{IsWritten, Adds, Sends};
 
 use crate::note::{Note, add_note};
+use crate::room::make_room_in;
 use body_core::reply::Reply;
 use line_core::write_whole;
 use path_tree::name::Name;
@@ -170,7 +171,7 @@ impl<W: Write + Drop, J: Start> Output<W, J> {
         if self.line.reserve(LINE_ROOM).is_err() {
             return false;
         }
-        self.notes.reserve(1).is_ok()
+        make_room_in(&mut self.notes)
     }
 
     /// Whether all lines so far are sent or held back.

@@ -1,5 +1,6 @@
-//! Lines of a blocking reader.
+//! Lines of a reader.
 
+use crate::end::HearFault;
 use bytes::BytesMut;
 use std::alloc::Global;
 use std::io::{self, Read};
@@ -11,7 +12,7 @@ pub const MOST_LINE_BYTES: usize = 4096;
 // The bytes of one read.
 const PIECE: usize = 4096;
 
-/// What comes next.
+/// What comes next in the bytes that were read.
 #[derive(Debug, Drop)]
 pub enum Next {
     /// A line, without its end.
@@ -22,8 +23,6 @@ pub enum Next {
     End,
     /// A line has more than 4,096 bytes.
     LineTooLong,
-    /// A read failed.
-    ReadFault,
     /// Memory was refused.
     Memory,
 }
@@ -37,6 +36,14 @@ pub struct LineReader<I: Read + Drop> {
     ended: bool,
 }
 
+// Whether nothing came because a read was interrupted, or its time ran out.
+fn is_pause(kind: io::ErrorKind) -> bool {
+    matches!(
+        kind,
+        io::ErrorKind::Interrupted | io::ErrorKind::WouldBlock | io::ErrorKind::TimedOut
+    )
+}
+
 impl<I: Read + Drop> LineReader<I> {
     /// Nothing is read yet.
     pub fn new(alloc: Global, reader: I) -> LineReader<I> {
@@ -46,6 +53,11 @@ impl<I: Read + Drop> LineReader<I> {
             codec: LinesCodec::new_with_max_length(MOST_LINE_BYTES),
             ended: false,
         }
+    }
+
+    /// Whether a read found the end of the input.
+    pub fn has_ended(&self) -> bool {
+        self.ended
     }
 
     /// What comes next in the bytes that were read, or `None` where more have to be read for it.
@@ -69,8 +81,9 @@ impl<I: Read + Drop> LineReader<I> {
         }
     }
 
-    // Reads once. It answers what ends the reading.
-    fn fill(&mut self) -> Option<Next> {
+    /// Reads once, and gives the fault that it met. A read that was interrupted, or whose time ran out, brings nothing and is
+    /// no fault.
+    pub fn read(&mut self) -> Option<HearFault> {
         let mut piece = [0u8; PIECE];
         match self.reader.read(&mut piece) {
             Ok(0) => {
@@ -79,29 +92,20 @@ impl<I: Read + Drop> LineReader<I> {
             }
             Ok(n) => {
                 if self.buffer.extend_from_slice(&piece[..n]).is_err() {
-                    return Some(Next::Memory);
+                    return Some(HearFault::Memory);
                 }
                 None
             }
-            Err(e) => {
-                if e.kind() == io::ErrorKind::Interrupted {
-                    return None;
-                }
-                Some(Next::ReadFault)
-            }
+            Err(e) => if is_pause(e.kind()) {
+                None
+            } else {
+                Some(HearFault::ReadFault)
+            },
         }
     }
 
-    /// What comes next. It reads until that is known.
-    pub fn next(&mut self) -> Next {
-        for _ in 0..u64::MAX {
-            if let Some(next) = self.ready() {
-                return next;
-            }
-            if let Some(next) = self.fill() {
-                return next;
-            }
-        }
-        Next::ReadFault
+    /// Lets the bytes go that were read.
+    pub fn skip(&mut self) {
+        self.buffer.clear();
     }
 }

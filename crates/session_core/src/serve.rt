@@ -5,11 +5,13 @@ ghost use Rattle.session_core.specs.Truth.{Keeps, AreTrue};
 ghost use Rattle.session_core.specs.Written.{HasWritten};
 
 use crate::end::{SessionEnd, SessionFault, conclude};
-use crate::hear::{Heard, hear};
+use crate::ear::Ear;
+use crate::listen::listen;
 use crate::order::Offices;
 use crate::output::{Output, Start};
+use crate::reading::Reading;
+use crate::relay::Relay;
 use crate::work::{Worked, work};
-use office_core::seat::Seat;
 use shelf_core::hand::Hand;
 use std::alloc::Global;
 use std::io::{Read, Write};
@@ -17,20 +19,6 @@ use std::marker::Brand;
 use std::sync::{Mutex, Wait};
 use std::thread;
 use std::thread::Threads;
-
-// The object that was opened, and the seat there, which either thread has.
-fn seat_of(
-    worked: Option<(usize, Seat)>,
-    heard: Option<(usize, Seat)>,
-) -> (Option<usize>, Option<Seat>) {
-    match worked {
-        Some((at, seat)) => (Some(at), Some(seat)),
-        None => match heard {
-            Some((at, seat)) => (Some(at), Some(seat)),
-            None => (None, None),
-        },
-    }
-}
 
 // Serves one session on a writer that held this at first.
 fn serve_from<
@@ -46,7 +34,7 @@ fn serve_from<
     ensures told { AreTrue H.agrees result.hand result.receipts.items }
     ensures written { HasWritten J.start (W.contents result.writer) result.receipts.items result.fault }
 {
-    let (to, from) = match crossbeam_channel::unbounded(alloc) {
+    let (to, from) = match crossbeam_channel::bounded(alloc, 1) {
         Ok(ends) => ends,
         Err(_) => {
             return SessionEnd {
@@ -60,29 +48,30 @@ fn serve_from<
         }
     };
     let output: Mutex<Output<W, J>> = Mutex::new(Output::new(alloc, writer));
+    let relay = Relay::new(alloc);
+    let ear = Ear::new(alloc, reader);
     let shared = &output;
-    let (heard, worked) = thread::join(
+    let lent = &relay;
+    let (_, worked) = thread::join(
         rt,
-        move || hear(rt, alloc, reader, to, offices, shared),
+        move || listen(rt, alloc, from, offices, shared, lent),
         move || -> Worked<H>
             ensures { Keeps H.agrees hand result.hand × AreTrue H.agrees result.hand result.receipts.items }
-        { work(rt, alloc, from, offices, shared, hand) },
+        { work(rt, alloc, offices, shared, Reading::new(ear, to, lent), hand) },
     );
-    let mut output = output.into_inner();
-    let _sent = output.flush();
-    let (writer, notes, health) = output.into_parts();
+    let (writer, notes, health) = output.into_inner().into_parts();
     let Worked {
         hand,
         seat,
         receipts,
         free: _,
-    } = worked;
-    let Heard {
-        seat: unsent,
         fault: met,
-    } = heard;
+    } = worked;
     let fault = conclude(&receipts, &notes, health, met);
-    let (object, seat) = seat_of(seat, unsent);
+    let (object, seat) = match seat {
+        Some((at, seat)) => (Some(at), Some(seat)),
+        None => (None, None),
+    };
     SessionEnd {
         object,
         seat,
@@ -93,11 +82,14 @@ fn serve_from<
     }
 }
 
-/// Serves one session: a thread of its own reads lines, the calling thread does the calls.
+/// Serves one session: the calling thread reads lines and does what they ask for; while a call waits for more than some
+/// milliseconds, a thread of its own reads on.
 ///
 /// The session ends by `quit`, at the end of its input, or by a fault, which `fault` tells. By an end of input or a fault it
-/// leaves its object: its waiting call is cancelled, calls not yet submitted are answered `no Gone`, a running call is
-/// completed. The receipts are true of each assignment that agrees with the hand given back, and what was written are
+/// leaves its object, also behind a `quit` that stands behind a waiting call: the waiting call is cancelled, calls not yet
+/// submitted are answered `no Gone`, a running call is completed. A read that is interrupted or whose time runs out is no
+/// fault. Where `quit` was read behind a waiting call, the end comes with the next read that returns, so a reader whose reads
+/// never time out may hold it up. Where no second thread can be made, nothing is read while a call waits. The receipts are true of each assignment that agrees with the hand given back, and what was written are
 /// whole lines of the table or of receipts; with `WriteFault` such lines, and a front of one more. Files whose retire
 /// failed are tried again later, and left at the end.
 pub fn serve_session<

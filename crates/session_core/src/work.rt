@@ -1,32 +1,44 @@
-//! The worker of a session.
+//! The first thread of a session: it does the calls, and reads too, as long as no call waits.
 
-ghost use Rattle.std.specs.Prelude.{◌≡◌, ◌<◌, ◌++◌, ◌∷◌, [], IfSome, IsTrue};
+ghost use Rattle.std.specs.Prelude.{◌≡◌, ◌↔◌, ◌<◌, ◌++◌, ◌∷◌, [], IfSome, IsTrue};
 ghost use Rattle.std.specs.Vec.{vec_len, vec_capacity};
 ghost use Rattle.shelf_core.specs.Device.{Assignment};
+ghost use Rattle.body_core.specs.Runs.{PenHolds, SoFar};
+ghost use Rattle.body_core.specs.declared.step.Need.TheVariants as Need;
 ghost use Rattle.office_core.specs.Receipts.{IsTrueReceipt};
 ghost use Rattle.session_core.specs.Truth.{Keeps, AreTrue, OutcomeIsTrue};
 
-use crate::order::{Message, Offices, Order};
+use crate::end::HearFault;
+use crate::listen::leave;
+use crate::order::Offices;
 use crate::output::{Output, Start};
+use crate::ear::Heard;
+use crate::reading::Reading;
+use crate::room::make_room_in;
 use board_core::receipt::Receipt;
 use body_core::outcome::Outcome;
 use body_core::perform::perform;
 use body_core::run::Run;
+use body_core::step::Need;
 use body_core::ticket::Ticket;
-use crossbeam_channel::Receiver;
 use desk_core::answer::SubmitFault;
 use office_core::office::Office;
 use office_core::seat::{CompleteFault, Seat, Started, Submitted, Tried};
 use path_tree::name::Name;
-use session_text::line::Line;
+use session_text::line::{Line, Refusal};
+use session_text::session::Action;
 use shelf_core::hand::{Hand, Stamp};
 use std::alloc::Global;
-use std::io::Write;
+use std::io::{Read, Write};
 use std::sync::{Mutex, Wait};
+use std::time::Duration;
 use std::{mem, str};
 use value_core::datum::Datum;
 
-/// What the worker leaves.
+/// How long a call may wait, in milliseconds, before the second thread reads meanwhile, and before `accepted N` is sent.
+const BRIEF: u64 = 10;
+
+/// What the first thread leaves.
 #[derive(Drop)]
 pub(crate) struct Worked<H: Drop> {
     pub(crate) hand: H,
@@ -34,6 +46,18 @@ pub(crate) struct Worked<H: Drop> {
     pub(crate) receipts: Vec<Receipt>,
     // files that nobody reads any more, not yet retired
     pub(crate) free: Vec<Stamp>,
+    // what ended the hearing, where it was a fault
+    pub(crate) fault: Option<HearFault>,
+}
+
+// How the session goes on.
+#[derive(Clone, Copy, Debug, PartialEq, Eq)]
+enum Goes {
+    On,
+    // The session leaves its object.
+    Leaves(Option<HearFault>),
+    // It ends by `quit`.
+    Quits,
 }
 
 // Sends the lines that are held back. Where that fails, the session leaves its object.
@@ -61,23 +85,72 @@ fn awaited<R: Wait>(rt: &R, office: &Office, submitted: Submitted) -> Option<Tic
     unreachable!()
 }
 
-// The same. Before it waits, the lines that are held back are sent.
-fn started<R: Wait, W: Write + Drop, J: Start>(
+// The same, while the second thread reads. As long as that thread does not run, it looks again and again.
+fn awaited_beside<R: Wait, I: Read + Drop>(
+    rt: &R,
+    office: &Office,
+    reading: &mut Reading<'_, I>,
+    submitted: Submitted,
+) -> Option<Ticket> {
+    let mut submitted = submitted;
+    for _ in rt.forever() {
+        if reading.lend(rt) {
+            return awaited(rt, office, submitted);
+        }
+        match office.try_start_within(rt, submitted, Duration::from_millis(BRIEF)) {
+            Tried::Ticket(ticket) => return Some(ticket),
+            Tried::Cancelled => return None,
+            Tried::Waiting(back) => submitted = back,
+            Tried::Stranger(back) => submitted = back,
+        }
+    }
+    unreachable!()
+}
+
+// The same, for a submission just made. Before a call is waited for that does not start soon, the lines that are held back are sent.
+fn started<R: Wait, I: Read + Drop, W: Write + Drop, J: Start>(
     rt: &R,
     office: &Office,
     output: &Mutex<Output<W, J>>,
     seat: &Seat,
+    reading: &mut Reading<'_, I>,
     submitted: Submitted,
 ) -> Option<Ticket> {
-    match office.try_start(rt, submitted) {
+    match office.try_start_within(rt, submitted, Duration::from_millis(BRIEF)) {
         Tried::Ticket(ticket) => Some(ticket),
         Tried::Cancelled => None,
         Tried::Waiting(back) => {
             flush(rt, office, output, seat);
-            awaited(rt, office, back)
+            awaited_beside(rt, office, reading, back)
         }
         Tried::Stranger(back) => awaited(rt, office, back),
     }
+}
+
+// Whether a run has ended, by the call that it makes next.
+fn is_done(need: Need) -> bool
+    ensures { IsTrue result ↔ (need ≡ Need.Done) }
+{
+    match need {
+        Need::Done => true,
+        Need::Read => false,
+        Need::Create => false,
+        Need::Append => false,
+        Need::Seal => false,
+    }
+}
+
+// Steps until the run has ended. To look for an outcome before each step, as `perform` does, costs more than the step.
+fn stepped<H: Hand>(run: Run, hand: &mut H) -> Run
+    ensures kept { Keeps H.agrees hand.old hand.new }
+    ensures pen { PenHolds (H.pending hand.old) run → PenHolds (H.pending hand.new) result }
+    ensures found { PenHolds (H.pending hand.old) run → (a : Assignment) → H.agrees hand.new a → SoFar a run → SoFar a result }
+{
+    let mut run = run;
+    while !is_done(run.next()) {
+        run.step(hand);
+    }
+    run
 }
 
 // Runs a started call.
@@ -86,6 +159,7 @@ fn performed<H: Hand>(alloc: Global, ticket: Ticket, hand: &mut H) -> Outcome
     ensures told { (a : Assignment) → H.agrees hand.new a → OutcomeIsTrue a result }
 {
     let run = Run::new(alloc, ticket);
+    let run = stepped(run, hand);
     perform(run, hand)
 }
 
@@ -151,11 +225,12 @@ fn say<R: Wait, W: Write + Drop, J: Start>(rt: &R, output: &Mutex<Output<W, J>>,
 }
 
 // One call, from its submission to its last line. It answers the receipt, if there is one.
-fn call_on<R: Wait, W: Write + Drop, H: Hand, J: Start>(
+fn call_on<R: Wait, I: Read + Drop, W: Write + Drop, H: Hand, J: Start>(
     rt: &R,
     alloc: Global,
     office: &Office,
     output: &Mutex<Output<W, J>>,
+    reading: &mut Reading<'_, I>,
     seat: &mut Seat,
     hand: &mut H,
     op: &str,
@@ -173,7 +248,7 @@ fn call_on<R: Wait, W: Write + Drop, H: Hand, J: Start>(
     };
     let number = submitted.number();
     say(rt, output, Line::Accepted(number));
-    let Some(ticket) = started(rt, office, output, seat, submitted) else {
+    let Some(ticket) = started(rt, office, output, seat, reading, submitted) else {
         say(rt, output, Line::Withdrawn(number));
         return None;
     };
@@ -193,18 +268,16 @@ fn make_room<R: Wait, W: Write + Drop, J: Start>(
     ensures same { receipts.new.items ≡ receipts.old.items }
     ensures room { IsTrue result → vec_len receipts.new < vec_capacity receipts.new }
 {
-    if receipts.reserve(1).is_err() {
-        return false;
-    }
-    output.lock(rt).make_room()
+    make_room_in(receipts) && output.lock(rt).make_room()
 }
 
 // One call, where there is room for its receipt.
-fn serve_at<R: Wait, W: Write + Drop, H: Hand + Drop, J: Start>(
+fn serve_at<R: Wait, I: Read + Drop, W: Write + Drop, H: Hand + Drop, J: Start>(
     rt: &R,
     alloc: Global,
     office: &Office,
     output: &Mutex<Output<W, J>>,
+    reading: &mut Reading<'_, I>,
     seat: &mut Seat,
     worked: &mut Worked<H>,
     op: &str,
@@ -217,7 +290,7 @@ fn serve_at<R: Wait, W: Write + Drop, H: Hand + Drop, J: Start>(
         say(rt, output, Line::Unsubmitted(SubmitFault::Memory));
         return;
     }
-    let Some(receipt) = call_on(rt, alloc, office, output, seat, &mut worked.hand, op, args) else {
+    let Some(receipt) = call_on(rt, alloc, office, output, reading, seat, &mut worked.hand, op, args) else {
         return;
     };
     put_off(&mut worked.hand, &receipt.free, &mut worked.free);
@@ -233,11 +306,12 @@ fn keep(receipts: &mut Vec<Receipt>, receipt: Receipt)
 }
 
 // One call of the object that is opened.
-fn serve_call<R: Wait, W: Write + Drop, H: Hand + Drop, J: Start, O: Offices>(
+fn serve_call<R: Wait, I: Read + Drop, W: Write + Drop, H: Hand + Drop, J: Start, O: Offices>(
     rt: &R,
     alloc: Global,
     offices: &O,
     output: &Mutex<Output<W, J>>,
+    reading: &mut Reading<'_, I>,
     worked: &mut Worked<H>,
     op: &Name,
     args: &[Datum],
@@ -253,92 +327,235 @@ fn serve_call<R: Wait, W: Write + Drop, H: Hand + Drop, J: Start, O: Offices>(
     };
     let mut seat = seat;
     if let Some(office) = offices.office(at) {
-        serve_at(rt, alloc, office, output, &mut seat, worked, op, args);
+        serve_at(rt, alloc, office, output, reading, &mut seat, worked, op, args);
     }
     worked.seat = Some((at, seat));
 }
 
-// Does what the reading thread told for one line.
-fn follow<R: Wait, W: Write + Drop, H: Hand + Drop, J: Start, O: Offices>(
+// Opens an object, and gives the line that says why not.
+fn seat_at<R: Wait, O: Offices>(rt: &R, offices: &O, name: &Name) -> Result<(usize, Seat), Line> {
+    let Some(at) = offices.place_of(name) else {
+        return Err(Line::Refused(Refusal::NoObject));
+    };
+    let Some(office) = offices.office(at) else {
+        return Err(Line::Refused(Refusal::NoObject));
+    };
+    match office.seat(rt) {
+        Ok(seat) => Ok((at, seat)),
+        Err(_) => Err(Line::Refused(Refusal::Full)),
+    }
+}
+
+// The same for this session.
+fn enter<R: Wait, I: Read + Drop, W: Write + Drop, J: Start, O: Offices>(
+    rt: &R,
+    offices: &O,
+    output: &Mutex<Output<W, J>>,
+    reading: &mut Reading<'_, I>,
+    name: &Name,
+) -> Option<(usize, Seat)> {
+    match seat_at(rt, offices, name) {
+        Ok((at, seat)) => {
+            reading.set_opened(at, seat.session());
+            let _said = output.lock(rt).say_opened(name);
+            Some((at, seat))
+        }
+        Err(line) => {
+            say(rt, output, line);
+            None
+        }
+    }
+}
+
+// Cancels a call of the object that is opened.
+fn cancel<R: Wait, W: Write + Drop, J: Start, O: Offices>(
+    rt: &R,
+    offices: &O,
+    output: &Mutex<Output<W, J>>,
+    seat: &Option<(usize, Seat)>,
+    number: u32,
+) {
+    if let Some((at, _)) = seat {
+        if let Some(office) = offices.office(*at) {
+            let answer = office.cancel(rt, number);
+            say(rt, output, Line::Cancel(number, answer));
+        }
+    }
+}
+
+// Does what a line asks for.
+fn act<R: Wait, I: Read + Drop, W: Write + Drop, H: Hand + Drop, J: Start, O: Offices>(
     rt: &R,
     alloc: Global,
     offices: &O,
     output: &Mutex<Output<W, J>>,
+    reading: &mut Reading<'_, I>,
     worked: &mut Worked<H>,
-    order: Order,
-)
+    action: Action,
+) -> Goes
     ensures kept { Keeps H.agrees worked.old.hand worked.new.hand }
     ensures told { AreTrue H.agrees worked.old.hand worked.old.receipts.items → AreTrue H.agrees worked.new.hand worked.new.receipts.items }
 {
-    match order {
-        Order::Call(op, args) => serve_call(rt, alloc, offices, output, worked, &op, &args),
-        Order::Refuse(refusal) => say(rt, output, Line::Refused(refusal)),
-        Order::Quit => say(rt, output, Line::Bye),
+    match action {
+        Action::Open(name) => {
+            if let Some(entered) = enter(rt, offices, output, reading, &name) {
+                worked.seat = Some(entered);
+            }
+        }
+        Action::Call(op, args) => serve_call(rt, alloc, offices, output, reading, worked, &op, &args),
+        Action::Cancel(number) => cancel(rt, offices, output, &worked.seat, number),
+        Action::Quit => {
+            say(rt, output, Line::Bye);
+            return Goes::Quits;
+        }
+        Action::Answer(refusal) => say(rt, output, Line::Refused(refusal)),
     }
+    Goes::On
 }
 
-// Does what the reading thread told, in order.
-fn follow_all<R: Wait, W: Write + Drop, H: Hand + Drop, J: Start, O: Offices>(
+// Does what lines ask for, in order.
+fn act_all<R: Wait, I: Read + Drop, W: Write + Drop, H: Hand + Drop, J: Start, O: Offices>(
     rt: &R,
     alloc: Global,
     offices: &O,
     output: &Mutex<Output<W, J>>,
+    reading: &mut Reading<'_, I>,
     worked: &mut Worked<H>,
-    orders: Vec<Order>,
-)
+    actions: Vec<Action>,
+) -> Goes
     ensures kept { Keeps H.agrees worked.old.hand worked.new.hand }
     ensures told { AreTrue H.agrees worked.old.hand worked.old.receipts.items → AreTrue H.agrees worked.new.hand worked.new.receipts.items }
 {
-    for order in orders {
-        follow(rt, alloc, offices, output, worked, order);
+    for action in actions {
+        match act(rt, alloc, offices, output, reading, worked, action) {
+            Goes::On => {}
+            other => return other,
+        }
     }
+    Goes::On
 }
 
-// Does what a message tells.
-fn heed<R: Wait, W: Write + Drop, H: Hand + Drop, J: Start, O: Offices>(
-    rt: &R,
-    alloc: Global,
-    offices: &O,
-    output: &Mutex<Output<W, J>>,
-    worked: &mut Worked<H>,
-    message: Message,
-)
-    ensures kept { Keeps H.agrees worked.old.hand worked.new.hand }
-    ensures told { AreTrue H.agrees worked.old.hand worked.old.receipts.items → AreTrue H.agrees worked.new.hand worked.new.receipts.items }
-{
-    match message {
-        Message::Seat(at, seat) => worked.seat = Some((at, seat)),
-        Message::Orders(orders) => follow_all(rt, alloc, offices, output, worked, orders),
-    }
-}
-
-// Sends the lines that are held back, and retires the files that are left.
+// Sends the lines that are held back, and retires the files that are left. It answers whether all lines were sent.
 fn rest<R: Wait, W: Write + Drop, H: Hand + Drop, J: Start, O: Offices>(
     rt: &R,
     alloc: Global,
     offices: &O,
     output: &Mutex<Output<W, J>>,
     worked: &mut Worked<H>,
-)
+) -> bool
     ensures kept { Keeps H.agrees worked.old.hand worked.new.hand }
     ensures same { worked.new.receipts.items ≡ worked.old.receipts.items }
 {
-    if let Some((at, seat)) = &worked.seat {
-        if let Some(office) = offices.office(*at) {
-            flush(rt, office, output, seat);
-        }
-    }
+    let sent = output.lock(rt).flush();
     retire_left(alloc, &mut worked.hand, &mut worked.free);
+    sent
 }
 
-/// Does what the reading thread tells, until it ends. Before it waits it sends the lines that are held back, and after
-/// that it retires the files that are left.
-pub(crate) fn work<R: Wait, W: Write + Drop, H: Hand + Drop, J: Start, O: Offices>(
+// Does what was heard. Before more is read, the lines that are held back are sent.
+fn heed<R: Wait, I: Read + Drop, W: Write + Drop, H: Hand + Drop, J: Start, O: Offices>(
     rt: &R,
     alloc: Global,
-    from: Receiver<Message>,
     offices: &O,
     output: &Mutex<Output<W, J>>,
+    reading: &mut Reading<'_, I>,
+    worked: &mut Worked<H>,
+    heard: Heard,
+) -> Goes
+    ensures kept { Keeps H.agrees worked.old.hand worked.new.hand }
+    ensures told { AreTrue H.agrees worked.old.hand worked.old.receipts.items → AreTrue H.agrees worked.new.hand worked.new.receipts.items }
+{
+    match heard {
+        Heard::Action(action) => act(rt, alloc, offices, output, reading, worked, action),
+        Heard::LineTooLong => {
+            say(rt, output, Line::Refused(Refusal::LineTooLong));
+            Goes::On
+        }
+        Heard::End(fault) => Goes::Leaves(fault),
+        Heard::Nothing => {
+            if !rest(rt, alloc, offices, output, worked) {
+                return Goes::Leaves(None);
+            }
+            reading.read();
+            Goes::On
+        }
+    }
+}
+
+// Does what the second thread heard. Where there is nothing to do, the lines that are held back are sent, and more is waited for, or
+// the reading side.
+fn follow<R: Wait, I: Read + Drop, W: Write + Drop, H: Hand + Drop, J: Start, O: Offices>(
+    rt: &R,
+    alloc: Global,
+    offices: &O,
+    output: &Mutex<Output<W, J>>,
+    reading: &mut Reading<'_, I>,
+    worked: &mut Worked<H>,
+) -> Goes
+    ensures kept { Keeps H.agrees worked.old.hand worked.new.hand }
+    ensures told { AreTrue H.agrees worked.old.hand worked.old.receipts.items → AreTrue H.agrees worked.new.hand worked.new.receipts.items }
+{
+    let actions = reading.taken(rt, alloc);
+    if !actions.is_empty() {
+        return act_all(rt, alloc, offices, output, reading, worked, actions);
+    }
+    if !rest(rt, alloc, offices, output, worked) {
+        return Goes::Leaves(None);
+    }
+    reading.await_ear(rt);
+    Goes::On
+}
+
+// One turn: what is heard next is done.
+fn turn<R: Wait, I: Read + Drop, W: Write + Drop, H: Hand + Drop, J: Start, O: Offices>(
+    rt: &R,
+    alloc: Global,
+    offices: &O,
+    output: &Mutex<Output<W, J>>,
+    reading: &mut Reading<'_, I>,
+    worked: &mut Worked<H>,
+) -> Goes
+    ensures kept { Keeps H.agrees worked.old.hand worked.new.hand }
+    ensures told { AreTrue H.agrees worked.old.hand worked.old.receipts.items → AreTrue H.agrees worked.new.hand worked.new.receipts.items }
+{
+    match reading.hear(alloc) {
+        Some(heard) => heed(rt, alloc, offices, output, reading, worked, heard),
+        None => follow(rt, alloc, offices, output, reading, worked),
+    }
+}
+
+// Takes turns until the session ends, and gives the fault that ended the hearing. But by `quit` the session leaves its object.
+fn take_turns<R: Wait, I: Read + Drop, W: Write + Drop, H: Hand + Drop, J: Start, O: Offices>(
+    rt: &R,
+    alloc: Global,
+    offices: &O,
+    output: &Mutex<Output<W, J>>,
+    reading: &mut Reading<'_, I>,
+    worked: &mut Worked<H>,
+) -> Option<HearFault>
+    ensures kept { Keeps H.agrees worked.old.hand worked.new.hand }
+    ensures told { AreTrue H.agrees worked.old.hand worked.old.receipts.items → AreTrue H.agrees worked.new.hand worked.new.receipts.items }
+{
+    for _ in rt.forever() {
+        match turn(rt, alloc, offices, output, reading, worked) {
+            Goes::On => {}
+            Goes::Leaves(fault) => {
+                leave(rt, offices, reading.opened());
+                return fault;
+            }
+            Goes::Quits => return None,
+        }
+    }
+    unreachable!()
+}
+
+/// Serves a session: reads lines and does what they ask for, in order. While a call waits, the second thread reads. Before it waits
+/// it sends the lines that are held back, and retires the files that are left.
+pub(crate) fn work<R: Wait, I: Read + Drop, W: Write + Drop, H: Hand + Drop, J: Start, O: Offices>(
+    rt: &R,
+    alloc: Global,
+    offices: &O,
+    output: &Mutex<Output<W, J>>,
+    reading: Reading<'_, I>,
     hand: H,
 ) -> Worked<H>
     ensures kept { Keeps H.agrees hand result.hand }
@@ -349,13 +566,11 @@ pub(crate) fn work<R: Wait, W: Write + Drop, H: Hand + Drop, J: Start, O: Office
         seat: None,
         receipts: Vec::new(alloc),
         free: Vec::new(alloc),
+        fault: None,
     };
-    for _ in rt.forever() {
-        rest(rt, alloc, offices, output, &mut worked);
-        let Ok(message) = from.recv(rt) else {
-            break;
-        };
-        heed(rt, alloc, offices, output, &mut worked, message);
-    }
+    let mut reading = reading;
+    worked.fault = take_turns(rt, alloc, offices, output, &mut reading, &mut worked);
+    let _sent = rest(rt, alloc, offices, output, &mut worked);
+    reading.over(rt);
     worked
 }

@@ -132,7 +132,8 @@ fn cancels<R: Wait>(rt: &R, all: &Vec<Named>, count: &AtomicU64) {
     }
 }
 
-const QUITS: &[(u64, &[u8])] = &[(0, b"open buffer\ncall remove\nquit\n")];
+// What comes behind `quit` comes only once the call has ended.
+const QUITS: &[(u64, &[u8])] = &[(0, b"open buffer\ncall remove\nquit\n"), (3, b"x")];
 
 #[test]
 fn quit_waits_for_the_call_before_it(rt: HostRuntime) {
@@ -147,4 +148,23 @@ fn quit_waits_for_the_call_before_it(rt: HostRuntime) {
     );
     let told: &[u8] = b"opened buffer\naccepted 1\ncancelled 1\nbye\n";
     assert!(rt; bytes.as_slice() == told);
+}
+
+// A session on an empty buffer writes this, and ends by itself.
+fn tells(rt: &HostRuntime, lines: &'static [(u64, &'static [u8])], told: &[u8]) {
+    let alloc = rt.alloc();
+    let (all, hand) = offices(rt, alloc, BUFFER, EMPTY);
+    let count = Arc::new(alloc, AtomicU64::new(0)).expect(rt, "memory");
+    let bytes = written(rt, alloc, &all, hand, lines, &count);
+    assert!(rt; bytes.as_slice() == told);
+}
+
+const ENDS: &[(u64, &[u8])] = &[(0, b"open buffer\ncall remove\ncall remove\n")];
+
+const HANGS_UP: &[(u64, &[u8])] = &[(0, b"open buffer\ncall remove\nquit\n")];
+
+#[test]
+fn the_input_ends_while_a_call_waits(rt: HostRuntime) {
+    tells(&rt, ENDS, b"opened buffer\naccepted 1\ncancelled 1\nno Gone\n");
+    tells(&rt, HANGS_UP, b"opened buffer\naccepted 1\ncancelled 1\nbye\n");
 }

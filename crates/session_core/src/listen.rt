@@ -1,0 +1,120 @@
+//! The second thread of a session: it reads while a call waits.
+
+use crate::ear::{Ear, Heard};
+use crate::end::HearFault;
+use crate::order::Offices;
+use crate::output::{Output, Start};
+use crate::relay::Relay;
+use crossbeam_channel::Receiver;
+use session_text::line::{Line, Refusal};
+use session_text::session::Action;
+use std::alloc::Global;
+use std::io::{Read, Write};
+use std::sync::{Mutex, Wait};
+
+// Writes a line at once.
+fn tell<R: Wait, W: Write + Drop, J: Start>(
+    rt: &R,
+    output: &Mutex<Output<W, J>>,
+    line: Line,
+) -> bool {
+    let mut output = output.lock(rt);
+    output.say(line) && output.flush()
+}
+
+// Cancels a call of the object that is opened, and answers at once.
+fn cancel<R: Wait, W: Write + Drop, J: Start, O: Offices>(
+    rt: &R,
+    offices: &O,
+    output: &Mutex<Output<W, J>>,
+    opened: Option<(usize, u32)>,
+    number: u32,
+) -> bool {
+    let Some((at, _)) = opened else {
+        return true;
+    };
+    let Some(office) = offices.office(at) else {
+        return true;
+    };
+    let answer = office.cancel(rt, number);
+    tell(rt, output, Line::Cancel(number, answer))
+}
+
+/// A session leaves its object.
+pub(crate) fn leave<R: Wait, O: Offices>(rt: &R, offices: &O, opened: Option<(usize, u32)>) {
+    if let Some((at, session)) = opened {
+        if let Some(office) = offices.office(at) {
+            office.leave(rt, session);
+        }
+    }
+}
+
+// Does what was heard, or hands it over. It answers whether the hearing goes on.
+fn heed<R: Wait, I: Read + Drop, W: Write + Drop, J: Start, O: Offices>(
+    rt: &R,
+    offices: &O,
+    output: &Mutex<Output<W, J>>,
+    relay: &Relay<I>,
+    ear: &mut Ear<I>,
+    heard: Heard,
+) -> bool {
+    match heard {
+        Heard::Nothing => ear.read(),
+        Heard::Action(Action::Cancel(number)) => {
+            if !cancel(rt, offices, output, ear.opened(), number) {
+                ear.end(None);
+            }
+        }
+        Heard::Action(action) => {
+            if !relay.pass(rt, action) {
+                ear.end(Some(HearFault::Memory));
+            }
+        }
+        Heard::LineTooLong => {
+            let _told = tell(rt, output, Line::Refused(Refusal::LineTooLong));
+        }
+        Heard::End(_) => return false,
+    }
+    true
+}
+
+// Hears until the first thread wants the reading side, or nothing more is heard. Then the session leaves its object.
+fn listen_on<R: Wait, I: Read + Drop, W: Write + Drop, J: Start, O: Offices>(
+    rt: &R,
+    alloc: Global,
+    offices: &O,
+    output: &Mutex<Output<W, J>>,
+    relay: &Relay<I>,
+    ear: Ear<I>,
+) {
+    let mut ear = ear;
+    for _ in rt.forever() {
+        if relay.is_wanted(rt) {
+            break;
+        }
+        let heard = ear.hear(alloc);
+        if !heed(rt, offices, output, relay, &mut ear, heard) {
+            leave(rt, offices, ear.opened());
+            break;
+        }
+    }
+    relay.give_back(rt, ear);
+}
+
+/// Hears for the first thread, each time that it lends its reading side.
+pub(crate) fn listen<R: Wait, I: Read + Drop, W: Write + Drop, J: Start, O: Offices>(
+    rt: &R,
+    alloc: Global,
+    from: Receiver<Ear<I>>,
+    offices: &O,
+    output: &Mutex<Output<W, J>>,
+    relay: &Relay<I>,
+) {
+    relay.arrive(rt);
+    for _ in rt.forever() {
+        let Ok(ear) = from.recv(rt) else {
+            break;
+        };
+        listen_on(rt, alloc, offices, output, relay, ear);
+    }
+}
