@@ -154,8 +154,8 @@ fn serve_ready<
 /// `part OBJECT.PART damaged`. At the end that line stands for a part that cannot be saved, and `close OBJECT refused` for an
 /// object that does not close.
 ///
-/// The faults: `ReadFault` where the folder cannot be read or a part not opened, or an accept failed, after which no more
-/// connections are taken and all else is still done; `WriteFault` where a part or a trace cannot be saved or a line not be
+/// The faults: `ReadFault` where the folder cannot be read or a part not opened, or a connection not be taken or
+/// served, after which all else is still done; `WriteFault` where a part or a trace cannot be saved or a line not be
 /// written; `Memory`. Of several the first is told.
 pub fn serve_on<
     R: Files + AllocGlobal + Threads + Wait + Clone + Drop + Sync,
