@@ -1,10 +1,9 @@
 -- Objects that are judged one after another.
-use Rattle.std.proofs.Common.{◌≡◌, ◌≢◌, ◌⊎◌, inl, inr, ◌+◌, ◌<◌, ◌≤◌, ℕ, List, [], ◌∷◌, ◌++◌, length, refl, ap, sym, subst, ◌∙◌, append_assoc, length-append, arith, codes}
+use Rattle.std.proofs.Common.{◌≡◌, inl, inr, ℕ, List, [], ◌∷◌, ◌++◌, length, refl, ap, sym, subst, ◌∙◌, append_assoc, length-append, arith}
 use Rattle.std.proofs.lemmas.List.{append-nil, map-append}
 use Rattle.decl_core.specs.declared.object.Object.{Object}
 use Rattle.decl_core.specs.ObjectForm.{ObjectForm}
 use Rattle.decl_core.specs.ObjectMap.{object_of, objects_of}
-use Rattle.exclude_core.specs.Exclusive.{IsExclusive}
 use Rattle.exclude_core.specs.Report.{refused_line}
 use Rattle.decl_read.specs.Sources.{AreObjectsOf}
 use Rattle.serve_core.specs.Judging.{AreJudged, no_object, and_accepted, and_refused, refused}

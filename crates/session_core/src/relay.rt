@@ -33,15 +33,13 @@ impl<I: Read + Drop> Relay<I> {
     /// Nothing was heard.
     pub(crate) fn new(alloc: Global) -> Relay<I> {
         Relay {
-            pending: Mutex::new(
-                Pending {
-                    actions: Vec::new(alloc),
-                    ear: None,
-                    is_idle: false,
-                    is_over: false,
-                    is_there: false,
-                },
-            ),
+            pending: Mutex::new(Pending {
+                actions: Vec::new(alloc),
+                ear: None,
+                is_idle: false,
+                is_over: false,
+                is_there: false,
+            }),
             came: Condvar::new(),
         }
     }

@@ -4,8 +4,8 @@ ghost use Rattle.std.specs.Prelude.{◌≡◌};
 ghost use Rattle.session_core.specs.Truth.{Keeps, AreTrue};
 ghost use Rattle.session_core.specs.Written.{HasWritten};
 
-use crate::end::{SessionEnd, SessionFault, conclude};
 use crate::ear::Ear;
+use crate::end::{SessionEnd, SessionFault, conclude};
 use crate::listen::listen;
 use crate::order::Offices;
 use crate::output::{Output, Start};
@@ -57,7 +57,16 @@ fn serve_from<
         move || listen(rt, alloc, from, offices, shared, lent),
         move || -> Worked<H>
             ensures { Keeps H.agrees hand result.hand × AreTrue H.agrees result.hand result.receipts.items }
-        { work(rt, alloc, offices, shared, Reading::new(ear, to, lent), hand) },
+        {
+            work(
+                rt,
+                alloc,
+                offices,
+                shared,
+                Reading::new(ear, to, lent),
+                hand,
+            )
+        },
     );
     let (writer, notes, health) = output.into_inner().into_parts();
     let Worked {

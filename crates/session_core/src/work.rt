@@ -8,11 +8,11 @@ ghost use Rattle.body_core.specs.declared.step.Need.TheVariants as Need;
 ghost use Rattle.office_core.specs.Receipts.{IsTrueReceipt};
 ghost use Rattle.session_core.specs.Truth.{Keeps, AreTrue, OutcomeIsTrue};
 
+use crate::ear::Heard;
 use crate::end::HearFault;
 use crate::listen::leave;
 use crate::order::Offices;
 use crate::output::{Output, Start};
-use crate::ear::Heard;
 use crate::reading::Reading;
 use crate::room::make_room_in;
 use board_core::receipt::Receipt;
@@ -290,7 +290,17 @@ fn serve_at<R: Wait, I: Read + Drop, W: Write + Drop, H: Hand + Drop, J: Start>(
         say(rt, output, Line::Unsubmitted(SubmitFault::Memory));
         return;
     }
-    let Some(receipt) = call_on(rt, alloc, office, output, reading, seat, &mut worked.hand, op, args) else {
+    let Some(receipt) = call_on(
+        rt,
+        alloc,
+        office,
+        output,
+        reading,
+        seat,
+        &mut worked.hand,
+        op,
+        args,
+    ) else {
         return;
     };
     put_off(&mut worked.hand, &receipt.free, &mut worked.free);
@@ -327,7 +337,9 @@ fn serve_call<R: Wait, I: Read + Drop, W: Write + Drop, H: Hand + Drop, J: Start
     };
     let mut seat = seat;
     if let Some(office) = offices.office(at) {
-        serve_at(rt, alloc, office, output, reading, &mut seat, worked, op, args);
+        serve_at(
+            rt, alloc, office, output, reading, &mut seat, worked, op, args,
+        );
     }
     worked.seat = Some((at, seat));
 }
@@ -402,7 +414,9 @@ fn act<R: Wait, I: Read + Drop, W: Write + Drop, H: Hand + Drop, J: Start, O: Of
                 worked.seat = Some(entered);
             }
         }
-        Action::Call(op, args) => serve_call(rt, alloc, offices, output, reading, worked, &op, &args),
+        Action::Call(op, args) => serve_call(
+            rt, alloc, offices, output, reading, worked, &op, &args,
+        ),
         Action::Cancel(number) => cancel(rt, offices, output, &worked.seat, number),
         Action::Quit => {
             say(rt, output, Line::Bye);

@@ -1,4 +1,4 @@
-use Rattle.std.proofs.Common.{◌≡◌, ◌∙◌, ap, sym, length}
+use Rattle.std.proofs.Common.{◌∙◌, ap, sym, length}
 use Rattle.decl_core.specs.declared.object.Object.{Object}
 use Rattle.serve_core.proofs.close.save.Goals as goal
 
