@@ -1,5 +1,8 @@
 //! A server from its start to its end.
 
+ghost use Rattle.std.specs.Prelude.{IfOk};
+ghost use Rattle.serve_core.specs.Handled.{IsHandled};
+
 use crate::close::{Gathered, close_one, gather_all, rooms};
 use crate::folder::remove_values;
 use crate::judge::{Judged, judge};
@@ -168,7 +171,10 @@ pub fn serve_on<
     place: Place<H>,
     listener: &TcpListener,
     writer: &mut W,
-) -> Result<ServeEnd, LinesFault> {
+) -> Result<ServeEnd, LinesFault>
+    // A source that is not served: what says why is written, and nothing else. Of a source that is served each object is accepted.
+    ensures { IfOk result (IsHandled source.now (W.contents writer.old) (W.contents writer.new)) }
+{
     match judge(alloc, source)? {
         Judged::Told(text) => {
             write_whole(writer, &text)?;
