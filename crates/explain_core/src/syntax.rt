@@ -1,0 +1,478 @@
+//! What is said of a token that is out of place, and of a name that is of the wrong kind.
+
+use crate::name::{Sort, What, declared, sort_of};
+use crate::said::{Said, say};
+use crate::tokens::{
+    begins, ends, ends_before_last, from_last, is_any_name, is_end_mark, is_name, is_number,
+    is_symbol, is_word, name_of, from_symbol, tokens_from,
+};
+use path_tree::token::{Kind, Symbol, Token};
+
+// Whether a name stands here.
+fn is_at_name(here: &[Token]) -> bool {
+    match here {
+        [token, ..] => is_any_name(token),
+        [] => false,
+    }
+}
+
+// Whether the last of some tokens ends a value, a name or a size.
+fn ends_value(before: &[Token]) -> bool {
+    match before {
+        [.., token] => match &token.kind {
+            Kind::Symbol(s) => matches!(s, Symbol::CloseParen | Symbol::CloseBracket | Symbol::Integer | Symbol::Text),
+            Kind::Number(_) | Kind::Name(_) | Kind::Text(_) => true,
+            Kind::EndMark => false,
+        },
+        [] => false,
+    }
+}
+
+// Whether a token begins an item of a path.
+fn begins_item(here: &[Token]) -> bool {
+    match here {
+        [token, ..] => is_any_name(token)
+            || is_number(token)
+            || is_symbol(token, Symbol::OpenParen)
+            || is_symbol(token, Symbol::OpenBracket),
+        [] => false,
+    }
+}
+
+// Whether the last of some tokens is a number.
+fn ends_number(before: &[Token]) -> bool {
+    match before {
+        [.., token] => is_number(token),
+        [] => false,
+    }
+}
+
+// Whether the first of some tokens is a reserved word.
+fn is_at_word(here: &[Token]) -> bool {
+    match here {
+        [token, ..] => is_word(token),
+        [] => false,
+    }
+}
+
+// Whether the source ends here.
+fn is_at_end(here: &[Token]) -> bool {
+    match here {
+        [token, ..] => is_end_mark(token),
+        [] => true,
+    }
+}
+
+/// What is said of a token that a path has not in its place.
+pub(crate) fn expected(before: &[Token], here: &[Token]) -> Said {
+    if is_at_end(here) {
+        return say(
+            "the source ends inside of this path",
+            "a path is closed by `end`",
+        );
+    }
+    if ends_number(before) {
+        return say(
+            "behind the number `$` stands no `:(`, but `%`",
+            "a number in a path is a bound, as in `3:(get, put)`",
+        );
+    }
+    if ends(before, Symbol::Colon) {
+        return say(
+            "behind the `:` of a bound stands `(`, and not `%`",
+            "a bound is written as in `3:(get, put)`",
+        );
+    }
+    if ends_value(before) && begins_item(here) {
+        return say(
+            "between `$` and `%` a `,` or a `;` is missing",
+            "`a, b` lets either run; in `a; b` each start of b uses up one finish of a",
+        );
+    }
+    unclosed(before, here)
+}
+
+// The same where no item can stand, or has to stand.
+fn unclosed(before: &[Token], here: &[Token]) -> Said {
+    if ends_value(before) && begins(here, Symbol::End) {
+        return say(
+            "the path ends, and a `(` or a `[` of it is not closed",
+            "write the `)` or the `]` before this `end`",
+        );
+    }
+    if is_at_word(here) && !begins(here, Symbol::End) {
+        return say(
+            "`%` is a reserved word, and cannot stand here in a path",
+            "no operation can have its name; docs/LANGUAGE.md lists the reserved words",
+        );
+    }
+    say(
+        "`%` cannot stand here in a path, behind `$`",
+        "a path is made of names, `a, b`, `a; b`, bounds `3:( .. )`, bursts `[ .. ]` and parentheses, and is closed by `end`",
+    )
+}
+
+/// What is said of a token that objects have not in its place.
+pub(crate) fn misplaced(before: &[Token], here: &[Token]) -> Said {
+    if is_at_end(here) {
+        return say(
+            "the source ends, and an object is not closed",
+            "each `begin` and each path is closed by `end`, and the object by `end;`",
+        );
+    }
+    if before.is_empty() {
+        return say(
+            "a source begins with the word `object`, and not with `%`",
+            "write `object NAME;` .. `end;` around what is to be one",
+        );
+    }
+    if ends(before, Symbol::Refuse) || ends_before_last(before, Symbol::Refuse) {
+        return say(
+            "`%` is no word to refuse by",
+            "a word stands in apostrophes, and has 1 to 16 lower-case letters, as in refuse('taken')",
+        );
+    }
+    if ends_before_last(before, Symbol::Array) && ends(before, Symbol::OpenBracket) {
+        return say(
+            "`%` is no size of an array",
+            "a size is 1 to 1024, as a number or by the name of a constant",
+        );
+    }
+    by_sign(before, here)
+}
+
+// The same by the sign or the word that stands here.
+fn by_sign(before: &[Token], here: &[Token]) -> Said {
+    if begins(here, Symbol::Else) {
+        return say(
+            "this `else` belongs to no `if`",
+            "no `;` stands before `else`, since it would end the `if`",
+        );
+    }
+    if begins(here, Symbol::Assign) {
+        return say(
+            "`:=` cannot stand here",
+            "`:=` puts a value into the element of an array or into a function's own name; `=` compares, and gives a constant its value",
+        );
+    }
+    if begins(here, Symbol::Equal) {
+        return say(
+            "`=` cannot stand here",
+            "`=` compares, and gives a constant its value; `:=` puts a value in its place",
+        );
+    }
+    if begins(here, Symbol::Minus) || begins(here, Symbol::Plus) {
+        return say(
+            "a number has no sign",
+            "integers are 0 to 4294967295; a difference is `x - y`, and is refused by `range` below 0",
+        );
+    }
+    if is_and_or(here) {
+        return say(
+            "there is no `%` between conditions",
+            "put one `if` into another",
+        );
+    }
+    by_name(before, here)
+}
+
+// Whether a name stands here that other languages have between conditions.
+fn is_and_or(here: &[Token]) -> bool {
+    match here {
+        [token, ..] => is_name(token, b"and") || is_name(token, b"or"),
+        [] => false,
+    }
+}
+
+// Whether a name has to stand behind these tokens.
+fn wants_name(before: &[Token]) -> bool {
+    ends(before, Symbol::Object)
+        || ends(before, Symbol::Procedure)
+        || ends(before, Symbol::Function)
+        || ends(before, Symbol::Var)
+        || ends(before, Symbol::Const)
+}
+
+// The same where a name has to stand, or a section begins.
+fn by_name(before: &[Token], here: &[Token]) -> Said {
+    if wants_name(before) {
+        return if is_at_word(here) {
+            say(
+                "`%` is a reserved word, and no name",
+                "choose another one; docs/LANGUAGE.md lists the reserved words",
+            )
+        } else {
+            say(
+                "behind `$` a name has to stand, and not `%`",
+                "a name is a letter, and then letters, digits and `_`",
+            )
+        };
+    }
+    if opens_section(here) && ends(before, Symbol::Semicolon) {
+        return say(
+            "`%` cannot stand here",
+            "an object has constants, then paths, then parts, then operations, and each body is closed by `end;`",
+        );
+    }
+    by_semicolon(before, here)
+}
+
+// Whether a section of an object begins here.
+fn opens_section(here: &[Token]) -> bool {
+    begins(here, Symbol::Const)
+        || begins(here, Symbol::Path)
+        || begins(here, Symbol::Var)
+        || begins(here, Symbol::Entry)
+}
+
+// Whether a statement or a section can begin here.
+fn opens_statement(here: &[Token]) -> bool {
+    opens_section(here)
+        || begins(here, Symbol::Begin)
+        || begins(here, Symbol::If)
+        || begins(here, Symbol::Append)
+        || begins(here, Symbol::Take)
+        || begins(here, Symbol::Store)
+        || begins(here, Symbol::Erase)
+        || begins(here, Symbol::Refuse)
+        || begins(here, Symbol::End)
+        || begins(here, Symbol::Object)
+}
+
+// The same where a semicolon may be missing.
+fn by_semicolon(before: &[Token], here: &[Token]) -> Said {
+    if ends(before, Symbol::End) {
+        return say(
+            "behind `end` stands no `;`, but `%`",
+            "an object, a path and a body are closed by `end;`, and a `;` parts two statements",
+        );
+    }
+    if ends_value(before) && opens_statement(here) {
+        return say(
+            "between `$` and `%` something is missing",
+            "a `;` closes a declaration and parts two statements, and behind the condition of an `if` stands `then`",
+        );
+    }
+    say(
+        "`%` cannot stand here, behind `$`",
+        "docs/LANGUAGE.md has the grammar of objects",
+    )
+}
+
+// What is asked of the name behind these tokens, where that is known.
+fn asked_by_word(before: &[Token]) -> Option<Said> {
+    if ends_before_last(before, Symbol::Append)
+        || ends_before_last(before, Symbol::Take)
+        || ends_before_last(before, Symbol::First)
+    {
+        return Some(say(
+            "`%` is no queue",
+            "`append`, `take` and `first` are of queues; an array has `a[i]`, a table `lookup(t, k)` and `store(t, k, e)`",
+        ));
+    }
+    if ends_before_last(before, Symbol::Store)
+        || ends_before_last(before, Symbol::Erase)
+        || ends_before_last(before, Symbol::Lookup)
+        || ends_before_last(before, Symbol::Has)
+    {
+        return Some(say(
+            "`%` is no table",
+            "`store`, `erase`, `lookup` and `has` are of tables; an array has `a[i]`, a queue `first(q)` and `append(q, e)`",
+        ));
+    }
+    if ends_before_last(before, Symbol::Count) {
+        return Some(say(
+            "`%` is no part of the object",
+            "`count` is of parts: the length of an array or of a queue, the number of keys of a table",
+        ));
+    }
+    if ends_before_last(before, Symbol::Array) {
+        return Some(say(
+            "`%` is no constant",
+            "a size is 1 to 1024, as a number or by the name of a constant",
+        ));
+    }
+    None
+}
+
+// Whether the name behind these tokens is the part that a word works on, or a size.
+fn is_asked(before: &[Token]) -> bool {
+    ends(before, Symbol::OpenParen) || ends_before_last(before, Symbol::Array)
+}
+
+/// What is said of a name, or of the first token of an expression, that is of the wrong kind.
+pub(crate) fn wrong(before: &[Token], here: &[Token]) -> Said {
+    if is_asked(before) && is_at_name(here) {
+        if let Some(said) = asked_by_word(before) {
+            return said;
+        }
+    }
+    let next = tokens_from(here, 1);
+    if is_at_name(here) && begins(next, Symbol::OpenBracket) {
+        if let Some(said) = no_array(before, here) {
+            return said;
+        }
+    }
+    if is_at_name(here) && begins(next, Symbol::Assign) {
+        return say(
+            "nothing can be put into `%`",
+            "a function gives its reply by its own name, and an element of an array is set by `a[i] := e`",
+        );
+    }
+    wrong_sort(before, here)
+}
+
+// What is said of a name before `[` that is no array's.
+fn no_array(before: &[Token], here: &[Token]) -> Option<Said> {
+    if let Some((found, What::Part)) = declared(before, name_of(here)) {
+        let kind = tokens_from(from_symbol(found, Symbol::Colon, 0), 1);
+        if begins(kind, Symbol::Array) {
+            return None;
+        }
+    }
+    Some(say(
+        "`%` is no array",
+        "an element `a[i]` is taken of an array; a queue has `first(q)`, a table `lookup(t, k)`",
+    ))
+}
+
+// What the values are of the expression that begins here, as far as its first token tells.
+fn sort_here(before: &[Token], here: &[Token]) -> Option<Sort> {
+    let [token, rest @ ..] = here else {
+        return None;
+    };
+    match &token.kind {
+        Kind::Number(_) => Some(Sort::Integer),
+        Kind::Text(_) => Some(Sort::Text),
+        Kind::Name(name) => sort_of_name(before, name.as_bytes()),
+        Kind::Symbol(s) => match s {
+            Symbol::Count => Some(Sort::Integer),
+            Symbol::First | Symbol::Lookup => sort_of_name(before, name_of(tokens_from(rest, 1))),
+            _ => None,
+        },
+        Kind::EndMark => None,
+    }
+}
+
+// What the values of a name are.
+fn sort_of_name(before: &[Token], name: &[u8]) -> Option<Sort> {
+    let (found, what) = declared(before, name)?;
+    sort_of(found, what)
+}
+
+// Whether a part, or an operation, stands here as if it were a value.
+fn is_no_value(before: &[Token], here: &[Token]) -> bool {
+    if begins(tokens_from(here, 1), Symbol::OpenBracket) {
+        return false;
+    }
+    match declared(before, name_of(here)) {
+        Some((_, What::Part)) | Some((_, What::Operation)) => true,
+        _ => false,
+    }
+}
+
+// What is said of an expression of the wrong kind.
+fn wrong_sort(before: &[Token], here: &[Token]) -> Said {
+    if is_no_value(before, here) {
+        return say(
+            "`%` is a part or an operation, and no value",
+            "of a part there is `a[i]`, `first(q)`, `lookup(t, k)` and `count(p)`; operations do not call each other, and a reply is not read",
+        );
+    }
+    match sort_here(before, here) {
+        Some(Sort::Integer) => say(
+            "an integer stands here where a text is due",
+            "keys are texts; an element has the kind of its part, a reply that of its function; `=` and `<>` compare two of one kind",
+        ),
+        Some(Sort::Text) => say(
+            "a text stands here where an integer is due",
+            "`+`, `-`, `<`, `<=`, `>`, `>=` and an index take integers; an element has the kind of its part, a reply that of its function",
+        ),
+        None => say(
+            "this expression is of the wrong kind",
+            "it is an integer where a text is due, or a text where an integer is due",
+        ),
+    }
+}
+
+/// What is said of a name that is not known.
+pub(crate) fn unknown(before: &[Token], here: &[Token]) -> Said {
+    if ends(before, Symbol::OpenBracket) && ends_before_last(before, Symbol::Array) {
+        return say(
+            "`%` is no constant that is declared above",
+            "a size is 1 to 1024, as a number or by the name of a constant",
+        );
+    }
+    if begins(tokens_from(here, 1), Symbol::OpenParen) {
+        return say(
+            "`%` is not declared above",
+            "operations do not call each other; in a body there are `append`, `take`, `store`, `erase`, `refuse`, `first`, `lookup`, `count` and `has`",
+        );
+    }
+    say(
+        "`%` is not declared above",
+        "a body knows the constants and the parts of its object, its own parameters, and in a function its own name",
+    )
+}
+
+/// What is said of the first token past a limit.
+pub(crate) fn past_limit(before: &[Token], here: &[Token]) -> Said {
+    if ends(before, Symbol::Object) {
+        return say(
+            "`%` is the 17th object of this source",
+            "a source has at most 16 objects; put some into a file of their own",
+        );
+    }
+    if begins(here, Symbol::Path) {
+        return say(
+            "this is the 17th path of the object",
+            "an object has at most 16 paths; two over different operations can be one, as in `path 1:(a), 2:(b) end;`",
+        );
+    }
+    if ends(before, Symbol::Procedure) || ends(before, Symbol::Function) {
+        return say(
+            "`%` is the 33rd operation of the object",
+            "an object has at most 32 operations; cut it into two objects, which share nothing",
+        );
+    }
+    if !is_at_name(here) {
+        return too_deep(here);
+    }
+    past_limit_of_names(before)
+}
+
+// What is said of a name past a limit.
+fn past_limit_of_names(before: &[Token]) -> Said {
+    let object = from_last(before, Symbol::Object);
+    let entry = from_last(object, Symbol::Entry);
+    if begins(entry, Symbol::Entry) {
+        return say(
+            "`%` is the 9th parameter of this operation",
+            "an operation has at most 8 parameters",
+        );
+    }
+    if begins(from_last(object, Symbol::Var), Symbol::Var) {
+        return say(
+            "`%` is the 17th part of the object",
+            "an object has at most 16 parts; several values can be the elements of one array, or stand under keys of one table",
+        );
+    }
+    say(
+        "`%` is the 17th constant of the object",
+        "an object has at most 16 constants; a number can stand in its place as well",
+    )
+}
+
+// What is said of the token that opens a 33rd level.
+fn too_deep(here: &[Token]) -> Said {
+    if begins(here, Symbol::Begin) || begins(here, Symbol::If) {
+        return say(
+            "this opens a 33rd level of statements",
+            "each `begin` and each `if` is one level deeper, an `if` behind `else` too; 32 are the most",
+        );
+    }
+    say(
+        "this opens a 33rd level of expressions",
+        "each `[`, `(` and `not` is one level deeper; 32 are the most",
+    )
+}
