@@ -218,9 +218,9 @@ def with_each(block):
     return [block]
 
 
-def escaped(text):
-    """The lines of the notation whose text is this one."""
-    return [re.sub(r"[\\\\^|]", r"\\\g<0>", it) for it in text.decode().splitlines()]
+def escaped(lines):
+    """The lines of the notation whose text these lines are."""
+    return [re.sub(r"[\\\\^|]", r"\\\g<0>", it) for it in lines]
 
 
 class Reader:
@@ -244,7 +244,9 @@ class Reader:
             elif head.endswith(":") and head[:-1].isupper():
                 self.files[head[:-1]] = rest
             elif head == "output:":
-                self.sections["output"] = escaped(stored(rest))
+                self.sections["output"] = escaped(stored(rest).decode().splitlines())
+            elif name == "error, as it stands":
+                self.sections["error"] = escaped(lines_of(section))
             elif name in ("rows", "output", "error", "reads", "faults", "output, one more", "fronts", "growths") or name.isupper():
                 self.sections[name] = lines_of(section)
             else:

@@ -98,7 +98,7 @@ pub fn check_source<R: Read + Drop, W: Write, E: Write>(
         × IsCheck text end whole × Appends (W.contents writer.old) (W.contents writer.new) (take count whole)) }
     ensures unread { IsErrOf result ReadFault → Keeps (W.contents writer.old) (W.contents writer.new) }
     ensures memory { IsErrOf result Memory → Keeps (W.contents writer.old) (W.contents writer.new) }
-    ensures unasked { explains ≡ None → Keeps (E.contents error.old) (E.contents error.new) }
+    ensures unasked { explains.entry ≡ None → Keeps (E.contents error.old) (E.contents error.new) }
 {
     let source = match read_source(alloc, reader) {
         Ok(source) => source,

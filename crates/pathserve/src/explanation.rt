@@ -38,7 +38,7 @@ pub fn explained<E: Write>(
     error: &mut E,
 ) -> Result<u8, Failure>
     ensures same { result ≡ ended }
-    ensures unasked { file ≡ None → Keeps (E.contents error.old) (E.contents error.new) }
+    ensures unasked { file.entry ≡ None → Keeps (E.contents error.old) (E.contents error.new) }
 {
     if let Some(file) = file {
         if matches!(&ended, Ok(REFUSED)) {
@@ -58,7 +58,7 @@ pub fn explained_script<E: Write>(
     error: &mut E,
 ) -> Result<u8, Failure>
     ensures same { result ≡ ended }
-    ensures unasked { file ≡ None → Keeps (E.contents error.old) (E.contents error.new) }
+    ensures unasked { file.entry ≡ None → Keeps (E.contents error.old) (E.contents error.new) }
 {
     match named_object(alloc, head) {
         Ok(Some(name)) => explained(alloc, ended, file, source, Some(name.as_bytes()), error),
