@@ -5,11 +5,9 @@ use Rattle.std.proofs.lemmas.Bool.{cases_lt}
 use Rattle.std.proofs.lemmas.List.{take_all, length-take}
 use Rattle.exclude_core.specs.Report.{IsCheck, counted, faulty}
 use Rattle.exclude_core.specs.declared.report.CheckEnd.{CheckEnd}
-use Rattle.exclude_core.specs.declared.report.CheckFault.{CheckFault}
-use Rattle.exclude_core.specs.declared.report.CheckFault.TheVariants as check_faults
 use Rattle.pathserve.specs.declared.failure.Failure.{Failure}
 use Rattle.pathserve.specs.declared.failure.Failure.TheVariants as failures
-use Rattle.pathserve.specs.Status.{check_failure, check_status}
+use Rattle.pathserve.specs.Status.{check_status}
 
 -- all texts that are too long are told the same
 too_long : (source text : List ℕ) {end : CheckEnd} {written : List ℕ} → 65536 < length source → 65536 < length text → IsCheck source end written → IsCheck text end written
@@ -71,9 +69,3 @@ pub cut_on : (known : Option (List ℕ)) (slice source : List ℕ) (Wrote : List
     → (IsErrOf ended failures.WriteFault → (end : CheckEnd) × (whole : List ℕ) × (count : ℕ) × IsCheck slice end whole × Wrote (take count whole)) → CutOn known Wrote result
 cut_on known slice source Wrote ended result seen same is told = subst (CutOn known Wrote) (sym same) (cut_of known source Wrote ended is
     (subst (λ s. IsErrOf ended failures.WriteFault → (end : CheckEnd) × (whole : List ℕ) × (count : ℕ) × IsCheck s end whole × Wrote (take count whole)) seen told))
-
--- a check that is told a write fault had one
-pub write_failed : (fault : CheckFault) (failure : Failure) → failure ≡ check_failure fault → ◌≡◌ {A = Result ℕ Failure} (Err failure) (Err failures.WriteFault)
-    → fault ≡ check_faults.WriteFault
-write_failed check_faults.WriteFault failure is told = refl
-write_failed check_faults.Memory failure is told = absurd cc
