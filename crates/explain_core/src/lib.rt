@@ -7,6 +7,7 @@
 //! That the text is safe to make, and ends, is proved; what it says is tested by the cases of `cases/check`.
 #![tactic(auto)]
 
+mod alike;
 mod around;
 pub mod explain;
 mod fault;

@@ -4,7 +4,7 @@ use crate::name::{Sort, What, declared, sort_of};
 use crate::said::{Said, say};
 use crate::tokens::{
     begins, ends, ends_before_last, from_last, is_any_name, is_end_mark, is_name, is_number,
-    is_symbol, is_word, name_of, from_symbol, tokens_from,
+    is_symbol, is_word, last, name_of, from_symbol, tokens_from,
 };
 use path_tree::token::{Kind, Symbol, Token};
 
@@ -251,6 +251,41 @@ fn by_semicolon(before: &[Token], here: &[Token]) -> Said {
         return say(
             "between `$` and `%` something is missing",
             "a `;` closes a declaration and parts two statements, and behind the condition of an `if` stands `then`",
+        );
+    }
+    by_kind(before, here)
+}
+
+// Whether a word stands here that tells a kind.
+fn is_at_kind(here: &[Token]) -> bool {
+    begins(here, Symbol::Array) || begins(here, Symbol::Queue) || begins(here, Symbol::Table) || is_at_elem(here)
+}
+
+// Whether a word stands here that tells what elements are.
+fn is_at_elem(here: &[Token]) -> bool {
+    begins(here, Symbol::Integer) || begins(here, Symbol::Text)
+}
+
+// The same where a `:` or an `of` may be missing.
+fn by_kind(before: &[Token], here: &[Token]) -> Said {
+    if is_at_elem(here)
+        && (ends(before, Symbol::Queue) || ends(before, Symbol::Table) || ends(before, Symbol::CloseBracket))
+    {
+        return say(
+            "between `$` and `%` the word `of` is missing",
+            "kinds are `array [5] of integer`, `queue of text`, `table of integer` and so on",
+        );
+    }
+    if is_at_kind(here) && ends_value(before) {
+        return say(
+            "between `$` and `%` a `:` is missing",
+            "a part is declared as in `q : queue of text;`, a parameter as in `(x : integer)`",
+        );
+    }
+    if is_at_name(last(before)) {
+        return say(
+            "`%` cannot stand here, behind `$`",
+            "a statement that begins with a name puts a value in its place: `a[i] := e`, and in the function f `f := e`",
         );
     }
     say(
