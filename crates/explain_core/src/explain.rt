@@ -57,11 +57,7 @@ fn push_proposal(
             push_note(out, page, Span { start: at, end: at }, sentence, words)?;
             push_new_line(out, &line)
         }
-        None => push_help(
-            out,
-            no_room_help(is_same),
-            words,
-        ),
+        None => push_help(out, no_room_help(is_same), words),
     }
 }
 
@@ -105,7 +101,14 @@ fn push_refused(
     match refused.why {
         Refusal::Memory => Err(AllocError),
         Refusal::Unseparated(first, second, part) => {
-            push_unseparated(alloc, out, page, &refused.object, number, (first, second, part))
+            push_unseparated(
+                alloc,
+                out,
+                page,
+                &refused.object,
+                number,
+                (first, second, part),
+            )
         }
     }
 }

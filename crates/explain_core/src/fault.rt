@@ -5,9 +5,12 @@ use crate::name::declared;
 use crate::nodes::large_path;
 use crate::page::{Page, push_note, push_said};
 use crate::said::{Said, Words, say};
-use crate::span::{Span, front, behind, span_of, text_at};
+use crate::span::{Span, behind, front, span_of, text_at};
 use crate::syntax::{expected, misplaced, past_limit, unknown, wrong};
-use crate::tokens::{begins, count_before, ends, first_tokens, find_name, from_last, is_name, is_symbol, last, name_of, section, tokens_from};
+use crate::tokens::{
+    begins, count_before, ends, find_name, first_tokens, from_last, is_name, is_symbol, last,
+    name_of, section, tokens_from,
+};
 use decl_read::fault::DeclFault;
 use path_tree::lex::fault::LexFault;
 use path_tree::name::is_word_byte;
@@ -226,7 +229,8 @@ fn object_named<'t>(tokens: &'t [Token], name: &[u8]) -> &'t [Token] {
 // What is said of the place where a name stands before.
 fn earlier_sentence(fault: DeclFault) -> &'static str {
     match fault {
-        DeclFault::Path(PathFault::UnknownName(_)) | DeclFault::UnknownName(_) => "is `%` meant, which stands here?",
+        DeclFault::Path(PathFault::UnknownName(_)) | DeclFault::UnknownName(_) =>
+            "is `%` meant, which stands here?",
         DeclFault::Path(_) => "`%` stands here before",
         _ => "`%` is declared here",
     }
@@ -267,7 +271,13 @@ fn push_at_token(
         third: b"",
         fourth: b"",
     };
-    push_said(out, page, first_span(here, at), in_objects(fault, before, here), words)?;
+    push_said(
+        out,
+        page,
+        first_span(here, at),
+        in_objects(fault, before, here),
+        words,
+    )?;
     let found = match fault {
         DeclFault::UnknownName(_) | DeclFault::Path(PathFault::UnknownName(_)) => {
             alike(object_at(page.tokens, before), name_of(here))
@@ -280,7 +290,11 @@ fn push_at_token(
 // The tokens of the object that begins last in front of a place.
 fn object_at<'t>(all: &'t [Token], before: &[Token]) -> &'t [Token] {
     let inside = from_last(before, Symbol::Object);
-    section(tokens_from(all, before.len().saturating_sub(inside.len())), Symbol::Object, 0)
+    section(
+        tokens_from(all, before.len().saturating_sub(inside.len())),
+        Symbol::Object,
+        0,
+    )
 }
 
 // Adds what is said of a fault of the tokens.

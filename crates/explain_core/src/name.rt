@@ -25,7 +25,9 @@ fn what_in(section: Option<Symbol>, before: Option<&Token>) -> Option<What> {
         Some(Symbol::Const) => Some(What::Constant),
         Some(Symbol::Var) => Some(What::Part),
         Some(Symbol::Entry) => match before {
-            Some(token) => if is_symbol(token, Symbol::Procedure) || is_symbol(token, Symbol::Function) {
+            Some(token) => if is_symbol(token, Symbol::Procedure)
+                || is_symbol(token, Symbol::Function)
+            {
                 Some(What::Operation)
             } else {
                 Some(What::Parameter)

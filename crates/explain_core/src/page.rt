@@ -173,11 +173,7 @@ pub(crate) fn push_note(
 }
 
 /// Adds a line that says what helps.
-pub(crate) fn push_help(
-    out: &mut Vec<u8>,
-    help: &str,
-    words: Words<'_>,
-) -> Result<(), AllocError> {
+pub(crate) fn push_help(out: &mut Vec<u8>, help: &str, words: Words<'_>) -> Result<(), AllocError> {
     push_margin(out, b" = ")?;
     push_sentence(out, help, words)?;
     out.push(b'\n')?;

@@ -4,9 +4,7 @@ use crate::around::{Around, why_in};
 use crate::page::{Page, push_help, push_note};
 use crate::said::Words;
 use crate::span::span_of;
-use crate::tokens::{
-    count_to, find_name, first_tokens, from_symbol, section, tokens_from,
-};
+use crate::tokens::{count_to, find_name, first_tokens, from_symbol, section, tokens_from};
 use crate::touch::{Touch, touch_of};
 use path_tree::token::{Symbol, Token};
 use std::alloc::AllocError;
@@ -82,11 +80,7 @@ fn push_operation(
 }
 
 // Adds both operations, or the one.
-fn push_operations(
-    out: &mut Vec<u8>,
-    page: Page<'_>,
-    case: Case<'_>,
-) -> Result<(), AllocError> {
+fn push_operations(out: &mut Vec<u8>, page: Page<'_>, case: Case<'_>) -> Result<(), AllocError> {
     let names = case.names;
     let first = operation_tokens(case, case.first);
     let second = operation_tokens(case, case.second);
@@ -126,15 +120,35 @@ fn push_path(
     let names = case.names;
     match (find_name(path, names.first), find_name(path, names.second)) {
         (Some(first), Some(second)) => {
-            push_around(out, page, case, path, why_in(case.tokens, path, first, second))?;
+            push_around(
+                out,
+                page,
+                case,
+                path,
+                why_in(case.tokens, path, first, second),
+            )?;
             Ok(true)
         }
         (Some(first), None) => {
-            push_at(out, page, path, first, "this path names `%`, but not `$`", names)?;
+            push_at(
+                out,
+                page,
+                path,
+                first,
+                "this path names `%`, but not `$`",
+                names,
+            )?;
             Ok(false)
         }
         (None, Some(second)) => {
-            push_at(out, page, path, second, "this path names `$`, but not `%`", names)?;
+            push_at(
+                out,
+                page,
+                path,
+                second,
+                "this path names `$`, but not `%`",
+                names,
+            )?;
             Ok(false)
         }
         (None, None) => Ok(false),

@@ -3,8 +3,8 @@
 use crate::name::{Sort, What, declared, sort_of};
 use crate::said::{Said, say};
 use crate::tokens::{
-    begins, ends, ends_before_last, from_last, is_any_name, is_end_mark, is_name, is_number,
-    is_symbol, is_word, last, name_of, from_symbol, tokens_from,
+    begins, ends, ends_before_last, from_last, from_symbol, is_any_name, is_end_mark, is_name,
+    is_number, is_symbol, is_word, last, name_of, tokens_from,
 };
 use path_tree::token::{Kind, Symbol, Token};
 
@@ -20,7 +20,10 @@ fn is_at_name(here: &[Token]) -> bool {
 fn ends_value(before: &[Token]) -> bool {
     match before {
         [.., token] => match &token.kind {
-            Kind::Symbol(s) => matches!(s, Symbol::CloseParen | Symbol::CloseBracket | Symbol::Integer | Symbol::Text),
+            Kind::Symbol(s) => matches!(
+                s,
+                Symbol::CloseParen | Symbol::CloseBracket | Symbol::Integer | Symbol::Text
+            ),
             Kind::Number(_) | Kind::Name(_) | Kind::Text(_) => true,
             Kind::EndMark => false,
         },
@@ -258,7 +261,10 @@ fn by_semicolon(before: &[Token], here: &[Token]) -> Said {
 
 // Whether a word stands here that tells a kind.
 fn is_at_kind(here: &[Token]) -> bool {
-    begins(here, Symbol::Array) || begins(here, Symbol::Queue) || begins(here, Symbol::Table) || is_at_elem(here)
+    begins(here, Symbol::Array)
+        || begins(here, Symbol::Queue)
+        || begins(here, Symbol::Table)
+        || is_at_elem(here)
 }
 
 // Whether a word stands here that tells what elements are.
@@ -269,7 +275,9 @@ fn is_at_elem(here: &[Token]) -> bool {
 // The same where a `:` or an `of` may be missing.
 fn by_kind(before: &[Token], here: &[Token]) -> Said {
     if is_at_elem(here)
-        && (ends(before, Symbol::Queue) || ends(before, Symbol::Table) || ends(before, Symbol::CloseBracket))
+        && (ends(before, Symbol::Queue)
+            || ends(before, Symbol::Table)
+            || ends(before, Symbol::CloseBracket))
     {
         return say(
             "between `$` and `%` the word `of` is missing",

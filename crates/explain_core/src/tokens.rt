@@ -147,7 +147,6 @@ pub(crate) fn name_of(tokens: &[Token]) -> &[u8] {
     }
 }
 
-
 /// The last of some tokens.
 pub(crate) fn last(tokens: &[Token]) -> &[Token] {
     tokens_from(tokens, tokens.len().saturating_sub(1))
