@@ -290,6 +290,12 @@ fn by_kind(before: &[Token], here: &[Token]) -> Said {
             "a part is declared as in `q : queue of text;`, a parameter as in `(x : integer)`",
         );
     }
+    if ends(before, Symbol::Equal) && is_at_name(here) {
+        return say(
+            "`%` is no number",
+            "a constant is given by a number in digits, 0 to 4294967295",
+        );
+    }
     if is_at_name(last(before)) {
         return say(
             "`%` cannot stand here, behind `$`",
