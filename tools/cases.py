@@ -243,8 +243,8 @@ class Reader:
                 self.sections[head] = rest.split()
             elif head.endswith(":") and head[:-1].isupper():
                 self.files[head[:-1]] = rest
-            elif head == "output:":
-                self.sections["output"] = escaped(stored(rest).decode().splitlines())
+            elif head in ("output:", "error:"):
+                self.sections[head[:-1]] = escaped(stored(rest).decode().splitlines())
             elif name == "error, as it stands":
                 self.sections["error"] = escaped(lines_of(section))
             elif name in ("rows", "output", "error", "reads", "faults", "output, one more", "fronts", "growths") or name.isupper():

@@ -51,7 +51,15 @@ fn main(rt: HostRuntime) -> ExitCode {
         Ok(Prepared::Ended(status)) => Ok(status),
         Ok(Prepared::Serves(source, place, listener, explains)) => {
             let explains = explains.as_deref();
-            serve_objects(&rt, &source, place, &listener, &mut io::writer(&rt), explains, &mut rt.stderr())
+            serve_objects(
+                &rt,
+                &source,
+                place,
+                &listener,
+                &mut io::writer(&rt),
+                explains,
+                &mut rt.stderr(),
+            )
         }
         Err(failure) => Err(failure),
     };
@@ -96,13 +104,26 @@ fn run(rt: &HostRuntime, request: Request<'_>) -> Result<u8, Failure> {
         Request::Paths => answer_lines(rt.alloc(), &mut rt.stdin(), &mut writer),
         Request::Check(path, explains) => {
             let file = File::open(rt, path)?;
-            check_source(rt.alloc(), file, &mut writer, named(path, explains), &mut rt.stderr())
+            check_source(
+                rt.alloc(),
+                file,
+                &mut writer,
+                named(path, explains),
+                &mut rt.stderr(),
+            )
         }
         Request::Run(path, script, explains) => {
             let source = read_source(rt.alloc(), File::open(rt, path)?)?;
             let mut script = File::open(rt, script)?;
             let explains = named(path, explains);
-            answer_script(rt.alloc(), &source, &mut script, &mut writer, explains, &mut rt.stderr())
+            answer_script(
+                rt.alloc(),
+                &source,
+                &mut script,
+                &mut writer,
+                explains,
+                &mut rt.stderr(),
+            )
         }
         Request::Audit(path, trace) => {
             let source = read_source(rt.alloc(), File::open(rt, path)?)?;

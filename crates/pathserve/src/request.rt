@@ -76,8 +76,9 @@ fn audit_command<'a>(alloc: Global) -> Result<Command<'a>, AllocError> {
 
 // `pathserve serve`.
 fn serve_command<'a>(alloc: Global) -> Result<Command<'a>, AllocError> {
-    let port = required(alloc, "PORT", help::SERVE_PORT)
-        .value_parser(ValueParser::unsigned(1, 65_535));
+    let port = required(alloc, "PORT", help::SERVE_PORT).value_parser(ValueParser::unsigned(
+        1, 65_535,
+    ));
     let sessions = Arg::new(alloc, "sessions")
         .long("sessions")
         .value_name("N")
