@@ -1,6 +1,6 @@
 //! The explanation of a source.
 
-use crate::fault::push_fault;
+use crate::fault::{is_want_of_memory, push_fault};
 use crate::page::{Page, push_help, push_new_line, push_note};
 use crate::proposal::{place_for_path, proposal};
 use crate::refusal::{Case, push_case};
@@ -11,9 +11,7 @@ use decl_core::object::Object;
 use decl_read::fault::DeclFault;
 use decl_read::read::read_objects;
 use exclude_core::analyse::{Refusal, Refused, analyse};
-use path_tree::lex::fault::LexFault;
 use path_tree::lex::lex;
-use path_tree::path_fault::PathFault;
 use path_tree::token::Symbol;
 use std::alloc::{AllocError, Global};
 
@@ -137,10 +135,10 @@ fn is_wanted(object: &Object, only: Option<&[u8]>) -> bool {
 
 // Adds what is said of a fault of the source, which no want of memory is.
 fn push_told(out: &mut Vec<u8>, page: Page<'_>, fault: DeclFault) -> Result<(), AllocError> {
-    match fault {
-        DeclFault::Memory | DeclFault::Lex(LexFault::Memory) | DeclFault::Path(PathFault::Memory) =>
-            Err(AllocError),
-        fault => push_fault(out, page, fault),
+    if is_want_of_memory(fault) {
+        Err(AllocError)
+    } else {
+        push_fault(out, page, fault)
     }
 }
 

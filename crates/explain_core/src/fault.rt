@@ -311,6 +311,14 @@ fn push_lexical(out: &mut Vec<u8>, page: Page<'_>, fault: LexFault) -> Result<()
     push_said(out, page, span, lexical(fault, here), words)
 }
 
+/// Whether a source could not be read for want of memory.
+pub(crate) fn is_want_of_memory(fault: DeclFault) -> bool {
+    matches!(
+        fault,
+        DeclFault::Memory | DeclFault::Lex(LexFault::Memory) | DeclFault::Path(PathFault::Memory)
+    )
+}
+
 /// Adds what is said of the fault of a source. A want of memory is none.
 pub(crate) fn push_fault(
     out: &mut Vec<u8>,

@@ -1,8 +1,10 @@
 //! A path that keeps the operations of an object apart.
 
+use crate::fault::is_want_of_memory;
 use crate::span::{behind, front};
 use crate::tokens::{count_before, count_to, from_last, from_symbol, is_symbol, tokens_from};
 use decl_core::object::Object;
+use decl_read::fault::DeclFault;
 use decl_read::read::read_objects;
 use exclude_core::analyse::{Refusal, analyse};
 use exclude_core::footprint::footprint;
@@ -33,10 +35,19 @@ fn judge(alloc: Global, object: Object) -> Result<Judged, AllocError> {
     }
 }
 
+// What is said where a source cannot be read, which is no want of memory.
+fn lacking(fault: DeclFault) -> Result<Judged, AllocError> {
+    if is_want_of_memory(fault) {
+        Err(AllocError)
+    } else {
+        Ok(Judged::Lacking)
+    }
+}
+
 // What the analyser says of the object of this number, from 0, of a source.
 fn judge_in(alloc: Global, source: &[u8], number: usize) -> Result<Judged, AllocError> {
     match read_objects(alloc, source) {
-        Err(_) => Ok(Judged::Lacking),
+        Err(fault) => lacking(fault),
         Ok(all) => {
             for (place, object) in all.into_values().enumerate() {
                 if place == number {
