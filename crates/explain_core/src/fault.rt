@@ -6,11 +6,12 @@ use crate::nodes::large_path;
 use crate::page::{Page, push_note, push_said};
 use crate::said::{Said, Words, say};
 use crate::span::{Span, behind, front, span_of, text_at};
-use crate::syntax::{expected, misplaced, past_limit, unknown, wrong};
+use crate::syntax::{expected, misplaced};
 use crate::tokens::{
     begins, count_before, ends, find_name, first_tokens, from_last, is_name, is_symbol, last,
     name_of, section, tokens_from,
 };
+use crate::wrong::{past_limit, unknown, wrong_kind};
 use decl_read::fault::DeclFault;
 use path_tree::lex::fault::LexFault;
 use path_tree::name::is_word_byte;
@@ -160,7 +161,7 @@ fn repeated(before: &[Token]) -> Said {
 fn in_objects(fault: DeclFault, before: &[Token], here: &[Token]) -> Said {
     match fault {
         DeclFault::DuplicateName(_) => repeated(before),
-        DeclFault::WrongType(_) => wrong(before, here),
+        DeclFault::WrongType(_) => wrong_kind(before, here),
         DeclFault::UnknownName(_) => unknown(before, here),
         DeclFault::TooMany(_) => past_limit(before, here),
         DeclFault::Path(fault) => in_path(fault, before, here),

@@ -22,3 +22,4 @@ mod span;
 mod syntax;
 mod tokens;
 mod touch;
+mod wrong;

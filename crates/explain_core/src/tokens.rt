@@ -151,3 +151,11 @@ pub(crate) fn name_of(tokens: &[Token]) -> &[u8] {
 pub(crate) fn last(tokens: &[Token]) -> &[Token] {
     tokens_from(tokens, tokens.len().saturating_sub(1))
 }
+
+/// Whether the first of some tokens is a name.
+pub(crate) fn is_at_name(here: &[Token]) -> bool {
+    match here {
+        [token, ..] => is_any_name(token),
+        [] => false,
+    }
+}
