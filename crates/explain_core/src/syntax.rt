@@ -275,6 +275,12 @@ fn by_kind(before: &[Token], here: &[Token]) -> Said {
             "kinds are `array [5] of integer`, `queue of text`, `table of integer` and so on",
         );
     }
+    if is_at_elem(here) && ends(before, Symbol::Colon) {
+        return say(
+            "`%` alone is no kind of a part",
+            "a part is an array, a queue or a table; one value is an array of one element, as in `v : array [1] of integer;`",
+        );
+    }
     if is_at_kind(here) && ends_value(before) {
         return say(
             "between `$` and `%` a `:` is missing",
@@ -285,6 +291,29 @@ fn by_kind(before: &[Token], here: &[Token]) -> Said {
         return say(
             "`%` is no number",
             "a constant is given by a number in digits, 0 to 4294967295",
+        );
+    }
+    by_params(before, here)
+}
+
+// The same where parameters, or a parenthesis, are written in another way.
+fn by_params(before: &[Token], here: &[Token]) -> Said {
+    if ends(before, Symbol::OpenParen) && begins(here, Symbol::CloseParen) {
+        return say(
+            "`()` cannot stand here",
+            "an operation without parameters is declared without parentheses",
+        );
+    }
+    if begins(here, Symbol::Comma) && is_at_elem(last(before)) {
+        return say(
+            "behind the kind of a parameter stands `;` or `)`, and not `,`",
+            "parameters are declared as in `(a, b : integer; s : text)`",
+        );
+    }
+    if begins(here, Symbol::Semicolon) && ends_value(before) {
+        return say(
+            "between `$` and `;` something is missing",
+            "a `(` or `[` may be open, or a condition without `then`",
         );
     }
     if is_at_name(last(before)) {

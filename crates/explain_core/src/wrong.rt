@@ -143,12 +143,30 @@ fn wrong_sort(before: &[Token], here: &[Token]) -> Said {
     }
 }
 
+// Whether a name stands here that begins a loop in other languages.
+fn is_of_loops(here: &[Token]) -> bool {
+    let name = name_of(here);
+    name == b"for".as_slice() || name == b"while".as_slice() || name == b"repeat".as_slice()
+}
+
 /// What is said of a name that is not known.
 pub(crate) fn unknown(before: &[Token], here: &[Token]) -> Said {
     if ends(before, Symbol::OpenBracket) && ends_before_last(before, Symbol::Array) {
         return say(
             "`%` is no constant that is declared above",
             "a size is 1 to 1024, as a number or by the name of a constant",
+        );
+    }
+    if is_of_loops(here) {
+        return say(
+            "there is no `%`: a body has no loops",
+            "its statements are done once, one after the other; docs/LANGUAGE.md lists them",
+        );
+    }
+    if name_of(here) == b"return".as_slice() {
+        return say(
+            "there is no `return`",
+            "in the body of a function f the reply is set by `f := e`",
         );
     }
     if begins(tokens_from(here, 1), Symbol::OpenParen) {
