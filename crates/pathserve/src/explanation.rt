@@ -1,8 +1,7 @@
 //! What `--explain` adds on standard error, apart from what a command answers.
 
-ghost use Rattle.std.specs.Prelude.{◌≡◌, None, Err};
+ghost use Rattle.std.specs.Prelude.{◌≡◌, None};
 ghost use Rattle.std.specs.Io.KnownBytes.{Keeps};
-ghost use Rattle.pathserve.specs.declared.failure.Failure.{Failure as Fails};
 
 use crate::answer::REFUSED;
 use crate::failure::Failure;
