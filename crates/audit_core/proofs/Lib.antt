@@ -11,3 +11,4 @@ pub mod Renumbering
 pub mod Exact
 pub mod Replaying
 pub mod Written
+mod Reading

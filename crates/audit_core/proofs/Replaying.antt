@@ -1,6 +1,6 @@
 -- Replies of the sequential object.
 use Rattle.std.proofs.Common.{◌≡◌, ℕ, zero, suc, ◌<◌, List, [], ◌∷◌, length, get_or, refl, sym, ap, ◌∙◌, subst, arith, Bool, true, false, IsTrue, map}
-use Rattle.std.specs.Prelude.{◌↔◌, Option, Some, slice_get, unwrap_or}
+use Rattle.std.specs.Prelude.{◌↔◌, Some, Result, Ok, Err, IfOk, slice_get, unwrap_or}
 use Rattle.std.specs.declared.sync.Arc.{Arc}
 use Rattle.std.specs.Global.{Global}
 use Rattle.std.specs.Arc.{arc_value}
@@ -23,7 +23,7 @@ use Rattle.body_core.specs.declared.reply.Reply.{Reply}
 use Rattle.body_core.specs.declared.reply.Reply.TheVariants.{Done, Refused, Failed}
 use Rattle.trace_core.specs.Events.{body_at}
 use Rattle.audit_core.specs.declared.calls.Running.{Running}
-use Rattle.audit_core.specs.Replies.{IsAnswer, Did, Redone, CanDo, Tries}
+use Rattle.audit_core.specs.Replies.{IsAnswer, Did, IsDoneSo, CanDo, Tries}
 use Rattle.audit_core.proofs.Forms.{body_is, fit_elsewhere}
 
 -- a reply that was given is the sequential object's
@@ -68,12 +68,11 @@ module _ (object : Object) (place : ℕ) (a : Arc Operation Global) (within : pl
       let there : slice_get (map kind_of parts) p ≡ Some kind = ap (λ ks. slice_get ks p) (can.kinds ∙ kinds_same object.parts.items) ∙ known p kind named.held in
       value_there parts p kind there
 
-  tried_true : (r : Running) (reply given : Reply) (before after : List Contents) → place ≡ r.operation → IsAnswer reply → reply ≡ given → Did (arc_value a) r.arguments.items before after given
-      → Tries (object_of object) r reply before after true
-  tried_true r reply given before after here answer same did can =
+  tried_true : (r : Running) (reply : Reply) (before after : List Contents) → place ≡ r.operation → IsAnswer reply → Did (arc_value a) r.arguments.items before after reply → Tries (object_of object) r reply before after true
+  tried_true r reply before after here answer did can =
       let op = arc_value a in
       let body : body_at (object_of object) r.operation ≡ body_of op = ap (body_at (object_of object)) (sym here) ∙ body_is object.operations.items place a within is in
-      let told = given_is reply (body_of op) r.arguments.items before answer (subst (λ g. ReplyTells g (apply_body (body_of op) r.arguments.items before).0) (sym same) did.tells) in (
+      let told = given_is reply (body_of op) r.arguments.items before answer did.tells in (
         subst (λ b. IsReplyOn reply b r.arguments.items before) (sym body) told.0,
         did.leaves ∙ sym told.1 ∙ ap (λ b. left_by reply b r.arguments.items before) (sym body),
         did.kinds,
@@ -86,14 +85,22 @@ module _ (object : Object) (place : ℕ) (a : Arc Operation Global) (within : pl
       let body : body_at (object_of object) r.operation ≡ body_of op = ap (body_at (object_of object)) (sym here) ∙ body_is object.operations.items place a within is in
       other_is_not reply given (body_of op) r.arguments.items before answer did.tells other (subst (λ b. IsReplyOn reply b r.arguments.items before) body right)
 
-  pub tried : (r : Running) (reply given : Reply) (before after : List Contents) (b : Bool) → place ≡ r.operation → IsAnswer reply → (IsTrue b ↔ (reply ≡ given)) → Did (arc_value a) r.arguments.items before after given
+  tried : (op : Operation) (args : List Datum) (r : Running) (reply : Reply) (before after : List Contents) (b : Bool) → op ≡ arc_value a → args ≡ r.arguments.items → place ≡ r.operation → IsAnswer reply → IsDoneSo op args reply before after b
       → Tries (object_of object) r reply before after b
-  tried r reply given before after true here answer tells did = tried_true r reply given before after here answer (tells.0 refl) did
-  tried r reply given before after false here answer tells did = tried_false r reply given before after here answer (λ same. false≢true (tells.1 same)) did
+  tried op args r reply before after true one two here answer did =
+      tried_true r reply before after here answer (subst (λ xs. Did (arc_value a) xs before after reply) two (subst (λ o. Did o args before after reply) one did))
+  tried op args r reply before after false one two here answer done_so = λ can right.
+      let fit = fit_elsewhere object.operations.items place r.operation a r.arguments.items within is here can.fit in
+      let other = done_so (subst (λ o. ArgumentsFit o args) (sym one) (subst (λ xs. ArgumentsFit (arc_value a) xs) (sym two) fit)) (subst (λ o. HoldsReads o before) (sym one) (reads_fit r before can)) in
+      tried_false r reply other.0 before after here answer other.2 (subst (λ xs. Did (arc_value a) xs before after other.0) two (subst (λ o. Did o args before after other.0) one other.1)) can right
 
-  pub must_fit : (r : Running) (parts : List Contents) → place ≡ r.operation → (ArgumentsFit (arc_value a) r.arguments.items → HoldsReads (arc_value a) parts → ⊥) → CanDo (object_of object) r parts → ⊥
-  must_fit r parts here none can =
-      none (fit_elsewhere object.operations.items place r.operation a r.arguments.items within is here can.fit) (reads_fit r parts can)
+  -- what was found of a reply by doing the operation again is what is found of it
+  pub tried_ok : {E : Type 0} (op : Operation) (args : List Datum) (r : Running) (reply : Reply) (before after : List Contents) (found : Result Bool E) → op ≡ arc_value a → args ≡ r.arguments.items → place ≡ r.operation → IsAnswer reply
+      → IfOk found (IsDoneSo op args reply before after) → IfOk found (Tries (object_of object) r reply before after)
+  tried_ok op args r reply before after (Ok b) one two here answer done_so = tried op args r reply before after b one two here answer done_so
+  tried_ok op args r reply before after (Err e) one two here answer done_so = tt
 
-pub redone_at : (op other : Operation) (args given : List Datum) (before after : List Contents) (found : Option Reply) → op ≡ other → args ≡ given → Redone op args before after found → Redone other given before after found
-redone_at op other args given before after found one two is = subst (λ o. Redone o given before after found) one (subst (λ xs. Redone op xs before after found) two is)
+-- whether the reply that was given is the one that is told
+pub judged : (op : Operation) (args : List Datum) (reply given : Reply) (before after : List Contents) (b : Bool) → Did op args before after given → (IsTrue b ↔ (reply ≡ given)) → IsDoneSo op args reply before after b
+judged op args reply given before after true did tells = subst (Did op args before after) (sym (tells.0 refl)) did
+judged op args reply given before after false did tells = λ fit held. (given, did, λ same. false≢true (tells.1 same))

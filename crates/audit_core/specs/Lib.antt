@@ -1,4 +1,5 @@
 pub mod Said
+pub mod Reads
 pub mod View
 pub mod Operations
 pub mod Tells

@@ -1,5 +1,5 @@
 -- Replies that were tried on the sequential object.
-use Rattle.std.specs.Prelude.{◌≡◌, ◌<◌, Bool, true, false, List, length, map, Option, MatchOption}
+use Rattle.std.specs.Prelude.{◌≡◌, ◌<◌, Bool, true, false, List, length, map}
 use Rattle.value_core.specs.declared.datum.Datum.{Datum}
 use Rattle.value_core.specs.Contents.{Contents, kind_of}
 use Rattle.value_core.specs.Datum.{elem_of}
@@ -21,15 +21,23 @@ IsAnswer (Done reply) = Unit {0}
 IsAnswer (Refused word) = Unit {0}
 IsAnswer (Failed failure) = ⊥
 
+-- the reply of a call that failed
+abbrev pub IsFailure : Reply → Type 0
+IsFailure (Done reply) = ⊥
+IsFailure (Refused word) = ⊥
+IsFailure (Failed failure) = Unit {0}
+
 -- the body was done on all parts, in place
 pub record Did (operation : Operation) (arguments : List Datum) (before after : List Contents) (reply : Reply) : Type 0 where
   pub tells : ReplyTells reply (apply_body (body_of operation) arguments before).0
   pub leaves : after ≡ (apply_body (body_of operation) arguments before).1
   pub kinds : map kind_of after ≡ map kind_of before
 
--- the body was done, or the arguments or the parts do not fit it
-abbrev pub Redone : Operation → List Datum → List Contents → List Contents → Option Reply → Type 0
-Redone operation arguments before after found = MatchOption found (ArgumentsFit operation arguments → HoldsReads operation before → ⊥) (Did operation arguments before after)
+-- whether the body was done and this was replied: else another one was, or the arguments or the parts do not fit it
+abbrev pub IsDoneSo : Operation → List Datum → Reply → List Contents → List Contents → Bool → Type 0
+IsDoneSo operation arguments reply before after true = Did operation arguments before after reply
+IsDoneSo operation arguments reply before after false = ArgumentsFit operation arguments → HoldsReads operation before
+    → (given : Reply) × Did operation arguments before after given × (reply ≡ given → ⊥)
 
 -- a call that the object can do on these contents
 pub record CanDo (o : ObjectForm) (r : Running) (parts : List Contents) : Type 0 where

@@ -9,7 +9,7 @@ use Rattle.body_core.specs.declared.reply.Reply.TheVariants.{Done, Refused, Fail
 use Rattle.word_core.specs.Words.{Word}
 use Rattle.word_core.specs.Says as says
 use Rattle.word_core.specs.Data.{◌>>=◌, integer_of, session_of, data_of, bare_of, only_bare}
-use Rattle.word_core.specs.Ending.{Ending, done, refused, failed, ending_of}
+use Rattle.word_core.specs.Ending.{Ending, done, refused, failed, ending_of, ended_by}
 
 pub data Said : Type 0 where
   an_object : List ℕ → Said
@@ -40,6 +40,10 @@ reply_by (done result) = Some (Done result)
 reply_by (refused word) = refused_by word
 reply_by (failed word) = failed_by word
 
+-- the reply of a call whose end is told by this word and these behind it
+abbrev pub reply_behind : List ℕ → List Word → Option Reply
+reply_behind verb words = ended_by verb words >>= reply_by
+
 -- the reply that these words tell
 abbrev pub reply_of : List Word → Option Reply
 reply_of words = ending_of words >>= reply_by
@@ -47,16 +51,30 @@ reply_of words = ending_of words >>= reply_by
 abbrev pub object_said : List Word → Option Said
 object_said words = only_bare words >>= λ name. Some (an_object name)
 
+abbrev pub part_behind : List ℕ → List Word → Option Said
+part_behind name words = only_bare words >>= λ hex. Some (a_part name hex)
+
 abbrev pub part_said : List Word → Option Said
-part_said words = bare_of words >>= λ name. only_bare name.1 >>= λ hex. Some (a_part name.0 hex)
+part_said words = bare_of words >>= λ name. part_behind name.0 name.1
+
+-- a start, from its arguments, the name of its operation, its session and its number on
+abbrev pub start_of : ℕ → ℕ → List ℕ → List Word → Option Said
+start_of number session name words = data_of words >>= λ arguments. Some (a_start number session name arguments)
+
+abbrev pub start_by : ℕ → List ℕ → List Word → Option Said
+start_by number s words = session_of s >>= λ session. bare_of words >>= λ name. start_of number session name.0 name.1
+
+abbrev pub start_behind : List ℕ → List Word → Option Said
+start_behind n words = integer_of n >>= λ number. bare_of words >>= λ s. start_by number s.0 s.1
 
 abbrev pub start_said : List Word → Option Said
-start_said words =
-    bare_of words >>= λ n. integer_of n.0 >>= λ number. bare_of n.1 >>= λ s. session_of s.0 >>= λ session.
-    bare_of s.1 >>= λ name. data_of name.1 >>= λ arguments. Some (a_start number session name.0 arguments)
+start_said words = bare_of words >>= λ n. start_behind n.0 n.1
+
+abbrev pub end_behind : List ℕ → List Word → Option Said
+end_behind n words = integer_of n >>= λ number. reply_of words >>= λ reply. Some (an_end number reply)
 
 abbrev pub end_said : List Word → Option Said
-end_said words = bare_of words >>= λ n. integer_of n.0 >>= λ number. reply_of n.1 >>= λ reply. Some (an_end number reply)
+end_said words = bare_of words >>= λ n. end_behind n.0 n.1
 
 abbrev pub said_by : List ℕ → List Word → Option Said
 said_by verb words =

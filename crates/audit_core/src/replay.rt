@@ -2,12 +2,13 @@
 
 ghost use Rattle.std.specs.Prelude.{IfOk};
 ghost use Rattle.decl_core.specs.ObjectMap.{object_of};
-ghost use Rattle.audit_core.specs.Replies.{Tries, Redone, IsAnswer};
+ghost use Rattle.audit_core.specs.Replies.{Tries, IsDoneSo, IsAnswer};
+ghost use Rattle.audit_core.specs.View.{told_view};
 
 use crate::calls::Running;
+use crate::told::ToldReply;
 use body_core::apply::apply_all;
 use body_core::fits::{arguments_fit, parts_fit};
-use body_core::reply::Reply;
 use decl_core::object::{Object, Operation};
 use std::alloc::{AllocError, Global};
 use value_core::datum::Datum;
@@ -18,16 +19,15 @@ pub fn is_right(
     alloc: Global,
     object: &Object,
     running: &Running,
-    reply: &Reply,
+    told: &ToldReply,
     parts: &mut Vec<Value>,
 ) -> Result<bool, AllocError>
-    ensures { IfOk result (Tries (object_of object.now) running.now reply.now parts.old.items parts.new.items) }
+    ensures { IfOk result (Tries (object_of object.now) running.now (told_view told.now) parts.old.items parts.new.items) }
 {
-    match reply {
-        Reply::Failed(_) => Ok(true),
-        Reply::Done(_) => is_given(alloc, object, running, reply, parts),
-        Reply::Refused(_) => is_given(alloc, object, running, reply, parts),
+    if told.is_failure() {
+        return Ok(true);
     }
+    is_given(alloc, object, running, told, parts)
 }
 
 // The same of a reply that is no failure.
@@ -35,36 +35,34 @@ fn is_given(
     alloc: Global,
     object: &Object,
     running: &Running,
-    reply: &Reply,
+    told: &ToldReply,
     parts: &mut Vec<Value>,
 ) -> Result<bool, AllocError>
-    requires { IsAnswer reply.now }
-    ensures { IfOk result (Tries (object_of object.now) running.now reply.now parts.old.items parts.new.items) }
+    requires { IsAnswer (told_view told.now) }
+    ensures { IfOk result (Tries (object_of object.now) running.now (told_view told.now) parts.old.items parts.new.items) }
 {
     match object.operations.get(running.operation as usize) {
         None => Ok(false),
-        Some(operation) => match redo(alloc, operation, &running.arguments, parts)? {
-            None => Ok(false),
-            Some(given) => Ok(reply.is_same(&given)),
-        },
+        Some(operation) => is_done_so(alloc, operation, &running.arguments, told, parts),
     }
 }
 
-// Does the body of an operation on these parts, where the arguments and the parts fit it.
-fn redo(
+// Does the body of an operation on these parts, where the arguments and the parts fit it, and tells whether that is replied.
+fn is_done_so(
     alloc: Global,
     operation: &Operation,
     arguments: &[Datum],
+    told: &ToldReply,
     parts: &mut Vec<Value>,
-) -> Result<Option<Reply>, AllocError>
-    ensures { IfOk result (Redone operation.now arguments.now parts.old.items parts.new.items) }
+) -> Result<bool, AllocError>
+    ensures { IfOk result (IsDoneSo operation.now arguments.now (told_view told.now) parts.old.items parts.new.items) }
 {
     if !arguments_fit(operation, arguments) {
-        return Ok(None);
+        return Ok(false);
     }
     if !parts_fit(operation, parts) {
-        return Ok(None);
+        return Ok(false);
     }
-    let reply = apply_all(alloc, operation, arguments, parts)?;
-    Ok(Some(reply))
+    let given = apply_all(alloc, operation, arguments, parts)?;
+    Ok(told.is_same(&given))
 }

@@ -9,8 +9,8 @@ use crate::part::read_value;
 use crate::replay::is_right;
 use crate::said::{Said, read_line};
 use crate::start::operation_for;
+use crate::told::ToldReply;
 use crate::verdict::Fault;
-use body_core::reply::Reply;
 use decl_core::object::Object;
 use path_count::counters::Counters;
 use path_tree::node::OpId;
@@ -40,6 +40,7 @@ impl Audit {
     ghost use Rattle.audit_core.specs.Said.{an_object, a_part, a_start, an_end};
     ghost use Rattle.audit_core.specs.Tells.{Heard, nothing_heard, IsOpened, IsStart};
     ghost use Rattle.audit_core.specs.Stands.{Stands, Hears, HearsSaid};
+    ghost use Rattle.audit_core.specs.View.{told_view};
 
     /// The state before the first line.
     pub fn new(alloc: Global, object: &Object) -> Result<Audit, AllocError>
@@ -84,7 +85,7 @@ impl Audit {
             Some(Said::Start(number, session, name, arguments)) => {
                 self.hear_start(object, number, session, name, arguments)
             }
-            Some(Said::End(number, reply)) => self.hear_end(object, number, reply),
+            Some(Said::End(number, told)) => self.hear_end(object, number, &told),
         }
     }
 
@@ -177,10 +178,10 @@ impl Audit {
         &mut self,
         object: &Object,
         number: u32,
-        reply: Reply,
+        told: &ToldReply,
     ) -> Result<Option<Fault>, AllocError>
         requires room { self.old.entries + 1 < 2 ^ 64 }
-        ensures heard { IfOk result (λ found. HearsSaid (object_of object.now) (an_end number reply) self.old found self.new) }
+        ensures heard { IfOk result (λ found. HearsSaid (object_of object.now) (an_end number (told_view told.now)) self.old found self.new) }
         ensures entries { self.new.entries ≤ self.old.entries + 1 }
     {
         if !self.is_opened(object) || !is_call_number(number) {
@@ -189,7 +190,7 @@ impl Audit {
         let Some(running) = take_running(&mut self.calls, number) else {
             return Ok(Some(Fault::Stranger));
         };
-        if !is_right(self.alloc, object, &running, &reply, &mut self.parts)? {
+        if !is_right(self.alloc, object, &running, told, &mut self.parts)? {
             return Ok(Some(Fault::Wrong));
         }
         finish_each(&mut self.counters, running.operation);

@@ -2,23 +2,20 @@
 
 use body_core::apply::apply_all;
 use body_core::fits::{arguments_fit, parts_fit, pins_fit};
-use body_core::outcome::Outcome;
-use body_core::perform::perform;
 use body_core::reply::Reply;
 use body_core::run::Run;
-use body_core::step::Need;
 use body_core::ticket::Ticket;
 use decl_core::object::{Object, Operation};
 use decl_read::read::read_objects;
-use shelf_core::hand::{Hand, Stamp};
 use shelf_core::pins::Pins;
-use shelf_core::whole::put;
 use std::alloc::Global;
 use std::process::Abort;
 use std::sync::Arc;
 use value_core::datum::Datum;
-use value_core::text::Text;
 use value_core::value::Value;
+
+/// The bytes of a part.
+pub type Bytes = &'static [u8];
 
 /// An object with one part.
 pub const CELL: &[u8] = b"object cell;
@@ -31,9 +28,9 @@ end;
 ";
 
 /// The arrays `[0]` and `[7]`.
-pub const ZERO: &[u8] = b"\x01\x01\x00\x01\x00\x00\x00\x00";
+pub const ZERO: Bytes = b"\x01\x01\x00\x01\x00\x00\x00\x00";
 
-pub const SEVEN: &[u8] = b"\x01\x01\x00\x01\x00\x00\x00\x07";
+pub const SEVEN: Bytes = b"\x01\x01\x00\x01\x00\x00\x00\x07";
 
 /// The one object of a text.
 pub fn object(rt: &impl Abort, alloc: Global, text: &[u8]) -> Object {
@@ -53,21 +50,6 @@ pub fn operation(rt: &impl Abort, object: &Object, name: &str) -> Arc<Operation>
         }
     }
     panic!(rt; "no operation {name}")
-}
-
-/// The text of these bytes.
-pub fn text(rt: &impl Abort, bytes: &[u8]) -> Text {
-    Text::from_bytes(bytes).expect(rt, "a text")
-}
-
-/// A file for each part, with these bytes.
-pub fn pinned<H: Hand>(rt: &impl Abort, hand: &mut H, files: &[&[u8]]) -> Pins {
-    let mut stamps = [Stamp { number: 0, len: 0 }; 16];
-    assert!(rt; files.len() <= stamps.len());
-    for (place, bytes) in files.iter().enumerate() {
-        stamps[place] = put(hand, bytes).expect(rt, "a file");
-    }
-    Pins::new(&stamps[..files.len()])
 }
 
 /// Call 1 of this operation, ready to run.
@@ -98,49 +80,4 @@ pub fn reply_in_place(
         return None;
     }
     apply_all(alloc, operation, args, parts).ok()
-}
-
-// So many steps are kept.
-const MOST_STEPS: usize = 64;
-
-/// What the steps of a run were to do, in order, by their first letters.
-#[derive(Drop)]
-pub struct Steps {
-    letters: [u8; MOST_STEPS],
-    count: usize,
-}
-
-impl Steps {
-    /// Whether they are these.
-    pub fn are(&self, letters: &str) -> bool {
-        self.letters.get(..self.count) == Some(letters.as_bytes())
-    }
-}
-
-// The first letter of a need.
-fn letter(need: Need) -> u8 {
-    match need {
-        Need::Read => b'r',
-        Need::Create => b'c',
-        Need::Append => b'a',
-        Need::Seal => b's',
-        Need::Done => b'd',
-    }
-}
-
-/// Steps a run until it is done, at most 64 times, and gives what the steps were to do.
-pub fn stepped<H: Hand>(run: Run, hand: &mut H) -> (Steps, Outcome) {
-    let mut run = run;
-    let mut letters = [0; MOST_STEPS];
-    let mut count = 0;
-    for place in 0..MOST_STEPS {
-        let need = run.next();
-        if need == Need::Done {
-            break;
-        }
-        letters[place] = letter(need);
-        count = place + 1;
-        run.step(hand);
-    }
-    (Steps { letters, count }, perform(run, hand))
 }

@@ -1,53 +1,18 @@
-//! Runs over devices that fail.
+//! Runs over devices that fail, and over files whose bytes are damaged.
 
-use crate::calls::{CELL, SEVEN, ZERO, object};
-use crate::rows::Line::{Call, Failures, Files, Pinned, Resized, Retired};
-use crate::rows::Want::{Device, Nothing};
-use crate::rows::Word::Number;
-use crate::rows::{Line, Row, play, play_over};
+use crate::calls::{Bytes, SEVEN, ZERO, object, run_of};
+use body_core::perform::perform;
+use body_core::reply::{Failure, Reply};
+use decl_core::object::Object;
 use shelf_core::fuse::FuseHand;
+use shelf_core::hand::{Hand, Stamp};
 use shelf_core::memory::MemHand;
 use shelf_core::once::OnceHand;
-
-// `put 7` of a cell fails at a device call, and the device works again behind it.
-const PUT_AGAIN: Line = Call(Row("rcas", "put", &[Number(7)], Nothing, &[(0, SEVEN)]));
-
-const FAILS_ONCE: [&[Line]; 4] = [
-    &[
-        Files(&[ZERO]),
-        Call(Row("r", "put", &[Number(7)], Device(0), &[])),
-        Failures(1),
-        PUT_AGAIN,
-    ],
-    &[
-        Files(&[ZERO]),
-        Call(Row("rc", "put", &[Number(7)], Device(0), &[])),
-        Failures(1),
-        PUT_AGAIN,
-    ],
-    &[
-        Files(&[ZERO]),
-        Call(Row("rca", "put", &[Number(7)], Device(0), &[])),
-        Failures(1),
-        PUT_AGAIN,
-    ],
-    &[
-        Files(&[ZERO]),
-        Call(Row("rcas", "put", &[Number(7)], Device(0), &[])),
-        Failures(1),
-        PUT_AGAIN,
-    ],
-];
-
-#[test]
-fn a_failed_device_call_fails_the_call(rt: HostRuntime) {
-    let cell = object(&rt, rt.alloc(), CELL);
-    for (place, lines) in FAILS_ONCE.iter().enumerate() {
-        // The file of the part takes three calls.
-        let mut hand = OnceHand::new(MemHand::new(rt.alloc()), place as u64 + 4);
-        play_over(&rt, rt.alloc(), &cell, &mut hand, lines);
-    }
-}
+use shelf_core::pins::Pins;
+use shelf_core::whole::{fetch, put};
+use std::alloc::Global;
+use std::process::Abort;
+use value_core::datum::Datum;
 
 const TWO: &[u8] = b"object two;
   path 1:(set) end;
@@ -56,71 +21,104 @@ const TWO: &[u8] = b"object two;
 end;
 ";
 
-// `set 7` over a device that makes so many calls more, and then none.
-const FAILS_FROM: [(u64, &[Line]); 5] = [
-    (
-        1,
-        &[
-            Files(&[ZERO, ZERO]),
-            Call(Row("rr", "set", &[Number(7)], Device(0), &[])),
-        ],
-    ),
-    (
-        4,
-        &[
-            Files(&[ZERO, ZERO]),
-            Call(Row("rrcas", "set", &[Number(7)], Device(0), &[])),
-        ],
-    ),
-    (
-        5,
-        &[
-            Files(&[ZERO, ZERO]),
-            Call(Row("rrcasc", "set", &[Number(7)], Device(1), &[])),
-        ],
-    ),
-    (
-        6,
-        &[
-            Files(&[ZERO, ZERO]),
-            Call(Row("rrcasca", "set", &[Number(7)], Device(1), &[])),
-        ],
-    ),
-    (
-        7,
-        &[
-            Files(&[ZERO, ZERO]),
-            Call(Row("rrcascas", "set", &[Number(7)], Device(1), &[])),
-        ],
-    ),
-];
+// Files of these bytes for both parts.
+fn pinned<H: Hand>(rt: &impl Abort, hand: &mut H, a: &[u8], b: &[u8]) -> Pins {
+    let a = put(hand, a).expect(rt, "a file");
+    let b = put(hand, b).expect(rt, "a file");
+    Pins::new(&[a, b])
+}
 
+// What `set 7` comes to: its reply, how many files it sealed and does not hand out, and its new pins.
+fn set_seven<H: Hand>(
+    rt: &impl Abort,
+    alloc: Global,
+    two: &Object,
+    hand: &mut H,
+    pins: Pins,
+) -> (Reply, usize, usize) {
+    let run = run_of(rt, alloc, two, "set", &[Datum::Integer(7)], pins);
+    let outcome = perform(run, hand);
+    for new in outcome.new_pins() {
+        let bytes = fetch(alloc, hand, &new.stamp).expect(rt, "its bytes");
+        assert!(rt; bytes.as_slice() == SEVEN);
+    }
+    (
+        outcome.reply(),
+        outcome.sealed().len(),
+        outcome.new_pins().len(),
+    )
+}
+
+const FAILED: Reply = Reply::Failed(Failure::Device);
+
+const DAMAGED: Reply = Reply::Failed(Failure::Damaged);
+
+// The files of the parts take six calls of the device. Then both are read, and both are created, written and sealed.
 #[test]
-fn a_failed_call_tells_the_files_that_it_sealed(rt: HostRuntime) {
-    let two = object(&rt, rt.alloc(), TWO);
-    for (works, lines) in FAILS_FROM {
-        // The files of the parts take six calls.
-        let mut hand = FuseHand::new(MemHand::new(rt.alloc()), works + 6);
-        play_over(&rt, rt.alloc(), &two, &mut hand, lines);
+fn a_failed_device_call_fails_the_call(rt: HostRuntime) {
+    let alloc = rt.alloc();
+    let two = object(&rt, alloc, TWO);
+    for call in 1..9 {
+        let mut hand = OnceHand::new(MemHand::new(alloc), call + 6);
+        let pins = pinned(&rt, &mut hand, ZERO, ZERO);
+        let sealed = if call > 5 { 1 } else { 0 };
+        let told = set_seven(&rt, alloc, &two, &mut hand, pins);
+        assert!(rt; told == (FAILED, sealed, 0) && hand.failures() == 1);
+        // The device works again.
+        let told = set_seven(&rt, alloc, &two, &mut hand, pins);
+        assert!(rt; told == (Reply::Done(None), 0, 2));
     }
 }
 
-const UNREAD: Line = Call(Row("r", "get", &[], Device(0), &[]));
+#[test]
+fn a_device_that_fails_for_good_fails_each_call(rt: HostRuntime) {
+    let alloc = rt.alloc();
+    let two = object(&rt, alloc, TWO);
+    let mut hand = FuseHand::new(MemHand::new(alloc), 11);
+    let pins = pinned(&rt, &mut hand, ZERO, ZERO);
+    assert!(rt; set_seven(&rt, alloc, &two, &mut hand, pins) == (FAILED, 1, 0));
+    assert!(rt; set_seven(&rt, alloc, &two, &mut hand, pins) == (FAILED, 0, 0));
+}
 
-// The pin has more bytes than its file, its file is retired, or there is none.
-const BAD_PINS: &[Line] = &[
-    Files(&[ZERO]),
-    Resized(9),
-    UNREAD,
-    Resized(8),
-    Retired,
-    UNREAD,
-    Pinned(5, 8),
-    UNREAD,
-    Failures(3),
+// Bytes that spell no array of one integer: one less, one more, none, another format, another kind.
+const CUT: [Bytes; 5] = [
+    b"\x01\x01\x00\x01\x00\x00\x00",
+    b"\x01\x01\x00\x01\x00\x00\x00\x00\x00",
+    b"",
+    b"\x02\x01\x00\x01\x00\x00\x00\x00",
+    b"\x01\x03\x00\x01\x00\x00\x00\x00",
 ];
 
 #[test]
+fn damaged_parts_fail_the_call(rt: HostRuntime) {
+    let alloc = rt.alloc();
+    let two = object(&rt, alloc, TWO);
+    let mut hand = MemHand::new(alloc);
+    for bytes in CUT {
+        let pins = pinned(&rt, &mut hand, bytes, ZERO);
+        assert!(rt; set_seven(&rt, alloc, &two, &mut hand, pins) == (DAMAGED, 0, 0));
+        let pins = pinned(&rt, &mut hand, ZERO, bytes);
+        assert!(rt; set_seven(&rt, alloc, &two, &mut hand, pins) == (DAMAGED, 0, 0));
+    }
+    assert!(rt; hand.failures() == 0);
+}
+
+// A pin of so many bytes more than its file, of no file, and of a file that is retired.
+#[test]
 fn a_pin_without_a_file_fails_for_the_device(rt: HostRuntime) {
-    play(&rt, rt.alloc(), CELL, BAD_PINS);
+    let alloc = rt.alloc();
+    let two = object(&rt, alloc, TWO);
+    let mut hand = MemHand::new(alloc);
+    let whole = put(&mut hand, ZERO).expect(&rt, "a file");
+    let retired = put(&mut hand, ZERO).expect(&rt, "a file");
+    assert!(rt; hand.retire(&retired).is_ok());
+    for stamp in [
+        Stamp { number: 1, len: 9 },
+        Stamp { number: 9, len: 8 },
+        retired,
+    ] {
+        let pins = Pins::new(&[stamp, whole]);
+        assert!(rt; set_seven(&rt, alloc, &two, &mut hand, pins) == (FAILED, 0, 0));
+    }
+    assert!(rt; hand.failures() == 3);
 }

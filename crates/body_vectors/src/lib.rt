@@ -6,12 +6,4 @@ mod calls;
 #[cfg(test)]
 mod devices;
 #[cfg(test)]
-mod forms;
-#[cfg(test)]
 mod refused;
-#[cfg(test)]
-mod rows;
-#[cfg(test)]
-mod steps;
-#[cfg(test)]
-mod wholes;

@@ -12,10 +12,6 @@ mod refusals;
 #[cfg(test)]
 mod refused;
 #[cfg(test)]
-mod rows;
-#[cfg(test)]
 mod strangers;
-#[cfg(test)]
-mod texts;
 #[cfg(test)]
 mod threads;

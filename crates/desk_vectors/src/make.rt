@@ -1,5 +1,6 @@
 //! Objects, files and desks, as the tests make them.
 
+use board_core::receipt::Receipt;
 use body_core::outcome::Outcome;
 use body_core::perform::perform;
 use body_core::run::Run;
@@ -75,6 +76,19 @@ pub fn outcome_of<H: Hand>(
     }
 }
 
+/// The receipt of a call that session 1 makes from beginning to end.
+pub fn receipt_of<H: Hand>(
+    alloc: Global,
+    desk: &mut Desk,
+    hand: &mut H,
+    op: &str,
+    args: &[Datum],
+) -> Option<Receipt> {
+    let number = desk.submit(1, op, args).ok()?;
+    let outcome = outcome_of(alloc, desk, hand, number)?;
+    desk.finish(outcome).ok()
+}
+
 /// Whether session 1 makes a call from beginning to end.
 pub fn has_turn_of<H: Hand>(
     alloc: Global,
@@ -83,16 +97,23 @@ pub fn has_turn_of<H: Hand>(
     op: &str,
     args: &[Datum],
 ) -> bool {
-    let Ok(number) = desk.submit(1, op, args) else {
-        return false;
-    };
-    match outcome_of(alloc, desk, hand, number) {
-        Some(outcome) => desk.finish(outcome).is_ok(),
-        None => false,
-    }
+    receipt_of(alloc, desk, hand, op, args).is_some()
 }
 
-/// Whether session 1 makes a call of `get`.
-pub fn has_a_turn<H: Hand>(alloc: Global, desk: &mut Desk, hand: &mut H) -> bool {
-    has_turn_of(alloc, desk, hand, "get", &[])
+// One number of two.
+fn mix(sum: u64, more: u64) -> u64 {
+    sum.wrapping_mul(1_000_003).wrapping_add(more)
+}
+
+/// A number that tells how much happened on a desk, its pins, and which of its first 40 calls wait and run.
+pub fn look(desk: &Desk) -> u64 {
+    let mut sum = mix(desk.trace().len() as u64, desk.history().len() as u64);
+    for stamp in desk.pins().as_slice() {
+        sum = mix(sum, stamp.number);
+    }
+    for number in 0..41 {
+        let open = u64::from(desk.waits(number)) + 2 * u64::from(desk.runs(number));
+        sum = mix(sum, open);
+    }
+    sum
 }

@@ -5,8 +5,7 @@
 //! refused, and each whose name begins with `starved_` with all growths refused between its two marks. With no growth
 //! refused they are happy paths.
 
-use crate::make::{CELL, ZERO, outcome_of};
-use crate::rows::look;
+use crate::make::{CELL, ZERO, look, outcome_of};
 use body_core::outcome::Outcome;
 use body_core::reply::{Failure, Reply};
 use decl_read::read::read_objects;
@@ -30,7 +29,7 @@ fn cell(alloc: Global) -> Option<Accepted> {
 }
 
 // The same, where there is memory for it at the first or at the second try.
-fn cell_twice(rt: &impl Abort, alloc: Global) -> Accepted {
+pub fn cell_twice(rt: &impl Abort, alloc: Global) -> Accepted {
     match cell(alloc) {
         Some(cell) => cell,
         None => cell(alloc).expect(rt, "memory"),

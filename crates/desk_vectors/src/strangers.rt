@@ -1,7 +1,6 @@
 //! Outcomes that are handed to a desk on which no such call runs.
 
-use crate::make::{Bytes, CELL, ZERO, desk_of, has_a_turn, outcome_of, pinned};
-use crate::rows::look;
+use crate::make::{Bytes, CELL, ZERO, desk_of, has_turn_of, look, outcome_of, pinned};
 use body_core::outcome::Outcome;
 use desk_core::answer::Stranger;
 use desk_core::desk::Desk;
@@ -39,19 +38,23 @@ const OTHERS: [Called; 6] = [
     Called(OTHER, 1, 0, 0, "put", 7),
 ];
 
-// A desk on which a call runs, and the outcome of the call.
-fn run(rt: &impl Abort, alloc: Global, hand: &mut MemHand, called: Called) -> (Desk, Outcome) {
-    let Called(object, number, more, before, op, arg) = called;
+// The desk of the part of a call.
+fn desk_for(rt: &impl Abort, alloc: Global, called: Called) -> Desk {
+    let Called(object, number, more, _, _, _) = called;
     let len = more.saturating_add(8);
-    let mut desk = desk_of(rt, alloc, object, Pins::new(&[Stamp { number, len }]));
+    desk_of(rt, alloc, object, Pins::new(&[Stamp { number, len }]))
+}
+
+// The outcome of a call on a desk of its own.
+fn outcome_of_call(rt: &impl Abort, alloc: Global, hand: &mut MemHand, called: Called) -> Outcome {
+    let Called(_, _, _, before, op, arg) = called;
+    let mut desk = desk_for(rt, alloc, called);
     for _ in 0..before {
-        assert!(rt; has_a_turn(alloc, &mut desk, hand));
+        assert!(rt; has_turn_of(alloc, &mut desk, hand, "get", &[]));
     }
-    let number = desk
-        .submit(1, op, &[Datum::Integer(arg)])
-        .expect(rt, "a number");
-    let outcome = outcome_of(alloc, &mut desk, hand, number).expect(rt, "an outcome");
-    (desk, outcome)
+    let number = desk.submit(1, op, &[Datum::Integer(arg)]);
+    let number = number.expect(rt, "a number");
+    outcome_of(alloc, &mut desk, hand, number).expect(rt, "an outcome")
 }
 
 // Whether a desk hands an outcome back, and stays as it is.
@@ -64,11 +67,12 @@ fn hands_back(desk: &mut Desk, outcome: Outcome) -> bool {
     }
 }
 
-// Whether the outcome of a call of one desk is a stranger on another.
-fn is_strange(rt: &impl Abort, alloc: Global, hand: &mut MemHand, called: [Called; 2]) -> bool {
-    let (mut other, _) = run(rt, alloc, hand, called[0]);
-    let (_, outcome) = run(rt, alloc, hand, called[1]);
-    hands_back(&mut other, outcome)
+// Whether the outcome of a call is a stranger on a desk on which the first one runs.
+fn is_strange(rt: &impl Abort, alloc: Global, hand: &mut MemHand, called: Called) -> bool {
+    let outcome = outcome_of_call(rt, alloc, hand, called);
+    let mut desk = desk_for(rt, alloc, SEVEN_PUT);
+    let number = desk.submit(1, "put", &[Datum::Integer(7)]);
+    number == Ok(1) && hands_back(&mut desk, outcome)
 }
 
 #[test]
@@ -77,9 +81,8 @@ fn a_call_is_told_by_its_number_declaration_arguments_and_pins(rt: HostRuntime) 
     // Files 1 and 2 have the same bytes.
     let _pins = pinned(&rt, &mut hand, &[ZERO, ZERO]);
     for called in OTHERS {
-        assert!(rt; is_strange(&rt, rt.alloc(), &mut hand, [SEVEN_PUT, called]));
-        assert!(rt; is_strange(&rt, rt.alloc(), &mut hand, [called, SEVEN_PUT]));
+        assert!(rt; is_strange(&rt, rt.alloc(), &mut hand, called));
     }
     // What is known of a call is no more than that: the like outcome of another desk is taken.
-    assert!(rt; !is_strange(&rt, rt.alloc(), &mut hand, [SEVEN_PUT, SEVEN_PUT]));
+    assert!(rt; !is_strange(&rt, rt.alloc(), &mut hand, SEVEN_PUT));
 }

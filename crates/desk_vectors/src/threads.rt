@@ -1,12 +1,12 @@
-//! Desks and receipts that go from one thread to another, and desks that threads share.
+//! Desks and receipts that go from one thread to another, and a desk that threads read. (Threads that lock one are those of
+//! `office_vectors`.)
 
-use crate::make::{CELL, ZERO, desk_of, outcome_of, pinned};
+use crate::make::{CELL, ZERO, desk_of, pinned, receipt_of};
 use board_core::receipt::Receipt;
 use desk_core::desk::Desk;
 use shelf_core::memory::MemHand;
 use std::alloc::Global;
 use std::process::Abort;
-use std::sync::{Mutex, Wait};
 use std::thread;
 use value_core::datum::Datum;
 
@@ -18,9 +18,7 @@ fn cell(rt: &impl Abort, alloc: Global, hand: &mut MemHand) -> Desk {
 
 // Session 1 puts this value, by a call from beginning to end.
 fn put(alloc: Global, desk: &mut Desk, hand: &mut MemHand, value: u32) -> Option<Receipt> {
-    let number = desk.submit(1, "put", &[Datum::Integer(value)]).ok()?;
-    let outcome = outcome_of(alloc, desk, hand, number)?;
-    desk.finish(outcome).ok()
+    receipt_of(alloc, desk, hand, "put", &[Datum::Integer(value)])
 }
 
 // The same, over a desk and a hand that are handed in and given back.
@@ -43,12 +41,6 @@ fn tells(receipt: Option<Receipt>, place: usize, file: u64) -> bool {
 // So many calls have finished, and so much happened.
 fn has_seen(desk: &Desk, calls: usize, events: usize) -> bool {
     desk.history().len() == calls && desk.trace().len() == events
-}
-
-// Whether a call of `put` is taken from a session.
-fn takes(rt: &impl Wait, desk: &Mutex<Desk>, session: u32) -> bool {
-    let mut desk = desk.lock(rt);
-    desk.submit(session, "put", &[Datum::Integer(7)]).is_ok()
 }
 
 #[test]
@@ -74,16 +66,4 @@ fn two_threads_read_a_desk(rt: HostRuntime) {
     let shared = &desk;
     let (there, here) = thread::join(&rt, || has_seen(shared, 1, 2), || has_seen(shared, 1, 2));
     assert!(rt; there && here);
-}
-
-#[test]
-fn two_threads_lock_a_desk(rt: HostRuntime) {
-    let alloc = rt.alloc();
-    let mut hand = MemHand::new(alloc);
-    let desk = Mutex::new(cell(&rt, alloc, &mut hand));
-    let shared = &desk;
-    let (there, here) = thread::join(&rt, || takes(&rt, shared, 1), || takes(&rt, shared, 2));
-    assert!(rt; there && here);
-    let desk = desk.into_inner();
-    assert!(rt; desk.runs(1) && desk.waits(2));
 }

@@ -43,19 +43,15 @@ fn is_judged(rt: &impl Abort, alloc: Global, source: &[u8], row: &str, is_one: b
     );
 }
 
-// Asserts that no row is a certificate of the only object of a source; `#` begins a note.
-fn are_none(rt: &impl Abort, alloc: Global, source: &[u8], rows: &str) {
-    for row in rows.lines() {
-        if !row.starts_with('#') {
-            is_judged(rt, alloc, source, row, false);
+// Asserts that each of the first rows is a certificate of the only object of a source, and none of the second ones; `#`
+// begins a note.
+fn are_judged(rt: &impl Abort, alloc: Global, source: &[u8], rows: [&str; 2]) {
+    for (number, rows) in rows.iter().enumerate() {
+        for row in rows.lines() {
+            if !row.starts_with('#') {
+                is_judged(rt, alloc, source, row, number == 0);
+            }
         }
-    }
-}
-
-// Asserts that each row is one.
-fn are_certificates(rt: &impl Abort, alloc: Global, source: &[u8], rows: &str) {
-    for row in rows.lines() {
-        is_judged(rt, alloc, source, row, true);
     }
 }
 
@@ -84,54 +80,22 @@ const NOT_OF_BUFFER: &str = "\
 0020 0120 2220
 # nodes of the first path, which is a bound of another number
 0010 0110 1110
+0010 0120 1120
+0020 0110 1120
+0020 0120 1111
+# no path
+0000 0120 1120
+0020 0102 1120
+0020 0120 1130
+# no bound
+0021 0120 1120
+0020 0122 1120
+0020 0120 1123
+# no node
+0024 0120 1120
+0020 0124 1120
+0020 0120 1129
 ";
-
-#[test]
-fn a_certificate_has_an_entry_for_each_conflict(rt: HostRuntime) {
-    are_certificates(&rt, rt.alloc(), BUFFER, "0020 0120 1120");
-    are_none(&rt, rt.alloc(), BUFFER, NOT_OF_BUFFER);
-}
-
-// Asserts that the entries of `BUFFER` with this path and node in the one at this place are no certificate.
-fn is_misplaced(rt: &impl Abort, alloc: Global, place: usize, path: usize, node: usize) {
-    let object = only_object(rt, alloc, BUFFER);
-    let mut entries = entries_of(rt, alloc, "0020 0120 1120");
-    let entry = entries.get_mut(place).expect(rt, "an entry");
-    entry.path = path;
-    entry.node = node;
-    assert!(rt; !check_certificate(&object, &Certificate { entries }));
-}
-
-// Paths and nodes that separate nothing.
-const NOWHERE: [(usize, usize); 14] = [
-    // no path
-    (0, 0),
-    (0, 2),
-    (3, 0),
-    (16, 0),
-    (usize::MAX, 0),
-    // the first path, whose bound is another
-    (1, 0),
-    (1, 1),
-    // no bound
-    (2, 1),
-    (2, 2),
-    (2, 3),
-    // no node
-    (2, 4),
-    (2, 256),
-    (2, usize::MAX),
-    (usize::MAX, usize::MAX),
-];
-
-#[test]
-fn each_entry_has_a_node_that_separates(rt: HostRuntime) {
-    for (path, node) in NOWHERE {
-        for place in 0..3 {
-            is_misplaced(&rt, rt.alloc(), place, path, node);
-        }
-    }
-}
 
 // Its second path: a list, a sequence, a burst, c, and then a bound around b and one around a.
 const MANY_NODES: &[u8] =
@@ -160,28 +124,30 @@ const NOT_OF_MANY_NODES: &str = "\
 0023 0110 1110
 ";
 
-#[test]
-fn another_node_that_separates_will_do(rt: HostRuntime) {
-    are_certificates(&rt, rt.alloc(), MANY_NODES, OF_MANY_NODES);
-    are_none(&rt, rt.alloc(), MANY_NODES, NOT_OF_MANY_NODES);
-}
+const NONE: &[u8] = b"object none; end;";
+
+// Objects, the entries that are a certificate of each, and others that are none.
+const CERTIFICATES: [(&[u8], [&str; 2]); 6] = [
+    (BUFFER, ["0020 0120 1120", NOT_OF_BUFFER]),
+    // Another node that separates will do.
+    (MANY_NODES, [OF_MANY_NODES, NOT_OF_MANY_NODES]),
+    // `get`, the first operation of `CELL`, only reads.
+    (
+        CELL,
+        [
+            "0110 0210 1110 1210 2210",
+            "0010 0110 0210 1110 1210 2210\n0010 0110 1110",
+        ],
+    ),
+    (TWO, ["0010 0110 1110", "0020 0120 1120"]),
+    (NONE, ["\n", "0010 0110 1110"]),
+    // An object that is refused has none.
+    (SOLO, ["", "\n0010"]),
+];
 
 #[test]
-fn a_certificate_is_of_its_own_object(rt: HostRuntime) {
-    let none = b"object none; end;";
-    are_certificates(&rt, rt.alloc(), TWO, "0010 0110 1110");
-    are_certificates(&rt, rt.alloc(), none, "\n");
-    for source in [BUFFER, CELL, none.as_slice()] {
-        are_none(&rt, rt.alloc(), source, "0010 0110 1110");
+fn a_certificate_has_an_entry_for_each_conflict(rt: HostRuntime) {
+    for (source, rows) in CERTIFICATES {
+        are_judged(&rt, rt.alloc(), source, rows);
     }
-    are_none(&rt, rt.alloc(), TWO, "0020 0120 1120");
-    // an object that is refused has none
-    are_none(&rt, rt.alloc(), SOLO, "\n0010");
-}
-
-// `get`, the first operation of `CELL`, only reads.
-#[test]
-fn operations_that_do_not_conflict_have_no_entry(rt: HostRuntime) {
-    are_certificates(&rt, rt.alloc(), CELL, "0110 0210 1110 1210 2210");
-    are_none(&rt, rt.alloc(), CELL, "0010 0110 0210 1110 1210 2210");
 }

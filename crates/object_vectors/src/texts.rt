@@ -5,18 +5,6 @@ use decl_read::read::read_objects;
 use std::alloc::Global;
 use std::process::Abort;
 
-/// A table of texts.
-pub(crate) const BOOK: &[u8] = b"object book;
-  path 1:([find, size], write, wipe) end;
-  var t : table of text;
-  entry procedure write(k, x : text);
-  begin if has(t, k) then refuse('taken') else store(t, k, x) end;
-  entry function find(k : text) : text; begin find := lookup(t, k) end;
-  entry procedure wipe(k : text); begin erase(t, k) end;
-  entry function size : integer; begin size := count(t) end;
-end;
-";
-
 /// A queue, with a path that counts and one that separates.
 pub(crate) const BUFFER: &[u8] = b"object buffer;
   const n = 5;

@@ -4,8 +4,6 @@
 //! the row keeps the number, and each call gets a pen of it.
 
 use shelf_core::hand::{Hand, HandFault, Pen, Stamp};
-use shelf_core::whole::fetch;
-use std::alloc::Global;
 use std::process::Abort;
 
 /// A call of a hand, of the file at a place of the row, and what it answers. Each call that fails does so for
@@ -28,12 +26,8 @@ pub enum Call {
     Discard(usize),
     /// From this byte on it reads so.
     Read(usize, usize, &'static [u8]),
-    /// From this byte on so many bytes, which the stamp has, are not read.
-    NoRead(usize, usize, usize),
-    /// All bytes of the stamp are these.
-    Fetch(usize, &'static [u8]),
-    /// The bytes of the stamp are not fetched.
-    NoFetch(usize),
+    /// The byte at this place, which the stamp has, is not read.
+    NoRead(usize, usize),
     /// The file is read no more.
     Retire(usize),
     /// The file is not retired.
@@ -77,11 +71,6 @@ fn create<H: Hand>(hand: &mut H) -> Result<Stamp, HandFault> {
     Ok(Stamp { number, len: 0 })
 }
 
-// Whether no file is begun.
-fn creates_none<H: Hand>(hand: &mut H) -> bool {
-    create(hand) == Err(HandFault::Device)
-}
-
 fn append<H: Hand>(hand: &mut H, number: u64, bytes: &[u8]) -> Result<(), HandFault> {
     let mut pen = Pen { number };
     let answer = hand.append(&mut pen, bytes);
@@ -108,46 +97,21 @@ fn discard<H: Hand>(hand: &mut H, number: u64) -> bool {
 // The most bytes that one row reads.
 const MOST_READ: usize = 16;
 
-// Reads so many bytes of a stamp that has them, or answers nothing where it has not.
-fn read<H: Hand>(
+// Whether a stamp that has so many bytes from this one on reads so, or why it does not.
+fn reads<H: Hand>(
     hand: &mut H,
     stamp: Stamp,
     at: usize,
-    into: &mut [u8],
-) -> Option<Result<(), HandFault>> {
+    want: &[u8],
+) -> Option<Result<bool, HandFault>> {
+    let mut row = [0xAA; MOST_READ];
+    let into = row.get_mut(..want.len())?;
     if at > stamp.len || into.len() > stamp.len - at {
         return None;
     }
-    Some(hand.read(&stamp, at, into))
-}
-
-fn reads<H: Hand>(hand: &mut H, stamp: Stamp, at: usize, want: &[u8]) -> bool {
-    let mut row = [0xAA; MOST_READ];
-    match row.get_mut(..want.len()) {
-        Some(into) => read(hand, stamp, at, into) == Some(Ok(())) && *into == *want,
-        None => false,
-    }
-}
-
-fn reads_none<H: Hand>(hand: &mut H, stamp: Stamp, at: usize, len: usize) -> bool {
-    let mut row = [0xAA; MOST_READ];
-    match row.get_mut(..len) {
-        Some(into) => read(hand, stamp, at, into) == Some(DEVICE),
-        None => false,
-    }
-}
-
-fn fetches<H: Hand>(alloc: Global, hand: &mut H, stamp: Stamp, want: &[u8]) -> bool {
-    match fetch(alloc, hand, &stamp) {
-        Ok(bytes) => bytes.as_slice() == want,
-        Err(_) => false,
-    }
-}
-
-fn fetches_none<H: Hand>(alloc: Global, hand: &mut H, stamp: Stamp) -> bool {
-    match fetch(alloc, hand, &stamp) {
-        Ok(_) => false,
-        Err(fault) => fault == HandFault::Device,
+    match hand.read(&stamp, at, into) {
+        Ok(()) => Some(Ok(*into == *want)),
+        Err(fault) => Some(Err(fault)),
     }
 }
 
@@ -205,7 +169,7 @@ impl FileRow {
     fn writes<H: Hand>(&mut self, hand: &mut H, call: Call) -> bool {
         match call {
             Call::Create(place) => self.creates(hand, place),
-            Call::NoCreate => creates_none(hand),
+            Call::NoCreate => create(hand) == Err(HandFault::Device),
             Call::Append(place, bytes) => append(hand, self.at(place).number, bytes).is_ok(),
             Call::NoAppend(place, bytes) => append(hand, self.at(place).number, bytes) == DEVICE,
             Call::Seal(place, len) => self.seals(hand, place, len),
@@ -215,13 +179,15 @@ impl FileRow {
         }
     }
 
-    /// Makes a call, and tells whether it answers what the row says.
-    pub fn is_right<H: Hand>(&mut self, alloc: Global, hand: &mut H, call: Call) -> bool {
+    // Makes a call, and tells whether it answers what the row says.
+    fn is_right<H: Hand>(&mut self, hand: &mut H, call: Call) -> bool {
         match call {
-            Call::Read(place, at, bytes) => reads(hand, self.at(place), at, bytes),
-            Call::NoRead(place, at, len) => reads_none(hand, self.at(place), at, len),
-            Call::Fetch(place, bytes) => fetches(alloc, hand, self.at(place), bytes),
-            Call::NoFetch(place) => fetches_none(alloc, hand, self.at(place)),
+            Call::Read(place, at, bytes) => {
+                reads(hand, self.at(place), at, bytes) == Some(Ok(true))
+            }
+            Call::NoRead(place, at) => {
+                reads(hand, self.at(place), at, b"?") == Some(Err(HandFault::Device))
+            }
             Call::Retire(place) => hand.retire(&self.at(place)).is_ok(),
             Call::NoRetire(place) => hand.retire(&self.at(place)) == DEVICE,
             Call::Stamped(place, number, len) => self.set(place, number, len),
@@ -233,25 +199,9 @@ impl FileRow {
     }
 
     /// Makes calls, and asserts that each answers what its row says. They stand in this line of a script.
-    pub fn play<H: Hand>(
-        &mut self,
-        rt: &impl Abort,
-        alloc: Global,
-        hand: &mut H,
-        calls: &[Call],
-        line: usize,
-    ) {
+    pub fn play<H: Hand>(&mut self, rt: &impl Abort, hand: &mut H, calls: &[Call], line: usize) {
         for (number, call) in calls.iter().enumerate() {
-            assert!(rt;
-                self.is_right(alloc, hand, *call),
-                "line {line}: call {number}"
-            );
+            assert!(rt; self.is_right(hand, *call), "line {line}: call {number}");
         }
     }
-}
-
-/// Makes calls, over files of their own, and asserts that each answers what its row says.
-pub fn play<H: Hand>(rt: &impl Abort, alloc: Global, hand: &mut H, calls: &[Call]) {
-    let mut files = FileRow::new(hand);
-    files.play(rt, alloc, hand, calls, 0);
 }

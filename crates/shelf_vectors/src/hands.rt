@@ -1,26 +1,15 @@
-//! What every hand does: in memory, in a folder, and inside a hand that would fail a later call.
+//! What every hand does: in memory here, and in a folder by a line of `folder`.
 
 use crate::hand_calls::Call::{
-    Append, Create, Discard, Failures, Fetch, NoAppend, NoFetch, NoRead, NoRetire, NoSeal, Read,
-    Resized, Retire, Seal, Stamped,
+    Append, Create, Discard, Failures, NoAppend, NoRead, NoRetire, NoSeal, Read, Resized, Retire,
+    Seal, Stamped,
 };
-use crate::hand_calls::{A, B, C, Call, play};
-use crate::scratch::Scratch;
-use shelf_core::dir::DirHand;
-use shelf_core::fuse::FuseHand;
-use shelf_core::hand::{Hand, HandFault, Stamp};
+use crate::hand_calls::{A, B, C, Call, FileRow};
+use shelf_core::hand::{Hand, Stamp};
 use shelf_core::memory::MemHand;
-use shelf_core::numbers::Numbers;
-use shelf_core::once::OnceHand;
 use shelf_core::whole::{fetch, put};
 use std::alloc::Global;
-use std::process;
 use std::process::Abort;
-use std::sync::Arc;
-use std::test::Fail;
-
-// A call that no test reaches.
-const FAR: u64 = 1_000_000;
 
 // What is appended is read back, whole and in pieces.
 const READS: &[Call] = &[
@@ -36,7 +25,7 @@ const READS: &[Call] = &[
     Read(A, 0, b"hello, world"),
     // A stamp of fewer bytes is read too.
     Resized(A, 5),
-    Fetch(A, b"hello"),
+    Read(A, 0, b"hello"),
     Create(B),
     Seal(B, 0),
     Read(B, 0, b""),
@@ -92,7 +81,7 @@ const DISCARDED: &[Call] = &[
     Seal(B, 4),
     Failures(0),
     Resized(A, 4),
-    NoRead(A, 0, 1),
+    NoRead(A, 0),
     Failures(1),
 ];
 
@@ -107,7 +96,7 @@ const RETIRED: &[Call] = &[
     Read(A, 0, b"gone"),
     Retire(A),
     Failures(0),
-    NoRead(A, 0, 1),
+    NoRead(A, 0),
     Failures(1),
     NoRetire(A),
     Failures(2),
@@ -127,24 +116,24 @@ const BAD_STAMPS: &[Call] = &[
     Append(A, b"hello"),
     Seal(A, 5),
     Stamped(B, u64::MAX, 1),
-    NoRead(B, 0, 1),
+    NoRead(B, 0),
     NoRetire(B),
     Stamped(B, u64::MAX - 1, 1),
-    NoRead(B, 0, 1),
+    NoRead(B, 0),
     NoRetire(B),
     Stamped(B, 1 << 63, 1),
-    NoRead(B, 0, 1),
+    NoRead(B, 0),
     NoRetire(B),
     Failures(6),
     Resized(A, 6),
-    NoRead(A, 0, 1),
-    NoFetch(A),
+    NoRead(A, 0),
+    NoRead(A, 5),
     Resized(A, 7),
-    NoRead(A, 0, 1),
-    NoFetch(A),
+    NoRead(A, 0),
+    NoRead(A, 5),
     Resized(A, 1000),
-    NoRead(A, 0, 1),
-    NoFetch(A),
+    NoRead(A, 0),
+    NoRead(A, 5),
     Failures(12),
     Resized(A, 5),
     Read(A, 0, b"hello"),
@@ -187,58 +176,38 @@ const BAD_PENS: &[Call] = &[
     Failures(9),
 ];
 
+// How many bytes the longest file has.
+const MANY: usize = 70_000;
+
 /// 70,000 bytes.
 pub fn many_bytes(rt: &impl Abort, alloc: Global) -> Vec<u8> {
-    let mut all = Vec::new(alloc);
-    for place in 0..70_000usize {
+    let mut all = Vec::with_capacity(alloc, MANY).expect(rt, "memory");
+    for place in 0..MANY {
         all.push((place % 251) as u8).expect(rt, "memory");
     }
     all
 }
 
-// Writes a file in appends of 1,000 bytes.
-fn put_in_pieces<H: Hand>(hand: &mut H, bytes: &[u8]) -> Result<Stamp, HandFault> {
-    let mut pen = hand.create()?;
-    for piece in bytes.chunks(1_000) {
-        if let Err(fault) = hand.append(&mut pen, piece) {
-            hand.discard(pen);
-            return Err(fault);
-        }
-    }
-    match hand.seal(pen) {
-        Ok(stamp) => Ok(stamp),
-        Err((pen, fault)) => {
-            hand.discard(pen);
-            Err(fault)
-        }
-    }
-}
-
-// Asserts that these are all bytes of a file, and that 15 of them are read at a place.
-fn assert_many<H: Hand>(rt: &impl Abort, alloc: Global, hand: &mut H, stamp: &Stamp, want: &[u8]) {
-    let all = fetch(alloc, hand, stamp).expect(rt, "the bytes");
-    assert!(rt; stamp.len == 70_000 && all.as_slice() == want);
+// Whether 15 bytes beyond 65,535 of a file are these.
+fn reads_far<H: Hand>(hand: &mut H, stamp: &Stamp, want: &[u8]) -> bool {
     let mut into = [0xAA; 15];
-    assert!(rt; hand.read(stamp, 65_530, &mut into).is_ok());
-    assert!(rt; want.get(65_530..65_545) == Some(into.as_slice()));
+    stamp.len == MANY
+        && hand.read(stamp, 65_530, &mut into).is_ok()
+        && want.get(65_530..65_545) == Some(into.as_slice())
 }
 
-// A file of 70,000 bytes, in appends of 1,000, and the same in one `put`.
+// A file of 70,000 bytes, whole and in part.
 fn holds_many_bytes<H: Hand>(rt: &impl Abort, alloc: Global, hand: &mut H) {
-    let before = hand.failures();
     let all = many_bytes(rt, alloc);
-    let pieces = put_in_pieces(hand, &all).expect(rt, "a file");
-    let whole = put(hand, &all).expect(rt, "a file");
-    assert_many(rt, alloc, hand, &pieces, &all);
-    assert_many(rt, alloc, hand, &whole, &all);
-    assert!(rt; whole.number != pieces.number && hand.failures() == before);
+    let stamp = put(hand, &all).expect(rt, "a file");
+    let found = fetch(alloc, hand, &stamp).expect(rt, "the bytes");
+    assert!(rt; found.as_slice() == all.as_slice() && reads_far(hand, &stamp, &all));
 }
 
-// All of the above, on a new hand.
-fn is_a_hand<H: Hand>(rt: &impl Abort, alloc: Global, hand: &mut H) {
-    assert!(rt; hand.failures() == 0);
-    for calls in [READS, PENS_APART, DISCARDED, RETIRED, BAD_STAMPS, BAD_PENS] {
-        play(rt, alloc, hand, calls);
+/// All of the above, on a new hand.
+pub fn is_a_hand<H: Hand>(rt: &impl Abort, alloc: Global, hand: &mut H) {
+    for (line, calls) in SCRIPTS.iter().enumerate() {
+        FileRow::new(hand).play(rt, hand, calls, line);
     }
     holds_many_bytes(rt, alloc, hand);
     // One read of a discarded file, two calls on a retired one, twelve bad stamps, three calls on each of
@@ -246,34 +215,10 @@ fn is_a_hand<H: Hand>(rt: &impl Abort, alloc: Global, hand: &mut H) {
     assert!(rt; hand.failures() == 24);
 }
 
+const SCRIPTS: [&[Call]; 6] = [READS, PENS_APART, DISCARDED, RETIRED, BAD_STAMPS, BAD_PENS];
+
 #[test]
 fn a_hand_in_memory(rt: HostRuntime) {
     let mut hand = MemHand::new(rt.alloc());
     is_a_hand(&rt, rt.alloc(), &mut hand);
-}
-
-#[test]
-fn a_hand_that_fails_late(rt: HostRuntime) {
-    let mut hand = FuseHand::new(MemHand::new(rt.alloc()), FAR);
-    is_a_hand(&rt, rt.alloc(), &mut hand);
-    assert!(rt; hand.into_inner().failures() == 24);
-}
-
-#[test]
-fn a_hand_that_fails_once_late(rt: HostRuntime) {
-    for call in [FAR, 0] {
-        let mut hand = OnceHand::new(MemHand::new(rt.alloc()), call);
-        is_a_hand(&rt, rt.alloc(), &mut hand);
-        assert!(rt; hand.into_inner().failures() == 24);
-    }
-}
-
-#[test]
-fn a_hand_in_a_folder(rt: HostRuntime) -> Result<(), Fail> {
-    let scratch = Scratch::new(rt, process::id(rt.process()), "hands")?;
-    let numbers = Arc::new(rt.alloc(), Numbers::new(1))?;
-    let mut hand = DirHand::new(rt, scratch.folder(), numbers)?;
-    is_a_hand(&rt, rt.alloc(), &mut hand);
-    scratch.remove()?;
-    Ok(())
 }

@@ -1,15 +1,54 @@
-//! A folder of a test's own.
+//! A folder of a test's own, and what others do there.
 
+use crate::shelf_calls::Bytes;
 use std::fs::Permissions;
 use std::os::unix::fs::PermissionsExt;
 use std::rt::Files;
 use std::{fs, io};
+
+/// What someone does with a file, or what is said of it.
+#[derive(Clone, Copy, Drop)]
+pub enum Deed {
+    /// It has these bytes.
+    Has(Bytes),
+    /// There is none.
+    Lacks,
+    /// It is written, in place of what was there.
+    Write(Bytes),
+    /// It is removed.
+    Remove,
+    /// A folder is made under its name.
+    MakeFolder,
+    /// The empty folder of its name is removed.
+    RemoveFolder,
+    /// Who may use it is changed.
+    Mode(u32),
+}
 
 /// A folder that is there for one test, under a name that no other test has.
 #[derive(Drop)]
 pub struct Scratch<R: Files + AllocGlobal> {
     rt: R,
     folder: String,
+}
+
+// Does what someone does with the file of a path, or tells whether what is said of it is so.
+fn is_done<R: Files + AllocGlobal>(rt: &R, path: &str, deed: Deed) -> bool {
+    match deed {
+        Deed::Has(want) => match fs::read(rt, path) {
+            Ok(bytes) => bytes.as_slice() == want,
+            Err(_) => false,
+        },
+        Deed::Lacks => match fs::exists(rt, path) {
+            Ok(exists) => !exists,
+            Err(_) => false,
+        },
+        Deed::Write(bytes) => fs::write(rt, path, bytes).is_ok(),
+        Deed::Remove => fs::remove_file(rt, path).is_ok(),
+        Deed::MakeFolder => fs::create_dir(rt, path).is_ok(),
+        Deed::RemoveFolder => fs::remove_dir(rt, path).is_ok(),
+        Deed::Mode(mode) => fs::set_permissions(rt, path, Permissions::from_mode(mode)).is_ok(),
+    }
 }
 
 impl<R: Files + AllocGlobal + Copy + Drop> Scratch<R> {
@@ -22,79 +61,18 @@ impl<R: Files + AllocGlobal + Copy + Drop> Scratch<R> {
         Ok(Scratch { rt, folder })
     }
 
-    /// Its path.
-    pub fn folder(&self) -> &str {
-        self.folder.as_str()
-    }
-
     /// The path of a file in it.
     pub fn path(&self, name: &str) -> io::Result<String> {
         let path = format!(in self.rt.alloc(); "{}/{name}", self.folder)?;
         Ok(path)
     }
 
-    /// Whether it has no file of this name.
-    pub fn lacks(&self, name: &str) -> bool {
+    /// Does what someone does with the file of this name in it, or tells whether what is said of it is so.
+    pub fn does(&self, name: &str, deed: Deed) -> bool {
         match self.path(name) {
-            Ok(path) => match fs::exists(&self.rt, path.as_str()) {
-                Ok(exists) => !exists,
-                Err(_) => false,
-            },
+            Ok(path) => is_done(&self.rt, path.as_str(), deed),
             Err(_) => false,
         }
-    }
-
-    /// How many files it has.
-    pub fn count(&self) -> io::Result<u64> {
-        let mut count = 0u64;
-        for entry in fs::read_dir(&self.rt, self.folder.as_str())? {
-            entry?;
-            count = count.saturating_add(1);
-        }
-        Ok(count)
-    }
-
-    // The bytes of a file in it.
-    fn read(&self, name: &str) -> io::Result<Vec<u8>> {
-        let path = self.path(name)?;
-        fs::read(&self.rt, path.as_str())
-    }
-
-    /// Whether the file of this name has these bytes.
-    pub fn has(&self, name: &str, want: &[u8]) -> bool {
-        match self.read(name) {
-            Ok(bytes) => bytes.as_slice() == want,
-            Err(_) => false,
-        }
-    }
-
-    /// Writes a file in it, in place of what was there.
-    pub fn write(&self, name: &str, bytes: &[u8]) -> io::Result<()> {
-        let path = self.path(name)?;
-        fs::write(&self.rt, path.as_str(), bytes)
-    }
-
-    /// Removes a file in it.
-    pub fn remove_file(&self, name: &str) -> io::Result<()> {
-        let path = self.path(name)?;
-        fs::remove_file(&self.rt, path.as_str())
-    }
-
-    /// Makes a folder in it.
-    pub fn make_folder(&self, name: &str) -> io::Result<()> {
-        let path = self.path(name)?;
-        fs::create_dir(&self.rt, path.as_str())
-    }
-
-    /// Removes an empty folder in it.
-    pub fn remove_folder(&self, name: &str) -> io::Result<()> {
-        let path = self.path(name)?;
-        fs::remove_dir(&self.rt, path.as_str())
-    }
-
-    /// Changes who may use it.
-    pub fn set_mode(&self, mode: u32) -> io::Result<()> {
-        fs::set_permissions(&self.rt, self.folder.as_str(), Permissions::from_mode(mode))
     }
 
     /// Removes it with all that it has.

@@ -1,16 +1,12 @@
-//! What every shelf does.
+//! What every shelf does: in memory here, and in a folder by a line of `folder`.
 
 use crate::hands::many_bytes;
-use crate::scratch::Scratch;
 use crate::shelf_calls::Entry::{Failures, Load, Nothing, Store};
 use crate::shelf_calls::{Entry, loads, play};
-use shelf_core::dir_shelf::DirShelf;
 use shelf_core::mem_shelf::MemShelf;
 use shelf_core::shelf::Shelf;
 use std::alloc::Global;
-use std::process;
 use std::process::Abort;
-use std::test::Fail;
 
 // What was stored last under a name is loaded, and names are kept apart.
 const ENTRIES: &[Entry] = &[
@@ -37,18 +33,13 @@ const ENTRIES: &[Entry] = &[
     Load(b"cell.w", b"other"),
 ];
 
-// 70,000 bytes in the place of what a name has.
-fn holds_many_bytes<S: Shelf>(rt: &impl Abort, alloc: Global, shelf: &mut S) {
+/// Asserts the above, and that 70,000 bytes may stand in the place of what a name has. The shelf has to be empty.
+pub fn is_a_shelf<S: Shelf>(rt: &impl Abort, alloc: Global, shelf: &mut S) {
+    play(rt, alloc, shelf, ENTRIES, 0);
     let many = many_bytes(rt, alloc);
     assert!(rt;
         shelf.store(b"cell.v", &many).is_ok() && loads(alloc, shelf, b"cell.v", Some(&many))
     );
-}
-
-/// Asserts all of the above. The shelf has to be empty.
-pub fn is_a_shelf<S: Shelf>(rt: &impl Abort, alloc: Global, shelf: &mut S) {
-    play(rt, alloc, shelf, ENTRIES, 0);
-    holds_many_bytes(rt, alloc, shelf);
     assert!(rt; shelf.failures() == 0);
 }
 
@@ -56,17 +47,4 @@ pub fn is_a_shelf<S: Shelf>(rt: &impl Abort, alloc: Global, shelf: &mut S) {
 fn a_shelf_in_memory(rt: HostRuntime) {
     let mut shelf = MemShelf::new(rt.alloc());
     is_a_shelf(&rt, rt.alloc(), &mut shelf);
-}
-
-#[test]
-fn a_shelf_in_a_folder(rt: HostRuntime) -> Result<(), Fail> {
-    let scratch = Scratch::new(rt, process::id(rt.process()), "shelf")?;
-    let mut shelf = DirShelf::new(rt, scratch.folder())?;
-    is_a_shelf(&rt, rt.alloc(), &mut shelf);
-    assert!(rt; shelf.store(b"cell.v", b"left").is_ok());
-    // A later shelf on the folder has what this one stored.
-    let mut later = DirShelf::new(rt, scratch.folder())?;
-    play(&rt, rt.alloc(), &mut later, &[Load(b"cell.v", b"left")], 0);
-    scratch.remove()?;
-    Ok(())
 }

@@ -18,31 +18,9 @@ pub fn opening(alloc: Global, kind: Kind) -> Result<Value, AllocError> {
     }
 }
 
-pub fn element(value: &Value, index: u32) -> Result<Datum, Refusal> {
-    match value.kind() {
-        Kind::Array(_, _) => value.element(index),
-        _ => Err(UNFIT),
-    }
-}
-
-pub fn set(value: &mut Value, index: u32, datum: Datum) -> Result<(), Refusal> {
-    match (value.kind(), datum.elem()) {
-        (Kind::Array(_, Elem::Integer), Elem::Integer) => value.set(index, datum),
-        (Kind::Array(_, Elem::Text), Elem::Text) => value.set(index, datum),
-        _ => Err(UNFIT),
-    }
-}
-
 pub fn first(value: &Value) -> Result<Datum, Refusal> {
     match value.kind() {
         Kind::Queue(_) => value.first(),
-        _ => Err(UNFIT),
-    }
-}
-
-pub fn take(value: &mut Value) -> Result<(), Refusal> {
-    match value.kind() {
-        Kind::Queue(_) => value.take(),
         _ => Err(UNFIT),
     }
 }
@@ -52,13 +30,6 @@ pub fn append(value: &mut Value, datum: Datum) -> Result<(), GrowFault> {
         (Kind::Queue(Elem::Integer), Elem::Integer) => value.append(datum),
         (Kind::Queue(Elem::Text), Elem::Text) => value.append(datum),
         _ => Err(GrowFault::Refused(UNFIT)),
-    }
-}
-
-pub fn has(value: &Value, key: &Text) -> bool {
-    match value.kind() {
-        Kind::Table(_) => value.has(key),
-        _ => false,
     }
 }
 
@@ -74,13 +45,6 @@ pub fn store(value: &mut Value, key: Text, datum: Datum) -> Result<(), GrowFault
         (Kind::Table(Elem::Integer), Elem::Integer) => value.store(key, datum),
         (Kind::Table(Elem::Text), Elem::Text) => value.store(key, datum),
         _ => Err(GrowFault::Refused(UNFIT)),
-    }
-}
-
-pub fn erase(value: &mut Value, key: &Text) -> Result<(), Refusal> {
-    match value.kind() {
-        Kind::Table(_) => value.erase(key),
-        _ => Err(UNFIT),
     }
 }
 

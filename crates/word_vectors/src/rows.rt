@@ -3,7 +3,9 @@
 use std::alloc::{AllocError, Global};
 use std::process::Abort;
 use value_core::decode::decode;
+use value_core::encode::encode;
 use value_core::kind::{Elem, Kind};
+use value_core::value::Value;
 use word_core::ending::{ending_of, push_ending, push_finish};
 use word_core::line::push_data_line;
 use word_core::number::session_of;
@@ -49,25 +51,75 @@ const ENDINGS: &[Row] = &[
     (b"Done", b"bad"),
 ];
 
+const LONG_BYTES: &[u8] = b"\x01\x04\0\x01\xff\
+~~~~~~~~~~~~~~~~~~~~~~~~~~~~~~~~~~~~~~~~~~~~~~~~~~~~~~~~~~~~~~~~~~~~~~~~~~~~~~~~~~~~~\
+~~~~~~~~~~~~~~~~~~~~~~~~~~~~~~~~~~~~~~~~~~~~~~~~~~~~~~~~~~~~~~~~~~~~~~~~~~~~~~~~~~~~~\
+~~~~~~~~~~~~~~~~~~~~~~~~~~~~~~~~~~~~~~~~~~~~~~~~~~~~~~~~~~~~~~~~~~~~~~~~~~~~~~~~~~~~~";
+
+const LONG_SHOWN: &[u8] = b"<'\
+~~~~~~~~~~~~~~~~~~~~~~~~~~~~~~~~~~~~~~~~~~~~~~~~~~~~~~~~~~~~~~~~~~~~~~~~~~~~~~~~~~~~~\
+~~~~~~~~~~~~~~~~~~~~~~~~~~~~~~~~~~~~~~~~~~~~~~~~~~~~~~~~~~~~~~~~~~~~~~~~~~~~~~~~~~~~~\
+~~~~~~~~~~~~~~~~~~~~~~~~~~~~~~~~~~~~~~~~~~~~~~~~~~~~~~~~~~~~~~~~~~~~~~~~~~~~~~~~~~~~~'>";
+
 // Kinds, the bytes of a value, and how it is shown.
 const VALUES: &[(Kind, &[u8], &[u8])] = &[
+    (
+        Kind::Array(1, Elem::Integer),
+        b"\x01\x01\0\x01\0\0\0\0",
+        b"[0]",
+    ),
+    (
+        Kind::Array(1, Elem::Integer),
+        b"\x01\x01\0\x01\0\0\0\x07",
+        b"[7]",
+    ),
+    (
+        Kind::Array(1, Elem::Integer),
+        b"\x01\x01\0\x01\xff\xff\xff\xff",
+        b"[4294967295]",
+    ),
     (
         Kind::Array(2, Elem::Integer),
         b"\x01\x01\0\x02\0\0\0\x0a\0\0\0\0",
         b"[10 0]",
     ),
+    (
+        Kind::Array(2, Elem::Text),
+        b"\x01\x02\0\x02\0\x02x~",
+        b"['' 'x~']",
+    ),
     (Kind::Queue(Elem::Integer), b"\x01\x03\0\0", b"<>"),
+    (
+        Kind::Queue(Elem::Integer),
+        b"\x01\x03\0\x02\0\0\0\x01\0\0\0\x02",
+        b"<1 2>",
+    ),
+    (Kind::Queue(Elem::Text), b"\x01\x04\0\x01\x01 ", b"<' '>"),
+    (Kind::Queue(Elem::Text), b"\x01\x04\0\x01\0", b"<''>"),
+    (Kind::Queue(Elem::Text), LONG_BYTES, LONG_SHOWN),
     (
         Kind::Queue(Elem::Text),
         b"\x01\x04\0\x02\x04it's\0",
         b"<'it''s' ''>",
     ),
+    (Kind::Table(Elem::Integer), b"\x01\x05\0\0", b"{}"),
     (
         Kind::Table(Elem::Integer),
-        b"\x01\x05\0\x02\x01a\0\0\0\x01\x01b\0\0\0\x02",
-        b"{'a': 1, 'b': 2}",
+        b"\x01\x05\0\x01\x01a\0\0\0\x01",
+        b"{'a': 1}",
+    ),
+    // A prefix comes before the longer key, and the empty key before both.
+    (
+        Kind::Table(Elem::Integer),
+        b"\x01\x05\0\x03\0\0\0\0\x03\x01a\0\0\0\x01\x02ab\0\0\0\x02",
+        b"{'': 3, 'a': 1, 'ab': 2}",
     ),
     (Kind::Table(Elem::Text), b"\x01\x06\0\0", b"{}"),
+    (
+        Kind::Table(Elem::Text),
+        b"\x01\x06\0\x01\x01b\x04it's",
+        b"{'b': 'it''s'}",
+    ),
 ];
 
 // What a row makes of a line.
@@ -157,13 +209,20 @@ fn refused_endings(rt: HostRuntime) {
     each(&rt, rt.alloc(), &Task::Ending, ENDINGS);
 }
 
-// A value of these bytes, as it is shown; no bytes where there is none.
+// A copy of the value of these bytes, as it is shown and, behind that, as it is spelled.
 fn shown(alloc: Global, kind: Kind, bytes: &[u8]) -> Result<Vec<u8>, AllocError> {
-    let mut out = Vec::new(alloc);
     match decode(alloc, kind, bytes) {
-        Ok(value) => push_value(alloc, &mut out, &value)?,
-        Err(_) => return Err(AllocError),
+        Ok(value) => shown_copy(alloc, &value),
+        Err(_) => Err(AllocError),
     }
+}
+
+fn shown_copy(alloc: Global, value: &Value) -> Result<Vec<u8>, AllocError> {
+    let mut out = Vec::new(alloc);
+    let copy = value.copy(alloc)?;
+    push_value(alloc, &mut out, &copy)?;
+    let spelled = encode(alloc, &copy)?;
+    out.extend_from_slice(&spelled)?;
     Ok(out)
 }
 
@@ -174,7 +233,7 @@ fn refused_show(rt: HostRuntime) {
             Ok(text) => text,
             Err(_) => shown(rt.alloc(), row.0, row.1).expect(&rt, "memory"),
         };
-        assert!(rt; text.as_slice() == row.2);
+        assert!(rt; text.starts_with(row.2) && text.get(row.2.len()..) == Some(row.1));
     }
 }
 

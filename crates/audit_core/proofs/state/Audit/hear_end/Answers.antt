@@ -11,6 +11,7 @@ use Rattle.std.proofs.lemmas.List.{with_items_is}
 use Rattle.audit_core.specs.declared.state.Audit.{Audit}
 use Rattle.audit_core.specs.Counting.{AreCounters}
 use Rattle.audit_core.specs.Replies.{CanDo}
+use Rattle.audit_core.specs.View.{told_view}
 use Rattle.audit_core.specs.declared.calls.Slot.TheVariants.{Fresh, Runs, Ended}
 use Rattle.audit_core.proofs.Hearing.{end_bad}
 use Rattle.audit_core.proofs.Slots.{slot_stranger, slot_runs, running_among}
@@ -19,7 +20,7 @@ use Rattle.audit_core.proofs.state.Audit.hear_end.Goals as goal
 use Rattle.audit_core.proofs.state.Audit.hear_end.Goals.{then-not-is_opened-via-then-not-is_opened, then-not-is_opened-via-else-not-is_opened+then-not-is_call_number}
 
 pub returns-then-not-is_opened-clause-heard : goal.returns-then-not-is_opened-clause-heard
-returns-then-not-is_opened-clause-heard c = λ line heard s says. end_bad (object_of c.args.object.now) heard line c.args.number c.args.reply says
+returns-then-not-is_opened-clause-heard c = λ line heard s says. end_bad (object_of c.args.object.now) heard line c.args.number (told_view c.args.told.now) says
     (λ opened is. elim c.then-not-is_opened.branch [
       | then-not-is_opened-via-then-not-is_opened w ↦ false≢true (sym w.if-not-is_opened.true ∙ (c.is_opened.ensures heard s).1 opened)
       | then-not-is_opened-via-else-not-is_opened+then-not-is_call_number w ↦ false≢true (sym w.if-not-is_call_number.true ∙ w.is_call_number.ensures.1 is)
@@ -30,7 +31,7 @@ returns-in_default-clause-heard c = λ line heard s says.
     let slots : AreSlots c.deref_mut.result.now heard.past = subst (λ xs. AreSlots xs heard.past) (sym c.deref_mut.ensures.value) s.slots in
     record {
       number = c.args.number;
-      reply = c.args.reply;
+      reply = (told_view c.args.told.now);
       opened = (c.is_opened.ensures heard s).0 c.if-not-is_opened.false;
       says = says;
       is = c.is_call_number.ensures.0 c.if-not-is_call_number.false;
@@ -47,9 +48,9 @@ returns-then-not-branch-clause-heard c = λ line heard s says.
     let can : CanDo o r c.args.self.now.parts.items = can_do o c.args.self.now heard c.args.number r s opened runs in
     record {
       call = called c.args.number r;
-      reply = c.args.reply;
+      reply = (told_view c.args.told.now);
       told = end_told says opened (c.is_call_number.ensures.0 c.if-not-is_call_number.false) refl runs;
-      wrong = λ is. (rw c.if-not-branch.true at c.in_ok-is_right.ensures) can (subst (IsReplyOn c.args.reply (body_at o r.operation) r.arguments.items) (sym s.contents) is);
+      wrong = λ is. (rw c.if-not-branch.true at c.in_ok-is_right.ensures) can (subst (IsReplyOn (told_view c.args.told.now) (body_at o r.operation) r.arguments.items) (sym s.contents) is);
     }
 
 pub returns-clause-heard : goal.returns-clause-heard
@@ -70,7 +71,7 @@ returns-clause-heard c = λ line heard s says.
     let kept = subst (λ cs. AreCounters cs (length o.operations) o.paths (End (call_of (called c.args.number r)) ∷ trace_of heard.past)) (sym (with_items_is c.args.self.now.counters c.finish_each.new.counters size)) counters in
     let many : length c.take_running.new.slots ≡ c.args.self.now.calls.len = omega (arith, c.take_running.auto.slots, c.deref_mut.ensures.len) in
     let calls = sym (with_items_is c.args.self.now.calls c.take_running.new.slots many) in (
-      record heard { past = ended (called c.args.number r) c.args.reply ∷ heard.past },
+      record heard { past = ended (called c.args.number r) (told_view c.args.told.now) ∷ heard.past },
       end_told says opened (c.is_call_number.ensures.0 c.if-not-is_call_number.false) refl runs,
-      end_stands o c.args.self.now new heard c.args.number r c.args.reply s opened was (subst (λ xs. slice_index_or xs c.args.number Fresh ≡ Ended) calls c.in-Some.ensures.found.1) (λ n other. ap (λ xs. slice_index_or xs n Fresh) (sym calls) ∙ others n other) kept right.0 right.1 right.2 refl refl,
+      end_stands o c.args.self.now new heard c.args.number r (told_view c.args.told.now) s opened was (subst (λ xs. slice_index_or xs c.args.number Fresh ≡ Ended) calls c.in-Some.ensures.found.1) (λ n other. ap (λ xs. slice_index_or xs n Fresh) (sym calls) ∙ others n other) kept right.0 right.1 right.2 refl refl,
     )

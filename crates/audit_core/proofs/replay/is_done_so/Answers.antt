@@ -1,0 +1,18 @@
+use Rattle.std.proofs.Common.{sym, ◌∙◌, subst}
+use Rattle.std.proofs.lemmas.Bool.{false≢true}
+use Rattle.body_core.specs.Calls.{HoldsReads}
+use Rattle.audit_core.specs.View.{told_view}
+use Rattle.audit_core.proofs.Replaying.{judged}
+use Rattle.audit_core.proofs.replay.is_done_so.Goals as goal
+
+pub returns-then-not-parts_fit : goal.returns-then-not-parts_fit
+returns-then-not-parts_fit c = λ fit held.
+    absurd (false≢true (sym c.if-not-parts_fit.true ∙ c.parts_fit.ensures.1 (subst (HoldsReads c.args.operation.now) (sym c.deref.ensures.value) held)))
+
+pub apply_all-requires-clause-held : goal.apply_all-requires-clause-held
+apply_all-requires-clause-held c = subst (HoldsReads c.args.operation.now) c.deref.ensures.value (c.parts_fit.ensures.0 c.if-not-parts_fit.false)
+
+pub returns : goal.returns
+returns c =
+    judged c.args.operation.now c.args.arguments.now (told_view c.args.told.now) c.in_ok-given.given c.args.parts.now.items c.apply_all.new.parts.items c.is_same.result
+    (record { tells = c.in_ok-given.ensures.reply; leaves = c.in_ok-given.ensures.parts; kinds = c.in_ok-given.ensures.kinds }) c.is_same.ensures

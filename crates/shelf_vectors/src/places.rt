@@ -1,0 +1,121 @@
+//! Devices in one folder, and what others do there, as the rows of scripts.
+
+use crate::hand_calls::{Call, FileRow};
+use crate::hands::is_a_hand;
+use crate::scratch::{Deed, Scratch};
+use crate::shelf_calls::{Entry, play};
+use crate::shelves::is_a_shelf;
+use shelf_core::dir::DirHand;
+use shelf_core::dir_shelf::DirShelf;
+use shelf_core::numbers::Numbers;
+use std::alloc::Global;
+use std::io;
+use std::process::Abort;
+use std::rt::Files;
+use std::sync::Arc;
+
+/// What is done in a folder, or what is there.
+#[derive(Clone, Copy, Drop)]
+pub enum Line {
+    /// What every hand does, and every shelf. Both have to be new.
+    All,
+    /// Calls of the hand, which has the files of the script.
+    Hand(&'static [Call]),
+    /// Calls of another hand on the folder, with the same numbers and the same files of the script.
+    Other(&'static [Call]),
+    /// Calls of the shelf.
+    Shelf(&'static [Entry]),
+    /// Calls of the hand and of the shelf, where the system lets this process write no file in the folder.
+    Denied(&'static [Call], &'static [Entry]),
+    /// Someone does this with the file of this name, or this is so of it.
+    At(&'static str, Deed),
+}
+
+/// Two hands and a shelf in one folder, with the files of a script.
+#[derive(Drop)]
+pub struct Place<R: Files + AllocGlobal> {
+    hand: DirHand<R>,
+    other: DirHand<R>,
+    shelf: DirShelf<R>,
+    files: FileRow,
+}
+
+impl<R: Files + AllocGlobal + Copy + Drop> Place<R> {
+    /// New devices on this folder, with numbers from this one on.
+    pub fn new(rt: R, folder: &str, first: u64) -> io::Result<Place<R>> {
+        let numbers = Arc::new(rt.alloc(), Numbers::new(first))?;
+        let others = Arc::try_clone(&numbers)?;
+        let hand = DirHand::new(rt, folder, numbers)?;
+        let other = DirHand::new(rt, folder, others)?;
+        let shelf = DirShelf::new(rt, folder)?;
+        let files = FileRow::new(&hand);
+        Ok(Place {
+            hand,
+            other,
+            shelf,
+            files,
+        })
+    }
+
+    // Makes calls of the hand and of the shelf.
+    fn calls(
+        &mut self,
+        rt: &impl Abort,
+        alloc: Global,
+        calls: &[Call],
+        entries: &[Entry],
+        number: usize,
+    ) {
+        self.files.play(rt, &mut self.hand, calls, number);
+        play(rt, alloc, &mut self.shelf, entries, number);
+    }
+
+    // What every hand and every shelf does.
+    fn all(&mut self, rt: &impl Abort, alloc: Global) {
+        is_a_hand(rt, alloc, &mut self.hand);
+        is_a_shelf(rt, alloc, &mut self.shelf);
+    }
+
+    // Does what a line says, and tells whether it is so.
+    fn is_right(
+        &mut self,
+        rt: &impl Abort,
+        alloc: Global,
+        scratch: &Scratch<R>,
+        line: Line,
+        number: usize,
+    ) -> bool {
+        match line {
+            Line::All => self.all(rt, alloc),
+            Line::Hand(calls) => self.calls(rt, alloc, calls, &[], number),
+            Line::Other(calls) => self.files.play(rt, &mut self.other, calls, number),
+            Line::Shelf(entries) => self.calls(rt, alloc, &[], entries, number),
+            Line::Denied(calls, entries) => {
+                if !scratch.does("probe", Deed::Write(b"")) {
+                    self.calls(rt, alloc, calls, entries, number);
+                }
+            }
+            Line::At(name, deed) => return scratch.does(name, deed),
+        }
+        true
+    }
+
+    /// Does what the lines say, and asserts that it is so. The first line has this number.
+    pub fn play(
+        &mut self,
+        rt: &impl Abort,
+        alloc: Global,
+        scratch: &Scratch<R>,
+        lines: &[Line],
+        first: usize,
+    ) {
+        let mut number = first;
+        for line in lines {
+            assert!(rt;
+                self.is_right(rt, alloc, scratch, *line, number),
+                "line {number}"
+            );
+            number = number.saturating_add(1);
+        }
+    }
+}
