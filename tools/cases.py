@@ -220,9 +220,9 @@ def with_each(block):
     return [block]
 
 
-def escaped(text):
-    """The lines of the notation whose text is this one."""
-    return [re.sub(r"[\\\\^|]", r"\\\g<0>", it) for it in text.decode().splitlines()]
+def escaped(lines):
+    """The lines of the notation whose text these lines are."""
+    return [re.sub(r"[\\\\^|]", r"\\\g<0>", it) for it in lines]
 
 
 class Reader:
@@ -249,8 +249,10 @@ class Reader:
                 self.sections[head] = rest.split()
             elif head.endswith(":") and head[:-1].isupper():
                 self.files[head[:-1]] = rest
-            elif head == "output:":
-                self.sections["output"] = escaped(stored(rest))
+            elif head in ("output:", "error:"):
+                self.sections[head[:-1]] = escaped(stored(rest).decode().splitlines())
+            elif name == "error, as it stands":
+                self.sections["error"] = escaped(lines_of(section))
             elif name in self.NAMES or name.isupper():
                 self.sections[name] = lines_of(section)
             else:

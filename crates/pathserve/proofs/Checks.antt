@@ -1,15 +1,13 @@
 -- A check of the front of a text is a check of the text.
-use Rattle.std.proofs.Common.{◌≡◌, ℕ, ◌<◌, inl, inr, List, length, take, subst, refl, arith}
-use Rattle.std.specs.Prelude.{Option, Some, None, IfSome, Result, Err}
+use Rattle.std.proofs.Common.{◌≡◌, ℕ, ◌<◌, inl, inr, List, length, take, subst, sym, arith}
+use Rattle.std.specs.Prelude.{Option, Some, None, IfSome, IfOk, IsErrOf, Result, Ok, Err}
 use Rattle.std.proofs.lemmas.Bool.{cases_lt}
 use Rattle.std.proofs.lemmas.List.{take_all, length-take}
 use Rattle.exclude_core.specs.Report.{IsCheck, counted, faulty}
 use Rattle.exclude_core.specs.declared.report.CheckEnd.{CheckEnd}
-use Rattle.exclude_core.specs.declared.report.CheckFault.{CheckFault}
-use Rattle.exclude_core.specs.declared.report.CheckFault.TheVariants as check_faults
 use Rattle.pathserve.specs.declared.failure.Failure.{Failure}
 use Rattle.pathserve.specs.declared.failure.Failure.TheVariants as failures
-use Rattle.pathserve.specs.Status.{check_failure}
+use Rattle.pathserve.specs.Status.{check_status}
 
 -- all texts that are too long are told the same
 too_long : (source text : List ℕ) {end : CheckEnd} {written : List ℕ} → 65536 < length source → 65536 < length text → IsCheck source end written → IsCheck text end written
@@ -37,8 +35,37 @@ known_checked None source end written P is check all = tt
 known_checked (Some text) source end written P is check all =
     all text (front_checked text end written (subst (λ s. IsCheck s end written) is check))
 
--- a check that is told a write fault had one
-pub write_failed : (fault : CheckFault) (failure : Failure) → failure ≡ check_failure fault → ◌≡◌ {A = Result ℕ Failure} (Err failure) (Err failures.WriteFault)
-    → fault ≡ check_faults.WriteFault
-write_failed check_faults.WriteFault failure is told = refl
-write_failed check_faults.Memory failure is told = absurd cc
+-- a status that fits what was written of the known text
+abbrev pub EndedOn : Option (List ℕ) → (List ℕ → Type 0) → Result ℕ Failure → Type 0
+EndedOn known Wrote result = IfOk result (λ status. IfSome known (λ text. (end : CheckEnd) × (written : List ℕ) × Wrote written × IsCheck text end written × (status ≡ check_status end)))
+
+-- a write fault leaves a front of a check of the known text
+abbrev pub CutOn : Option (List ℕ) → (List ℕ → Type 0) → Result ℕ Failure → Type 0
+CutOn known Wrote result = IsErrOf result failures.WriteFault → IfSome known (λ text. (end : CheckEnd) × (whole : List ℕ) × (count : ℕ) × IsCheck text end whole × Wrote (take count whole))
+
+ended_of : (known : Option (List ℕ)) (source : List ℕ) (Wrote : List ℕ → Type 0) (ended : Result ℕ Failure) → IfSome known (λ text. source ≡ take 65537 text)
+    → IfOk ended (λ status. (end : CheckEnd) × (written : List ℕ) × Wrote written × IsCheck source end written × (status ≡ check_status end)) → EndedOn known Wrote ended
+ended_of known source Wrote (Ok status) is told = known_checked known source told.0 told.1
+    (λ text. (end : CheckEnd) × (written : List ℕ) × Wrote written × IsCheck text end written × (status ≡ check_status end))
+    is told.3 (λ text check. (told.0, told.1, told.2, check, told.4))
+ended_of known source Wrote (Err failure) is told = tt
+
+-- what was answered of the front of a known text, and handed on
+pub ended_on : (known : Option (List ℕ)) (slice source : List ℕ) (Wrote : List ℕ → Type 0) (ended result : Result ℕ Failure) → slice ≡ source → result ≡ ended
+    → IfSome known (λ text. source ≡ take 65537 text)
+    → IfOk ended (λ status. (end : CheckEnd) × (written : List ℕ) × Wrote written × IsCheck slice end written × (status ≡ check_status end)) → EndedOn known Wrote result
+ended_on known slice source Wrote ended result seen same is told = subst (EndedOn known Wrote) (sym same) (ended_of known source Wrote ended is
+    (subst (λ s. IfOk ended (λ status. (end : CheckEnd) × (written : List ℕ) × Wrote written × IsCheck s end written × (status ≡ check_status end))) seen told))
+
+cut_of : (known : Option (List ℕ)) (source : List ℕ) (Wrote : List ℕ → Type 0) (ended : Result ℕ Failure) → IfSome known (λ text. source ≡ take 65537 text)
+    → (IsErrOf ended failures.WriteFault → (end : CheckEnd) × (whole : List ℕ) × (count : ℕ) × IsCheck source end whole × Wrote (take count whole)) → CutOn known Wrote ended
+cut_of known source Wrote ended is told = λ failed. let all = told failed in
+    known_checked known source all.0 all.1 (λ text. (end : CheckEnd) × (whole : List ℕ) × (count : ℕ) × IsCheck text end whole × Wrote (take count whole))
+    is all.3 (λ text check. (all.0, all.1, all.2, check, all.4))
+
+-- the same of a write that failed
+pub cut_on : (known : Option (List ℕ)) (slice source : List ℕ) (Wrote : List ℕ → Type 0) (ended result : Result ℕ Failure) → slice ≡ source → result ≡ ended
+    → IfSome known (λ text. source ≡ take 65537 text)
+    → (IsErrOf ended failures.WriteFault → (end : CheckEnd) × (whole : List ℕ) × (count : ℕ) × IsCheck slice end whole × Wrote (take count whole)) → CutOn known Wrote result
+cut_on known slice source Wrote ended result seen same is told = subst (CutOn known Wrote) (sym same) (cut_of known source Wrote ended is
+    (subst (λ s. IsErrOf ended failures.WriteFault → (end : CheckEnd) × (whole : List ℕ) × (count : ℕ) × IsCheck s end whole × Wrote (take count whole)) seen told))

@@ -1,6 +1,6 @@
 //! The subcommands over any reader and writer: what they write, and the exit status that they end with.
 
-ghost use Rattle.std.specs.Prelude.{◌≡◌, ℕ, List, IfOk, IfErr, IfSome, IsErrOf, take};
+ghost use Rattle.std.specs.Prelude.{◌≡◌, ◌⊎◌, ℕ, List, IfOk, IfErr, IfSome, IsErrOf, None, take};
 ghost use Rattle.std.specs.Io.KnownBytes.{Appends, Consumes, Keeps};
 ghost use Rattle.line_core.specs.declared.machine.LinesEnd.{LinesEnd};
 ghost use Rattle.path_count.specs.Run.{IsRun, IsFront, IsRunSoFar};
@@ -9,6 +9,7 @@ ghost use Rattle.exclude_core.specs.declared.report.CheckEnd.{CheckEnd};
 ghost use Rattle.pathserve.specs.Status.{paths_status, check_status, IsFault};
 ghost use Rattle.pathserve.specs.declared.failure.Failure.TheVariants.{ReadFault, WriteFault, Memory};
 
+use crate::explanation::explained;
 use crate::failure::Failure;
 use crate::source::read_source;
 use exclude_core::report::{CheckEnd, check_report};
@@ -62,15 +63,33 @@ pub fn answer_lines<R: Read, W: Write>(
     }
 }
 
+// What `check` answers of a source: its report, and the exit status.
+fn check_text<W: Write>(alloc: Global, source: &[u8], writer: &mut W) -> Result<u8, Failure>
+    ensures ended { IfOk result (λ status. (end : CheckEnd) × (written : List ℕ)
+        × Appends (W.contents writer.old) (W.contents writer.new) written × IsCheck source.now end written × (status ≡ check_status end)) }
+    ensures fault { IfErr result (λ failure. (failure ≡ WriteFault) ⊎ (failure ≡ Memory)) }
+    ensures cut { IsErrOf result WriteFault → (end : CheckEnd) × (whole : List ℕ) × (count : ℕ)
+        × IsCheck source.now end whole × Appends (W.contents writer.old) (W.contents writer.new) (take count whole) }
+    ensures memory { IsErrOf result Memory → Keeps (W.contents writer.old) (W.contents writer.new) }
+{
+    match check_report(alloc, source, writer) {
+        Ok(end) => Ok(status_of_check(end)),
+        Err(fault) => Err(Failure::from(fault)),
+    }
+}
+
 /// `pathserve check`: checks the objects of a source, and gives the exit status: 0 where none is refused,
-/// 1 where one is and where the source is no file of objects.
+/// 1 where one is and where the source is no file of objects. Where the name of a file is given, `error` then gets why its
+/// source is refused; what is written to `writer`, and the exit status, are what they are without it.
 ///
 /// A failure is `ReadFault`, `WriteFault` or `Memory`. A `WriteFault` leaves a front of the report, the others
 /// leave nothing.
-pub fn check_source<R: Read + Drop, W: Write>(
+pub fn check_source<R: Read + Drop, W: Write, E: Write>(
     alloc: Global,
     reader: R,
     writer: &mut W,
+    explains: Option<&str>,
+    error: &mut E,
 ) -> Result<u8, Failure>
     ensures ended { IfOk result (λ status. IfSome (R.remaining reader) (λ text. (end : CheckEnd) × (written : List ℕ)
         × Appends (W.contents writer.old) (W.contents writer.new) written × IsCheck text end written × (status ≡ check_status end))) }
@@ -79,13 +98,12 @@ pub fn check_source<R: Read + Drop, W: Write>(
         × IsCheck text end whole × Appends (W.contents writer.old) (W.contents writer.new) (take count whole)) }
     ensures unread { IsErrOf result ReadFault → Keeps (W.contents writer.old) (W.contents writer.new) }
     ensures memory { IsErrOf result Memory → Keeps (W.contents writer.old) (W.contents writer.new) }
+    ensures unasked { explains.entry ≡ None → Keeps (E.contents error.old) (E.contents error.new) }
 {
     let source = match read_source(alloc, reader) {
         Ok(source) => source,
         Err(error) => return Err(Failure::from(error)),
     };
-    match check_report(alloc, &source, writer) {
-        Ok(end) => Ok(status_of_check(end)),
-        Err(fault) => Err(Failure::from(fault)),
-    }
+    let ended = check_text(alloc, &source, writer);
+    explained(alloc, ended, explains, &source, None, error)
 }

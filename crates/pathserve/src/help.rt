@@ -42,6 +42,10 @@ pub const CHECK: &str =
 /// What the argument of `check` is.
 pub const CHECK_FILE: &str = "The file with the objects, one after the other, at most 65536 bytes";
 
+/// What the flag `--explain` of `check`, `run` and `serve` does.
+pub const EXPLAIN: &str =
+    "Says on standard error why FILE, or an object of it, is refused, where, and what would help; nothing else changes";
+
 /// What `check` reads and writes.
 pub const CHECK_MORE: &str =
     "Reads FILE, and writes a report to standard output: of each object whether it is accepted, and of each
@@ -61,6 +65,9 @@ Example: `box.pp` holds one object, in which a write excludes each other call.
   pair set set path 1 node 0
   pair set get path 1 node 0
   1 objects, 0 refused
+
+With `--explain` standard error gets, for a fault of the file and for each object that is refused, FILE:LINE:COLUMN, a
+sentence, the line with a caret under the place, and what would help. Columns count bytes, from 1.
 
 Exit status: 0 no object is refused, 1 one is, or the file is no file of objects.";
 

@@ -6,6 +6,7 @@
 //! `pathserve run FILE SCRIPT` runs a script of calls, device steps and finishes on an object of a file.
 //! `pathserve audit FILE TRACE` says whether a trace of an object of a file is legal, or which line of it is not.
 //! `pathserve serve FILE DIR PORT` serves the objects of a file to clients on this machine.
+//! With `--explain` standard error gets why a source, or an object of it, is refused; nothing else changes by it.
 //! Exit statuses: 0 accepted, 1 refused, 2 usage (a request for help too), 3 read or write fault,
 //! 4 out of memory.
 //!
@@ -15,6 +16,7 @@
 
 mod answer;
 mod audit;
+mod explanation;
 mod failure;
 mod help;
 mod request;
@@ -40,15 +42,24 @@ use std::{env, io};
 enum Prepared {
     // All, with the exit status.
     Ended(u8),
-    // A source is to be served, over this place and this listener.
-    Serves(Vec<u8>, Place<DirHand<HostRuntime>>, TcpListener),
+    // A source is to be served, over this place and this listener; where a refusal is to be explained, with the name of its file.
+    Serves(Vec<u8>, Place<DirHand<HostRuntime>>, TcpListener, Option<String>),
 }
 
 fn main(rt: HostRuntime) -> ExitCode {
     let ended = match prepare(&rt) {
         Ok(Prepared::Ended(status)) => Ok(status),
-        Ok(Prepared::Serves(source, place, listener)) => {
-            serve_objects(&rt, &source, place, &listener, &mut io::writer(&rt))
+        Ok(Prepared::Serves(source, place, listener, explains)) => {
+            let explains = explains.as_deref();
+            serve_objects(
+                &rt,
+                &source,
+                place,
+                &listener,
+                &mut io::writer(&rt),
+                explains,
+                &mut rt.stderr(),
+            )
         }
         Err(failure) => Err(failure),
     };
@@ -63,11 +74,16 @@ fn prepare(rt: &HostRuntime) -> Result<Prepared, Failure> {
     let words: Vec<String> = env::args(rt)?.collect(rt.alloc())?;
     let words: Vec<&str> = words.iter().map(|word| word.as_str()).collect(rt.alloc())?;
     match request_of(rt.alloc(), words.as_slice())? {
-        Request::Serve(path, folder, port, sessions) => {
+        Request::Serve(path, folder, port, sessions, explains) => {
             let source = read_source(rt.alloc(), File::open(rt, path)?)?;
             let listener = TcpListener::bind(rt, (Ipv4Addr::LOCALHOST, port))?;
             let place = place_of(rt, folder, sessions)?;
-            Ok(Prepared::Serves(source, place, listener))
+            let explains = if explains {
+                Some(String::from_str(rt.alloc(), path)?)
+            } else {
+                None
+            };
+            Ok(Prepared::Serves(source, place, listener, explains))
         }
         request => {
             let status = run(rt, request)?;
@@ -76,19 +92,38 @@ fn prepare(rt: &HostRuntime) -> Result<Prepared, Failure> {
     }
 }
 
+// The name of a file, where a refusal is to be explained.
+fn named<'a>(path: &'a str, explains: bool) -> Option<&'a str> {
+    if explains { Some(path) } else { None }
+}
+
 // Does what is asked for, and gives the exit status.
 fn run(rt: &HostRuntime, request: Request<'_>) -> Result<u8, Failure> {
     let mut writer = io::writer(rt);
     match request {
         Request::Paths => answer_lines(rt.alloc(), &mut rt.stdin(), &mut writer),
-        Request::Check(path) => {
+        Request::Check(path, explains) => {
             let file = File::open(rt, path)?;
-            check_source(rt.alloc(), file, &mut writer)
+            check_source(
+                rt.alloc(),
+                file,
+                &mut writer,
+                named(path, explains),
+                &mut rt.stderr(),
+            )
         }
-        Request::Run(path, script) => {
+        Request::Run(path, script, explains) => {
             let source = read_source(rt.alloc(), File::open(rt, path)?)?;
             let mut script = File::open(rt, script)?;
-            answer_script(rt.alloc(), &source, &mut script, &mut writer)
+            let explains = named(path, explains);
+            answer_script(
+                rt.alloc(),
+                &source,
+                &mut script,
+                &mut writer,
+                explains,
+                &mut rt.stderr(),
+            )
         }
         Request::Audit(path, trace) => {
             let source = read_source(rt.alloc(), File::open(rt, path)?)?;
@@ -96,6 +131,6 @@ fn run(rt: &HostRuntime, request: Request<'_>) -> Result<u8, Failure> {
             audit_trace(rt.alloc(), &source, trace, &mut writer)
         }
         // `prepare` has it.
-        Request::Serve(_, _, _, _) => Ok(0),
+        Request::Serve(_, _, _, _, _) => Ok(0),
     }
 }

@@ -2,7 +2,7 @@
 
 use crate::help;
 use clap::builder::ValueParser;
-use clap::{Arg, ArgMatches, Command, Error};
+use clap::{Arg, ArgAction, ArgMatches, Command, Error};
 use std::alloc::{AllocError, Global};
 
 /// What a command line asks for.
@@ -10,14 +10,15 @@ use std::alloc::{AllocError, Global};
 pub enum Request<'a> {
     /// `pathserve paths`.
     Paths,
-    /// `pathserve check FILE`, with the path of the file.
-    Check(&'a str),
-    /// `pathserve run FILE SCRIPT`, with the paths of the two.
-    Run(&'a str, &'a str),
+    /// `pathserve check FILE`, with the path of the file, and whether a refusal is explained.
+    Check(&'a str, bool),
+    /// `pathserve run FILE SCRIPT`, with the paths of the two, and whether a refusal of the source is explained.
+    Run(&'a str, &'a str, bool),
     /// `pathserve audit FILE TRACE`, with the paths of the two.
     Audit(&'a str, &'a str),
-    /// `pathserve serve FILE DIR PORT --sessions N`, with the paths of the two, the port, and how many connections are taken.
-    Serve(&'a str, &'a str, u16, usize),
+    /// `pathserve serve FILE DIR PORT --sessions N`, with the paths of the two, the port, how many connections are taken, and
+    /// whether a refusal of the source is explained.
+    Serve(&'a str, &'a str, u16, usize, bool),
 }
 
 // The number of connections that are taken where the command line names none, and the most.
@@ -25,68 +26,106 @@ const SESSIONS: &str = "16";
 
 const MOST_SESSIONS: u64 = 64;
 
-// The commands of the program.
-fn command<'a>(alloc: Global) -> Result<Command<'a>, AllocError> {
-    let paths = Command::new(alloc, "paths")
+// An argument that has to be there.
+fn required<'a>(alloc: Global, name: &'a str, help: &'a str) -> Arg<'a> {
+    Arg::new(alloc, name).required(true).help(help)
+}
+
+// The flag `--explain`.
+fn explain_flag<'a>(alloc: Global) -> Arg<'a> {
+    Arg::new(alloc, "explain")
+        .long("explain")
+        .action(ArgAction::SetTrue)
+        .help(help::EXPLAIN)
+}
+
+// `pathserve paths`.
+fn paths_command<'a>(alloc: Global) -> Command<'a> {
+    Command::new(alloc, "paths")
         .about(help::PATHS)
-        .after_help(help::PATHS_MORE);
-    let file = Arg::new(alloc, "FILE")
-        .required(true)
-        .help(help::CHECK_FILE);
-    let check = Command::new(alloc, "check")
+        .after_help(help::PATHS_MORE)
+}
+
+// `pathserve check`.
+fn check_command<'a>(alloc: Global) -> Result<Command<'a>, AllocError> {
+    Command::new(alloc, "check")
         .about(help::CHECK)
         .after_help(help::CHECK_MORE)
-        .arg(file)?;
-    let objects = Arg::new(alloc, "FILE").required(true).help(help::RUN_FILE);
-    let script = Arg::new(alloc, "SCRIPT")
-        .required(true)
-        .help(help::RUN_SCRIPT);
-    let run = Command::new(alloc, "run")
+        .arg(required(alloc, "FILE", help::CHECK_FILE))?
+        .arg(explain_flag(alloc))
+}
+
+// `pathserve run`.
+fn run_command<'a>(alloc: Global) -> Result<Command<'a>, AllocError> {
+    Command::new(alloc, "run")
         .about(help::RUN)
         .after_help(help::RUN_MORE)
-        .arg(objects)?
-        .arg(script)?;
-    let objects = Arg::new(alloc, "FILE")
-        .required(true)
-        .help(help::AUDIT_FILE);
-    let trace = Arg::new(alloc, "TRACE")
-        .required(true)
-        .help(help::AUDIT_TRACE);
-    let audit = Command::new(alloc, "audit")
+        .arg(required(alloc, "FILE", help::RUN_FILE))?
+        .arg(required(alloc, "SCRIPT", help::RUN_SCRIPT))?
+        .arg(explain_flag(alloc))
+}
+
+// `pathserve audit`.
+fn audit_command<'a>(alloc: Global) -> Result<Command<'a>, AllocError> {
+    Command::new(alloc, "audit")
         .about(help::AUDIT)
         .after_help(help::AUDIT_MORE)
-        .arg(objects)?
-        .arg(trace)?;
-    let objects = Arg::new(alloc, "FILE")
-        .required(true)
-        .help(help::SERVE_FILE);
-    let folder = Arg::new(alloc, "DIR").required(true).help(help::SERVE_DIR);
-    let port = Arg::new(alloc, "PORT")
-        .required(true)
-        .value_parser(ValueParser::unsigned(1, 65_535))
-        .help(help::SERVE_PORT);
+        .arg(required(alloc, "FILE", help::AUDIT_FILE))?
+        .arg(required(alloc, "TRACE", help::AUDIT_TRACE))
+}
+
+// `pathserve serve`.
+fn serve_command<'a>(alloc: Global) -> Result<Command<'a>, AllocError> {
+    let port = required(alloc, "PORT", help::SERVE_PORT).value_parser(ValueParser::unsigned(
+        1, 65_535,
+    ));
     let sessions = Arg::new(alloc, "sessions")
         .long("sessions")
         .value_name("N")
         .default_value(SESSIONS)
         .value_parser(ValueParser::unsigned(1, MOST_SESSIONS))
         .help(help::SERVE_SESSIONS);
-    let serve = Command::new(alloc, "serve")
+    Command::new(alloc, "serve")
         .about(help::SERVE)
         .after_help(help::SERVE_MORE)
-        .arg(objects)?
-        .arg(folder)?
+        .arg(required(alloc, "FILE", help::SERVE_FILE))?
+        .arg(required(alloc, "DIR", help::SERVE_DIR))?
         .arg(port)?
-        .arg(sessions)?;
+        .arg(sessions)?
+        .arg(explain_flag(alloc))
+}
+
+// The commands of the program.
+fn command<'a>(alloc: Global) -> Result<Command<'a>, AllocError> {
     Command::new(alloc, "pathserve")
         .about(help::PROGRAM)
         .after_help(help::PROGRAM_MORE)
         .subcommand_required(true)
-        .subcommand(paths)?
-        .subcommand(check)?
-        .subcommand(run)?
-        .subcommand(audit)?
-        .subcommand(serve)
+        .subcommand(paths_command(alloc))?
+        .subcommand(check_command(alloc)?)?
+        .subcommand(run_command(alloc)?)?
+        .subcommand(audit_command(alloc)?)?
+        .subcommand(serve_command(alloc)?)
+}
+
+// What the words of `check` ask for.
+fn check_request<'a>(check: &ArgMatches<'a>) -> Option<Request<'a>> {
+    let file = check.get_str("FILE")?;
+    Some(Request::Check(file, check.get_flag("explain")))
+}
+
+// What the words of `run` ask for.
+fn run_request<'a>(run: &ArgMatches<'a>) -> Option<Request<'a>> {
+    let file = run.get_str("FILE")?;
+    let script = run.get_str("SCRIPT")?;
+    Some(Request::Run(file, script, run.get_flag("explain")))
+}
+
+// What the words of `audit` ask for.
+fn audit_request<'a>(audit: &ArgMatches<'a>) -> Option<Request<'a>> {
+    let file = audit.get_str("FILE")?;
+    let trace = audit.get_str("TRACE")?;
+    Some(Request::Audit(file, trace))
 }
 
 // What the words of `serve` ask for.
@@ -95,7 +134,8 @@ fn serve_request<'a>(serve: &ArgMatches<'a>) -> Option<Request<'a>> {
     let folder = serve.get_str("DIR")?;
     let port: u16 = serve.get_one("PORT")?;
     let sessions: u8 = serve.get_one("sessions")?;
-    Some(Request::Serve(file, folder, port, usize::from(sessions)))
+    let explains = serve.get_flag("explain");
+    Some(Request::Serve(file, folder, port, usize::from(sessions), explains))
 }
 
 /// What these words, the first of which names the program, ask for.
@@ -103,27 +143,18 @@ fn serve_request<'a>(serve: &ArgMatches<'a>) -> Option<Request<'a>> {
 /// An error is a mistake in them or a request for help, with the text to print, or a want of memory.
 pub fn request_of<'a>(alloc: Global, words: &'a [&'a str]) -> Result<Request<'a>, Error> {
     let matches = command(alloc)?.try_get_matches_from(words)?;
-    // `check` has a file, `run` a file and a script, `audit` a file and a trace, `serve` a file, a folder and a port, and none can be without
+    // each has the arguments that it requires, so none is `Paths` for want of one
     if let Some(run) = matches.subcommand_matches("run") {
-        return Ok(match (run.get_str("FILE"), run.get_str("SCRIPT")) {
-            (Some(file), Some(script)) => Request::Run(file, script),
-            _ => Request::Paths,
-        });
+        return Ok(run_request(run).unwrap_or(Request::Paths));
     }
     if let Some(audit) = matches.subcommand_matches("audit") {
-        return Ok(match (audit.get_str("FILE"), audit.get_str("TRACE")) {
-            (Some(file), Some(trace)) => Request::Audit(file, trace),
-            _ => Request::Paths,
-        });
+        return Ok(audit_request(audit).unwrap_or(Request::Paths));
     }
     if let Some(serve) = matches.subcommand_matches("serve") {
         return Ok(serve_request(serve).unwrap_or(Request::Paths));
     }
     match matches.subcommand_matches("check") {
-        Some(check) => match check.get_str("FILE") {
-            Some(file) => Ok(Request::Check(file)),
-            None => Ok(Request::Paths),
-        },
+        Some(check) => Ok(check_request(check).unwrap_or(Request::Paths)),
         None => Ok(Request::Paths),
     }
 }

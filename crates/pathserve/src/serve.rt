@@ -1,6 +1,7 @@
 //! `pathserve serve` over any runtime, hands and writer.
 
 use crate::answer::{ACCEPTED, REFUSED};
+use crate::explanation::explained;
 use crate::failure::Failure;
 use serve_core::folder::{number_above, value_numbers};
 use serve_core::serve::{Place, ServeEnd, serve_on};
@@ -59,20 +60,26 @@ fn status_of_serve(end: ServeEnd) -> u8 {
 /// and gives the exit status: 0 where each object was served, closed and saved, 1 where a line says what was refused or
 /// damaged.
 ///
+/// Where the name of a file is given, `error` gets why its source is refused.
+///
 /// A failure is `ReadFault`, `WriteFault` or `Memory`, the first that was met. What did not hang on it was still done.
 pub fn serve_objects<
     R: Files + AllocGlobal + Threads + Wait + Clone + Drop + Sync,
     H: Hand + Drop + Send,
     W: Write,
+    E: Write,
 >(
     rt: &R,
     source: &[u8],
     place: Place<H>,
     listener: &TcpListener,
     writer: &mut W,
+    explains: Option<&str>,
+    error: &mut E,
 ) -> Result<u8, Failure> {
-    match serve_on(rt, rt.alloc(), source, place, listener, writer) {
+    let ended = match serve_on(rt, rt.alloc(), source, place, listener, writer) {
         Ok(end) => Ok(status_of_serve(end)),
         Err(fault) => Err(Failure::from(fault)),
-    }
+    };
+    explained(rt.alloc(), ended, explains, source, None, error)
 }

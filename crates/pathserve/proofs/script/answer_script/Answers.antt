@@ -1,4 +1,6 @@
-use Rattle.std.proofs.Common.{sym, subst}
+use Rattle.std.proofs.Common.{◌≡◌, ℕ, take, sym, subst}
+use Rattle.std.specs.Prelude.{IfOk, IfErr}
+use Rattle.std.specs.Io.KnownBytes.{Appends}
 use Rattle.pathserve.specs.Status.{IsFault}
 use Rattle.pathserve.proofs.Scripts.{is_fault, none_written, ran_ended, ran_failed, told_ended, told_failed}
 use Rattle.pathserve.proofs.script.answer_script.Goals as goal
@@ -21,15 +23,17 @@ returns-in-Ok-Ready-clause-cut g c =
 
 pub returns-in-Ok-Told-clause-ended : goal.returns-in-Ok-Told-clause-ended
 returns-in-Ok-Told-clause-ended g c =
-    told_ended c.tell.result (g.R.Read.remaining c.args.reader.now) (g.R.Read.remaining c.read_head.new.reader) (g.W.Write.contents c.args.writer.now) (g.W.Write.contents c.tell.new.writer)
+    told_ended c.explained_script.result (g.R.Read.remaining c.args.reader.now) (g.R.Read.remaining c.read_head.new.reader) (g.W.Write.contents c.args.writer.now) (g.W.Write.contents c.tell-ended.new.writer)
     c.args.source.now c.in-Ok.head.items c.deref.result.now c.in-Ok-Told.line.items c.deref-in-Ok-Told.result.now c.deref.ensures.value c.deref-in-Ok-Told.ensures.value
-    c.in-Ok.ensures.taken c.in-Ok.ensures.enough (rw c.in-Ok-Told.field-0-is at c.in-Ok-Told.ensures) c.tell.ensures.ended
+    c.in-Ok.ensures.taken c.in-Ok.ensures.enough (rw c.in-Ok-Told.field-0-is at c.in-Ok-Told.ensures)
+    (subst (λ r. IfOk r (λ status. Appends (g.W.Write.contents c.args.writer.now) (g.W.Write.contents c.tell-ended.new.writer) c.deref-in-Ok-Told.result.now × (status ≡ 1))) (sym c.explained_script.ensures.same) c.tell-ended.ensures.ended)
 
 pub returns-in-Ok-Told-clause-cut : goal.returns-in-Ok-Told-clause-cut
 returns-in-Ok-Told-clause-cut g c =
-    told_failed c.tell.result (g.R.Read.remaining c.args.reader.now) (g.R.Read.remaining c.read_head.new.reader) (g.W.Write.contents c.args.writer.now) (g.W.Write.contents c.tell.new.writer)
+    told_failed c.explained_script.result (g.R.Read.remaining c.args.reader.now) (g.R.Read.remaining c.read_head.new.reader) (g.W.Write.contents c.args.writer.now) (g.W.Write.contents c.tell-ended.new.writer)
     c.args.source.now c.in-Ok.head.items c.deref.result.now c.in-Ok-Told.line.items c.deref-in-Ok-Told.result.now c.deref.ensures.value c.deref-in-Ok-Told.ensures.value
-    c.in-Ok.ensures.taken c.in-Ok.ensures.enough (rw c.in-Ok-Told.field-0-is at c.in-Ok-Told.ensures) c.tell.ensures.cut
+    c.in-Ok.ensures.taken c.in-Ok.ensures.enough (rw c.in-Ok-Told.field-0-is at c.in-Ok-Told.ensures)
+    (subst (λ r. IfErr r (λ failure. IsFault failure × ((count : ℕ) × Appends (g.W.Write.contents c.args.writer.now) (g.W.Write.contents c.tell-ended.new.writer) (take count c.deref-in-Ok-Told.result.now)))) (sym c.explained_script.ensures.same) c.tell-ended.ensures.cut)
 
 pub returns-clause-cut : goal.returns-clause-cut
 returns-clause-cut g c = (tt, none_written (g.R.Read.remaining c.args.reader.now) (g.W.Write.contents c.args.writer.now) c.args.source.now)
