@@ -151,8 +151,12 @@ fn quit_waits_for_the_call_before_it(rt: HostRuntime) {
 }
 
 // A session on an empty buffer writes this, and ends by itself.
-fn tells(rt: &HostRuntime, lines: &'static [(u64, &'static [u8])], told: &[u8]) {
-    let alloc = rt.alloc();
+fn tells<R: Abort + Threads + Wait + Sync>(
+    rt: &R,
+    alloc: Global,
+    lines: &'static [(u64, &'static [u8])],
+    told: &[u8],
+) {
     let (all, hand) = offices(rt, alloc, BUFFER, EMPTY);
     let count = Arc::new(alloc, AtomicU64::new(0)).expect(rt, "memory");
     let bytes = written(rt, alloc, &all, hand, lines, &count);
@@ -165,6 +169,8 @@ const HANGS_UP: &[(u64, &[u8])] = &[(0, b"open buffer\ncall remove\nquit\n")];
 
 #[test]
 fn the_input_ends_while_a_call_waits(rt: HostRuntime) {
-    tells(&rt, ENDS, b"opened buffer\naccepted 1\ncancelled 1\nno Gone\n");
-    tells(&rt, HANGS_UP, b"opened buffer\naccepted 1\ncancelled 1\nbye\n");
+    let alloc = rt.alloc();
+    tells(&rt, alloc, ENDS, b"opened buffer\naccepted 1\ncancelled 1\nno Gone\n");
+    let bye = b"opened buffer\naccepted 1\ncancelled 1\nbye\n";
+    tells(&rt, alloc, HANGS_UP, bye);
 }
