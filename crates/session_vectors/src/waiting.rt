@@ -170,7 +170,12 @@ const HANGS_UP: &[(u64, &[u8])] = &[(0, b"open buffer\ncall remove\nquit\n")];
 #[test]
 fn the_input_ends_while_a_call_waits(rt: HostRuntime) {
     let alloc = rt.alloc();
-    tells(&rt, alloc, ENDS, b"opened buffer\naccepted 1\ncancelled 1\nno Gone\n");
+    tells(
+        &rt,
+        alloc,
+        ENDS,
+        b"opened buffer\naccepted 1\ncancelled 1\nno Gone\n",
+    );
     let bye = b"opened buffer\naccepted 1\ncancelled 1\nbye\n";
     tells(&rt, alloc, HANGS_UP, bye);
 }
