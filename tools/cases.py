@@ -343,13 +343,13 @@ def fronts(case):
         yield dataclasses.replace(case, title=f"{case.title}, front of {cut}", inputs={name: whole[:cut]})
 
 
-def cases_of(path):
-    """The cases of a file."""
+def cases_of(path, reader=Reader):
+    """The cases of a file, as this reader makes them of a block."""
     file = str(path.relative_to(TOP))
     header, found = blocks(path)
     for block in found:
         for one in with_each(block):
-            yield from Reader(file, header, one).cases()
+            yield from reader(file, header, one).cases()
 
 
 def files(chosen, served=False):

@@ -2,7 +2,7 @@
 import dataclasses
 import re
 
-from cases import TOP, BadCase, Case, Reader, blocks, lines_of, read_text, with_each
+from cases import BadCase, Case, Reader, cases_of, lines_of, read_text
 
 # What a step says, by its form: who, and what.
 FORMS = {
@@ -152,11 +152,7 @@ class StoryReader(Reader):
 
 def stories_of(path):
     """The cases of a file."""
-    file = str(path.relative_to(TOP))
-    header, found = blocks(path)
-    for block in found:
-        for one in with_each(block):
-            yield from StoryReader(file, header, one).cases()
+    return cases_of(path, StoryReader)
 
 
 def value_number(name):
