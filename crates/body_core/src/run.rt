@@ -160,16 +160,18 @@ impl Run {
         ensures back { IfErr result (λ run. run ≡ self) }
         ensures begun { IfErr result (λ run. run_ending run ≡ None) }
     {
-        let (reply, news) = match &self.phase {
-            Phase::Ended(reply, news) => (*reply, *news),
+        match &self.phase {
+            Phase::Ended(_, _) => {}
             _ => return Err(self),
-        };
+        }
         let Run {
             alloc: _,
             task,
             phase,
         } = self;
-        let_go(phase);
+        let Phase::Ended(reply, news) = phase else {
+            unreachable!()
+        };
         let Task {
             number,
             operation,

@@ -9,12 +9,16 @@ use itoa::Buffer;
 use std::alloc::AllocError;
 use std::fs;
 use std::fs::{File, OpenFile};
-use std::io::{Read, Seek, SeekFrom, Write};
+use std::io::Write;
+use std::os::unix::fs::FileExt;
 use std::rt::Files;
 use std::sync::Arc;
 
 // The most bytes that a path has beyond its folder: a slash, 20 digits and the ending.
 const NAME_BYTES: usize = 25;
+
+// How many files that a hand reads no more stay open until it retires one.
+const MOST_IDLE: usize = 2;
 
 // A file that is being written.
 #[derive(Drop)]
@@ -25,11 +29,11 @@ struct Writing<F> {
     file: F,
 }
 
-// A file that is being read.
+// A file that can be read.
 #[derive(Drop)]
 struct Reading<F> {
     number: u64,
-    // How many bytes it had when it was opened.
+    // How many bytes it had when it was opened or sealed.
     len: u64,
     file: F,
 }
@@ -37,8 +41,9 @@ struct Reading<F> {
 /// A hand that keeps its files in a folder, the one of number N as `FOLDER/N.val`.
 ///
 /// Nothing is known of what a folder holds, so no clause says that what was written is read. A file stays
-/// open while it is written, and the one that was read last stays open for the next read. Only `create`
-/// takes memory, where more files are being written at a time than ever before.
+/// open while it is written, and the one that was read or sealed last stays open for the next read. The one or two
+/// before it are closed with the next `retire`, since that may cost more than a read where it is the last to let
+/// a removed file go. Only `create` takes memory, where more files are being written at a time than ever before.
 #[derive(Drop)]
 pub struct DirHand<R: Files + AllocGlobal> {
     rt: R,
@@ -47,7 +52,10 @@ pub struct DirHand<R: Files + AllocGlobal> {
     path: String,
     numbers: Arc<Numbers>,
     writing: Vec<Writing<R::File>>,
+    // The file that was read or sealed last.
     reading: Option<Reading<R::File>>,
+    // Those before it that are not yet closed, at most `MOST_IDLE`.
+    idle: Vec<Reading<R::File>>,
     failures: u64,
 }
 
@@ -59,6 +67,7 @@ impl<R: Files + AllocGlobal + Drop> DirHand<R> {
         let alloc = rt.alloc();
         let path = String::with_capacity(alloc, folder.len().saturating_add(NAME_BYTES))?;
         let folder = String::from_str(alloc, folder)?;
+        let idle = Vec::with_capacity(alloc, MOST_IDLE)?;
         Ok(DirHand {
             rt,
             folder,
@@ -66,12 +75,16 @@ impl<R: Files + AllocGlobal + Drop> DirHand<R> {
             numbers,
             writing: Vec::new(alloc),
             reading: None,
+            idle,
             failures: 0,
         })
     }
 }
 
-impl<R: Files + AllocGlobal> DirHand<R> {
+impl<R: Files + AllocGlobal> DirHand<R>
+where
+    R::File: FileExt,
+{
     // Puts the path of a file into the buffer.
     fn set_path(&mut self, number: u64) -> Result<(), HandFault>
         ensures { self.new.failures ≡ self.old.failures }
@@ -132,13 +145,34 @@ impl<R: Files + AllocGlobal> DirHand<R> {
         Ok(())
     }
 
-    // Closes a file whose appends were all done, and answers its length.
+    // Reads this file next, in place of the one that was read so far.
+    fn turn_to(&mut self, reading: Reading<R::File>)
+        ensures { self.new.failures ≡ self.old.failures }
+    {
+        let Some(before) = self.reading.replace(reading) else {
+            return;
+        };
+        if self.idle.len() < MOST_IDLE {
+            let _kept = self.idle.push(before);
+        }
+    }
+
+    // Ends the writing of a file whose appends were all done, and answers its length. It stays open, to be read.
     fn close(&mut self, number: u64) -> Option<usize>
         ensures { self.new.failures ≡ self.old.failures }
     {
         let place = self.writing.iter().position(|w| w.number == number)?;
         let len = self.writing[place].len?;
-        let _ = self.writing.swap_remove(place);
+        let Writing {
+            number,
+            len: _,
+            file,
+        } = self.writing.swap_remove(place);
+        self.turn_to(Reading {
+            number,
+            len: len as u64,
+            file,
+        });
         Some(len)
     }
 
@@ -152,40 +186,41 @@ impl<R: Files + AllocGlobal> DirHand<R> {
         }
     }
 
-    // The file that was read last where it is this one, and else this one, opened.
-    fn opened(&mut self, number: u64) -> Result<Reading<R::File>, HandFault>
+    // Opens a file to read it next, where it is not the one that was read or sealed last.
+    fn open(&mut self, number: u64) -> Result<(), HandFault>
         ensures { self.new.failures ≡ self.old.failures }
     {
-        if let Some(reading) = self.reading.take() {
+        if let Some(reading) = &self.reading {
             if reading.number == number {
-                return Ok(reading);
+                return Ok(());
             }
         }
         self.set_path(number)?;
         let file = File::open(&self.rt, self.path.as_str()).map_err(fault_of)?;
         let len = file.metadata().map_err(fault_of)?.len();
-        Ok(Reading { number, len, file })
-    }
-
-    // Reads at a place of a file. The file stays open where that succeeds.
-    fn read_at(&mut self, stamp: &Stamp, at: usize, into: &mut [u8]) -> Result<(), HandFault>
-        ensures { self.new.failures ≡ self.old.failures }
-    {
-        let mut reading = self.opened(stamp.number)?;
-        if reading.len < stamp.len as u64 {
-            return Err(HandFault::Device);
-        }
-        let start = SeekFrom::Start(at as u64);
-        reading.file.seek(start).map_err(fault_of)?;
-        reading.file.read_exact(into).map_err(fault_of)?;
-        self.reading = Some(reading);
+        self.turn_to(Reading { number, len, file });
         Ok(())
     }
 
-    // Closes a file where it was the one that was read last, and removes it.
+    // Reads at a place of a file.
+    fn read_at(&mut self, stamp: &Stamp, at: usize, into: &mut [u8]) -> Result<(), HandFault>
+        ensures { self.new.failures ≡ self.old.failures }
+    {
+        self.open(stamp.number)?;
+        let Some(reading) = &self.reading else {
+            return Err(HandFault::Device);
+        };
+        if reading.len < stamp.len as u64 {
+            return Err(HandFault::Device);
+        }
+        reading.file.read_exact_at(into, at as u64).map_err(fault_of)
+    }
+
+    // Closes the files that are read no more, this one among them, and removes it.
     fn remove_sealed(&mut self, number: u64) -> Result<(), HandFault>
         ensures { self.new.failures ≡ self.old.failures }
     {
+        self.idle.clear();
         if let Some(reading) = self.reading.take() {
             if reading.number != number {
                 self.reading = Some(reading);
@@ -203,7 +238,10 @@ impl<R: Files + AllocGlobal> DirHand<R> {
 /// - `discard` removes the file, but leaves it where the system refuses that.
 /// - `read` fails by `Device` where the file is shorter than its stamp says.
 /// - `retire` removes the file; after a failure it is there or not.
-impl<R: Files + AllocGlobal> Hand for DirHand<R> {
+impl<R: Files + AllocGlobal> Hand for DirHand<R>
+where
+    R::File: FileExt,
+{
     // No clause can say what a folder holds, so no assignment agrees.
     ghost agrees = { λ h a. ⊥ };
 

@@ -12,17 +12,17 @@ use Rattle.body_core.proofs.run.Run.outcome.Goals as goal
 pub invariant_of-result : goal.invariant_of-result
 invariant_of-result c =
     let all = (body_of (arc_value c.args.self.task.operation)).statements in
-    record { inside = subst (λ phase. (WritesInOrder all 0 (parts_at (place_in phase)) → ⊥) → ⊥) c.in-Ended.is c.args.self.inside }
+    record { inside = subst (λ phase. (WritesInOrder all 0 (parts_at (place_in phase)) → ⊥) → ⊥) c.in-Ended-phase.is c.args.self.inside }
 
 pub returns-clause-rising : goal.returns-clause-rising
 returns-clause-rising c =
     let all = (body_of (arc_value c.args.self.task.operation)).statements in
-    in_order all (parts_of c.in-Ended.news) (subst (λ phase. (WritesInOrder all 0 (parts_at (place_in phase)) → ⊥) → ⊥) c.in-Ended.is c.args.self.inside)
+    in_order all (parts_of c.in-Ended-phase.news) (subst (λ phase. (WritesInOrder all 0 (parts_at (place_in phase)) → ⊥) → ⊥) c.in-Ended-phase.is c.args.self.inside)
 
 pub returns-clause-writes : goal.returns-clause-writes
 returns-clause-writes c = λ p has.
     let all = (body_of (arc_value c.args.self.task.operation)).statements in
-    has_written all 0 c.in-Ended.news p (in_order all (parts_of c.in-Ended.news) (subst (λ phase. (WritesInOrder all 0 (parts_at (place_in phase)) → ⊥) → ⊥) c.in-Ended.is c.args.self.inside)) has
+    has_written all 0 c.in-Ended-phase.news p (in_order all (parts_of c.in-Ended-phase.news) (subst (λ phase. (WritesInOrder all 0 (parts_at (place_in phase)) → ⊥) → ⊥) c.in-Ended-phase.is c.args.self.inside)) has
 
 pub returns-clause-told : goal.returns-clause-told
-returns-clause-told c = λ a so whole. pins_told a (task_call c.args.self.task) c.in-Ended.reply c.in-Ended.news (subst (λ phase. FoundBy a (task_call c.args.self.task) phase) c.in-Ended.is so.found)
+returns-clause-told c = λ a so whole. pins_told a (task_call c.args.self.task) c.in-Ended-phase.reply c.in-Ended-phase.news (subst (λ phase. FoundBy a (task_call c.args.self.task) phase) c.in-Ended-phase.is so.found)
