@@ -2,6 +2,7 @@ pub mod Bits
 pub mod Blocks
 pub mod Changes
 pub mod DecodedParts
+pub mod Ended
 pub mod Fronts
 pub mod HeldReads
 pub mod Histories

@@ -1,6 +1,7 @@
 //! Runs of calls.
 
-ghost use Rattle.std.specs.Prelude.{◌≡◌, ◌≢◌, ◌+◌, ◌<◌, ◌≤◌, ◌⊎◌, ◌↔◌, [], ℕ, List, Some, None, IfOk, IfErr};
+ghost use Rattle.std.specs.Prelude.{◌≡◌, ◌≢◌, ◌+◌, ◌<◌, ◌≤◌, ◌⊎◌, ◌↔◌, [], ℕ, List, Some, None, IfOk, IfErr, IsTrue};
+ghost use Rattle.body_core.specs.declared.reply.Reply.{Reply as AReply};
 ghost use Rattle.std.specs.Arc.{arc_value};
 ghost use Rattle.decl_core.specs.Bodies.{body_of};
 ghost use Rattle.decl_core.specs.Touched.{Reads, Writes};
@@ -56,6 +57,41 @@ fn first_phase(alloc: Global, task: &Task) -> Phase
             got: Vec::new(alloc),
         }),
         None => conclude(alloc, task, &[]),
+    }
+}
+
+// Whether a run has ended that stands here.
+fn has_ended(phase: &Phase) -> bool
+    ensures { IsTrue result ↔ (ending_of phase.now ≢ None) }
+{
+    match phase {
+        Phase::Reading(_) => false,
+        Phase::Creating(_) => false,
+        Phase::Appending(_, _, _) => false,
+        Phase::Sealing(_, _) => false,
+        Phase::Ended(_, _) => true,
+    }
+}
+
+// The reply of a run that has ended here. It is written by a call of its own, since inlined it becomes thousands of instructions.
+#[inline(never)]
+fn reply_of(phase: &Phase) -> Reply
+    ensures { (reply : AReply) → ending_of phase.now ≡ Some reply → result ≡ reply }
+{
+    match phase {
+        Phase::Ended(reply, _) => *reply,
+        _ => Reply::Failed(Failure::Memory),
+    }
+}
+
+// The files that a run has sealed that has ended here. It is written by a call of its own for the same reason.
+#[inline(never)]
+fn news_of(phase: &Phase) -> NewPins
+    ensures { ending_of phase.now ≢ None → result ≡ sealed_in phase.now }
+{
+    match phase {
+        Phase::Ended(_, news) => *news,
+        _ => NewPins::none(),
     }
 }
 
@@ -160,18 +196,17 @@ impl Run {
         ensures back { IfErr result (λ run. run ≡ self) }
         ensures begun { IfErr result (λ run. run_ending run ≡ None) }
     {
-        match &self.phase {
-            Phase::Ended(_, _) => {}
-            _ => return Err(self),
+        if !has_ended(&self.phase) {
+            return Err(self);
         }
+        let reply = reply_of(&self.phase);
+        let news = news_of(&self.phase);
         let Run {
             alloc: _,
             task,
             phase,
         } = self;
-        let Phase::Ended(reply, news) = phase else {
-            unreachable!()
-        };
+        let_go(phase);
         let Task {
             number,
             operation,

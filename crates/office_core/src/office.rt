@@ -2,6 +2,7 @@
 
 ghost use Rattle.std.specs.Prelude.{◌≡◌, ◌<◌, ◌≤◌, ◌+◌, IfOk, length, vec_capacity};
 ghost use Rattle.office_core.specs.Rooms.{RoomState};
+ghost use Rattle.office_core.specs.declared.seat.Submitted.{Submitted as Ask};
 ghost use Rattle.office_core.specs.Submissions.{Asks, IsStartOf, Tells};
 ghost use Rattle.office_core.specs.Seats.{Receives};
 ghost use Rattle.office_core.specs.Closing.{Closes};
@@ -14,12 +15,20 @@ use body_core::outcome::Outcome;
 use desk_core::answer::{Cancelled, SubmitFault};
 use desk_core::desk::Desk;
 use std::alloc::{AllocError, Global};
+use std::hint::spin_loop;
 use std::sync::{Condvar, Mutex, Wait};
 use std::time::Duration;
 use value_core::datum::Datum;
 
 /// How many places there are at which waiters sleep: session `n` sleeps at `n % BEDS`.
 const BEDS: usize = 64;
+
+/// How often a wait of limited length looks again.
+const MOST_LOOKS: u32 = 16;
+
+/// How often a waiter looks for news before it sleeps, where its call is the next one: that takes some microseconds, and a call that
+/// starts meanwhile need not wait until a thread has awoken.
+const SPINS: u32 = 200;
 
 /// A room that threads share.
 #[derive(Drop)]
@@ -56,6 +65,25 @@ fn started(desk: &Desk, before: usize) -> u64 {
         }
     }
     beds
+}
+
+// The bed of the session whose call has waited longest, as a bit. It is told when it is next, so that it is awake when it starts.
+fn next_bed(desk: &Desk) -> u64 {
+    match desk.first_waiting() {
+        Some(number) => 1u64 << bed_for(desk, number),
+        None => 0,
+    }
+}
+
+// Looks for news of a bed for some microseconds, and tells whether there were some.
+fn is_told(bed: &Condvar, seen: u64) -> bool {
+    for _ in 0..SPINS {
+        if bed.notifications() != seen {
+            return true;
+        }
+        spin_loop();
+    }
+    false
 }
 
 // Adds so many beds, for which there is room.
@@ -115,6 +143,27 @@ impl Office {
         self.room.lock(rt).submit(seat, op, args)
     }
 
+    /// Submits a call of this seat's session, and looks under the same lock whether it has started. It answers the number of the
+    /// call, and what the look tells. A fault is one of `submit`.
+    pub fn submit_and_try<R: Wait>(
+        &self,
+        rt: &R,
+        seat: &mut Seat,
+        op: &str,
+        args: &[Datum],
+    ) -> Result<(u32, Tried), SubmitFault>
+        ensures tells { IfOk result (λ r. (s : Ask) × Asks op.now args.now s × (r.0 ≡ s.number) × Tells s r.1) }
+        ensures seat { seat.new ≡ seat.old }
+    {
+        let mut room = self.room.lock(rt);
+        let submitted = match room.submit(seat, op, args) {
+            Ok(submitted) => submitted,
+            Err(fault) => return Err(fault),
+        };
+        let number = submitted.number();
+        Ok((number, room.try_start(submitted)))
+    }
+
     /// Looks whether a submitted call has started or was cancelled, as [`Room::try_start`]. It does not wait for that.
     pub fn try_start<R: Wait>(&self, rt: &R, submitted: Submitted) -> Tried
         ensures { Tells submitted result }
@@ -122,19 +171,30 @@ impl Office {
         self.room.lock(rt).try_start(submitted)
     }
 
-    /// The same, but where the call waits it first waits for it, at most so long.
+    /// The same, but where the call waits it first waits for it. Each time that its session is told of something, it looks again,
+    /// but not for ever, and no wait between two looks is longer than `most`.
     pub fn try_start_within<R: Wait>(&self, rt: &R, submitted: Submitted, most: Duration) -> Tried
         ensures { Tells submitted result }
     {
-        let mut room = self.room.lock(rt);
-        let waiting = match room.try_start(submitted) {
-            Tried::Waiting(back) => back,
-            other => return other,
-        };
-        let bed = &self.beds[bed_for(room.desk(), waiting.number)];
-        let seen = bed.notifications();
-        drop(room);
-        bed.sleep(rt, seen, most);
+        let mut waiting = submitted;
+        for _ in 0..MOST_LOOKS {
+            let mut room = self.room.lock(rt);
+            waiting = match room.try_start(waiting) {
+                Tried::Waiting(back) => back,
+                other => return other,
+            };
+            let is_next = room.desk().first_waiting() == Some(waiting.number);
+            let bed = &self.beds[bed_for(room.desk(), waiting.number)];
+            let seen = bed.notifications();
+            drop(room);
+            if is_next && is_told(bed, seen) {
+                continue;
+            }
+            bed.sleep(rt, seen, most);
+            if bed.notifications() == seen {
+                break;
+            }
+        }
         self.room.lock(rt).try_start(waiting)
     }
 
@@ -172,8 +232,12 @@ impl Office {
         let before = room.desk().trace().len();
         let answer = room.complete(seat, outcome);
         let beds = started(room.desk(), before);
+        let next = next_bed(room.desk());
         drop(room);
-        self.wake(beds);
+        if beds != 0 {
+            self.wake(beds);
+            self.wake(next & !beds);
+        }
         answer
     }
 

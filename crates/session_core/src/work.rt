@@ -107,16 +107,21 @@ fn awaited_beside<R: Wait, I: Read + Drop>(
     unreachable!()
 }
 
-// The same, for a submission just made. Before a call is waited for that does not start soon, the lines that are held back are sent.
+// The same, for what a look at a submission just made told. Before a call is waited for that does not start soon, the lines that are
+// held back are sent.
 fn started<R: Wait, I: Read + Drop, W: Write + Drop, J: Start>(
     rt: &R,
     office: &Office,
     output: &Mutex<Output<W, J>>,
     seat: &Seat,
     reading: &mut Reading<'_, I>,
-    submitted: Submitted,
+    tried: Tried,
 ) -> Option<Ticket> {
-    match office.try_start_within(rt, submitted, Duration::from_millis(BRIEF)) {
+    let tried = match tried {
+        Tried::Waiting(back) => { office.try_start_within(rt, back, Duration::from_millis(BRIEF)) }
+        other => other,
+    };
+    match tried {
         Tried::Ticket(ticket) => Some(ticket),
         Tried::Cancelled => None,
         Tried::Waiting(back) => {
@@ -219,6 +224,25 @@ fn put_off<H: Hand>(hand: &mut H, free: &[Stamp], left: &mut Vec<Stamp>)
     }
 }
 
+// The receipt without its files, which are put off, and without the room for them.
+fn lightened<H: Hand>(
+    alloc: Global,
+    hand: &mut H,
+    receipt: Receipt,
+    left: &mut Vec<Stamp>,
+) -> Receipt
+    ensures kept { Keeps H.agrees hand.old hand.new }
+    ensures same { result.noted ≡ receipt.noted }
+{
+    let Receipt { place, noted, free } = receipt;
+    put_off(hand, &free, left);
+    Receipt {
+        place,
+        noted,
+        free: Vec::new(alloc),
+    }
+}
+
 // Holds a line back.
 fn say<R: Wait, W: Write + Drop, J: Start>(rt: &R, output: &Mutex<Output<W, J>>, line: Line) {
     let _said = output.lock(rt).say(line);
@@ -239,16 +263,15 @@ fn call_on<R: Wait, I: Read + Drop, W: Write + Drop, H: Hand, J: Start>(
     ensures kept { Keeps H.agrees hand.old hand.new }
     ensures told { IfSome result (λ r. (a : Assignment) → H.agrees hand.new a → IsTrueReceipt a r) }
 {
-    let submitted = match office.submit(rt, seat, op, args) {
-        Ok(submitted) => submitted,
+    let (number, tried) = match office.submit_and_try(rt, seat, op, args) {
+        Ok(answer) => answer,
         Err(fault) => {
             say(rt, output, Line::Unsubmitted(fault));
             return None;
         }
     };
-    let number = submitted.number();
     say(rt, output, Line::Accepted(number));
-    let Some(ticket) = started(rt, office, output, seat, reading, submitted) else {
+    let Some(ticket) = started(rt, office, output, seat, reading, tried) else {
         say(rt, output, Line::Withdrawn(number));
         return None;
     };
@@ -303,7 +326,7 @@ fn serve_at<R: Wait, I: Read + Drop, W: Write + Drop, H: Hand + Drop, J: Start>(
     ) else {
         return;
     };
-    put_off(&mut worked.hand, &receipt.free, &mut worked.free);
+    let receipt = lightened(alloc, &mut worked.hand, receipt, &mut worked.free);
     keep(&mut worked.receipts, receipt);
 }
 

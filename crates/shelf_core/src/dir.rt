@@ -213,7 +213,10 @@ where
         if reading.len < stamp.len as u64 {
             return Err(HandFault::Device);
         }
-        reading.file.read_exact_at(into, at as u64).map_err(fault_of)
+        reading
+            .file
+            .read_exact_at(into, at as u64)
+            .map_err(fault_of)
     }
 
     // Closes the files that are read no more, this one among them, and removes it.
