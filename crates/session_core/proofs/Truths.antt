@@ -14,3 +14,7 @@ pub more_true : {H : Type 0} (agrees : H → Assignment → Type 0) (old middle 
     → ((a : Assignment) → agrees middle a → IsTrueReceipt a r) → AreTrue agrees old rs → AreTrue agrees new more
 more_true agrees old middle new rs between more r same grown keeps later is are a h =
     subst (Every (IsTrueReceipt a)) (sym grown) (Every-snoc (IsTrueReceipt a) between r (still_true agrees old middle rs between same keeps are a (later a h)) (is a (later a h)))
+
+-- a true receipt more is kept
+pub kept_true : (P : Receipt → Type 0) {rs between more : List Receipt} {r : Receipt} → between ≡ rs → more ≡ between ++ r ∷ [] → Every P rs → P r → Every P more
+kept_true P {rs} {between} {more} {r} same grown are is = subst (Every P) (sym grown) (Every-snoc P between r (subst (Every P) (sym same) are) is)

@@ -232,7 +232,7 @@ fn lightened<H: Hand>(
     left: &mut Vec<Stamp>,
 ) -> Receipt
     ensures kept { Keeps H.agrees hand.old hand.new }
-    ensures same { result.noted ≡ receipt.noted }
+    ensures told { (a : Assignment) → IsTrueReceipt a receipt → IsTrueReceipt a result }
 {
     let Receipt { place, noted, free } = receipt;
     put_off(hand, &free, left);
