@@ -11,6 +11,7 @@ use shelf_core::numbers::Numbers;
 use std::alloc::AllocError;
 use std::io::Write;
 use std::net::TcpListener;
+use std::os::unix::fs::FileExt;
 use std::rt::Files;
 use std::sync::{Arc, Wait};
 use std::thread::Threads;
@@ -76,7 +77,10 @@ pub fn serve_objects<
     writer: &mut W,
     explains: Option<&str>,
     error: &mut E,
-) -> Result<u8, Failure> {
+) -> Result<u8, Failure>
+where
+    R::File: FileExt,
+{
     let ended = match serve_on(rt, rt.alloc(), source, place, listener, writer) {
         Ok(end) => Ok(status_of_serve(end)),
         Err(fault) => Err(Failure::from(fault)),

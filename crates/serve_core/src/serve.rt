@@ -19,6 +19,7 @@ use shelf_core::numbers::Numbers;
 use std::alloc::{AllocError, Global};
 use std::io::Write;
 use std::net::TcpListener;
+use std::os::unix::fs::FileExt;
 use std::rt::Files;
 use std::sync::{Arc, Wait};
 use std::thread::Threads;
@@ -82,7 +83,10 @@ fn close_all<R: Files + AllocGlobal + Drop, W: Write>(
     hand: &mut DirHand<R>,
     writer: &mut W,
     trouble: &mut Trouble,
-) {
+)
+where
+    R::File: FileExt,
+{
     let Served { offices, openings } = served;
     let mut openings = openings.into_iter();
     let mut rooms = rooms.into_iter();
@@ -108,7 +112,10 @@ fn serve_ready<
     place: Place<H>,
     listener: &TcpListener,
     writer: &mut W,
-) -> Result<ServeEnd, LinesFault> {
+) -> Result<ServeEnd, LinesFault>
+where
+    R::File: FileExt,
+{
     let Place {
         folder,
         left,
@@ -172,6 +179,8 @@ pub fn serve_on<
     listener: &TcpListener,
     writer: &mut W,
 ) -> Result<ServeEnd, LinesFault>
+where
+    R::File: FileExt,
     // A source that is not served: what says why is written, and nothing else. Of a source that is served each object is accepted.
     ensures { IfOk result (IsHandled source.now (W.contents writer.old) (W.contents writer.new)) }
 {

@@ -11,6 +11,7 @@ use crate::scratch::Deed::{Has, Lacks, MakeFolder, Mode, Remove, RemoveFolder, W
 use crate::scratch::Scratch;
 use crate::shelf_calls::Entry;
 use crate::shelf_calls::Entry::{Load, NoLoad, NoStore, Nothing, Store};
+use std::os::unix::fs::FileExt;
 use std::process::Abort;
 use std::rt::Files;
 use std::{io, process};
@@ -235,6 +236,7 @@ const SCRIPTS: [(&str, &str, u64, &[Line]); 10] = [
 fn play<R>(rt: R, process: u32, script: (&str, &str, u64, &[Line]), line: usize) -> io::Result<()>
 where
     R: Abort + Files + AllocGlobal + Copy + Drop,
+    R::File: FileExt,
 {
     let (name, devices, first, lines) = script;
     let scratch = Scratch::new(rt, process, name)?;

@@ -10,6 +10,7 @@ use shelf_core::dir_shelf::DirShelf;
 use shelf_core::numbers::Numbers;
 use std::alloc::Global;
 use std::io;
+use std::os::unix::fs::FileExt;
 use std::process::Abort;
 use std::rt::Files;
 use std::sync::Arc;
@@ -40,7 +41,10 @@ pub struct Place<R: Files + AllocGlobal> {
     files: FileRow,
 }
 
-impl<R: Files + AllocGlobal + Copy + Drop> Place<R> {
+impl<R: Files + AllocGlobal + Copy + Drop> Place<R>
+where
+    R::File: FileExt,
+{
     /// New devices on this folder, with numbers from this one on.
     pub fn new(rt: R, folder: &str, first: u64) -> io::Result<Place<R>> {
         let numbers = Arc::new(rt.alloc(), Numbers::new(first))?;
