@@ -1,5 +1,5 @@
 -- What a desk answers.
-use Rattle.std.specs.Prelude.{◌≡◌, ℕ, ◌+◌, ◌-◌, ◌<◌, ◌≤◌, ◌⊎◌, Bool, true, false, ◌||◌, ◌==◌, List, [], ◌∷◌, ◌++◌, take, length, slice_get, Option, Some, None}
+use Rattle.std.specs.Prelude.{◌≡◌, ℕ, ◌+◌, ◌-◌, ◌<◌, ◌≤◌, ◌⊎◌, Bool, true, false, ◌||◌, ◌==◌, List, [], ◌∷◌, ◌++◌, take, length, slice_get, Some, None}
 use Rattle.std.specs.List.{list_any}
 use Rattle.std.specs.Str.{str_to_ascii_lowercase}
 use Rattle.value_core.specs.declared.datum.Datum.{Datum}
@@ -17,7 +17,7 @@ use Rattle.desk_core.specs.declared.answer.Cancelled.TheVariants as cancels
 use Rattle.desk_core.specs.declared.answer.Collected.{Collected}
 use Rattle.desk_core.specs.declared.answer.Collected.TheVariants as collects
 use Rattle.board_core.specs.Lists.{Every, Among}
-use Rattle.board_core.specs.Calls.{AcceptedCall, RunningCall, WaitingCall}
+use Rattle.board_core.specs.Calls.{AcceptedCall, RunningCall}
 use Rattle.board_core.specs.Board.{Board, bodies, call_at, dismissed, taken_at, ended, entry_of}
 use Rattle.board_core.specs.Chain.{pins_after}
 use Rattle.board_core.specs.Free.{IsNeeded, Picks, left_behind}
@@ -58,15 +58,6 @@ waits_in b n = list_any (λ w. w.number == n) b.waiting
 
 abbrev pub runs_in : Board → ℕ → Bool
 runs_in b n = list_any (λ r. r.number == n) b.running
-
--- the number of the first of these calls
-abbrev pub first_number : List WaitingCall → Option ℕ
-first_number [] = None
-first_number (w ∷ waiting) = Some w.number
-
--- the number of the call that has waited longest
-abbrev pub first_waiting_in : Board → Option ℕ
-first_waiting_in b = first_number b.waiting
 
 -- the operation and the arguments of what is asked: this operation, at this place
 pub record IsAsked (b : Board) (a : Asked) (call : AcceptedCall) : Type 0 where

@@ -11,7 +11,7 @@ ghost use Rattle.board_core.specs.Outcomes.{IsOf};
 ghost use Rattle.decl_core.specs.ObjectMap.{object_of};
 ghost use Rattle.trace_core.specs.Text.{trace_text as text_of};
 ghost use Rattle.desk_core.specs.Told.{lines_told};
-ghost use Rattle.desk_core.specs.Answers.{IsTaken, IsRefused, Cancels, Collects, Finishes, waits_in, runs_in, first_waiting_in};
+ghost use Rattle.desk_core.specs.Answers.{IsTaken, IsRefused, Cancels, Collects, Finishes, waits_in, runs_in};
 
 use crate::answer::{Cancelled, Collected, Stranger, SubmitFault};
 use crate::roster::{Ended, MOST_SESSIONS, Roster};
@@ -219,13 +219,6 @@ impl Desk {
         ensures { result ≡ runs_in self.now number }
     {
         self.roster.runs(number)
-    }
-
-    /// The number of the call that has waited longest.
-    pub fn first_waiting(&self) -> Option<u32>
-        ensures { result ≡ first_waiting_in self.now }
-    {
-        self.roster.first_waiting()
     }
 
     /// Whether no call waits or runs.

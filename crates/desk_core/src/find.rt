@@ -9,7 +9,7 @@ ghost use Rattle.board_core.specs.Lists.{Every, Among};
 ghost use Rattle.board_core.specs.Calls.{WaitingCall, RunningCall};
 ghost use Rattle.board_core.specs.Board.{bodies};
 ghost use Rattle.board_core.specs.Outcomes.{IsOf};
-ghost use Rattle.desk_core.specs.Answers.{HasName, IsNamedAt, first_number};
+ghost use Rattle.desk_core.specs.Answers.{HasName, IsNamedAt};
 
 use crate::open_call::{Running, Waiting};
 use board_core::same::{same_args, same_stamps};
@@ -56,16 +56,6 @@ pub(crate) fn waits(waiting: &[Waiting], number: u32) -> bool
     ensures { result ≡ list_any (λ w. w.number == number) waiting.now }
 {
     waiting.iter().any(|w| w.number() == number)
-}
-
-// The number of the call that has waited longest.
-pub(crate) fn first_of(waiting: &[Waiting]) -> Option<u32>
-    ensures { result ≡ first_number waiting.now }
-{
-    match waiting {
-        [] => None,
-        [first, ..] => Some(first.number()),
-    }
 }
 
 // Whether a call of this number runs.

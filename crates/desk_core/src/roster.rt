@@ -17,7 +17,7 @@ ghost use Rattle.body_core.specs.Outcomes.{new_if_done, left_if_failed};
 ghost use Rattle.body_core.specs.Phases.{HasPart};
 ghost use Rattle.board_core.specs.Board.{Board, bodies, call_at, opened, joined, dismissed, released, taken_at, marked, started, ended, entry_of, published as with_new, IsNext, Rests, Admits};
 ghost use Rattle.body_core.specs.Outcomes.{outcome_call};
-ghost use Rattle.desk_core.specs.Answers.{IsGone, is_busy, waits_in, runs_in, first_waiting_in, ended_in, IsLeft, NoneIsLeft, IsTaken, IsRefused};
+ghost use Rattle.desk_core.specs.Answers.{IsGone, is_busy, waits_in, runs_in, ended_in, IsLeft, NoneIsLeft, IsTaken, IsRefused};
 ghost use Rattle.board_core.specs.Free.{IsNeeded, Picks, left_behind};
 ghost use Rattle.desk_core.specs.Kept.{IsFirst, CanStart, OpCanStart, AreRefused};
 ghost use Rattle.board_core.specs.Outcomes.{IsOf};
@@ -29,9 +29,7 @@ ghost use Rattle.body_core.specs.declared.new_pins.NewPin.{NewPin as ANewPin};
 ghost use Rattle.board_core.specs.Sound.{IsSound};
 
 use crate::answer::SubmitFault;
-use crate::find::{
-    first_of, place_of, place_of_call, place_of_left, runs, runs_for, waits, waits_for,
-};
+use crate::find::{place_of, place_of_call, place_of_left, runs, runs_for, waits, waits_for};
 use crate::free::freed;
 use crate::marks::{Mark, event_of, note, note_end, note_start};
 use crate::open_call::{Left, Running, Waiting};
@@ -512,13 +510,6 @@ impl Roster {
         ensures { result ≡ waits_in self.now number }
     {
         waits(&self.waiting, number)
-    }
-
-    // The number of the call that has waited longest.
-    pub(crate) fn first_waiting(&self) -> Option<u32>
-        ensures { result ≡ first_waiting_in self.now }
-    {
-        first_of(&self.waiting)
     }
 
     // Whether a call of this number runs.

@@ -15,20 +15,12 @@ use body_core::outcome::Outcome;
 use desk_core::answer::{Cancelled, SubmitFault};
 use desk_core::desk::Desk;
 use std::alloc::{AllocError, Global};
-use std::hint::spin_loop;
 use std::sync::{Condvar, Mutex, Wait};
 use std::time::Duration;
 use value_core::datum::Datum;
 
 /// How many places there are at which waiters sleep: session `n` sleeps at `n % BEDS`.
 const BEDS: usize = 64;
-
-/// How often a wait of limited length looks again.
-const MOST_LOOKS: u32 = 16;
-
-/// How often a waiter looks for news before it sleeps, where its call is the next one: that takes some microseconds, and a call that
-/// starts meanwhile need not wait until a thread has awoken.
-const SPINS: u32 = 200;
 
 /// A room that threads share.
 #[derive(Drop)]
@@ -65,25 +57,6 @@ fn started(desk: &Desk, before: usize) -> u64 {
         }
     }
     beds
-}
-
-// The bed of the session whose call has waited longest, as a bit. It is told when it is next, so that it is awake when it starts.
-fn next_bed(desk: &Desk) -> u64 {
-    match desk.first_waiting() {
-        Some(number) => 1u64 << bed_for(desk, number),
-        None => 0,
-    }
-}
-
-// Looks for news of a bed for some microseconds, and tells whether there were some.
-fn is_told(bed: &Condvar, seen: u64) -> bool {
-    for _ in 0..SPINS {
-        if bed.notifications() != seen {
-            return true;
-        }
-        spin_loop();
-    }
-    false
 }
 
 // Adds so many beds, for which there is room.
@@ -171,30 +144,19 @@ impl Office {
         self.room.lock(rt).try_start(submitted)
     }
 
-    /// The same, but where the call waits it first waits for it. Each time that its session is told of something, it looks again,
-    /// but not for ever, and no wait between two looks is longer than `most`.
+    /// The same, but where the call waits it first waits for it, at most so long.
     pub fn try_start_within<R: Wait>(&self, rt: &R, submitted: Submitted, most: Duration) -> Tried
         ensures { Tells submitted result }
     {
-        let mut waiting = submitted;
-        for _ in 0..MOST_LOOKS {
-            let mut room = self.room.lock(rt);
-            waiting = match room.try_start(waiting) {
-                Tried::Waiting(back) => back,
-                other => return other,
-            };
-            let is_next = room.desk().first_waiting() == Some(waiting.number);
-            let bed = &self.beds[bed_for(room.desk(), waiting.number)];
-            let seen = bed.notifications();
-            drop(room);
-            if is_next && is_told(bed, seen) {
-                continue;
-            }
-            bed.sleep(rt, seen, most);
-            if bed.notifications() == seen {
-                break;
-            }
-        }
+        let mut room = self.room.lock(rt);
+        let waiting = match room.try_start(submitted) {
+            Tried::Waiting(back) => back,
+            other => return other,
+        };
+        let bed = &self.beds[bed_for(room.desk(), waiting.number)];
+        let seen = bed.notifications();
+        drop(room);
+        bed.sleep(rt, seen, most);
         self.room.lock(rt).try_start(waiting)
     }
 
@@ -232,12 +194,8 @@ impl Office {
         let before = room.desk().trace().len();
         let answer = room.complete(seat, outcome);
         let beds = started(room.desk(), before);
-        let next = next_bed(room.desk());
         drop(room);
-        if beds != 0 {
-            self.wake(beds);
-            self.wake(next & !beds);
-        }
+        self.wake(beds);
         answer
     }
 
