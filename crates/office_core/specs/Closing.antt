@@ -5,6 +5,7 @@ use Rattle.board_core.specs.Lists.{Every}
 use Rattle.board_core.specs.Calls.{Noted}
 use Rattle.board_core.specs.Board.{Board}
 use Rattle.board_core.specs.Outcomes.{IsEntryOf}
+use Rattle.slip_core.specs.Slips.{Told, StandsIn}
 use Rattle.office_core.specs.declared.seat.Seat.{Seat}
 use Rattle.office_core.specs.declared.room.CloseFault.{CloseFault}
 use Rattle.office_core.specs.declared.room.CloseFault.TheVariants.{Outstanding, SeatMissing, Mismatch}
@@ -39,19 +40,34 @@ abbrev pub Stands : List Noted → Receipt → Type 0
 Stands history r = (0 < r.place) × ((e : Noted) × (slice_get history (r.place - 1) ≡ Some e) × IsEntryOf r.noted.session r.noted.outcome e)
 
 -- the receipt at this index is of this place, and the entry there is another one
-pub record Misses (history : List Noted) (receipts : List Receipt) (k place : ℕ) : Type 0 where
-  pub receipt : Receipt
+pub record Misses (X : Type 0) (stands : X → Type 0) (place_of : X → ℕ) (receipts : List X) (k place : ℕ) : Type 0 where
+  pub receipt : X
   pub there : slice_get receipts k ≡ Some receipt
-  pub of : place ≡ receipt.place
-  pub other : Stands history receipt → ⊥
+  pub of : place ≡ place_of receipt
+  pub other : stands receipt → ⊥
 
--- why a room is not closed: the first cause that applies
-abbrev pub IsWhy : RoomState → List Seat → List Receipt → CloseFault → Type 0
-IsWhy r seats receipts Outstanding = IsIdle r.board → ⊥
-IsWhy r seats receipts SeatMissing = IsIdle r.board × (AreSeatsOf r seats → ⊥)
-IsWhy r seats receipts (Mismatch k place) = IsIdle r.board × AreSeatsOf r seats × Misses r.board.history receipts k place
+module _ (X : Type 0) (stands : List Noted → X → Type 0) (place_of : X → ℕ) where
+  -- why a room is not closed: the first cause that applies
+  abbrev pub IsWhyBy : RoomState → List Seat → List X → CloseFault → Type 0
+  IsWhyBy r seats receipts Outstanding = IsIdle r.board → ⊥
+  IsWhyBy r seats receipts SeatMissing = IsIdle r.board × (AreSeatsOf r seats → ⊥)
+  IsWhyBy r seats receipts (Mismatch k place) = IsIdle r.board × AreSeatsOf r seats × Misses X (stands r.board.history) place_of receipts k place
 
--- A room is closed where nothing is missing; a refusal hands room and seats back.
+  -- A room is closed where nothing is missing; a refusal hands room and seats back.
+  abbrev pub ClosesBy : RoomState → List Seat → List X → Result Closed CloseRefused → Type 0
+  ClosesBy r seats receipts (Ok closed) = IsIdle r.board × AreSeatsOf r seats × Every (stands r.board.history) receipts × (closed.desk ≡ r.board)
+  ClosesBy r seats receipts (Err refused) = IsWhyBy r seats receipts refused.why × (refused.room ≡ r) × (refused.seats.items ≡ seats)
+
+abbrev pub place_of_receipt : Receipt → ℕ
+place_of_receipt r = r.place
+
+-- by receipts
 abbrev pub Closes : RoomState → List Seat → List Receipt → Result Closed CloseRefused → Type 0
-Closes r seats receipts (Ok closed) = IsIdle r.board × AreSeatsOf r seats × Every (Stands r.board.history) receipts × (closed.desk ≡ r.board)
-Closes r seats receipts (Err refused) = IsWhy r seats receipts refused.why × (refused.room ≡ r) × (refused.seats.items ≡ seats)
+Closes = ClosesBy Receipt Stands place_of_receipt
+
+abbrev pub place_told : Told → ℕ
+place_told t = t.place
+
+-- by slips
+abbrev pub ClosesBySlips : RoomState → List Seat → List Told → Result Closed CloseRefused → Type 0
+ClosesBySlips = ClosesBy Told StandsIn place_told

@@ -11,6 +11,7 @@ use Rattle.board_core.specs.Calls.{Noted}
 use Rattle.board_core.specs.Board.{Board}
 use Rattle.board_core.specs.Chain.{ShowContents, history_of}
 use Rattle.board_core.specs.Sound.{IsSound, kinds_of}
+use Rattle.slip_core.specs.Slips.{Told, StandsIn, IsTrueTold}
 use Rattle.office_core.specs.Closing.{Stands}
 
 -- the outcome that a receipt holds is true of an assignment
@@ -25,4 +26,14 @@ HaveReceipts history receipts = (k : ℕ) (e : Noted) → slice_get history k �
 abbrev pub ReceiptsAreLegal : Type 0
 ReceiptsAreLegal = (a : Assignment) (b : Board) (receipts : List Receipt) (contents : List Contents) →
     IsSound b → Every (Stands b.history) receipts → HaveReceipts b.history receipts → Every (IsTrueReceipt a) receipts → ShowContents a (kinds_of b.object) b.opening contents →
+    IsLegal (history_of b.history) contents × ShowContents a (kinds_of b.object) b.pins (leads_to (history_of b.history) contents)
+
+-- each entry has a slip
+abbrev pub HaveSlips : List Noted → List Told → Type 0
+HaveSlips history slips = (k : ℕ) (e : Noted) → slice_get history k ≡ Some e → (t : Told) × Among t slips × (t.place ≡ k + 1)
+
+-- The same by slips.
+abbrev pub SlipsAreLegal : Type 0
+SlipsAreLegal = (a : Assignment) (b : Board) (slips : List Told) (contents : List Contents) →
+    IsSound b → Every (StandsIn b.history) slips → HaveSlips b.history slips → Every (IsTrueTold a) slips → ShowContents a (kinds_of b.object) b.opening contents →
     IsLegal (history_of b.history) contents × ShowContents a (kinds_of b.object) b.pins (leads_to (history_of b.history) contents)

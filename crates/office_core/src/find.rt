@@ -3,10 +3,12 @@
 ghost use Rattle.std.specs.Prelude.{◌≡◌, ◌↔◌, ◌+◌, IsTrue, IfSome, IfNone, map, length, slice_get, Some};
 ghost use Rattle.std.specs.Arc.{arc_value};
 ghost use Rattle.decl_core.specs.ObjectMap.{operation_of};
+ghost use Rattle.board_core.specs.declared.receipt.Receipt.{Receipt as AReceipt};
 ghost use Rattle.board_core.specs.Lists.{Every};
 ghost use Rattle.desk_core.specs.Answers.{HasName};
 ghost use Rattle.office_core.specs.Submissions.{IsFirstNamed, IsCallOf, IsOf};
-ghost use Rattle.office_core.specs.Closing.{Stands, Misses};
+ghost use Rattle.slip_core.specs.Slips.{Told, StandsIn};
+ghost use Rattle.office_core.specs.Closing.{Stands, Misses, place_of_receipt, place_told};
 
 use crate::seat::Submitted;
 use board_core::call::Call;
@@ -16,6 +18,7 @@ use board_core::same::same_args;
 use decl_core::object::Operation;
 use decl_core::same::same_declaration;
 use desk_core::desk::Desk;
+use slip_core::slip::Slip;
 use std::sync::Arc;
 
 // Whether an operation has this name.
@@ -80,11 +83,24 @@ fn stands(history: &[Entry], receipt: &Receipt) -> bool
 // The index and the place of the first receipt that tells of no entry at its place.
 pub(crate) fn first_mismatch(history: &[Entry], receipts: &[Receipt]) -> Option<(usize, usize)>
     ensures none { IfNone result (Every (Stands history.now) receipts.now) }
-    ensures some { IfSome result (λ k. Misses history.now receipts.now k.0 k.1) }
+    ensures some { IfSome result (λ k. Misses AReceipt (Stands history.now) place_of_receipt receipts.now k.0 k.1) }
 {
     for k in 0..receipts.len() {
         if !stands(history, &receipts[k]) {
             return Some((k, receipts[k].place));
+        }
+    }
+    None
+}
+
+// The same of slips.
+pub(crate) fn first_mismatched_slip(history: &[Entry], slips: &[Slip]) -> Option<(usize, usize)>
+    ensures none { IfNone result (Every (StandsIn history.now) slips.now) }
+    ensures some { IfSome result (λ k. Misses Told (StandsIn history.now) place_told slips.now k.0 k.1) }
+{
+    for k in 0..slips.len() {
+        if !slips[k].stands_in(history) {
+            return Some((k, slips[k].place()));
         }
     }
     None

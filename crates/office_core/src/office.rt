@@ -5,7 +5,7 @@ ghost use Rattle.office_core.specs.Rooms.{RoomState};
 ghost use Rattle.office_core.specs.declared.seat.Submitted.{Submitted as Ask};
 ghost use Rattle.office_core.specs.Submissions.{Asks, IsStartOf, Tells};
 ghost use Rattle.office_core.specs.Seats.{Receives};
-ghost use Rattle.office_core.specs.Closing.{Closes};
+ghost use Rattle.office_core.specs.Closing.{Closes, ClosesBySlips};
 
 use crate::room::{CloseRefused, Closed, Room, SeatsFull};
 use crate::seat::{CompleteFault, Seat, Started, Submitted, Tried};
@@ -14,6 +14,7 @@ use board_core::receipt::Receipt;
 use body_core::outcome::Outcome;
 use desk_core::answer::{Cancelled, SubmitFault};
 use desk_core::desk::Desk;
+use slip_core::slip::Slip;
 use std::alloc::{AllocError, Global};
 use std::sync::{Condvar, Mutex, Wait};
 use std::time::Duration;
@@ -227,5 +228,12 @@ impl Office {
         ensures { (r : RoomState) × Closes r seats.items receipts.now result }
     {
         self.room.into_inner().close(seats, receipts)
+    }
+
+    /// The same by slips, as [`Room::close_by_slips`].
+    pub fn close_by_slips(self, seats: Vec<Seat>, slips: &[Slip]) -> Result<Closed, CloseRefused>
+        ensures { (r : RoomState) × ClosesBySlips r seats.items slips.now result }
+    {
+        self.room.into_inner().close_by_slips(seats, slips)
     }
 }

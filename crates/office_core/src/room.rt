@@ -10,9 +10,9 @@ ghost use Rattle.std.specs.Prelude.{◌⊎◌};
 ghost use Rattle.office_core.specs.Rooms.{Submits};
 ghost use Rattle.office_core.specs.Submissions.{Asks, IsOf, Tells, Tries};
 ghost use Rattle.office_core.specs.Seats.{IsFresh, Advances, Receives, Completes};
-ghost use Rattle.office_core.specs.Closing.{Closes};
+ghost use Rattle.office_core.specs.Closing.{Closes, ClosesBySlips};
 
-use crate::find::{first_mismatch, is_of, operation_named};
+use crate::find::{first_mismatch, first_mismatched_slip, is_of, operation_named};
 use crate::seat::{CompleteFault, Seat, Submitted, Tried};
 use crate::seats::are_seats;
 use board_core::receipt::Receipt;
@@ -21,6 +21,7 @@ use desk_core::answer::{Cancelled, Collected, Stranger, SubmitFault};
 use desk_core::desk::Desk;
 use exclude_core::analyse::Accepted;
 use shelf_core::pins::Pins;
+use slip_core::slip::Slip;
 use std::alloc::{AllocError, Global};
 use std::marker::Model;
 use std::sync::Arc;
@@ -67,7 +68,7 @@ pub enum CloseFault {
     /// The seats are not those of the sessions given out, each once, or their counts do not add up to the
     /// history's length.
     SeatMissing,
-    /// The receipt of this index, from 0, the first such one, does not tell of the entry at its place.
+    /// The receipt or slip of this index, from 0, the first such one, does not tell of the entry at its place.
     Mismatch { receipt: usize, place: usize },
 }
 
@@ -285,6 +286,41 @@ impl Room {
             });
         }
         match first_mismatch(self.desk.history(), receipts) {
+            Some((receipt, place)) => Err(CloseRefused {
+                room: self,
+                seats,
+                why: CloseFault::Mismatch { receipt, place },
+            }),
+            None => {
+                let Room {
+                    alloc: _,
+                    desk,
+                    given: _,
+                } = self;
+                Ok(Closed { desk })
+            }
+        }
+    }
+
+    /// The same by slips, each of which tells what a receipt told.
+    pub fn close_by_slips(self, seats: Vec<Seat>, slips: &[Slip]) -> Result<Closed, CloseRefused>
+        ensures { ClosesBySlips self seats.items slips.now result }
+    {
+        if !self.desk.is_idle() {
+            return Err(CloseRefused {
+                room: self,
+                seats,
+                why: CloseFault::Outstanding,
+            });
+        }
+        if !are_seats(&seats, self.given, self.desk.history().len()) {
+            return Err(CloseRefused {
+                room: self,
+                seats,
+                why: CloseFault::SeatMissing,
+            });
+        }
+        match first_mismatched_slip(self.desk.history(), slips) {
             Some((receipt, place)) => Err(CloseRefused {
                 room: self,
                 seats,

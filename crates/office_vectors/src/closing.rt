@@ -4,12 +4,15 @@ use crate::make::{finish, room, stuck, turn};
 use board_core::receipt::Receipt;
 use board_core::same::same_stamps;
 use body_core::perform::perform;
+use body_core::reply::Reply;
 use body_core::run::Run;
 use office_core::office::Office;
 use office_core::room::{CloseFault, CloseRefused, Closed, Room};
 use office_core::seat::{Seat, Started};
 use shelf_core::memory::MemHand;
 use shelf_core::pins::Pins;
+use slip_core::room::SlipRoom;
+use slip_core::slip::Slip;
 use std::alloc::Global;
 use std::process::Abort;
 use std::sync::Wait;
@@ -65,6 +68,18 @@ fn foreign<R: Abort + Wait>(rt: &R, alloc: Global) -> Receipt {
 fn one(rt: &impl Abort, alloc: Global, receipt: Receipt) -> Vec<Receipt> {
     let mut all = Vec::new(alloc);
     all.push(receipt).expect(rt, "memory");
+    all
+}
+
+// The slip of a receipt of a `put` of this value.
+fn slip(rt: &impl Abort, alloc: Global, receipt: &Receipt, value: u32) -> Vec<Slip> {
+    let mut room = SlipRoom::new(alloc);
+    assert!(rt; room.slip(receipt).is_none());
+    room.make(&[Datum::Integer(value)]).expect(rt, "memory");
+    let slip = room.slip(receipt).expect(rt, "a slip");
+    assert!(rt; slip.place() == 1 && slip.number() == 1 && slip.reply() == Reply::Done(None));
+    let mut all = Vec::new(alloc);
+    all.push(slip).expect(rt, "memory");
     all
 }
 
@@ -136,7 +151,7 @@ fn is_stranger<R: Wait>(
 }
 
 #[test]
-fn an_office_closes_with_its_seat_and_its_receipt(rt: HostRuntime) {
+fn an_office_closes_with_its_seat_and_its_slip(rt: HostRuntime) {
     let alloc = rt.alloc();
     let mut hand = MemHand::new(alloc);
     let room = room(&rt, alloc, &mut hand);
@@ -144,19 +159,19 @@ fn an_office_closes_with_its_seat_and_its_receipt(rt: HostRuntime) {
     let office = Office::open(alloc, room).expect(&rt, "memory");
     let mut seat = office.seat(&rt).expect(&rt, "a seat");
     let own = put(&rt, alloc, &office, &mut seat, &mut hand, 7).expect(&rt, "a receipt");
-    let foreign = one(&rt, alloc, foreign(&rt, alloc));
-    let own = one(&rt, alloc, own);
+    let foreign = slip(&rt, alloc, &foreign(&rt, alloc), 8);
+    let own = slip(&rt, alloc, &own, 7);
     let why = CloseFault::SeatMissing;
-    let (room, mut seats) = refused(&rt, office.close(Vec::new(alloc), &[]), why, 1);
+    let (room, mut seats) = refused(&rt, office.close_by_slips(Vec::new(alloc), &[]), why, 1);
     seats.push(seat).expect(&rt, "memory");
     let why = CloseFault::Mismatch {
         receipt: 0,
         place: 1,
     };
     let office = Office::open(alloc, room).expect(&rt, "memory");
-    let (room, seats) = refused(&rt, office.close(seats, &foreign), why, 1);
+    let (room, seats) = refused(&rt, office.close_by_slips(seats, &foreign), why, 1);
     let office = Office::open(alloc, room).expect(&rt, "memory");
-    assert!(rt; is_closed(office.close(seats, &own), pins));
+    assert!(rt; is_closed(office.close_by_slips(seats, &own), pins));
 }
 
 #[test]

@@ -3,7 +3,6 @@
 use crate::listen::Left;
 use crate::open::push_damaged;
 use crate::trouble::Trouble;
-use board_core::receipt::Receipt;
 use desk_core::desk::Desk;
 use line_core::reply::{push_count, push_reply};
 use line_core::{LinesFault, write_whole};
@@ -12,6 +11,7 @@ use session_core::order::Named;
 use shelf_core::hand::Hand;
 use shelf_core::save::{SaveFault, save_parts};
 use shelf_core::shelf::Shelf;
+use slip_core::slip::Slip;
 use std::alloc::{AllocError, Global};
 use std::io::Write;
 use std::rt::Files;
@@ -23,7 +23,7 @@ use value_core::value::Value;
 #[derive(Drop)]
 pub struct Gathered {
     seats: Vec<Seat>,
-    receipts: Vec<Receipt>,
+    receipts: Vec<Slip>,
 }
 
 /// Room for the seats of so many objects and sessions, none of which is there yet.
@@ -166,7 +166,7 @@ pub fn close_one<R: Files, S: Shelf, H: Hand, W: Write>(
 ) {
     let Named { name, office } = named;
     let Gathered { seats, receipts } = room;
-    let Ok(closed) = office.close(seats, &receipts) else {
+    let Ok(closed) = office.close_by_slips(seats, &receipts) else {
         trouble.refused = true;
         trouble.heed(tell(writer, refused_line(alloc, name.as_bytes())));
         return;

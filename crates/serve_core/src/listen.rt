@@ -1,7 +1,6 @@
 //! Connections, each of them served on threads of its own.
 
 use crate::trouble::{Trouble, fault_of};
-use board_core::receipt::Receipt;
 use crossbeam_channel::Receiver;
 use line_core::LinesFault;
 use office_core::seat::Seat;
@@ -9,6 +8,7 @@ use session_core::end::SessionEnd;
 use session_core::order::Offices;
 use session_core::serve::serve_session;
 use shelf_core::hand::Hand;
+use slip_core::slip::Slip;
 use std::alloc::{AllocError, Global};
 use std::net::{TcpListener, TcpStream};
 use std::sync::Wait;
@@ -25,7 +25,7 @@ pub struct Left {
     /// The object that it opened, by its place.
     pub object: Option<usize>,
     pub seat: Option<Seat>,
-    pub receipts: Vec<Receipt>,
+    pub receipts: Vec<Slip>,
 }
 
 // Has answers go out at once, and a read return after a while where nothing comes. Where the system can't do that, it is done

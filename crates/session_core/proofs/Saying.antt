@@ -7,11 +7,8 @@ use Rattle.std.proofs.lemmas.Bool.{cases_lt}
 use Rattle.std.proofs.lemmas.List.{take-append-le}
 use Rattle.std.proofs.Math.Seq.{take-append-add}
 use Rattle.std.proofs.lemmas.List.Concat.{flat_map-append}
-use Rattle.body_core.specs.declared.reply.Failure.TheVariants as failures
 use Rattle.body_core.specs.declared.reply.Reply.{Reply}
-use Rattle.body_core.specs.declared.reply.Reply.TheVariants as replies
-use Rattle.body_core.specs.Outcomes.{outcome_reply}
-use Rattle.board_core.specs.declared.receipt.Receipt.{Receipt}
+use Rattle.slip_core.specs.Slips.{Told}
 use Rattle.session_text.specs.declared.line.Line.TheVariants as lines
 use Rattle.session_text.specs.declared.line.Refusal.{Refusal}
 use Rattle.session_text.specs.declared.line.Refusal.TheVariants as refusals
@@ -22,7 +19,7 @@ use Rattle.session_core.specs.declared.output.Health.{Health}
 use Rattle.session_core.specs.declared.output.Health.TheVariants.{Fine, NoMemory, Broken}
 use Rattle.session_core.specs.declared.end.HearFault.{HearFault}
 use Rattle.session_core.specs.declared.end.HearFault.TheVariants as hears
-use Rattle.session_core.specs.Notes.{kind_of, value_of, note_at, reply_from}
+use Rattle.session_core.specs.Notes.{note_at}
 use Rattle.session_core.specs.Written.{note_of, notes_of, lines_text, IsWhole, IsCut, IsWritten, Adds, Sends, IsNoted, AreNoted, IsTold, IsOfSession, AreOfSession, WroteLines, WroteFront, HasWritten, heard_fault, or_memory, told_fault}
 
 -- nothing was sent
@@ -146,24 +143,13 @@ refused_line refusals.Opened = (Some (opens []), tt)
 refused_line refusals.NoObject = (Some (opens []), tt)
 refused_line refusals.Full = (Some (opens []), tt)
 
-reply_back : (r : Reply) → reply_from (kind_of r) (value_of r) ≡ r
-reply_back (replies.Done None) = refl
-reply_back (replies.Done (Some d)) = refl
-reply_back (replies.Refused word) = refl
-reply_back (replies.Failed failures.Device) = refl
-reply_back (replies.Failed failures.Memory) = refl
-reply_back (replies.Failed failures.Damaged) = refl
-
-same_reply : (r s : Reply) → kind_of r ≡ kind_of s → value_of r ≡ value_of s → r ≡ s
-same_reply r s k v = sym (reply_back r) ∙ ap (λ n. reply_from n (value_of r)) k ∙ ap (reply_from (kind_of s)) v ∙ reply_back s
-
-told_by : (receipts : List Receipt) (n : ℕ) (r : Reply) → IsNoted receipts (note_at n r) → IsTold receipts n r
+told_by : (receipts : List Told) (n : ℕ) (r : Reply) → IsNoted receipts (note_at n r) → IsTold receipts n r
 told_by [] n r h = h
-told_by (x ∷ receipts) n r (inl h) = inl (h.0, same_reply (outcome_reply x.noted.outcome) r h.1 h.2)
+told_by (x ∷ receipts) n r (inl h) = inl h
 told_by (x ∷ receipts) n r (inr h) = inr (told_by receipts n r h)
 
 -- a line whose notes are of receipts is of the session
-line_of_session : (receipts : List Receipt) (line : Said) → AreNoted receipts (note_of line) → IsOfSession receipts line
+line_of_session : (receipts : List Told) (line : Said) → AreNoted receipts (note_of line) → IsOfSession receipts line
 line_of_session receipts (opened name) h = inl (Some (opens name), refl)
 line_of_session receipts (ended n r) h = inr (n, r, refl, told_by receipts n r h.0)
 line_of_session receipts (told (lines.Refused refusal)) h = inl (refused_line refusal)
@@ -173,40 +159,40 @@ line_of_session receipts (told (lines.Withdrawn n)) h = inl (Some (calls [] []),
 line_of_session receipts (told (lines.Cancel n answer)) h = inl (Some (cancels n), refl)
 line_of_session receipts (told lines.Bye) h = inl (Some quits, tt)
 
-noted_parts : (receipts : List Receipt) (xs ys : List Note) → AreNoted receipts (xs ++ ys) → AreNoted receipts xs × AreNoted receipts ys
+noted_parts : (receipts : List Told) (xs ys : List Note) → AreNoted receipts (xs ++ ys) → AreNoted receipts xs × AreNoted receipts ys
 noted_parts receipts [] ys h = (tt, h)
 noted_parts receipts (x ∷ xs) ys h = let r = noted_parts receipts xs ys h.1 in ((h.0, r.0), r.1)
 
-lines_of_session : (receipts : List Receipt) (said : List Said) → AreNoted receipts (notes_of said) → AreOfSession receipts said
+lines_of_session : (receipts : List Told) (said : List Said) → AreNoted receipts (notes_of said) → AreOfSession receipts said
 lines_of_session receipts [] h = tt
 lines_of_session receipts (line ∷ said) h =
     let r = noted_parts receipts (note_of line) (notes_of said) h in
     (line_of_session receipts line r.0, lines_of_session receipts said r.1)
 
-wrote_lines : (start now : Option (List ℕ)) (held : List ℕ) (notes : List Note) (receipts : List Receipt) → IsWhole start now held notes → AreNoted receipts notes → WroteLines start now receipts
+wrote_lines : (start now : Option (List ℕ)) (held : List ℕ) (notes : List Note) (receipts : List Told) → IsWhole start now held notes → AreNoted receipts notes → WroteLines start now receipts
 wrote_lines start now held notes receipts (sent, kept, noted, bytes, are) h =
     (sent, lines_of_session receipts sent (noted_parts receipts (notes_of sent) (notes_of kept) (subst (AreNoted receipts) (sym noted) h)).0, bytes)
 
-wrote_front : (start now : Option (List ℕ)) (notes : List Note) (receipts : List Receipt) → IsCut start now notes → AreNoted receipts notes → WroteFront start now receipts
+wrote_front : (start now : Option (List ℕ)) (notes : List Note) (receipts : List Told) → IsCut start now notes → AreNoted receipts notes → WroteFront start now receipts
 wrote_front start now notes receipts (sent, last, lost, count, noted, bytes) h =
     let parts = noted_parts receipts (notes_of sent) (notes_of (last ∷ lost)) (subst (AreNoted receipts) (sym noted) h) in
     (sent, last, count, lines_of_session receipts sent parts.0, line_of_session receipts last (noted_parts receipts (note_of last) (notes_of lost) parts.1).0, bytes)
 
 -- a fault that leaves whole lines
-whole_fault : (heard : Option HearFault) (start now : Option (List ℕ)) (receipts : List Receipt) → WroteLines start now receipts → HasWritten start now receipts (heard_fault heard)
+whole_fault : (heard : Option HearFault) (start now : Option (List ℕ)) (receipts : List Told) → WroteLines start now receipts → HasWritten start now receipts (heard_fault heard)
 whole_fault None start now receipts is = is
 whole_fault (Some hears.LineTooLong) start now receipts is = is
 whole_fault (Some hears.ReadFault) start now receipts is = is
 whole_fault (Some hears.Memory) start now receipts is = is
 
-memory_fault : (heard : Option HearFault) (start now : Option (List ℕ)) (receipts : List Receipt) → WroteLines start now receipts → HasWritten start now receipts (or_memory (heard_fault heard))
+memory_fault : (heard : Option HearFault) (start now : Option (List ℕ)) (receipts : List Told) → WroteLines start now receipts → HasWritten start now receipts (or_memory (heard_fault heard))
 memory_fault None start now receipts is = is
 memory_fault (Some hears.LineTooLong) start now receipts is = is
 memory_fault (Some hears.ReadFault) start now receipts is = is
 memory_fault (Some hears.Memory) start now receipts is = is
 
 -- what was written, by the fault that is told
-pub wrote : (accounted : Bool) (health : Health) (heard : Option HearFault) (start now : Option (List ℕ)) (held : List ℕ) (notes : List Note) (receipts : List Receipt)
+pub wrote : (accounted : Bool) (health : Health) (heard : Option HearFault) (start now : Option (List ℕ)) (held : List ℕ) (notes : List Note) (receipts : List Told)
     → (IsTrue accounted → AreNoted receipts notes) → IsWritten start now held health notes → HasWritten start now receipts (told_fault accounted health heard)
 wrote false health heard start now held notes receipts h is = tt
 wrote true Broken heard start now held notes receipts h is = wrote_front start now notes receipts is (h refl)

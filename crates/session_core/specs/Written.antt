@@ -3,9 +3,8 @@ use Rattle.std.specs.Prelude.{⊤, ◌≡◌, ◌⊎◌, ℕ, List, [], ◌∷�
 use Rattle.std.specs.List.{flat_map}
 use Rattle.std.specs.Io.KnownBytes.{Appends}
 use Rattle.body_core.specs.declared.reply.Reply.{Reply}
-use Rattle.body_core.specs.Outcomes.{outcome_call, outcome_reply}
-use Rattle.board_core.specs.declared.receipt.Receipt.{Receipt}
 use Rattle.board_core.specs.Lists.{Every}
+use Rattle.slip_core.specs.Slips.{Told}
 use Rattle.session_text.specs.Requests.{Request}
 use Rattle.session_text.specs.Answers.{Said, opened, ended, told, said_text, MayAnswer}
 use Rattle.session_core.specs.declared.note.Note.{Note}
@@ -15,7 +14,7 @@ use Rattle.session_core.specs.declared.end.SessionFault.{SessionFault}
 use Rattle.session_core.specs.declared.end.SessionFault.TheVariants as faults
 use Rattle.session_core.specs.declared.end.HearFault.{HearFault}
 use Rattle.session_core.specs.declared.end.HearFault.TheVariants as hears
-use Rattle.session_core.specs.Notes.{kind_of, value_of, note_at}
+use Rattle.session_core.specs.Notes.{note_at}
 
 -- the note of a line: its number and reply, where it is the last line of a receipt
 abbrev pub note_of : Said → List Note
@@ -58,42 +57,41 @@ Sends old new held left true = Appends old new held × (left ≡ [])
 Sends old new held left false = (count : ℕ) × Appends old new (take count held)
 
 -- a note is of a receipt
-abbrev pub IsNoteOf : Receipt → Note → Type 0
-IsNoteOf r note =
-    ((outcome_call r.noted.outcome).number ≡ note.number) × (kind_of (outcome_reply r.noted.outcome) ≡ note.kind) × (value_of (outcome_reply r.noted.outcome) ≡ note.value)
+abbrev pub IsNoteOf : Told → Note → Type 0
+IsNoteOf r note = (r.call.number ≡ note.number) × (r.reply ≡ note.reply)
 
 -- a note is of one of these receipts
-abbrev pub IsNoted : List Receipt → Note → Type 0
+abbrev pub IsNoted : List Told → Note → Type 0
 IsNoted [] note = ⊥
 IsNoted (r ∷ receipts) note = IsNoteOf r note ⊎ IsNoted receipts note
 
-abbrev pub AreNoted : List Receipt → List Note → Type 0
+abbrev pub AreNoted : List Told → List Note → Type 0
 AreNoted receipts notes = Every (IsNoted receipts) notes
 
 -- one of these receipts has this number and this reply
-abbrev pub IsTold : List Receipt → ℕ → Reply → Type 0
+abbrev pub IsTold : List Told → ℕ → Reply → Type 0
 IsTold [] n reply = ⊥
-IsTold (r ∷ receipts) n reply = (((outcome_call r.noted.outcome).number ≡ n) × (outcome_reply r.noted.outcome ≡ reply)) ⊎ IsTold receipts n reply
+IsTold (r ∷ receipts) n reply = ((r.call.number ≡ n) × (r.reply ≡ reply)) ⊎ IsTold receipts n reply
 
 -- a line is the table's for some action, or the last line of one of these receipts
-abbrev pub IsOfSession : List Receipt → Said → Type 0
+abbrev pub IsOfSession : List Told → Said → Type 0
 IsOfSession receipts line = ((q : Option Request) × MayAnswer q line) ⊎ ((n : ℕ) × (reply : Reply) × (line ≡ ended n reply) × IsTold receipts n reply)
 
-abbrev pub AreOfSession : List Receipt → List Said → Type 0
+abbrev pub AreOfSession : List Told → List Said → Type 0
 AreOfSession receipts said = Every (IsOfSession receipts) said
 
 -- whole lines of the session were written
-abbrev pub WroteLines : Option (List ℕ) → Option (List ℕ) → List Receipt → Type 0
+abbrev pub WroteLines : Option (List ℕ) → Option (List ℕ) → List Told → Type 0
 WroteLines start now receipts = (said : List Said) × AreOfSession receipts said × Appends start now (lines_text said)
 
 -- and then a front of one more
-abbrev pub WroteFront : Option (List ℕ) → Option (List ℕ) → List Receipt → Type 0
+abbrev pub WroteFront : Option (List ℕ) → Option (List ℕ) → List Told → Type 0
 WroteFront start now receipts =
     (said : List Said) × (last : Said) × (count : ℕ) × AreOfSession receipts said × IsOfSession receipts last
     × Appends start now (lines_text said ++ take count (said_text last))
 
 -- what a session wrote, by its fault
-abbrev pub HasWritten : Option (List ℕ) → Option (List ℕ) → List Receipt → Option SessionFault → Type 0
+abbrev pub HasWritten : Option (List ℕ) → Option (List ℕ) → List Told → Option SessionFault → Type 0
 HasWritten start now receipts None = WroteLines start now receipts
 HasWritten start now receipts (Some faults.LineTooLong) = WroteLines start now receipts
 HasWritten start now receipts (Some faults.ReadFault) = WroteLines start now receipts

@@ -3,10 +3,10 @@
 ghost use Rattle.std.specs.Prelude.{◌≡◌, ◌↔◌, IsTrue, List, ℕ, Option};
 ghost use Rattle.session_core.specs.Written.{IsNoteOf, AreNoted, IsWritten, HasWritten, heard_fault as heard_in, or_memory as or_memory_in, told_fault};
 
-use crate::note::{Note, kind, value};
+use crate::note::Note;
 use crate::output::Health;
-use board_core::receipt::Receipt;
 use office_core::seat::Seat;
+use slip_core::slip::Slip;
 
 /// Why a session ended, where it was not by `quit` or the end of its input.
 #[derive(Clone, Copy, Debug, PartialEq, Eq)]
@@ -41,8 +41,8 @@ pub struct SessionEnd<W: Drop, H: Drop> {
     pub object: Option<usize>,
     /// The seat there.
     pub seat: Option<Seat>,
-    /// The receipts of its calls, in order.
-    pub receipts: Vec<Receipt>,
+    /// What the receipts of its calls tell, in order.
+    pub receipts: Vec<Slip>,
     /// The writer.
     pub writer: W,
     /// The hand on which its calls were performed.
@@ -53,18 +53,15 @@ pub struct SessionEnd<W: Drop, H: Drop> {
 }
 
 // Whether a receipt has the number and the reply of a note.
-fn is_note_of(receipt: &Receipt, note: &Note) -> bool
+fn is_note_of(receipt: &Slip, note: &Note) -> bool
     ensures { IsTrue result → IsNoteOf receipt.now note.now }
 {
-    let reply = receipt.noted.reply();
-    receipt.noted.number() == note.number
-        && kind(&reply) == note.kind
-        && value(&reply).is_same(&note.value)
+    receipt.number() == note.number && receipt.is_reply(&note.reply)
 }
 
 // Whether each note is of a receipt. Both are in the order of the calls, so each note is looked for behind the receipt of the
 // one before it, and each receipt is looked at once.
-fn are_noted(receipts: &[Receipt], notes: &[Note]) -> bool
+fn are_noted(receipts: &[Slip], notes: &[Note]) -> bool
     ensures { IsTrue result → AreNoted receipts.now notes.now }
 {
     let mut receipts = receipts;
@@ -119,7 +116,7 @@ fn fault_of(accounted: bool, health: Health, heard: Option<HearFault>) -> Option
 
 /// The fault that is told, by the notes of what was written and the receipts.
 pub(crate) fn conclude(
-    receipts: &[Receipt],
+    receipts: &[Slip],
     notes: &[Note],
     health: Health,
     heard: Option<HearFault>,

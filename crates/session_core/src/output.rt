@@ -53,6 +53,9 @@ pub struct Output<W: Write + Drop, J: Start> {
     held: Vec<u8>,
     line: Vec<u8>,
     notes: Vec<Note>,
+    // memory for the reply of a note
+    spare: Option<Box<Reply>>,
+    alloc: Global,
     health: Health,
     of: PhantomData<J>,
 }
@@ -108,6 +111,7 @@ fn add_ended(
     held: &mut Vec<u8>,
     text: &mut Vec<u8>,
     notes: &mut Vec<Note>,
+    spare: &mut Option<Box<Reply>>,
     number: u32,
     reply: &Reply,
 ) -> bool
@@ -121,10 +125,22 @@ fn add_ended(
     if held.extend_from_slice(text.as_slice()).is_err() {
         return false;
     }
-    if add_note(notes, number, reply).is_err() {
+    if add_note(notes, spare, number, reply).is_err() {
         held.truncate(before);
         return false;
     }
+    true
+}
+
+// Makes room for the reply of a note, where there is none. Without memory it answers false.
+fn make_spare(alloc: Global, spare: &mut Option<Box<Reply>>) -> bool {
+    if spare.is_some() {
+        return true;
+    }
+    let Ok(reply) = Box::new(alloc, Reply::Done(None)) else {
+        return false;
+    };
+    *spare = Some(reply);
     true
 }
 
@@ -158,6 +174,8 @@ impl<W: Write + Drop, J: Start> Output<W, J> {
             held: Vec::new(alloc),
             line: Vec::new(alloc),
             notes: Vec::new(alloc),
+            spare: None,
+            alloc,
             health: Health::Fine,
             of: PhantomData,
         }
@@ -169,6 +187,9 @@ impl<W: Write + Drop, J: Start> Output<W, J> {
             return false;
         }
         if self.line.reserve(LINE_ROOM).is_err() {
+            return false;
+        }
+        if !make_spare(self.alloc, &mut self.spare) {
             return false;
         }
         make_room_in(&mut self.notes)
@@ -200,6 +221,7 @@ impl<W: Write + Drop, J: Start> Output<W, J> {
             &mut self.held,
             &mut self.line,
             &mut self.notes,
+            &mut self.spare,
             number,
             reply,
         ) {
@@ -246,6 +268,8 @@ impl<W: Write + Drop, J: Start> Output<W, J> {
             held: _,
             line: _,
             notes,
+            spare: _,
+            alloc: _,
             health,
             of: _,
         } = self;

@@ -2,6 +2,8 @@
 
 ghost use Rattle.std.specs.Prelude.{◌≡◌, ◌↔◌, ◌<◌, ◌++◌, ◌∷◌, [], IfSome, IsTrue};
 ghost use Rattle.std.specs.Vec.{vec_len, vec_capacity};
+ghost use Rattle.board_core.specs.Lists.{Every};
+ghost use Rattle.slip_core.specs.Slips.{IsTrueTold, told_of};
 ghost use Rattle.shelf_core.specs.Device.{Assignment};
 ghost use Rattle.body_core.specs.Runs.{PenHolds, SoFar};
 ghost use Rattle.body_core.specs.declared.step.Need.TheVariants as Need;
@@ -28,6 +30,8 @@ use path_tree::name::Name;
 use session_text::line::{Line, Refusal};
 use session_text::session::Action;
 use shelf_core::hand::{Hand, Stamp};
+use slip_core::room::SlipRoom;
+use slip_core::slip::Slip;
 use std::alloc::Global;
 use std::io::{Read, Write};
 use std::sync::{Mutex, Wait};
@@ -43,7 +47,9 @@ const BRIEF: u64 = 10;
 pub(crate) struct Worked<H: Drop> {
     pub(crate) hand: H,
     pub(crate) seat: Option<(usize, Seat)>,
-    pub(crate) receipts: Vec<Receipt>,
+    pub(crate) receipts: Vec<Slip>,
+    // memory for the next of them
+    room: SlipRoom,
     // files that nobody reads any more, not yet retired
     pub(crate) free: Vec<Stamp>,
     // what ended the hearing, where it was a fault
@@ -224,25 +230,6 @@ fn put_off<H: Hand>(hand: &mut H, free: &[Stamp], left: &mut Vec<Stamp>)
     }
 }
 
-// The receipt without its files, which are put off, and without the room for them.
-fn lightened<H: Hand>(
-    alloc: Global,
-    hand: &mut H,
-    receipt: Receipt,
-    left: &mut Vec<Stamp>,
-) -> Receipt
-    ensures kept { Keeps H.agrees hand.old hand.new }
-    ensures told { (a : Assignment) → IsTrueReceipt a receipt → IsTrueReceipt a result }
-{
-    let Receipt { place, noted, free } = receipt;
-    put_off(hand, &free, left);
-    Receipt {
-        place,
-        noted,
-        free: Vec::new(alloc),
-    }
-}
-
 // Holds a line back.
 fn say<R: Wait, W: Write + Drop, J: Start>(rt: &R, output: &Mutex<Output<W, J>>, line: Line) {
     let _said = output.lock(rt).say(line);
@@ -286,12 +273,24 @@ fn call_on<R: Wait, I: Read + Drop, W: Write + Drop, H: Hand, J: Start>(
 fn make_room<R: Wait, W: Write + Drop, J: Start>(
     rt: &R,
     output: &Mutex<Output<W, J>>,
-    receipts: &mut Vec<Receipt>,
+    receipts: &mut Vec<Slip>,
+    room: &mut SlipRoom,
+    args: &[Datum],
 ) -> bool
     ensures same { receipts.new.items ≡ receipts.old.items }
     ensures room { IsTrue result → vec_len receipts.new < vec_capacity receipts.new }
 {
-    make_room_in(receipts) && output.lock(rt).make_room()
+    make_room_in(receipts) && room.make(args).is_ok() && output.lock(rt).make_room()
+}
+
+// Keeps what a receipt tells. There is room for it, so that no receipt is lost.
+fn keep(receipts: &mut Vec<Slip>, room: &mut SlipRoom, receipt: &Receipt)
+    requires { vec_len receipts.now < vec_capacity receipts.now }
+    ensures { (a : Assignment) → Every (IsTrueTold a) receipts.old.items → IsTrueTold a (told_of receipt.now) → Every (IsTrueTold a) receipts.new.items }
+{
+    if let Some(slip) = room.slip(receipt) {
+        receipts.push_reserved(slip);
+    }
 }
 
 // One call, where there is room for its receipt.
@@ -309,7 +308,7 @@ fn serve_at<R: Wait, I: Read + Drop, W: Write + Drop, H: Hand + Drop, J: Start>(
     ensures kept { Keeps H.agrees worked.old.hand worked.new.hand }
     ensures told { AreTrue H.agrees worked.old.hand worked.old.receipts.items → AreTrue H.agrees worked.new.hand worked.new.receipts.items }
 {
-    if !make_room(rt, output, &mut worked.receipts) {
+    if !make_room(rt, output, &mut worked.receipts, &mut worked.room, args) {
         say(rt, output, Line::Unsubmitted(SubmitFault::Memory));
         return;
     }
@@ -326,16 +325,8 @@ fn serve_at<R: Wait, I: Read + Drop, W: Write + Drop, H: Hand + Drop, J: Start>(
     ) else {
         return;
     };
-    let receipt = lightened(alloc, &mut worked.hand, receipt, &mut worked.free);
-    keep(&mut worked.receipts, receipt);
-}
-
-// Keeps a receipt.
-fn keep(receipts: &mut Vec<Receipt>, receipt: Receipt)
-    requires { vec_len receipts.now < vec_capacity receipts.now }
-    ensures { receipts.new.items ≡ receipts.old.items ++ receipt ∷ [] }
-{
-    receipts.push_reserved(receipt);
+    keep(&mut worked.receipts, &mut worked.room, &receipt);
+    put_off(&mut worked.hand, &receipt.free, &mut worked.free);
 }
 
 // One call of the object that is opened.
@@ -602,6 +593,7 @@ pub(crate) fn work<R: Wait, I: Read + Drop, W: Write + Drop, H: Hand + Drop, J: 
         hand,
         seat: None,
         receipts: Vec::new(alloc),
+        room: SlipRoom::new(alloc),
         free: Vec::new(alloc),
         fault: None,
     };

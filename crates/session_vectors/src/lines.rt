@@ -1,7 +1,7 @@
 //! What a session answers, and how it ends.
 
 use crate::make::{CELL, Pieces, Short, offices};
-use board_core::receipt::Receipt;
+use slip_core::slip::Slip;
 use office_core::seat::Seat;
 use session_core::end::SessionFault;
 use session_core::order::Named;
@@ -30,13 +30,13 @@ const WRONG_TOLD: &[u8] =
     b"no BadLine\nno NotOpen\nno NoObject\nno BadLine\nopened cell\nno Opened\nno BadArgs\nno UnknownOp\nno BadLine\nbye\n";
 
 // Whether the office of an object is closed with this seat and these receipts.
-fn is_closed(all: Vec<Named>, seats: Vec<Seat>, receipts: &[Receipt]) -> bool {
+fn is_closed(all: Vec<Named>, seats: Vec<Seat>, receipts: &[Slip]) -> bool {
     let mut seats = Some(seats);
     for named in all {
         let Some(seats) = seats.take() else {
             return false;
         };
-        return named.office.close(seats, receipts).is_ok();
+        return named.office.close_by_slips(seats, receipts).is_ok();
     }
     false
 }

@@ -1,8 +1,8 @@
 use denote.Param.Send.{sendable}
 use Rattle.std.proofs.Crossing.{crosses}
-use Rattle.board_core.proofs.Sending.{receipt_send}
+use Rattle.slip_core.proofs.Sending.{slip_send}
 use Rattle.office_core.proofs.seat.Seat.TheSendSync as seat
 use Rattle.serve_core.proofs.listen.serve_all.Goals as goal
 
 pub map_indices-requires-send-X : goal.map_indices-requires-send-X
-map_indices-requires-send-X g c κs = search (sendable, crosses, receipt_send, seat.the_send) depth 40 fits 20000
+map_indices-requires-send-X g c κs = search (sendable, crosses, slip_send, seat.the_send) depth 40 fits 20000

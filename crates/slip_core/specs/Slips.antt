@@ -1,0 +1,51 @@
+-- What slips tell.
+use Rattle.std.specs.Prelude.{◌≡◌, ℕ, ◌-◌, ◌<◌, List, slice_get, Some}
+use Rattle.decl_core.specs.ObjectMap.{operation_of}
+use Rattle.shelf_core.specs.Device.{Assignment}
+use Rattle.body_core.specs.declared.new_pins.NewPin.{NewPin}
+use Rattle.body_core.specs.declared.reply.Reply.{Reply}
+use Rattle.body_core.specs.Calls.{Call}
+use Rattle.body_core.specs.Outcomes.{outcome_call, outcome_reply, outcome_pins, new_if_done}
+use Rattle.body_core.specs.Truths.{IsTrueOf}
+use Rattle.board_core.specs.declared.receipt.Receipt.{Receipt}
+use Rattle.board_core.specs.Calls.{Noted}
+use Rattle.board_core.specs.ReadPins.{read_pins}
+
+-- what a receipt tells: the place of an entry, and the entry there, as its session and the outcome of its run tell it
+pub record Told : Type 0 where
+  pub place : ℕ
+  pub session : ℕ
+  pub call : Call
+  pub reply : Reply
+  pub news : List NewPin
+
+-- the new pins: a call that was not done has none
+abbrev pub pins_told : Told → List NewPin
+pins_told t = new_if_done t.reply t.news
+
+abbrev pub told_of : Receipt → Told
+told_of r = record {
+  place = r.place;
+  session = r.noted.session;
+  call = outcome_call r.noted.outcome;
+  reply = outcome_reply r.noted.outcome;
+  news = outcome_pins r.noted.outcome;
+}
+
+-- An entry is the one that is told: it tells of the call all that is told, and of its pins those of the parts that its operation reads.
+pub record IsEntryTold (t : Told) (e : Noted) : Type 0 where
+  pub number : e.number ≡ t.call.number
+  pub session : e.session ≡ t.session
+  pub operation : operation_of e.operation ≡ operation_of t.call.operation
+  pub arguments : e.arguments ≡ t.call.arguments
+  pub reply : e.reply ≡ t.reply
+  pub pins : e.pins ≡ read_pins e.operation t.call.pins
+  pub news : e.news ≡ pins_told t
+
+-- the entry at its place in a history is the one that is told
+abbrev pub StandsIn : List Noted → Told → Type 0
+StandsIn history t = (0 < t.place) × ((e : Noted) × (slice_get history (t.place - 1) ≡ Some e) × IsEntryTold t e)
+
+-- what is told is true of an assignment
+abbrev pub IsTrueTold : Assignment → Told → Type 0
+IsTrueTold a t = IsTrueOf a t.call t.reply t.news

@@ -1,0 +1,96 @@
+//! The making of slips, with memory that is taken ahead.
+
+ghost use Rattle.std.specs.Prelude.{◌≡◌, IfSome};
+ghost use Rattle.slip_core.specs.Slips.{told_of};
+
+use crate::short::Short;
+use crate::slim::{Slim, are, slims};
+use crate::slip::Slip;
+use board_core::receipt::Receipt;
+use body_core::outcome::NewPin;
+use body_core::reply::Reply;
+use decl_core::id::MOST_PARTS;
+use shelf_core::hand::Stamp;
+use std::alloc::{AllocError, Global};
+use std::mem;
+use std::sync::Arc;
+use value_core::datum::Datum;
+
+/// Memory for the next slip of a session, so that a slip is made without memory.
+#[derive(Drop)]
+pub struct SlipRoom {
+    alloc: Global,
+    args: Vec<Slim>,
+    reply: Option<Box<Reply>>,
+    pins: Vec<Stamp>,
+    news: Vec<NewPin>,
+}
+
+// These items, in memory that was taken for them, or `None` where it is too little.
+fn filled<T: Copy>(alloc: Global, room: &mut Vec<T>, items: &[T]) -> Option<Vec<T>>
+    ensures { IfSome result (λ v. v.items ≡ items.now) }
+{
+    if items.is_empty() {
+        return Some(Vec::new(alloc));
+    }
+    let mut out = mem::replace(room, Vec::new(alloc));
+    out.clear();
+    if out.extend_from_slice(items).is_err() {
+        return None;
+    }
+    out.shrink_to_fit();
+    Some(out)
+}
+
+impl SlipRoom {
+    /// No memory yet.
+    pub fn new(alloc: Global) -> SlipRoom {
+        SlipRoom {
+            alloc,
+            args: Vec::new(alloc),
+            reply: None,
+            pins: Vec::new(alloc),
+            news: Vec::new(alloc),
+        }
+    }
+
+    /// Takes the memory for the slip of a call with these arguments. The error is that memory was refused.
+    pub fn make(&mut self, args: &[Datum]) -> Result<(), AllocError> {
+        if self.reply.is_none() {
+            let reply = Box::new(self.alloc, Reply::Done(None))?;
+            self.reply = Some(reply);
+        }
+        self.pins.reserve_exact(MOST_PARTS)?;
+        self.news.reserve_exact(MOST_PARTS)?;
+        self.args = slims(self.alloc, args)?;
+        Ok(())
+    }
+
+    /// The slip of a receipt, or `None` where memory was not taken for a call with its arguments. It takes no memory.
+    pub fn slip(&mut self, receipt: &Receipt) -> Option<Slip>
+        ensures { IfSome result (λ s. s ≡ told_of receipt.now) }
+    {
+        let noted = &receipt.noted;
+        let args = mem::replace(&mut self.args, Vec::new(self.alloc));
+        if !are(&args, noted.args()) {
+            return None;
+        }
+        let Ok(operation) = Arc::try_clone(noted.operation()) else {
+            return None;
+        };
+        let reply = Short::within(&mut self.reply, &noted.reply())?;
+        let pins = noted.pins();
+        let pins = filled(self.alloc, &mut self.pins, pins.as_slice())?;
+        let news = filled(self.alloc, &mut self.news, noted.new_pins())?;
+        Some(Slip {
+            place: receipt.place,
+            number: noted.number(),
+            session: noted.session,
+            operation,
+            args,
+            reply,
+            pins,
+            news,
+        })
+    }
+}
