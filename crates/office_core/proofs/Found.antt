@@ -1,6 +1,6 @@
 -- What is found in a list, and what is known of it there.
-use Rattle.std.proofs.Common.{◌≡◌, ◌∙◌, ap, sym, subst, ℕ, zero, suc, ◌+◌, arith, Bool, List, [], ◌∷◌, ◌++◌, length, inl, inr, Option, Some}
-use Rattle.std.specs.Prelude.{IsTrue, ◌↔◌, slice_get, take}
+use Rattle.std.proofs.Common.{◌≡◌, ◌∙◌, ap, sym, subst, ℕ, zero, suc, ◌+◌, arith, List, [], ◌∷◌, ◌++◌, length, inl, inr, Some}
+use Rattle.std.specs.Prelude.{slice_get, take}
 use Rattle.std.proofs.lemmas.Option.{same_Some}
 use Rattle.value_core.specs.declared.datum.Datum.{Datum}
 use Rattle.decl_core.specs.declared.object.Operation.{Operation}
@@ -18,10 +18,6 @@ use Rattle.desk_core.specs.declared.answer.Collected.TheVariants as collected
 use Rattle.desk_core.specs.Answers.{Asked, IsTaken, Collects, HasName}
 use Rattle.office_core.specs.declared.seat.Submitted.{Submitted}
 use Rattle.office_core.specs.Submissions.{IsOf, IsTicketOf, IsFirstNamed, Asks, submitted_operation, submitted_args}
-
--- a test of what was found is a test of what there is
-pub is_there : {X : Type 0} (P : X → Type 0) (found : Option X) (e : X) (test : Bool) → found ≡ Some e → IsTrue test ↔ P e → IsTrue test ↔ ((x : X) × (found ≡ Some x) × P x)
-is_there P found e test at is = (λ t. (e, at, is.0 t), λ some. is.1 (subst P (same_Some some.0 e (sym some.1 ∙ at)) some.2))
 
 -- a ticket that is collected for a submission's number is of the submission, where the call of that number is
 pub ticket_is : (b : Board) (s : Submitted) (t : Ticket) (after : Board) → IsSound b → IsOf b s → Collects b s.number (collected.Ticket t) after → IsTicketOf s t

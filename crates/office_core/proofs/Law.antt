@@ -7,14 +7,13 @@ use Rattle.shelf_core.specs.Device.{Assignment}
 use Rattle.body_core.specs.declared.new_pins.NewPin.{NewPin}
 use Rattle.body_core.specs.declared.reply.Reply.{Reply}
 use Rattle.body_core.specs.declared.reply.Reply.TheVariants as replies
-use Rattle.body_core.specs.Outcomes.{outcome_call, outcome_reply, outcome_news, new_if_done}
+use Rattle.body_core.specs.Outcomes.{outcome_reply, outcome_news, new_if_done}
 use Rattle.board_core.specs.declared.receipt.Receipt.{Receipt}
 use Rattle.board_core.specs.Lists.{Every}
 use Rattle.board_core.specs.Calls.{Noted, RunningCall}
 use Rattle.board_core.specs.Board.{entry_of}
 use Rattle.board_core.specs.Chain.{IsTrueEntry}
 use Rattle.board_core.specs.Sound.{kinds_of}
-use Rattle.board_core.specs.Outcomes.{IsEntryOf}
 use Rattle.board_core.proofs.Lists.{Every-among}
 use Rattle.board_core.proofs.BoardLaws.{truth_is_noted}
 use Rattle.board_core.proofs.Law.{chained_are_legal}
@@ -65,19 +64,21 @@ told_true a history k e t at place stands holds =
 
 -- what a receipt tells stands where it stands
 told_stands : (history : List Noted) (r : Receipt) → Stands history r → StandsIn history (told_of r)
-told_stands history r (some, e, at, is) = (
+told_stands history r (some, (e, at, is)) = (
   some,
-  e,
-  at,
-  record {
-    number = is.number;
-    session = is.session;
-    operation = is.operation;
-    arguments = is.arguments;
-    reply = is.reply;
-    pins = is.pins;
-    news = is.news ∙ sym (again (outcome_reply r.noted.outcome) (outcome_news r.noted.outcome));
-  },
+  (
+    e,
+    at,
+    record {
+      number = is.number;
+      session = is.session;
+      operation = is.operation;
+      arguments = is.arguments;
+      reply = is.reply;
+      pins = is.pins;
+      news = is.news ∙ sym (again (outcome_reply r.noted.outcome) (outcome_news r.noted.outcome));
+    },
+  ),
 )
 
 pub receipts_are_legal : ReceiptsAreLegal

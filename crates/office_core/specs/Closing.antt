@@ -46,6 +46,12 @@ pub record Misses (X : Type 0) (stands : X → Type 0) (place_of : X → ℕ) (r
   pub of : place ≡ place_of receipt
   pub other : stands receipt → ⊥
 
+-- what keeps a room open whatever receipts there are
+abbrev pub IsOpen : RoomState → List Seat → CloseFault → Type 0
+IsOpen r seats Outstanding = IsIdle r.board → ⊥
+IsOpen r seats SeatMissing = IsIdle r.board × (AreSeatsOf r seats → ⊥)
+IsOpen r seats (Mismatch k place) = ⊥
+
 module _ (X : Type 0) (stands : List Noted → X → Type 0) (place_of : X → ℕ) where
   -- why a room is not closed: the first cause that applies
   abbrev pub IsWhyBy : RoomState → List Seat → List X → CloseFault → Type 0

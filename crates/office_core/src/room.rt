@@ -1,6 +1,6 @@
 //! What lies under the lock.
 
-ghost use Rattle.std.specs.Prelude.{◌≡◌, ◌+◌, ◌≤◌, ◌<◌, length, IfOk, IfErr, OnOk, OnErr, Ok, Err};
+ghost use Rattle.std.specs.Prelude.{◌≡◌, ◌+◌, ◌≤◌, ◌<◌, length, IfOk, IfErr, OnOk, OnErr, IfSome, IfNone, Ok, Err};
 ghost use Rattle.board_core.specs.Board.{opened, Rests};
 ghost use Rattle.board_core.specs.Sound.{IsSound};
 ghost use Rattle.desk_core.specs.Answers.{Cancels};
@@ -10,7 +10,7 @@ ghost use Rattle.std.specs.Prelude.{◌⊎◌};
 ghost use Rattle.office_core.specs.Rooms.{Submits};
 ghost use Rattle.office_core.specs.Submissions.{Asks, IsOf, Tells, Tries};
 ghost use Rattle.office_core.specs.Seats.{IsFresh, Advances, Receives, Completes};
-ghost use Rattle.office_core.specs.Closing.{Closes, ClosesBySlips};
+ghost use Rattle.office_core.specs.Closing.{Closes, ClosesBySlips, IsIdle, AreSeatsOf, IsOpen};
 
 use crate::find::{first_mismatch, first_mismatched_slip, is_of, operation_named};
 use crate::seat::{CompleteFault, Seat, Submitted, Tried};
@@ -264,6 +264,32 @@ impl Room {
         self.desk.disconnect(session);
     }
 
+    // What keeps the room open with these seats, whatever receipts there are.
+    fn missing(&self, seats: &[Seat]) -> Option<CloseFault>
+        ensures some { IfSome result (IsOpen self.now seats.now) }
+        ensures none { IfNone result (IsIdle self.now.board × AreSeatsOf self.now seats.now) }
+    {
+        if !self.desk.is_idle() {
+            return Some(CloseFault::Outstanding);
+        }
+        if !are_seats(seats, self.given, self.desk.history().len()) {
+            return Some(CloseFault::SeatMissing);
+        }
+        None
+    }
+
+    // What is left of a room that is closed.
+    fn closed(self) -> Closed
+        ensures { result.desk ≡ self.board }
+    {
+        let Room {
+            alloc: _,
+            desk,
+            given: _,
+        } = self;
+        Closed { desk }
+    }
+
     /// Ends the work: where no call waits or runs, the seats are those of the sessions given out, each once, their
     /// counts add up to the history's length, and each receipt tells of the entry at its place. It takes no memory.
     ///
@@ -271,69 +297,41 @@ impl Room {
     pub fn close(self, seats: Vec<Seat>, receipts: &[Receipt]) -> Result<Closed, CloseRefused>
         ensures { Closes self seats.items receipts.now result }
     {
-        if !self.desk.is_idle() {
+        if let Some(why) = self.missing(&seats) {
             return Err(CloseRefused {
                 room: self,
                 seats,
-                why: CloseFault::Outstanding,
+                why,
             });
         }
-        if !are_seats(&seats, self.given, self.desk.history().len()) {
+        if let Some((receipt, place)) = first_mismatch(self.desk.history(), receipts) {
             return Err(CloseRefused {
-                room: self,
-                seats,
-                why: CloseFault::SeatMissing,
-            });
-        }
-        match first_mismatch(self.desk.history(), receipts) {
-            Some((receipt, place)) => Err(CloseRefused {
                 room: self,
                 seats,
                 why: CloseFault::Mismatch { receipt, place },
-            }),
-            None => {
-                let Room {
-                    alloc: _,
-                    desk,
-                    given: _,
-                } = self;
-                Ok(Closed { desk })
-            }
+            });
         }
+        Ok(self.closed())
     }
 
     /// The same by slips, each of which tells what a receipt told.
     pub fn close_by_slips(self, seats: Vec<Seat>, slips: &[Slip]) -> Result<Closed, CloseRefused>
         ensures { ClosesBySlips self seats.items slips.now result }
     {
-        if !self.desk.is_idle() {
+        if let Some(why) = self.missing(&seats) {
             return Err(CloseRefused {
                 room: self,
                 seats,
-                why: CloseFault::Outstanding,
+                why,
             });
         }
-        if !are_seats(&seats, self.given, self.desk.history().len()) {
+        if let Some((receipt, place)) = first_mismatched_slip(self.desk.history(), slips) {
             return Err(CloseRefused {
-                room: self,
-                seats,
-                why: CloseFault::SeatMissing,
-            });
-        }
-        match first_mismatched_slip(self.desk.history(), slips) {
-            Some((receipt, place)) => Err(CloseRefused {
                 room: self,
                 seats,
                 why: CloseFault::Mismatch { receipt, place },
-            }),
-            None => {
-                let Room {
-                    alloc: _,
-                    desk,
-                    given: _,
-                } = self;
-                Ok(Closed { desk })
-            }
+            });
         }
+        Ok(self.closed())
     }
 }

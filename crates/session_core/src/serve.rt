@@ -1,14 +1,15 @@
 //! Sessions over a reader and a writer.
 
-ghost use Rattle.std.specs.Prelude.{◌≡◌};
+ghost use Rattle.std.specs.Prelude.{◌≡◌, ℕ, List, Option};
 ghost use Rattle.session_core.specs.Truth.{Keeps, AreTrue};
-ghost use Rattle.session_core.specs.Written.{HasWritten};
+ghost use Rattle.session_core.specs.Written.{IsWritten, HasWritten};
 
 use crate::ear::Ear;
 use crate::end::{SessionEnd, SessionFault, conclude};
 use crate::listen::listen;
+use crate::note::Note;
 use crate::order::Offices;
-use crate::output::{Output, Start};
+use crate::output::{Health, Output, Start};
 use crate::reading::Reading;
 use crate::relay::Relay;
 use crate::work::{Worked, work};
@@ -19,6 +20,41 @@ use std::marker::Brand;
 use std::sync::{Mutex, Wait};
 use std::thread;
 use std::thread::Threads;
+
+// What a session hands back, by what was written and what its first thread left.
+fn ended<W: Drop, H: Drop>(
+    writer: W,
+    notes: &[Note],
+    health: Health,
+    worked: Worked<H>,
+) -> SessionEnd<W, H>
+    ensures hand { result.hand ≡ worked.hand }
+    ensures receipts { result.receipts.items ≡ worked.receipts.items }
+    ensures writer { result.writer ≡ writer }
+    ensures written { (start now : Option (List ℕ)) (held : List ℕ) → IsWritten start now held health notes.now → HasWritten start now worked.receipts.items result.fault }
+{
+    let Worked {
+        hand,
+        seat,
+        receipts,
+        room: _,
+        free: _,
+        fault: met,
+    } = worked;
+    let fault = conclude(&receipts, notes, health, met);
+    let (object, seat) = match seat {
+        Some((at, seat)) => (Some(at), Some(seat)),
+        None => (None, None),
+    };
+    SessionEnd {
+        object,
+        seat,
+        receipts,
+        writer,
+        hand,
+        fault,
+    }
+}
 
 // Serves one session on a writer that held this at first.
 fn serve_from<
@@ -69,26 +105,7 @@ fn serve_from<
         },
     );
     let (writer, notes, health) = output.into_inner().into_parts();
-    let Worked {
-        hand,
-        seat,
-        receipts,
-        free: _,
-        fault: met,
-    } = worked;
-    let fault = conclude(&receipts, &notes, health, met);
-    let (object, seat) = match seat {
-        Some((at, seat)) => (Some(at), Some(seat)),
-        None => (None, None),
-    };
-    SessionEnd {
-        object,
-        seat,
-        receipts,
-        writer,
-        hand,
-        fault,
-    }
+    ended(writer, &notes, health, worked)
 }
 
 /// Serves one session: the calling thread reads lines and does what they ask for; while a call waits for more than some

@@ -49,7 +49,7 @@ pub(crate) struct Worked<H: Drop> {
     pub(crate) seat: Option<(usize, Seat)>,
     pub(crate) receipts: Vec<Slip>,
     // memory for the next of them
-    room: SlipRoom,
+    pub(crate) room: SlipRoom,
     // files that nobody reads any more, not yet retired
     pub(crate) free: Vec<Stamp>,
     // what ended the hearing, where it was a fault
