@@ -16,9 +16,16 @@ use desk_core::answer::{Cancelled, SubmitFault};
 use desk_core::desk::Desk;
 use slip_core::slip::Slip;
 use std::alloc::{AllocError, Global};
-use std::sync::{Condvar, Mutex, Wait};
+use std::hint::spin_loop;
+use std::sync::{Condvar, Mutex, MutexGuard, Wait};
 use std::time::Duration;
 use value_core::datum::Datum;
+
+/// How often a thread looks whether the room is free before it sleeps, and how long it pauses between two looks. A room is held for a
+/// few microseconds, and a thread that sleeps is woken in tens of them.
+const LOOKS: usize = 32;
+
+const PAUSES: usize = 12;
 
 /// How many places there are at which waiters sleep: session `n` sleeps at `n % BEDS`.
 const BEDS: usize = 64;
@@ -83,6 +90,19 @@ impl Office {
         })
     }
 
+    // The room, once no other thread has it.
+    fn enter<R: Wait>(&self, rt: &R) -> MutexGuard<'_, Room> {
+        for _ in 0..LOOKS {
+            if let Some(room) = self.room.try_lock() {
+                return room;
+            }
+            for _ in 0..PAUSES {
+                spin_loop();
+            }
+        }
+        self.room.lock(rt)
+    }
+
     // Wakes who sleeps in these beds.
     fn wake(&self, beds: u64) {
         if beds == 0 {
@@ -99,7 +119,7 @@ impl Office {
     pub fn seat<R: Wait>(&self, rt: &R) -> Result<Seat, SeatsFull>
         ensures { IfOk result (λ s. (0 < s.session) × (s.session ≤ 1024) × (s.seen ≡ 0) × (s.count ≡ 0)) }
     {
-        self.room.lock(rt).seat()
+        self.enter(rt).seat()
     }
 
     /// Submits a call of this seat's session, as [`Room::submit`].
@@ -114,7 +134,7 @@ impl Office {
         ensures seat { seat.new ≡ seat.old }
     {
         // The only call that a submission may start is its own, for which nobody waits yet.
-        self.room.lock(rt).submit(seat, op, args)
+        self.enter(rt).submit(seat, op, args)
     }
 
     /// Submits a call of this seat's session, and looks under the same lock whether it has started. It answers the number of the
@@ -129,27 +149,28 @@ impl Office {
         ensures tells { IfOk result (λ r. (s : Ask) × Asks op.now args.now s × (r.0 ≡ s.number) × Tells s r.1) }
         ensures seat { seat.new ≡ seat.old }
     {
-        let mut room = self.room.lock(rt);
+        let mut guard = self.enter(rt);
+        let room: &mut Room = &mut guard;
         let submitted = match room.submit(seat, op, args) {
             Ok(submitted) => submitted,
             Err(fault) => return Err(fault),
         };
         let number = submitted.number();
-        Ok((number, room.try_start(submitted)))
+        Ok((number, room.look(submitted)))
     }
 
     /// Looks whether a submitted call has started or was cancelled, as [`Room::try_start`]. It does not wait for that.
     pub fn try_start<R: Wait>(&self, rt: &R, submitted: Submitted) -> Tried
         ensures { Tells submitted result }
     {
-        self.room.lock(rt).try_start(submitted)
+        self.enter(rt).try_start(submitted)
     }
 
     /// The same, but where the call waits it first waits for it, at most so long.
     pub fn try_start_within<R: Wait>(&self, rt: &R, submitted: Submitted, most: Duration) -> Tried
         ensures { Tells submitted result }
     {
-        let mut room = self.room.lock(rt);
+        let mut room = self.enter(rt);
         let waiting = match room.try_start(submitted) {
             Tried::Waiting(back) => back,
             other => return other,
@@ -158,7 +179,7 @@ impl Office {
         let seen = bed.notifications();
         drop(room);
         bed.sleep(rt, seen, most);
-        self.room.lock(rt).try_start(waiting)
+        self.enter(rt).try_start(waiting)
     }
 
     /// Waits until a submitted call has started or was cancelled, as [`Room::try_start`] finds it.
@@ -166,7 +187,7 @@ impl Office {
         ensures { IsStartOf submitted result }
     {
         let mut submitted = submitted;
-        let mut room = self.room.lock(rt);
+        let mut room = self.enter(rt);
         for _ in rt.forever() {
             match room.try_start(submitted) {
                 Tried::Ticket(ticket) => return Started::Ticket(ticket),
@@ -191,7 +212,7 @@ impl Office {
     ) -> Result<Receipt, CompleteFault>
         ensures seat { Receives seat.old outcome result seat.new }
     {
-        let mut room = self.room.lock(rt);
+        let mut room = self.enter(rt);
         let before = room.desk().trace().len();
         let answer = room.complete(seat, outcome);
         let beds = started(room.desk(), before);
@@ -202,7 +223,7 @@ impl Office {
 
     /// Takes a waiting call out, as [`Room::cancel`].
     pub fn cancel<R: Wait>(&self, rt: &R, number: u32) -> Cancelled {
-        let mut room = self.room.lock(rt);
+        let mut room = self.enter(rt);
         let before = room.desk().trace().len();
         let answer = room.cancel(number);
         let beds = started(room.desk(), before) | 1u64 << bed_for(room.desk(), number);
@@ -215,7 +236,7 @@ impl Office {
 
     /// A session leaves, as by [`Room::leave`].
     pub fn leave<R: Wait>(&self, rt: &R, session: u32) {
-        let mut room = self.room.lock(rt);
+        let mut room = self.enter(rt);
         let before = room.desk().trace().len();
         room.leave(session);
         let beds = started(room.desk(), before) | 1u64 << bed_of(session);

@@ -203,10 +203,19 @@ impl Room {
         ensures tells { Tells submitted result }
         ensures room { Tries self.old submitted result self.new }
     {
-        let _history = self.desk.history();
         if !is_of(&self.desk, &submitted) {
             return Tried::Stranger(submitted);
         }
+        self.look(submitted)
+    }
+
+    /// The same of a submission that was just made here, or that is known to be of the call of its number.
+    pub(crate) fn look(&mut self, submitted: Submitted) -> Tried
+        requires { IsOf self.old.board submitted }
+        ensures tells { Tells submitted result }
+        ensures room { Tries self.old submitted result self.new }
+    {
+        let _history = self.desk.history();
         match self.desk.collect(submitted.number) {
             Collected::Ticket(ticket) => {
                 spend(submitted);

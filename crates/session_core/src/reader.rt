@@ -31,6 +31,8 @@ pub enum Next {
 #[derive(Drop)]
 pub struct LineReader<I: Read + Drop> {
     reader: I,
+    // the bytes of the last read
+    piece: Vec<u8>,
     buffer: BytesMut,
     codec: LinesCodec,
     ended: bool,
@@ -49,6 +51,7 @@ impl<I: Read + Drop> LineReader<I> {
     pub fn new(alloc: Global, reader: I) -> LineReader<I> {
         LineReader {
             reader,
+            piece: Vec::new(alloc),
             buffer: BytesMut::new(alloc),
             codec: LinesCodec::new_with_max_length(MOST_LINE_BYTES),
             ended: false,
@@ -84,14 +87,16 @@ impl<I: Read + Drop> LineReader<I> {
     /// Reads once, and gives the fault that it met. A read that was interrupted, or whose time ran out, brings nothing and is
     /// no fault.
     pub fn read(&mut self) -> Option<HearFault> {
-        let mut piece = [0u8; PIECE];
-        match self.reader.read(&mut piece) {
+        if self.piece.is_empty() && self.piece.resize(PIECE, 0).is_err() {
+            return Some(HearFault::Memory);
+        }
+        match self.reader.read(&mut self.piece) {
             Ok(0) => {
                 self.ended = true;
                 None
             }
             Ok(n) => {
-                if self.buffer.extend_from_slice(&piece[..n]).is_err() {
+                if self.buffer.extend_from_slice(&self.piece[..n]).is_err() {
                     return Some(HearFault::Memory);
                 }
                 None

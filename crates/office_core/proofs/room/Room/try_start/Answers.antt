@@ -1,10 +1,7 @@
 use Rattle.std.proofs.Common.{◌≡◌, ap, sym, subst, refl}
 use Rattle.board_core.proofs.Traces.{true_false}
-use Rattle.desk_core.specs.declared.answer.Collected.TheVariants as collected
-use Rattle.desk_core.specs.Answers.{Collects}
 use Rattle.office_core.specs.Rooms.{RoomState}
 use Rattle.office_core.specs.Submissions.{IsOf}
-use Rattle.office_core.proofs.Found.{ticket_is}
 use Rattle.office_core.proofs.room.Room.try_start.Goals as goal
 
 pub returns-then-not-is_of-clause-room : goal.returns-then-not-is_of-clause-room
@@ -12,33 +9,7 @@ returns-then-not-is_of-clause-room c =
     let board : c.self.inside.desk ≡ c.args.self.now.board = ap (λ (r : RoomState). r.board) c.self.view_is in
     (λ is. absurd (true_false c.is_of.result (c.is_of.ensures.1 (subst (λ b. IsOf b c.args.submitted) (sym board) is)) c.if-not-is_of.true), refl)
 
-pub returns-in-Ticket-clause-tells : goal.returns-in-Ticket-clause-tells
-returns-in-Ticket-clause-tells c =
-    ticket_is c.self.inside.desk c.args.submitted c.in-Ticket.ticket c.collect.new.self c.history-history.ensures.sound (c.is_of.ensures.0 c.if-not-is_of.false) c.in-Ticket.ensures.board
-
-pub returns-in-Ticket-clause-room : goal.returns-in-Ticket-clause-room
-returns-in-Ticket-clause-room c =
-    let s = c.args.submitted in
-    let board : c.self.inside.desk ≡ c.args.self.now.board = ap (λ (r : RoomState). r.board) c.self.view_is in (
-      subst (λ b. IsOf b s) board (c.is_of.ensures.0 c.if-not-is_of.false),
-      subst (λ b. Collects b s.number (collected.Ticket c.in-Ticket.ticket) c.collect.new.self) board c.in-Ticket.ensures.board,
-      ap (λ (r : RoomState). r.given) c.self.view_is,
-    )
-
-pub returns-in-Waiting-clause-room : goal.returns-in-Waiting-clause-room
-returns-in-Waiting-clause-room c =
-    let s = c.args.submitted in
-    let board : c.self.inside.desk ≡ c.args.self.now.board = ap (λ (r : RoomState). r.board) c.self.view_is in (
-      subst (λ b. IsOf b s) board (c.is_of.ensures.0 c.if-not-is_of.false),
-      subst (λ b. Collects b s.number collected.Waiting c.collect.new.self) board c.in-Waiting.ensures.board,
-      ap (λ (r : RoomState). r.given) c.self.view_is,
-    )
-
-pub returns-in-Cancelled-clause-room : goal.returns-in-Cancelled-clause-room
-returns-in-Cancelled-clause-room c =
-    let s = c.args.submitted in
-    let board : c.self.inside.desk ≡ c.args.self.now.board = ap (λ (r : RoomState). r.board) c.self.view_is in (
-      subst (λ b. IsOf b s) board (c.is_of.ensures.0 c.if-not-is_of.false),
-      subst (λ b. Collects b s.number collected.Cancelled c.collect.new.self) board c.in-Cancelled.ensures.board,
-      ap (λ (r : RoomState). r.given) c.self.view_is,
-    )
+pub look-requires : goal.look-requires
+look-requires c =
+    let board : c.self.inside.desk ≡ c.args.self.now.board = ap (λ (r : RoomState). r.board) c.self.view_is in
+    subst (λ b. IsOf b c.args.submitted) board (c.is_of.ensures.0 c.if-not-is_of.false)
