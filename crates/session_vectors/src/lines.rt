@@ -1,11 +1,11 @@
 //! What a session answers, and how it ends.
 
 use crate::make::{CELL, Pieces, Short, offices};
-use slip_core::slip::Slip;
 use office_core::seat::Seat;
 use session_core::end::SessionFault;
 use session_core::order::Named;
 use session_core::serve::serve_session;
+use slip_core::slip::Slip;
 use std::alloc::Global;
 use std::process::Abort;
 use std::sync::Wait;
