@@ -19,6 +19,7 @@ use std::alloc::{AllocError, Global};
 use std::hint::spin_loop;
 use std::sync::{Condvar, Mutex, MutexGuard, Wait};
 use std::time::Duration;
+use turn_core::turns::Pace;
 use value_core::datum::Datum;
 
 /// How often a thread looks whether the room is free before it sleeps, and how long it pauses between two looks. A room is held for a
@@ -26,6 +27,16 @@ use value_core::datum::Datum;
 const LOOKS: usize = 32;
 
 const PAUSES: usize = 12;
+
+/// How often a thread looks whether the call that its own would wait for has ended, before it sleeps or submits all the same. It is
+/// long enough for a call that writes one small file.
+const GLANCES: usize = 64;
+
+/// How long it sleeps then, in microseconds, if nobody wakes it.
+const NAP: u64 = 1000;
+
+/// How often it does so before it submits its call all the same.
+const NAPS: usize = 4;
 
 /// How many places there are at which waiters sleep: session `n` sleeps at `n % BEDS`.
 const BEDS: usize = 64;
@@ -35,6 +46,8 @@ const BEDS: usize = 64;
 pub struct Office {
     room: Mutex<Room>,
     beds: Vec<Condvar>,
+    // Where those sleep whose call is not yet submitted.
+    door: Condvar,
     ghost all: { length beds.items ≡ 64 },
 }
 
@@ -55,13 +68,13 @@ fn bed_for(desk: &Desk, number: u32) -> usize
     }
 }
 
-// The beds of the sessions whose calls started since the trace was so long, a bit each.
-fn started(desk: &Desk, before: usize) -> u64 {
-    let trace = desk.trace();
+// The beds of the sessions whose calls started since the trace was so long, a bit each. The room notes these starts.
+fn started(room: &mut Room, before: usize) -> u64 {
     let mut beds = 0u64;
-    for place in before..trace.len() {
-        if let Some(TraceEvent::Start(number)) = trace.get(place) {
-            beds |= 1u64 << bed_for(desk, number);
+    for place in before..room.desk().trace().len() {
+        if let Some(TraceEvent::Start(number)) = room.desk().trace().get(place) {
+            beds |= 1u64 << bed_for(room.desk(), number);
+            room.note_start(number);
         }
     }
     beds
@@ -87,6 +100,7 @@ impl Office {
         Ok(Office {
             room: Mutex::new(room),
             beds,
+            door: Condvar::new(),
         })
     }
 
@@ -101,6 +115,46 @@ impl Office {
             }
         }
         self.room.lock(rt)
+    }
+
+    // Looks for some microseconds whether there were more notifications at the door than these.
+    fn glance(&self, seen: u64) -> bool {
+        for _ in 0..GLANCES {
+            if self.door.notifications() != seen {
+                return true;
+            }
+            for _ in 0..PAUSES {
+                spin_loop();
+            }
+        }
+        false
+    }
+
+    // The room, once a call of this operation would not wait long, or some milliseconds have passed. A call that is submitted while one
+    // runs that excludes it stands in a queue: its thread has to be woken for its turn, and no other call of its operation can run
+    // until it is. One that is submitted when the other has ended starts at once.
+    fn enter_in_turn<R: Wait>(&self, rt: &R, op: &str) -> MutexGuard<'_, Room> {
+        for _ in 0..NAPS {
+            let room = self.enter(rt);
+            let pace = room.pace(op);
+            let seen = self.door.notifications();
+            match pace {
+                Pace::Now => return room,
+                Pace::Soon => {
+                    drop(room);
+                    if !self.glance(seen) {
+                        return self.enter(rt);
+                    }
+                }
+                Pace::InTurn => {
+                    drop(room);
+                    if !self.glance(seen) {
+                        self.door.sleep(rt, seen, Duration::from_micros(NAP));
+                    }
+                }
+            }
+        }
+        self.enter(rt)
     }
 
     // Wakes who sleeps in these beds.
@@ -139,6 +193,8 @@ impl Office {
 
     /// Submits a call of this seat's session, and looks under the same lock whether it has started. It answers the number of the
     /// call, and what the look tells. A fault is one of `submit`.
+    ///
+    /// While a call runs that this one would wait for, it holds the submission back, for some milliseconds at most.
     pub fn submit_and_try<R: Wait>(
         &self,
         rt: &R,
@@ -149,14 +205,18 @@ impl Office {
         ensures tells { IfOk result (λ r. (s : Ask) × Asks op.now args.now s × (r.0 ≡ s.number) × Tells s r.1) }
         ensures seat { seat.new ≡ seat.old }
     {
-        let mut guard = self.enter(rt);
+        let mut guard = self.enter_in_turn(rt, op);
         let room: &mut Room = &mut guard;
         let submitted = match room.submit(seat, op, args) {
             Ok(submitted) => submitted,
             Err(fault) => return Err(fault),
         };
         let number = submitted.number();
-        Ok((number, room.look(submitted)))
+        let tried = room.look(submitted);
+        if let Tried::Ticket(_) = &tried {
+            room.note_start(number);
+        }
+        Ok((number, tried))
     }
 
     /// Looks whether a submitted call has started or was cancelled, as [`Room::try_start`]. It does not wait for that.
@@ -214,10 +274,16 @@ impl Office {
     {
         let mut room = self.enter(rt);
         let before = room.desk().trace().len();
+        let number = outcome.number();
         let answer = room.complete(seat, outcome);
-        let beds = started(room.desk(), before);
+        let ended = answer.is_ok() && room.note_end(number);
+        let beds = started(&mut room, before);
+        let opens = ended && room.is_open();
         drop(room);
         self.wake(beds);
+        if opens {
+            self.door.notify_one();
+        }
         answer
     }
 
@@ -226,7 +292,7 @@ impl Office {
         let mut room = self.enter(rt);
         let before = room.desk().trace().len();
         let answer = room.cancel(number);
-        let beds = started(room.desk(), before) | 1u64 << bed_for(room.desk(), number);
+        let beds = started(&mut room, before) | 1u64 << bed_for(room.desk(), number);
         drop(room);
         if answer == Cancelled::Cancelled {
             self.wake(beds);
@@ -239,7 +305,7 @@ impl Office {
         let mut room = self.enter(rt);
         let before = room.desk().trace().len();
         room.leave(session);
-        let beds = started(room.desk(), before) | 1u64 << bed_of(session);
+        let beds = started(&mut room, before) | 1u64 << bed_of(session);
         drop(room);
         self.wake(beds);
     }

@@ -25,6 +25,7 @@ use slip_core::slip::Slip;
 use std::alloc::{AllocError, Global};
 use std::marker::Model;
 use std::sync::Arc;
+use turn_core::turns::{Pace, Turns};
 use value_core::datum::Datum;
 
 /// The most sessions that a room gives out.
@@ -39,6 +40,8 @@ pub struct Room {
     alloc: Global,
     desk: Desk,
     given: u32,
+    // Which call runs that others wait for. No clause hangs on it.
+    turns: Turns,
 }
 
 impl Model for Room {
@@ -126,11 +129,13 @@ impl Room {
         requires { length pins ≡ length accepted.parts.items }
         ensures { IfOk result (λ r. r ≡ record { board = opened accepted pins; given = 0 }) }
     {
+        let turns = Turns::new(&accepted);
         let desk = Desk::open(alloc, accepted, pins)?;
         Ok(Room {
             alloc,
             desk,
             given: 0,
+            turns,
         })
     }
 
@@ -256,6 +261,35 @@ impl Room {
         Ok(receipt)
     }
 
+    // When a call of the operation of this name is best submitted.
+    pub(crate) fn pace(&self, op: &str) -> Pace {
+        let operations = &self.desk.accepted().object().operations;
+        self.turns.pace(operations, op.as_bytes())
+    }
+
+    // Notes that the call of this number started.
+    pub(crate) fn note_start(&mut self, number: u32)
+        ensures { self.new ≡ self.old }
+    {
+        let Some(call) = self.desk.call(number) else {
+            return;
+        };
+        let op = call.op();
+        self.turns.note_start(number, op);
+    }
+
+    // Notes that the call of this number ended, and answers whether others may have waited for it.
+    pub(crate) fn note_end(&mut self, number: u32) -> bool
+        ensures { self.new ≡ self.old }
+    {
+        self.turns.note_end(number)
+    }
+
+    // Whether no call runs that others would wait for.
+    pub(crate) fn is_open(&self) -> bool {
+        self.turns.is_open()
+    }
+
     /// Takes a waiting call out, as the desk's `cancel` does. It takes no memory.
     pub fn cancel(&mut self, number: u32) -> Cancelled
         ensures board { Cancels self.old.board number result self.new.board }
@@ -295,6 +329,7 @@ impl Room {
             alloc: _,
             desk,
             given: _,
+            turns: _,
         } = self;
         Closed { desk }
     }

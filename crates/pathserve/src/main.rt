@@ -31,19 +31,19 @@ use request::{Request, request_of};
 use script::answer_script;
 use serve::{place_of, serve_objects};
 use serve_core::serve::Place;
-use shelf_core::dir::DirHand;
 use source::read_source;
 use std::fs::File;
 use std::net::{Ipv4Addr, TcpListener};
 use std::process::ExitCode;
 use std::{env, io};
+use turn_core::ahead::AheadHand;
 
 // What is done of a command line before any thread is started.
 enum Prepared {
     // All, with the exit status.
     Ended(u8),
     // A source is to be served, over this place and this listener; where a refusal is to be explained, with the name of its file.
-    Serves(Vec<u8>, Place<DirHand<HostRuntime>>, TcpListener, Option<String>),
+    Serves(Vec<u8>, Place<AheadHand<HostRuntime>>, TcpListener, Option<String>),
 }
 
 fn main(rt: HostRuntime) -> ExitCode {

@@ -15,6 +15,7 @@ use std::os::unix::fs::FileExt;
 use std::rt::Files;
 use std::sync::{Arc, Wait};
 use std::thread::Threads;
+use turn_core::ahead::{AheadHand, Ends};
 
 // Numbers from this one on, which hands share.
 fn numbers_from<R: AllocGlobal>(rt: &R, first: u64) -> Result<Arc<Numbers>, AllocError> {
@@ -31,12 +32,13 @@ pub fn place_of<R: Files + AllocGlobal + Clone + Drop>(
     rt: &R,
     folder: &str,
     sessions: usize,
-) -> Result<Place<DirHand<R>>, Failure> {
+) -> Result<Place<AheadHand<R>>, Failure> {
     let left = value_numbers(rt, rt.alloc(), folder)?;
     let numbers = numbers_from(rt, number_above(&left))?;
     let mut hands = Vec::new(rt.alloc());
     for _ in 0..sessions {
         let hand = DirHand::new(rt.clone()?, folder, Arc::try_clone(&numbers)?)?;
+        let hand = AheadHand::new(rt.clone()?, hand, folder)?;
         if hands.push(hand).is_err() {
             return Err(Failure::Memory);
         }
@@ -66,7 +68,7 @@ fn status_of_serve(end: ServeEnd) -> u8 {
 /// A failure is `ReadFault`, `WriteFault` or `Memory`, the first that was met. What did not hang on it was still done.
 pub fn serve_objects<
     R: Files + AllocGlobal + Threads + Wait + Clone + Drop + Sync,
-    H: Hand + Drop + Send,
+    H: Hand + Ends + Drop + Send,
     W: Write,
     E: Write,
 >(

@@ -15,6 +15,7 @@ use std::sync::Wait;
 use std::thread;
 use std::thread::Threads;
 use std::time::Duration;
+use turn_core::ahead::Ends;
 
 // How long a read waits where nothing comes, in milliseconds.
 const PAUSE: u64 = 250;
@@ -35,8 +36,8 @@ fn prepare(stream: &TcpStream) {
     let _ = stream.set_read_timeout(Some(Duration::from_millis(PAUSE)));
 }
 
-// Takes a connection, and serves the session over it with the next hand. The error is that none could be taken, or not be served.
-fn serve_next<R: Threads + Wait + Sync, H: Hand + Drop + Send, O: Offices + Sync>(
+// Takes a connection, serves the session over it with the next hand, and has the hand end. The error is that none could be taken, or not be served.
+fn serve_next<R: Threads + Wait + Sync, H: Hand + Ends + Drop + Send, O: Offices + Sync>(
     rt: &R,
     alloc: Global,
     listener: &TcpListener,
@@ -54,9 +55,10 @@ fn serve_next<R: Threads + Wait + Sync, H: Hand + Drop + Send, O: Offices + Sync
         seat,
         receipts,
         writer: _,
-        hand: _,
+        mut hand,
         fault: _,
     } = serve_session(rt, alloc, stream, writer, offices, hand);
+    hand.end();
     Ok(Some(Left {
         object,
         seat,
@@ -69,7 +71,7 @@ fn serve_next<R: Threads + Wait + Sync, H: Hand + Drop + Send, O: Offices + Sync
 /// `ReadFault`.
 ///
 /// The error is that memory was refused; of what the sessions left nothing is known then.
-pub fn serve_all<R: Threads + Wait + Sync, H: Hand + Drop + Send, O: Offices + Sync>(
+pub fn serve_all<R: Threads + Wait + Sync, H: Hand + Ends + Drop + Send, O: Offices + Sync>(
     rt: &R,
     alloc: Global,
     listener: &TcpListener,

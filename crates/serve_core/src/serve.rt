@@ -23,6 +23,7 @@ use std::os::unix::fs::FileExt;
 use std::rt::Files;
 use std::sync::{Arc, Wait};
 use std::thread::Threads;
+use turn_core::ahead::Ends;
 
 /// Where a server keeps its files, and the hands of its sessions: it takes a connection for each.
 #[derive(Drop)]
@@ -103,7 +104,7 @@ where
 // Serves objects that are accepted.
 fn serve_ready<
     R: Files + AllocGlobal + Threads + Wait + Clone + Drop + Sync,
-    H: Hand + Drop + Send,
+    H: Hand + Ends + Drop + Send,
     W: Write,
 >(
     rt: &R,
@@ -169,7 +170,7 @@ where
 /// written; `Memory`. Of several the first is told.
 pub fn serve_on<
     R: Files + AllocGlobal + Threads + Wait + Clone + Drop + Sync,
-    H: Hand + Drop + Send,
+    H: Hand + Ends + Drop + Send,
     W: Write,
 >(
     rt: &R,

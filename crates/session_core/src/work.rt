@@ -217,11 +217,14 @@ fn retire_all<H: Hand>(hand: &mut H, free: &[Stamp], left: &mut Vec<Stamp>)
 fn retire_left<H: Hand>(alloc: Global, hand: &mut H, left: &mut Vec<Stamp>)
     ensures { Keeps H.agrees hand.old hand.new }
 {
+    if left.is_empty() {
+        return;
+    }
     let free = mem::replace(left, Vec::new(alloc));
     retire_all(hand, &free, left);
 }
 
-// Keeps the files of a receipt until its line was sent. Without memory they are retired now.
+// Keeps the files of a receipt until the next call, or until its line was sent. Without memory they are retired now.
 fn put_off<H: Hand>(hand: &mut H, free: &[Stamp], left: &mut Vec<Stamp>)
     ensures { Keeps H.agrees hand.old hand.new }
 {
@@ -293,7 +296,8 @@ fn keep(receipts: &mut Vec<Slip>, room: &mut SlipRoom, receipt: &Receipt)
     }
 }
 
-// One call, where there is room for its receipt.
+// One call, where there is room for its receipt. What earlier calls left is retired before it is submitted, while no other call waits
+// for this one.
 fn serve_at<R: Wait, I: Read + Drop, W: Write + Drop, H: Hand + Drop, J: Start>(
     rt: &R,
     alloc: Global,
@@ -308,6 +312,7 @@ fn serve_at<R: Wait, I: Read + Drop, W: Write + Drop, H: Hand + Drop, J: Start>(
     ensures kept { Keeps H.agrees worked.old.hand worked.new.hand }
     ensures told { AreTrue H.agrees worked.old.hand worked.old.receipts.items → AreTrue H.agrees worked.new.hand worked.new.receipts.items }
 {
+    retire_left(alloc, &mut worked.hand, &mut worked.free);
     if !make_room(rt, output, &mut worked.receipts, &mut worked.room, args) {
         say(rt, output, Line::Unsubmitted(SubmitFault::Memory));
         return;

@@ -5,7 +5,7 @@ use crate::hand_calls::Call::{
     Seal, Stamped,
 };
 use crate::hand_calls::{A, B, C, D};
-use crate::places::Line::{All, At, Denied, Hand, Other, Shelf};
+use crate::places::Line::{Ahead, AheadEnds, All, At, Denied, Hand, Other, Shelf};
 use crate::places::{Line, Place};
 use crate::scratch::Deed::{Has, Lacks, MakeFolder, Mode, Remove, RemoveFolder, Write};
 use crate::scratch::Scratch;
@@ -82,6 +82,50 @@ const TWO: &[Line] = &[
     Hand(&[Read(B, 0, b"two")]),
     Hand(&[Failures(0)]),
     Other(&[Failures(1)]),
+];
+
+// A hand that has its next file ready.
+const AHEAD: &[Line] = &[
+    // None is ready before a file was retired.
+    Ahead(&[Create(A), Append(A, b"one"), Seal(A, 3), Number(A, 1)]),
+    At("2.val", Lacks),
+    Ahead(&[Read(A, 0, b"one"), Retire(A), Number(A, 1)]),
+    At("1.val", Lacks),
+    At("2.val", Has(b"")),
+    // It is given once.
+    Ahead(&[Create(B), Create(C), Number(B, 2), Number(C, 3)]),
+    Ahead(&[Append(B, b"two"), Append(C, b"three"), Seal(B, 3), Seal(C, 5)]),
+    At("2.val", Has(b"two")),
+    At("3.val", Has(b"three")),
+    // The last read is answered again from memory, and no other one is.
+    Ahead(&[Read(B, 0, b"tw")]),
+    At("2.val", Write(b"TWO")),
+    Ahead(&[
+        Read(B, 0, b"tw"),
+        Read(B, 1, b"WO"),
+        Read(B, 0, b"TW"),
+        Read(B, 0, b"TWO"),
+    ]),
+    // One that was removed is not given.
+    Ahead(&[Retire(B)]),
+    At("4.val", Has(b"")),
+    At("4.val", Remove),
+    Ahead(&[Create(B), Number(B, 5), Discard(B)]),
+    At("5.val", Lacks),
+    // One that cannot be made ahead is no call's failure. What is there is left as it is.
+    At("6.val", Write(b"mine")),
+    Ahead(&[Retire(C), Failures(0)]),
+    At("6.val", Has(b"mine")),
+    Ahead(&[Create(C), Seal(C, 0), Number(C, 7)]),
+    // A retire that fails makes one too.
+    At("7.val", Remove),
+    Ahead(&[NoRetire(C), Failures(1)]),
+    At("8.val", Has(b"")),
+    // At the end the one that is ready is removed.
+    AheadEnds,
+    At("8.val", Lacks),
+    AheadEnds,
+    Ahead(&[Create(C), Discard(C), Failures(1)]),
 ];
 
 // The one file that a name has, and that nothing else is left.
@@ -219,12 +263,13 @@ const ONLY_READ: &[Line] = &[
 ];
 
 // Of each script: its name, the folder of its devices, which is `.` or is made by the script, and their first number.
-const SCRIPTS: [(&str, &str, u64, &[Line]); 10] = [
+const SCRIPTS: [(&str, &str, u64, &[Line]); 11] = [
     ("all", ".", 1, &[All]),
     ("there", ".", 40, THERE),
     ("come", ".", 1, COMING),
     ("lost", ".", 1, LOST),
     ("two", ".", 7, TWO),
+    ("ahead", ".", 1, AHEAD),
     ("name", "in", 1, NAMES),
     ("bad", "in", 1, BAD_NAMES),
     ("place", ".", 1, IN_PLACE),

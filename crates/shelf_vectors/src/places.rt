@@ -14,6 +14,7 @@ use std::os::unix::fs::FileExt;
 use std::process::Abort;
 use std::rt::Files;
 use std::sync::Arc;
+use turn_core::ahead::{AheadHand, Ends};
 
 /// What is done in a folder, or what is there.
 #[derive(Clone, Copy, Drop)]
@@ -24,6 +25,10 @@ pub enum Line {
     Hand(&'static [Call]),
     /// Calls of another hand on the folder, with the same numbers and the same files of the script.
     Other(&'static [Call]),
+    /// Calls of a hand on the folder that has its next file ready, with the same numbers and the same files of the script.
+    Ahead(&'static [Call]),
+    /// That hand ends.
+    AheadEnds,
     /// Calls of the shelf.
     Shelf(&'static [Entry]),
     /// Calls of the hand and of the shelf, where the system lets this process write no file in the folder.
@@ -32,11 +37,12 @@ pub enum Line {
     At(&'static str, Deed),
 }
 
-/// Two hands and a shelf in one folder, with the files of a script.
+/// Three hands and a shelf in one folder, with the files of a script.
 #[derive(Drop)]
 pub struct Place<R: Files + AllocGlobal> {
     hand: DirHand<R>,
     other: DirHand<R>,
+    ahead: AheadHand<R>,
     shelf: DirShelf<R>,
     files: FileRow,
 }
@@ -49,6 +55,8 @@ where
     pub fn new(rt: R, folder: &str, first: u64) -> io::Result<Place<R>> {
         let numbers = Arc::new(rt.alloc(), Numbers::new(first))?;
         let others = Arc::try_clone(&numbers)?;
+        let ahead = DirHand::new(rt, folder, Arc::try_clone(&numbers)?)?;
+        let ahead = AheadHand::new(rt, ahead, folder)?;
         let hand = DirHand::new(rt, folder, numbers)?;
         let other = DirHand::new(rt, folder, others)?;
         let shelf = DirShelf::new(rt, folder)?;
@@ -56,6 +64,7 @@ where
         Ok(Place {
             hand,
             other,
+            ahead,
             shelf,
             files,
         })
@@ -77,6 +86,7 @@ where
     // What every hand and every shelf does.
     fn all(&mut self, rt: &impl Abort, alloc: Global) {
         is_a_hand(rt, alloc, &mut self.hand);
+        is_a_hand(rt, alloc, &mut self.ahead);
         is_a_shelf(rt, alloc, &mut self.shelf);
     }
 
@@ -93,6 +103,8 @@ where
             Line::All => self.all(rt, alloc),
             Line::Hand(calls) => self.calls(rt, alloc, calls, &[], number),
             Line::Other(calls) => self.files.play(rt, &mut self.other, calls, number),
+            Line::Ahead(calls) => self.files.play(rt, &mut self.ahead, calls, number),
+            Line::AheadEnds => self.ahead.end(),
             Line::Shelf(entries) => self.calls(rt, alloc, &[], entries, number),
             Line::Denied(calls, entries) => {
                 if !scratch.does("probe", Deed::Write(b"")) {

@@ -6,4 +6,4 @@ use Rattle.session_core.proofs.work.serve_at.Goals as goal
 pub returns-clause-told : goal.returns-clause-told
 returns-clause-told g c = λ are a h.
     let later = c.put_off.ensures a h in
-    c.keep.ensures a (subst (Every (IsTrueTold a)) (sym c.make_room.ensures.same) (are a (c.call_on.ensures.kept a later))) (c.in-Some.ensures.told a later)
+    c.keep.ensures a (subst (Every (IsTrueTold a)) (sym c.make_room.ensures.same) (are a (c.retire_left.ensures a (c.call_on.ensures.kept a later)))) (c.in-Some.ensures.told a later)
