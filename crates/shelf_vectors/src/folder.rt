@@ -94,7 +94,12 @@ const AHEAD: &[Line] = &[
     At("2.val", Has(b"")),
     // It is given once.
     Ahead(&[Create(B), Create(C), Number(B, 2), Number(C, 3)]),
-    Ahead(&[Append(B, b"two"), Append(C, b"three"), Seal(B, 3), Seal(C, 5)]),
+    Ahead(&[
+        Append(B, b"two"),
+        Append(C, b"three"),
+        Seal(B, 3),
+        Seal(C, 5),
+    ]),
     At("2.val", Has(b"two")),
     At("3.val", Has(b"three")),
     // The last read is answered again from memory, and no other one is.
