@@ -20,15 +20,15 @@ use Rattle.board_core.proofs.Kept.{news_few, count_few}
 use Rattle.board_core.proofs.Published.{done_twice}
 use Rattle.board_core.proofs.Lists.{among_at}
 use Rattle.board_core.proofs.Admission.{rests_after, ended_history, picks_admitted, settled}
-use Rattle.desk_core.proofs.desk.Desk.finish.Goals as goal
+use Rattle.desk_core.proofs.desk.Desk.finish_in_place.Goals as goal
 
 pub end-ended-requires : goal.end-ended-requires
 end-ended-requires c =
     let found = c.in-Some.ensures.some in
-    let reply : Reply = outcome_reply c.args.outcome in
-    let news : List NewPin = outcome_news c.args.outcome in
+    let reply : Reply = outcome_reply c.args.outcome.now in
+    let news : List NewPin = outcome_news c.args.outcome.now in
     let done = c.new_pins.result.now in
-    let operation : Operation = (outcome_call c.args.outcome).operation in
+    let operation : Operation = (outcome_call c.args.outcome.now).operation in
     let same : (body_of found.0.call.operation).statements ≡ (body_of operation).statements = ap (λ (f : OperationForm). f.statements) found.2.operation in
     record {
       there = (
@@ -53,8 +53,8 @@ returns-clause-board c =
     let r : RunningCall = found.0 in
     let before : Board = c.self.inside.roster in
     let after : Board = c.admit.new.self in
-    let reply : Reply = outcome_reply c.args.outcome in
-    let news : List NewPin = outcome_news c.args.outcome in
+    let reply : Reply = outcome_reply c.args.outcome.now in
+    let news : List NewPin = outcome_news c.args.outcome.now in
     let done = c.new_pins.result.now in
     let e : Noted = entry_of r reply news in
     let entry : entry_of r c.reply-reply.result done ≡ e =
