@@ -2,8 +2,8 @@ use Rattle.std.proofs.Common.{sym, ap, ◌∙◌}
 use Rattle.std.specs.Prelude.{option_map}
 use Rattle.value_core.specs.declared.datum.Datum.TheVariants.{Integer}
 use Rattle.word_core.specs.Words.{bare}
-use Rattle.audit_core.proofs.Reading.{no_datum}
-use Rattle.audit_core.proofs.arguments.push_next.Goals as goal
+use Rattle.line_read.proofs.Reading.{no_datum}
+use Rattle.line_read.proofs.arguments.push_next.Goals as goal
 
 pub returns-in-None-integer_of : goal.returns-in-None-integer_of
 returns-in-None-integer_of c =

@@ -3,7 +3,7 @@
 ghost use Rattle.std.specs.Prelude.{◌≡◌, ◌↔◌, [], IsTrue};
 ghost use Rattle.line_core.specs.Words.{drop_spaces};
 ghost use Rattle.word_core.specs.Data.{only_bare as only_bare_in};
-ghost use Rattle.audit_core.specs.Reads.{IsFront, Reads};
+ghost use Rattle.line_read.specs.Reads.{IsFront, Reads};
 
 use line_core::words::{skip_spaces, split_at_space};
 

@@ -1,6 +1,6 @@
 use Rattle.std.proofs.Common.{ap, length, arith}
 use Rattle.word_core.proofs.Spaces.{bare_first, no_apostrophe}
-use Rattle.audit_core.proofs.front.next_bare.Goals as goal
+use Rattle.line_read.proofs.front.next_bare.Goals as goal
 
 pub returns-else-first-eq39 : goal.returns-else-first-eq39
 returns-else-first-eq39 c =

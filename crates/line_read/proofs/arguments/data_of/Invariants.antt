@@ -1,6 +1,6 @@
 use Rattle.std.proofs.Common.{length}
-use Rattle.audit_core.proofs.Reading.{HasRead}
-use Rattle.audit_core.proofs.arguments.data_of.Given as goal
+use Rattle.line_read.proofs.Reading.{HasRead}
+use Rattle.line_read.proofs.arguments.data_of.Given as goal
 
 abbrev pub invariant-words : goal.invariant-words
 invariant-words l = HasRead l.line l.rest l.all.items

@@ -2,9 +2,9 @@ use Rattle.std.proofs.Common.{List, sym, ◌∙◌, Some}
 use Rattle.std.proofs.lemmas.Bool.{false≢true}
 use Rattle.value_core.specs.declared.datum.Datum.{Datum}
 use Rattle.word_core.proofs.Lines.{shorter}
-use Rattle.audit_core.specs.Reads.{Adds}
-use Rattle.audit_core.proofs.Reading.{has_read_more, all_read, bad_data}
-use Rattle.audit_core.proofs.arguments.data_of.Goals as goal
+use Rattle.line_read.specs.Reads.{Adds}
+use Rattle.line_read.proofs.Reading.{has_read_more, all_read, bad_data}
+use Rattle.line_read.proofs.arguments.data_of.Goals as goal
 
 pub words-smaller : goal.words-smaller
 words-smaller c =

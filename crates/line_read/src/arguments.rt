@@ -2,7 +2,7 @@
 
 ghost use Rattle.std.specs.Prelude.{IfOk};
 ghost use Rattle.word_core.specs.Data.{data_of as data_in};
-ghost use Rattle.audit_core.specs.Reads.{Adds, Reads};
+ghost use Rattle.line_read.specs.Reads.{Adds, Reads};
 
 use crate::front::{is_blank, next_bare};
 use std::alloc::{AllocError, Global};
