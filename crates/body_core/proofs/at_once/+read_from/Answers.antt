@@ -1,4 +1,4 @@
-use Rattle.std.proofs.Common.{◌∙◌, arith, ap, length}
+use Rattle.std.proofs.Common.{arith, ap, length}
 use Rattle.body_core.specs.Tasks.{task_call}
 use Rattle.body_core.proofs.AtOnce.{read_one, has_place}
 use Rattle.body_core.proofs.Fronts.{with_row_length}

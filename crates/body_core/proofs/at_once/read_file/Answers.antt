@@ -1,4 +1,4 @@
-use Rattle.std.proofs.Common.{arith, rules, inl, inr}
+use Rattle.std.proofs.Common.{arith, inl, inr}
 use Rattle.std.proofs.lemmas.Bool.{cases_lt}
 use Rattle.body_core.proofs.at_once.read_file.Goals as goal
 

@@ -1,7 +1,6 @@
-use Rattle.std.proofs.Common.{◌∙◌, ◌<◌, arith, rules, ap, sym, subst, inl, inr, length, List, ℕ}
+use Rattle.std.proofs.Common.{◌∙◌, ◌<◌, arith, sym, subst, inl, inr, length, List, ℕ}
 use Rattle.std.proofs.lemmas.Bool.{cases_lt}
-use Rattle.body_core.specs.Phases.{AreRead, FoundBy}
-use Rattle.body_core.specs.Runs.{run_call}
+use Rattle.body_core.specs.Phases.{AreRead}
 use Rattle.body_core.specs.Steps.{place_in}
 use Rattle.body_core.specs.Tasks.{task_call}
 use Rattle.body_core.proofs.AtOnce.{none_before, told_of_ended, no_pen_there, fails_later}
