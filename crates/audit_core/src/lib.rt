@@ -1,11 +1,9 @@
 //! Audits of traces.
 #![tactic(auto)]
 
-mod arguments;
 pub mod audit;
 mod calls;
 mod counters;
-mod front;
 pub mod laws;
 mod part;
 mod replay;

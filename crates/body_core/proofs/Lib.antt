@@ -1,3 +1,4 @@
+pub mod AtOnce
 pub mod Bits
 pub mod Blocks
 pub mod Changes

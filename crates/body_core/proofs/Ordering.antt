@@ -26,7 +26,7 @@ parts_stay [] (n ∷ sealed) change new here part = absurd cc
 parts_stay (c ∷ changes) [] change new here part = ap (λ (p : ℕ). p ∷ parts_changed changes) (part ∙ ap (λ (d : Change). d.part) (sym (some_same here)))
 parts_stay (c ∷ changes) (n ∷ sealed) change new here part = ap (λ (ps : List ℕ). n.part ∷ ps) (parts_stay changes sealed change new here part)
 
-judged_in_order : (call : Call) (place : Place) → IsJudged call place → WritesInOrder (body_of call.operation).statements 0 (parts_at place)
+pub judged_in_order : (call : Call) (place : Place) → IsJudged call place → WritesInOrder (body_of call.operation).statements 0 (parts_at place)
 judged_in_order call place (changed some order) = order
 judged_in_order call place not_changed = tt
 

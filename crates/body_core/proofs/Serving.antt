@@ -18,7 +18,7 @@ next_pin call from part q pin other n m is same none =
     let pins : pin ≡ other = cc in
     none (subst (λ s. IsPinOf call q s) pins (subst (λ p. IsPinOf call p pin) parts (is.read, is.pinned)))
 
-judged_reads : (call : Call) (place : Place) → IsJudged call place → ReadsItsPin call place
+pub judged_reads : (call : Call) (place : Place) → IsJudged call place → ReadsItsPin call place
 judged_reads call place (changed some order) part pin n is none = absurd cc
 judged_reads call place not_changed part pin n is none = absurd cc
 

@@ -10,6 +10,7 @@
 mod act;
 mod advance;
 pub mod apply;
+pub mod at_once;
 pub mod beside;
 mod conclude;
 mod eval;

@@ -47,7 +47,11 @@ fn read_end<H: Hand>(hand: &mut H, pin: Stamp, at: usize, bytes: &mut [u8]) -> R
 }
 
 // Adds up to a chunk of the file's bytes. A file of no bytes makes a read of no bytes.
-fn read_chunk<H: Hand>(hand: &mut H, pin: Stamp, got: &mut Vec<u8>) -> Result<(), HandFault>
+pub(crate) fn read_chunk<H: Hand>(
+    hand: &mut H,
+    pin: Stamp,
+    got: &mut Vec<u8>,
+) -> Result<(), HandFault>
     requires { length got.old.items ≤ pin.len }
     ensures kept { (a : Assignment) → H.agrees hand.new a → H.agrees hand.old a }
     ensures found { OnOk result ((a : Assignment) → H.agrees hand.new a → IsFront a pin got.old.items → IsRead a pin got.new.items) }
@@ -77,7 +81,7 @@ fn read_chunk<H: Hand>(hand: &mut H, pin: Stamp, got: &mut Vec<u8>) -> Result<()
 }
 
 // Puts bytes at this place, with empty ones before them where there are none.
-fn put(
+pub(crate) fn put(
     alloc: Global,
     read: &mut Vec<FileBytes>,
     place: usize,

@@ -31,9 +31,9 @@ use std::mem;
 /// A run of a call: it reads the parts that its operation reads, evaluates the body, and writes each part that
 /// the body changed into a new file. It has to be spent, by [`Run::outcome`].
 pub struct Run {
-    alloc: Global,
-    task: Task,
-    phase: Phase,
+    pub(crate) alloc: Global,
+    pub(crate) task: Task,
+    pub(crate) phase: Phase,
     // it writes parts of its operation's writes alone, in their order
     ghost inside: { (WritesInOrder (body_of (arc_value task.operation)).statements 0 (parts_at (place_in phase)) → ⊥) → ⊥ },
     // it reads parts of its operation's reads alone, under the pins of its call

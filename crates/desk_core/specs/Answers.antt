@@ -15,6 +15,7 @@ use Rattle.desk_core.specs.declared.answer.SubmitFault.TheVariants.{Gone, Unknow
 use Rattle.desk_core.specs.declared.answer.Cancelled.{Cancelled}
 use Rattle.desk_core.specs.declared.answer.Cancelled.TheVariants as cancels
 use Rattle.desk_core.specs.declared.answer.Collected.{Collected}
+use Rattle.desk_core.specs.declared.answer.Finished.{Finished}
 use Rattle.desk_core.specs.declared.answer.Collected.TheVariants as collects
 use Rattle.board_core.specs.Lists.{Every, Among}
 use Rattle.board_core.specs.Calls.{AcceptedCall, RunningCall}
@@ -111,6 +112,10 @@ Collects b n (collects.Ticket t) after = (k : ℕ) × (r : RunningCall) × IsLef
 Collects b n collects.Waiting after = NoneIsLeft b n × (waits_in b n ≡ true) × (after ≡ b)
 Collects b n collects.Cancelled after = NoneIsLeft b n × (waits_in b n ≡ false) × (runs_in b n ≡ false) × (ended_in b n ≡ false) × ((call : AcceptedCall) × (call_at b.calls n ≡ Some call)) × (after ≡ b)
 Collects b n collects.Unknown after = NoneIsLeft b n × (waits_in b n ≡ false) × ((runs_in b n ≡ true) ⊎ ((ended_in b n ≡ true) ⊎ (call_at b.calls n ≡ None))) × (after ≡ b)
+
+-- the receipt of an outcome that was left where it lay
+abbrev pub receipt_by : Finished → Outcome → Receipt
+receipt_by f o = record { place = f.place; noted = record { session = f.session; outcome = o }; free = f.free }
 
 -- An outcome is that of a running call: the call has ended, its entry is the last of the history, the receipt holds the outcome and its session, and frees what it left behind and nobody needs.
 pub record Finishes (b : Board) (o : Outcome) (receipt : Receipt) (after : Board) : Type 0 where

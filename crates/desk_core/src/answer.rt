@@ -1,7 +1,12 @@
 //! What a desk answers.
 
+ghost use Rattle.std.specs.Prelude.{◌≡◌};
+ghost use Rattle.desk_core.specs.Answers.{receipt_by};
+
+use board_core::receipt::{NotedOutcome, Receipt};
 use body_core::outcome::Outcome;
 use body_core::ticket::Ticket;
+use shelf_core::hand::Stamp;
 use thiserror::Error;
 
 /// Why a call is refused. The first that applies is told.
@@ -41,6 +46,35 @@ pub enum Cancelled {
     Ended,
     /// There is no such call.
     Unknown,
+}
+
+/// What a finish gives beside the outcome that it was given.
+#[derive(Drop)]
+pub struct Finished {
+    /// The place of the entry in the history, from 1.
+    pub place: usize,
+    /// The session of the call.
+    pub session: u32,
+    /// The files that nobody needs any more, as in [`Receipt`].
+    pub free: Vec<Stamp>,
+}
+
+impl Finished {
+    /// The receipt of this outcome.
+    pub fn receipt(self, outcome: Outcome) -> Receipt
+        ensures { result ≡ receipt_by self outcome }
+    {
+        let Finished {
+            place,
+            session,
+            free,
+        } = self;
+        Receipt {
+            place,
+            noted: NotedOutcome { session, outcome },
+            free,
+        }
+    }
 }
 
 /// An outcome of no call that runs here, handed back.

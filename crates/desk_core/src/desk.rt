@@ -11,14 +11,14 @@ ghost use Rattle.board_core.specs.Outcomes.{IsOf};
 ghost use Rattle.decl_core.specs.ObjectMap.{object_of};
 ghost use Rattle.trace_core.specs.Text.{trace_text as text_of};
 ghost use Rattle.desk_core.specs.Told.{lines_told};
-ghost use Rattle.desk_core.specs.Answers.{IsTaken, IsRefused, Cancels, Collects, Finishes, waits_in, runs_in};
+ghost use Rattle.desk_core.specs.Answers.{IsTaken, IsRefused, Cancels, Collects, Finishes, receipt_by, waits_in, runs_in};
 
-use crate::answer::{Cancelled, Collected, Stranger, SubmitFault};
+use crate::answer::{Cancelled, Collected, Finished, Stranger, SubmitFault};
 use crate::roster::{Ended, MOST_SESSIONS, Roster};
 use board_core::call::Call;
 use board_core::entry::Entry;
 use board_core::event::TraceEvent;
-use board_core::receipt::{NotedOutcome, Receipt};
+use board_core::receipt::Receipt;
 use body_core::outcome::Outcome;
 use exclude_core::analyse::Accepted;
 use shelf_core::pins::Pins;
@@ -157,8 +157,20 @@ impl Desk {
         ensures board { IfOk result (λ receipt. Finishes self.old outcome receipt self.new) }
         ensures stranger { IfErr result (λ s. (s.0 ≡ outcome) × (self.new ≡ self.old) × Every (λ r. IsOf (outcome_call outcome) r → ⊥) self.old.running) }
     {
-        let Some(place) = self.roster.place_of_call(&outcome) else {
-            return Err(Stranger(outcome));
+        match self.finish_in_place(&outcome) {
+            Some(finished) => Ok(finished.receipt(outcome)),
+            None => Err(Stranger(outcome)),
+        }
+    }
+
+    /// The same of an outcome that stays where it lies, since to hand one in and out moves a kilobyte each time. It answers what a receipt has
+    /// beside it, or `None` where no running call has it, and nothing is changed.
+    pub fn finish_in_place(&mut self, outcome: &Outcome) -> Option<Finished>
+        ensures board { IfSome result (λ f. Finishes self.old outcome.now (receipt_by f outcome.now) self.new) }
+        ensures stranger { IfNone result ((self.new ≡ self.old) × Every (λ r. IsOf (outcome_call outcome.now) r → ⊥) self.old.running) }
+    {
+        let Some(place) = self.roster.place_of_call(outcome) else {
+            return None;
         };
         let reply = outcome.reply();
         let ended = self
@@ -167,8 +179,11 @@ impl Desk {
         self.roster.admit();
         let place = self.roster.history().len();
         let Ended { session, free } = ended;
-        let noted = NotedOutcome { session, outcome };
-        Ok(Receipt { place, noted, free })
+        Some(Finished {
+            place,
+            session,
+            free,
+        })
     }
 
     /// Takes a waiting call out. A running call goes on.

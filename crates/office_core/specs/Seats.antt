@@ -5,8 +5,11 @@ use Rattle.body_core.specs.Outcomes.{outcome_call}
 use Rattle.board_core.specs.declared.receipt.Receipt.{Receipt}
 use Rattle.board_core.specs.Lists.{Every}
 use Rattle.board_core.specs.Outcomes.{IsOf}
-use Rattle.desk_core.specs.Answers.{Finishes}
+use Rattle.desk_core.specs.Answers.{Finishes, receipt_by}
+use Rattle.desk_core.specs.declared.answer.Finished.{Finished}
 use Rattle.office_core.specs.declared.seat.Seat.{Seat}
+use Rattle.office_core.specs.declared.seat.NotTaken.{NotTaken}
+use Rattle.office_core.specs.declared.seat.NotTaken.TheVariants.{Front as missed, Stranger as unknown}
 use Rattle.office_core.specs.declared.seat.CompleteFault.{CompleteFault}
 use Rattle.office_core.specs.declared.seat.CompleteFault.TheVariants.{Front, Stranger}
 use Rattle.office_core.specs.Rooms.{RoomState}
@@ -29,6 +32,17 @@ Receives old o (Ok r) new = (r.noted.outcome ≡ o) × (old.seen < r.place) × A
 Receives old o (Err (Front seen found back)) new = (seen ≡ old.seen) × (found ≤ seen) × (back ≡ o) × (new ≡ old)
 Receives old o (Err (Stranger back)) new = (back ≡ o) × (new ≡ old)
 
+-- The same of an outcome that stays where it lies.
+abbrev pub ReceivesInPlace : Seat → Result Finished NotTaken → Seat → Type 0
+ReceivesInPlace old (Ok f) new = (old.seen < f.place) × Advances old f.place new
+ReceivesInPlace old (Err (missed seen found)) new = (seen ≡ old.seen) × (found ≤ seen) × (new ≡ old)
+ReceivesInPlace old (Err unknown) new = new ≡ old
+
+-- why it was not taken, with the outcome
+abbrev pub fault_with : NotTaken → Outcome → CompleteFault
+fault_with (missed seen found) o = Front seen found o
+fault_with unknown o = Stranger o
+
 -- the place that the next entry gets is past all that the seat has seen
 abbrev pub IsAhead : RoomState → Seat → Type 0
 IsAhead r seat = seat.seen < length r.board.history + 1
@@ -38,3 +52,9 @@ abbrev pub Completes : RoomState → Seat → Outcome → Result Receipt Complet
 Completes old seat o (Ok r) new = IsAhead old seat × Finishes old.board o r new.board × (new.given ≡ old.given)
 Completes old seat o (Err (Front seen found back)) new = (found ≡ length old.board.history + 1) × (found ≤ seat.seen) × (new ≡ old)
 Completes old seat o (Err (Stranger back)) new = IsAhead old seat × Every (λ r. IsOf (outcome_call o) r → ⊥) old.board.running × (new ≡ old)
+
+-- The same of an outcome that stays where it lies.
+abbrev pub CompletesInPlace : RoomState → Seat → Outcome → Result Finished NotTaken → RoomState → Type 0
+CompletesInPlace old seat o (Ok f) new = IsAhead old seat × Finishes old.board o (receipt_by f o) new.board × (new.given ≡ old.given)
+CompletesInPlace old seat o (Err (missed seen found)) new = (found ≡ length old.board.history + 1) × (found ≤ seat.seen) × (new ≡ old)
+CompletesInPlace old seat o (Err unknown) new = IsAhead old seat × Every (λ r. IsOf (outcome_call o) r → ⊥) old.board.running × (new ≡ old)

@@ -4,15 +4,15 @@ ghost use Rattle.std.specs.Prelude.{◌≡◌, ◌<◌, ◌≤◌, ◌+◌, IfOk
 ghost use Rattle.office_core.specs.Rooms.{RoomState};
 ghost use Rattle.office_core.specs.declared.seat.Submitted.{Submitted as Ask};
 ghost use Rattle.office_core.specs.Submissions.{Asks, IsStartOf, Tells};
-ghost use Rattle.office_core.specs.Seats.{Receives};
+ghost use Rattle.office_core.specs.Seats.{Receives, ReceivesInPlace};
 ghost use Rattle.office_core.specs.Closing.{Closes, ClosesBySlips};
 
-use crate::room::{CloseRefused, Closed, Room, SeatsFull};
-use crate::seat::{CompleteFault, Seat, Started, Submitted, Tried};
+use crate::room::{CloseRefused, Closed, Room, SeatsFull, with_outcome};
+use crate::seat::{CompleteFault, NotTaken, Seat, Started, Submitted, Tried};
 use board_core::event::TraceEvent;
 use board_core::receipt::Receipt;
 use body_core::outcome::Outcome;
-use desk_core::answer::{Cancelled, SubmitFault};
+use desk_core::answer::{Cancelled, Finished, SubmitFault};
 use desk_core::desk::Desk;
 use slip_core::slip::Slip;
 use std::alloc::{AllocError, Global};
@@ -272,11 +272,25 @@ impl Office {
     ) -> Result<Receipt, CompleteFault>
         ensures seat { Receives seat.old outcome result seat.new }
     {
+        match self.complete_in_place(rt, seat, &outcome) {
+            Ok(finished) => Ok(finished.receipt(outcome)),
+            Err(why) => Err(with_outcome(why, outcome)),
+        }
+    }
+
+    /// The same of an outcome that stays where it lies, as [`Room::complete_in_place`].
+    pub fn complete_in_place<R: Wait>(
+        &self,
+        rt: &R,
+        seat: &mut Seat,
+        outcome: &Outcome,
+    ) -> Result<Finished, NotTaken>
+        ensures seat { ReceivesInPlace seat.old result seat.new }
+    {
         let mut room = self.enter(rt);
         let before = room.desk().trace().len();
-        let number = outcome.number();
-        let answer = room.complete(seat, outcome);
-        let ended = answer.is_ok() && room.note_end(number);
+        let answer = room.complete_in_place(seat, outcome);
+        let ended = answer.is_ok() && room.note_end(outcome.number());
         let beds = started(&mut room, before);
         let opens = ended && room.is_open();
         drop(room);

@@ -9,15 +9,15 @@ ghost use Rattle.board_core.specs.Board.{released, marked};
 ghost use Rattle.std.specs.Prelude.{◌⊎◌};
 ghost use Rattle.office_core.specs.Rooms.{Submits};
 ghost use Rattle.office_core.specs.Submissions.{Asks, IsOf, Tells, Tries};
-ghost use Rattle.office_core.specs.Seats.{IsFresh, Advances, Receives, Completes};
+ghost use Rattle.office_core.specs.Seats.{IsFresh, Advances, Receives, ReceivesInPlace, Completes, CompletesInPlace, fault_with};
 ghost use Rattle.office_core.specs.Closing.{Closes, ClosesBySlips, IsIdle, AreSeatsOf, IsOpen};
 
 use crate::find::{first_mismatch, first_mismatched_slip, is_of, operation_named};
-use crate::seat::{CompleteFault, Seat, Submitted, Tried};
+use crate::seat::{CompleteFault, NotTaken, Seat, Submitted, Tried};
 use crate::seats::are_seats;
 use board_core::receipt::Receipt;
 use body_core::outcome::Outcome;
-use desk_core::answer::{Cancelled, Collected, Stranger, SubmitFault};
+use desk_core::answer::{Cancelled, Collected, Finished, SubmitFault};
 use desk_core::desk::Desk;
 use exclude_core::analyse::Accepted;
 use shelf_core::pins::Pins;
@@ -120,6 +120,20 @@ fn spend(submitted: Submitted) {
         operation: _,
         args: _,
     } = submitted;
+}
+
+// Why an outcome was not taken, with the outcome, which is handed back.
+pub(crate) fn with_outcome(why: NotTaken, outcome: Outcome) -> CompleteFault
+    ensures { result ≡ fault_with why outcome }
+{
+    match why {
+        NotTaken::Front { seen, found } => CompleteFault::Front {
+            seen,
+            found,
+            outcome,
+        },
+        NotTaken::Stranger => CompleteFault::Stranger(outcome),
+    }
 }
 
 impl Room {
@@ -244,21 +258,31 @@ impl Room {
         ensures seat { Receives seat.old outcome result seat.new }
         ensures room { Completes self.old seat.old outcome result self.new }
     {
+        match self.complete_in_place(seat, &outcome) {
+            Ok(finished) => Ok(finished.receipt(outcome)),
+            Err(why) => Err(with_outcome(why, outcome)),
+        }
+    }
+
+    /// The same of an outcome that stays where it lies, as the desk's `finish_in_place` does.
+    pub fn complete_in_place(
+        &mut self,
+        seat: &mut Seat,
+        outcome: &Outcome,
+    ) -> Result<Finished, NotTaken>
+        ensures seat { ReceivesInPlace seat.old result seat.new }
+        ensures room { CompletesInPlace self.old seat.old outcome.now result self.new }
+    {
         let found = self.desk.history().len() + 1;
         let seen = seat.seen;
         if found <= seen {
-            return Err(CompleteFault::Front {
-                seen,
-                found,
-                outcome,
-            });
+            return Err(NotTaken::Front { seen, found });
         }
-        let receipt = match self.desk.finish(outcome) {
-            Ok(receipt) => receipt,
-            Err(Stranger(outcome)) => return Err(CompleteFault::Stranger(outcome)),
+        let Some(finished) = self.desk.finish_in_place(outcome) else {
+            return Err(NotTaken::Stranger);
         };
-        *seat = seat_after(seat, receipt.place);
-        Ok(receipt)
+        *seat = seat_after(seat, finished.place);
+        Ok(finished)
     }
 
     // When a call of the operation of this name is best submitted.

@@ -65,6 +65,15 @@ pub enum Tried {
     Stranger(Submitted),
 }
 
+/// Why an outcome was not taken that stays where it lies.
+#[derive(Clone, Copy, Debug, Drop)]
+pub enum NotTaken {
+    /// The place that the outcome would get is not past the greatest that the seat has seen.
+    Front { seen: usize, found: usize },
+    /// No running call has this outcome.
+    Stranger,
+}
+
 /// Why an outcome was not taken. It is handed back.
 #[derive(Drop)]
 pub enum CompleteFault {

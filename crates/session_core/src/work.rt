@@ -1,13 +1,10 @@
 //! The first thread of a session: it does the calls, and reads too, as long as no call waits.
 
-ghost use Rattle.std.specs.Prelude.{◌≡◌, ◌↔◌, ◌<◌, ◌++◌, ◌∷◌, [], IfSome, IsTrue};
+ghost use Rattle.std.specs.Prelude.{◌≡◌, ◌<◌, ◌++◌, ◌∷◌, [], IsTrue};
 ghost use Rattle.std.specs.Vec.{vec_len, vec_capacity};
 ghost use Rattle.board_core.specs.Lists.{Every};
 ghost use Rattle.slip_core.specs.Slips.{IsTrueTold, told_of};
 ghost use Rattle.shelf_core.specs.Device.{Assignment};
-ghost use Rattle.body_core.specs.Runs.{PenHolds, SoFar};
-ghost use Rattle.body_core.specs.declared.step.Need.TheVariants as Need;
-ghost use Rattle.office_core.specs.Receipts.{IsTrueReceipt};
 ghost use Rattle.session_core.specs.Truth.{Keeps, AreTrue, OutcomeIsTrue};
 
 use crate::ear::Heard;
@@ -18,14 +15,12 @@ use crate::output::{Output, Start};
 use crate::reading::Reading;
 use crate::room::make_room_in;
 use board_core::receipt::Receipt;
+use body_core::at_once::run_at_once;
 use body_core::outcome::Outcome;
-use body_core::perform::perform;
-use body_core::run::Run;
-use body_core::step::Need;
 use body_core::ticket::Ticket;
 use desk_core::answer::SubmitFault;
 use office_core::office::Office;
-use office_core::seat::{CompleteFault, Seat, Started, Submitted, Tried};
+use office_core::seat::{Seat, Started, Submitted, Tried};
 use path_tree::name::Name;
 use session_text::line::{Line, Refusal};
 use session_text::session::Action;
@@ -138,58 +133,21 @@ fn started<R: Wait, I: Read + Drop, W: Write + Drop, J: Start>(
     }
 }
 
-// Whether a run has ended, by the call that it makes next.
-fn is_done(need: Need) -> bool
-    ensures { IsTrue result ↔ (need ≡ Need.Done) }
-{
-    match need {
-        Need::Done => true,
-        Need::Read => false,
-        Need::Create => false,
-        Need::Append => false,
-        Need::Seal => false,
-    }
-}
-
-// Steps until the run has ended. To look for an outcome before each step, as `perform` does, costs more than the step.
-fn stepped<H: Hand>(run: Run, hand: &mut H) -> Run
-    ensures kept { Keeps H.agrees hand.old hand.new }
-    ensures pen { PenHolds (H.pending hand.old) run → PenHolds (H.pending hand.new) result }
-    ensures found { PenHolds (H.pending hand.old) run → (a : Assignment) → H.agrees hand.new a → SoFar a run → SoFar a result }
-{
-    let mut run = run;
-    while !is_done(run.next()) {
-        run.step(hand);
-    }
-    run
-}
-
 // Runs a started call.
 fn performed<H: Hand>(alloc: Global, ticket: Ticket, hand: &mut H) -> Outcome
     ensures kept { Keeps H.agrees hand.old hand.new }
     ensures told { (a : Assignment) → H.agrees hand.new a → OutcomeIsTrue a result }
 {
-    let run = Run::new(alloc, ticket);
-    let run = stepped(run, hand);
-    perform(run, hand)
+    run_at_once(alloc, ticket, hand)
 }
 
 // Hands an outcome in, until it is taken.
 fn completed<R: Wait>(rt: &R, office: &Office, seat: &mut Seat, outcome: Outcome) -> Receipt
     ensures { result.noted.outcome ≡ outcome }
 {
-    let mut outcome = outcome;
     for _ in rt.forever() {
-        match office.complete(rt, seat, outcome) {
-            Ok(receipt) => return receipt,
-            Err(
-                CompleteFault::Front {
-                    seen: _,
-                    found: _,
-                    outcome: back,
-                },
-            ) => outcome = back,
-            Err(CompleteFault::Stranger(back)) => outcome = back,
+        if let Ok(finished) = office.complete_in_place(rt, seat, &outcome) {
+            return finished.receipt(outcome);
         }
     }
     unreachable!()
@@ -238,21 +196,16 @@ fn say<R: Wait, W: Write + Drop, J: Start>(rt: &R, output: &Mutex<Output<W, J>>,
     let _said = output.lock(rt).say(line);
 }
 
-// One call, from its submission to its last line. It answers the receipt, if there is one.
-fn call_on<R: Wait, I: Read + Drop, W: Write + Drop, H: Hand, J: Start>(
+// A call from its submission to its start, with the lines up to there. It answers no ticket where the call does not start.
+fn begun<R: Wait, I: Read + Drop, W: Write + Drop, J: Start>(
     rt: &R,
-    alloc: Global,
     office: &Office,
     output: &Mutex<Output<W, J>>,
     reading: &mut Reading<'_, I>,
     seat: &mut Seat,
-    hand: &mut H,
     op: &str,
     args: &[Datum],
-) -> Option<Receipt>
-    ensures kept { Keeps H.agrees hand.old hand.new }
-    ensures told { IfSome result (λ r. (a : Assignment) → H.agrees hand.new a → IsTrueReceipt a r) }
-{
+) -> Option<Ticket> {
     let (number, tried) = match office.submit_and_try(rt, seat, op, args) {
         Ok(answer) => answer,
         Err(fault) => {
@@ -261,15 +214,11 @@ fn call_on<R: Wait, I: Read + Drop, W: Write + Drop, H: Hand, J: Start>(
         }
     };
     say(rt, output, Line::Accepted(number));
-    let Some(ticket) = started(rt, office, output, seat, reading, tried) else {
+    let ticket = started(rt, office, output, seat, reading, tried);
+    if ticket.is_none() {
         say(rt, output, Line::Withdrawn(number));
-        return None;
-    };
-    let outcome = performed(alloc, ticket, hand);
-    let receipt = completed(rt, office, seat, outcome);
-    let reply = receipt.noted.reply();
-    let _said = output.lock(rt).say_ended(receipt.noted.number(), &reply);
-    Some(receipt)
+    }
+    ticket
 }
 
 // Makes room for a receipt, its note and its lines. Without memory it answers false.
@@ -317,19 +266,13 @@ fn serve_at<R: Wait, I: Read + Drop, W: Write + Drop, H: Hand + Drop, J: Start>(
         say(rt, output, Line::Unsubmitted(SubmitFault::Memory));
         return;
     }
-    let Some(receipt) = call_on(
-        rt,
-        alloc,
-        office,
-        output,
-        reading,
-        seat,
-        &mut worked.hand,
-        op,
-        args,
-    ) else {
+    let Some(ticket) = begun(rt, office, output, reading, seat, op, args) else {
         return;
     };
+    let outcome = performed(alloc, ticket, &mut worked.hand);
+    let receipt = completed(rt, office, seat, outcome);
+    let reply = receipt.noted.reply();
+    let _said = output.lock(rt).say_ended(receipt.noted.number(), &reply);
     keep(&mut worked.receipts, &mut worked.room, &receipt);
     put_off(&mut worked.hand, &receipt.free, &mut worked.free);
 }

@@ -21,9 +21,13 @@ name_of bytes = if is_identifier bytes then Some (str_to_ascii_lowercase bytes) 
 abbrev pub open_request : List Word → Option Request
 open_request words = only_bare words >>= λ word. name_of word >>= λ name. Some (opens name)
 
+-- behind `call OP`: `ARG ..`
+abbrev pub call_behind : List ℕ → List Word → Option Request
+call_behind op words = name_of op >>= λ name. data_of words >>= λ arguments. Some (calls name arguments)
+
 -- behind `call`: `OP ARG ..`
 abbrev pub call_request : List Word → Option Request
-call_request words = bare_of words >>= λ first. name_of first.0 >>= λ name. data_of first.1 >>= λ arguments. Some (calls name arguments)
+call_request words = bare_of words >>= λ first. call_behind first.0 first.1
 
 -- behind `cancel`: `N`
 abbrev pub cancel_request : List Word → Option Request

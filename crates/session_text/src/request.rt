@@ -1,17 +1,18 @@
 //! What a line of a session asks for.
 
-ghost use Rattle.std.specs.Prelude.{◌≡◌, IfOk, option_map};
-ghost use Rattle.word_core.specs.View.{words_of as words_in};
+ghost use Rattle.std.specs.Prelude.{◌≡◌, IfOk};
 ghost use Rattle.word_core.specs.Data.{at_end};
-ghost use Rattle.session_text.specs.Requests.{name_of as name_in, open_request as open_in, call_request as call_in, cancel_request as cancel_in, quits, request_by as request_in, request_of as request_of_words};
+ghost use Rattle.line_read.specs.Reads.{Reads};
+ghost use Rattle.session_text.specs.Requests.{name_of as name_in, open_request as open_in, call_request as call_in, cancel_request as cancel_in, call_behind, quits, request_by as request_in};
 ghost use Rattle.session_text.specs.View.{request_view, IsReadOf};
 
 use line_core::words::is_same_word;
+use line_read::arguments::data_of;
+use line_read::front::{is_blank, next_bare, only_bare};
 use path_tree::name::Name;
 use std::alloc::{AllocError, Global};
 use value_core::datum::Datum;
-use word_core::word::Word;
-use word_core::words::{bare_of, data_of, only_bare, only_integer, words_of};
+use word_core::number::integer_of;
 
 /// What a line of a session asks for.
 #[derive(Drop)]
@@ -32,42 +33,27 @@ pub enum Request {
 pub fn read_line(alloc: Global, line: &[u8]) -> Result<Option<Request>, AllocError>
     ensures { IfOk result (IsReadOf line.now) }
 {
-    match words_of(alloc, line)? {
-        Some(words) => {
-            let request = request_of(alloc, &words)?;
-            Ok(request)
-        }
-        None => Ok(None),
-    }
-}
-
-/// What the words of a line ask for, or `None` where they ask for nothing that a session may ask for.
-///
-/// The error is that memory was refused.
-pub fn request_of(alloc: Global, words: &[Word]) -> Result<Option<Request>, AllocError>
-    ensures { IfOk result (λ found. option_map request_view found ≡ request_of_words (words_in words.now)) }
-{
-    match bare_of(words) {
+    match next_bare(line) {
         Some((verb, rest)) => request_by(alloc, verb, rest),
         None => Ok(None),
     }
 }
 
-// What a line of this first word asks for.
-fn request_by(alloc: Global, verb: &[u8], words: &[Word]) -> Result<Option<Request>, AllocError>
-    ensures { IfOk result (λ found. option_map request_view found ≡ request_in verb.now (words_in words.now)) }
+// What a line asks for by this word and those behind it.
+fn request_by(alloc: Global, verb: &[u8], line: &[u8]) -> Result<Option<Request>, AllocError>
+    ensures { IfOk result (Reads (request_in verb.now) request_view line.now) }
 {
     if is_same_word(verb, b"open") {
-        return open_request(alloc, words);
+        return open_request(alloc, line);
     }
     if is_same_word(verb, b"call") {
-        return call_request(alloc, words);
+        return call_request(alloc, line);
     }
     if is_same_word(verb, b"cancel") {
-        return Ok(cancel_request(words));
+        return Ok(cancel_request(line));
     }
     if is_same_word(verb, b"quit") {
-        return Ok(quit_request(words));
+        return Ok(quit_request(line));
     }
     Ok(None)
 }
@@ -80,44 +66,52 @@ fn name_of(alloc: Global, bytes: &[u8]) -> Result<Option<Name>, AllocError>
     Ok(name)
 }
 
-fn open_request(alloc: Global, words: &[Word]) -> Result<Option<Request>, AllocError>
-    ensures { IfOk result (λ found. option_map request_view found ≡ open_in (words_in words.now)) }
+fn open_request(alloc: Global, line: &[u8]) -> Result<Option<Request>, AllocError>
+    ensures { IfOk result (Reads open_in request_view line.now) }
 {
-    let Some(word) = only_bare(words) else {
-        return Ok(None);
-    };
+    match only_bare(line) {
+        Some(word) => match name_of(alloc, word)? {
+            Some(name) => Ok(Some(Request::Open(name))),
+            None => Ok(None),
+        },
+        None => Ok(None),
+    }
+}
+
+fn call_request(alloc: Global, line: &[u8]) -> Result<Option<Request>, AllocError>
+    ensures { IfOk result (Reads call_in request_view line.now) }
+{
+    match next_bare(line) {
+        Some((word, rest)) => call_named(alloc, word, rest),
+        None => Ok(None),
+    }
+}
+
+// A call of the operation that this word names, with the words behind it.
+fn call_named(alloc: Global, word: &[u8], line: &[u8]) -> Result<Option<Request>, AllocError>
+    ensures { IfOk result (Reads (call_behind word.now) request_view line.now) }
+{
     match name_of(alloc, word)? {
-        Some(name) => Ok(Some(Request::Open(name))),
+        Some(name) => match data_of(alloc, line)? {
+            Some(arguments) => Ok(Some(Request::Call(name, arguments))),
+            None => Ok(None),
+        },
         None => Ok(None),
     }
 }
 
-fn call_request(alloc: Global, words: &[Word]) -> Result<Option<Request>, AllocError>
-    ensures { IfOk result (λ found. option_map request_view found ≡ call_in (words_in words.now)) }
+fn cancel_request(line: &[u8]) -> Option<Request>
+    ensures { Reads cancel_in request_view line.now result }
 {
-    let Some((word, rest)) = bare_of(words) else {
-        return Ok(None);
-    };
-    let Some(name) = name_of(alloc, word)? else {
-        return Ok(None);
-    };
-    match data_of(alloc, rest)? {
-        Some(arguments) => Ok(Some(Request::Call(name, arguments))),
-        None => Ok(None),
-    }
-}
-
-fn cancel_request(words: &[Word]) -> Option<Request>
-    ensures { option_map request_view result ≡ cancel_in (words_in words.now) }
-{
-    let number = only_integer(words)?;
+    let word = only_bare(line)?;
+    let number = integer_of(word)?;
     Some(Request::Cancel(number))
 }
 
-fn quit_request(words: &[Word]) -> Option<Request>
-    ensures { option_map request_view result ≡ at_end (words_in words.now) quits }
+fn quit_request(line: &[u8]) -> Option<Request>
+    ensures { Reads (λ words. at_end words quits) request_view line.now result }
 {
-    if words.is_empty() {
+    if is_blank(line) {
         return Some(Request::Quit);
     }
     None

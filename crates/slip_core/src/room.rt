@@ -16,30 +16,63 @@ use std::mem;
 use std::sync::Arc;
 use value_core::datum::Datum;
 
+// Memory for a row of at most 16. As many as the last row had are there in a piece of their own: to take the whole row and to shrink it
+// costs more than all else of a slip.
+#[derive(Drop)]
+struct RowRoom<T: Drop> {
+    usual: Vec<T>,
+    most: Vec<T>,
+    // how many the last row had
+    count: usize,
+}
+
 /// Memory for the next slip of a session, so that a slip is made without memory.
 #[derive(Drop)]
 pub struct SlipRoom {
     alloc: Global,
     args: Vec<Slim>,
     reply: Option<Box<Reply>>,
-    pins: Vec<Stamp>,
-    news: Vec<NewPin>,
+    pins: RowRoom<Stamp>,
+    news: RowRoom<NewPin>,
 }
 
-// These items, in memory that was taken for them, or `None` where it is too little.
-fn filled<T: Copy>(alloc: Global, room: &mut Vec<T>, items: &[T]) -> Option<Vec<T>>
-    ensures { IfSome result (λ v. v.items ≡ items.now) }
-{
-    if items.is_empty() {
-        return Some(Vec::new(alloc));
+impl<T: Copy + Drop> RowRoom<T> {
+    // No memory yet.
+    fn new(alloc: Global) -> RowRoom<T> {
+        RowRoom {
+            usual: Vec::new(alloc),
+            most: Vec::new(alloc),
+            count: 0,
+        }
     }
-    let mut out = mem::replace(room, Vec::new(alloc));
-    out.clear();
-    if out.extend_from_slice(items).is_err() {
-        return None;
+
+    // Takes the memory for a row.
+    fn make(&mut self) -> Result<(), AllocError> {
+        self.usual.reserve_exact(self.count)?;
+        self.most.reserve_exact(MOST_PARTS)
     }
-    out.shrink_to_fit();
-    Some(out)
+
+    // These items, in memory that was taken for them, or `None` where it is too little.
+    fn filled(&mut self, alloc: Global, items: &[T]) -> Option<Vec<T>>
+        ensures { IfSome result (λ v. v.items ≡ items.now) }
+    {
+        if items.is_empty() {
+            return Some(Vec::new(alloc));
+        }
+        self.count = items.len();
+        let room = if self.usual.capacity() == items.len() {
+            &mut self.usual
+        } else {
+            &mut self.most
+        };
+        let mut out = mem::replace(room, Vec::new(alloc));
+        out.clear();
+        if out.extend_from_slice(items).is_err() {
+            return None;
+        }
+        out.shrink_to_fit();
+        Some(out)
+    }
 }
 
 impl SlipRoom {
@@ -49,8 +82,8 @@ impl SlipRoom {
             alloc,
             args: Vec::new(alloc),
             reply: None,
-            pins: Vec::new(alloc),
-            news: Vec::new(alloc),
+            pins: RowRoom::new(alloc),
+            news: RowRoom::new(alloc),
         }
     }
 
@@ -60,8 +93,8 @@ impl SlipRoom {
             let reply = Box::new(self.alloc, Reply::Done(None))?;
             self.reply = Some(reply);
         }
-        self.pins.reserve_exact(MOST_PARTS)?;
-        self.news.reserve_exact(MOST_PARTS)?;
+        self.pins.make()?;
+        self.news.make()?;
         self.args = slims(self.alloc, args)?;
         Ok(())
     }
@@ -80,8 +113,8 @@ impl SlipRoom {
         };
         let reply = Short::within(&mut self.reply, &noted.reply())?;
         let pins = noted.pins();
-        let pins = filled(self.alloc, &mut self.pins, pins.as_slice())?;
-        let news = filled(self.alloc, &mut self.news, noted.new_pins())?;
+        let pins = self.pins.filled(self.alloc, pins.as_slice())?;
+        let news = self.news.filled(self.alloc, noted.new_pins())?;
         Some(Slip {
             place: receipt.place,
             number: noted.number(),
