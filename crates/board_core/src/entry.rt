@@ -127,7 +127,7 @@ impl Entry {
         if !same_args(self.args(), noted.args()) {
             return false;
         }
-        if !self.reply.is_same(&noted.reply()) {
+        if !self.reply.is_same(noted.reply()) {
             return false;
         }
         if !same_news(&self.news, noted.new_pins()) {
@@ -166,10 +166,10 @@ impl Entry {
     }
 
     /// What the call replied.
-    pub fn reply(&self) -> Reply
-        ensures { result ≡ self.now.reply }
+    pub fn reply(&self) -> &Reply
+        ensures { result.now ≡ self.now.reply }
     {
-        self.reply
+        &self.reply
     }
 
     /// The pins by which the call read, one for each part that its operation reads, in the order of the parts.

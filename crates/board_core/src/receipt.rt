@@ -44,15 +44,15 @@ impl NotedOutcome {
     }
 
     /// What the call replied.
-    pub fn reply(&self) -> Reply
-        ensures { result ≡ outcome_reply self.now.outcome }
+    pub fn reply(&self) -> &Reply
+        ensures { result.now ≡ outcome_reply self.now.outcome }
     {
         self.outcome.reply()
     }
 
     /// The pins that were published at the call's start, one for each part of the object.
-    pub fn pins(&self) -> Pins
-        ensures { result ≡ (outcome_call self.now.outcome).pins }
+    pub fn pins(&self) -> &Pins
+        ensures { result.now ≡ (outcome_call self.now.outcome).pins }
     {
         self.outcome.pins()
     }

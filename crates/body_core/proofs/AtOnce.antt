@@ -1,9 +1,9 @@
 -- What a call has read that reads its parts one after the other, and what it tells when it has ended.
-use Rattle.std.proofs.Common.{◌≡◌, ℕ, ◌+◌, ◌<◌, ◌≤◌, ◌⊎◌, inl, inr, List, length, arith, ap, sym, subst}
+use Rattle.std.proofs.Common.{◌≡◌, ℕ, ◌+◌, ◌<◌, ◌≤◌, inl, inr, List, length, arith, ap, sym, subst}
 use Rattle.std.proofs.lemmas.Bool.{cases_lt}
 use Rattle.decl_core.specs.Bodies.{body_of}
 use Rattle.decl_core.specs.Touched.{Reads}
-use Rattle.shelf_core.specs.Device.{Assignment, Shows, Failed}
+use Rattle.shelf_core.specs.Device.{Assignment, Shows}
 use Rattle.shelf_core.specs.declared.hand.Stamp.{Stamp}
 use Rattle.body_core.specs.declared.new_pins.NewPin.{NewPin}
 use Rattle.body_core.specs.declared.phase.Phase.{Phase}
@@ -65,9 +65,3 @@ no_pen_there pending (Creating plan) none = tt
 no_pen_there pending (Appending plan pen k) none = absurd none
 no_pen_there pending (Sealing plan pen) none = absurd none
 no_pen_there pending (Ended reply news) none = tt
-
--- a device that failed later, where it had not failed before that, failed since the start
-pub fails_later : {X : Type 0} (before between after : ℕ) → before ≤ between → between ≤ before → (X → ⊥) → X ⊎ Failed between after → Failed before after
-fails_later before between after up down not (inl x) = absurd (not x)
-fails_later before between after up down not (inr (inl lt)) = inl (omega (arith, up, lt))
-fails_later before between after up down not (inr (inr full)) = inr (omega (arith, up, down, full))

@@ -14,22 +14,23 @@ ghost use Rattle.body_core.specs.Phases.{AreRead, EarlierAreRead, failure_of};
 ghost use Rattle.body_core.specs.Tasks.{task_call};
 ghost use Rattle.body_core.specs.Tickets.{ticket_call};
 ghost use Rattle.body_core.specs.Outcomes.{outcome_call, outcome_reply, outcome_news, outcome_pins};
-ghost use Rattle.body_core.specs.Truths.{IsTrueOf};
-ghost use Rattle.body_core.specs.Written.{WritesInOrder, parts_of};
+ghost use Rattle.body_core.specs.Truths.{IsTrueOf, IsDone, PinHolds, AreChanges};
+ghost use Rattle.body_core.specs.Written.{WritesInOrder, parts_changed};
 
-use crate::conclude::conclude;
 use crate::file_bytes::FileBytes;
+use crate::judge::{Change, Verdict, judge};
 use crate::new_pins::NewPins;
 use crate::outcome::Outcome;
 use crate::perform::perform;
-use crate::phase::Phase;
 use crate::read::{put, read_chunk};
 use crate::reply::{Failure, Reply};
 use crate::run::Run;
 use crate::task::Task;
 use crate::ticket::Ticket;
+use crate::write::go_on;
 use shelf_core::hand::{Hand, HandFault, Stamp};
 use std::alloc::{AllocError, Global};
+use value_core::datum::Datum;
 
 // Reads a whole file, chunk by chunk.
 fn read_file<H: Hand>(hand: &mut H, pin: Stamp, got: &mut Vec<u8>) -> Result<(), HandFault>
@@ -89,12 +90,11 @@ fn read_from<H: Hand>(
     }
 }
 
-// How a call ended.
-fn ended(task: Task, reply: Reply, news: NewPins) -> Outcome
-    requires { WritesInOrder (body_of (arc_value task.operation)).statements 0 (parts_of news) }
+// How a call ended that made no file.
+fn ended(task: Task, reply: Reply) -> Outcome
     ensures call { outcome_call result ≡ task_call task }
     ensures reply { outcome_reply result ≡ reply }
-    ensures news { outcome_news result ≡ news }
+    ensures news { outcome_news result ≡ [] }
 {
     let Task {
         number,
@@ -109,7 +109,7 @@ fn ended(task: Task, reply: Reply, news: NewPins) -> Outcome
         args,
         pins,
         reply,
-        news,
+        news: NewPins::none(),
     }
 }
 
@@ -122,7 +122,53 @@ fn failed(task: Task, fault: HandFault) -> Outcome
         HandFault::Device => Failure::Device,
         HandFault::Memory => Failure::Memory,
     };
-    ended(task, Reply::Failed(failure), NewPins::none())
+    ended(task, Reply::Failed(failure))
+}
+
+// Writes what the body of a call changed.
+fn written<H: Hand>(
+    alloc: Global,
+    hand: &mut H,
+    task: Task,
+    reply: Option<Datum>,
+    changes: Vec<Change>,
+) -> Outcome
+    requires few { length changes.items ≤ 16 }
+    requires rising { WritesInOrder (body_of (arc_value task.operation)).statements 0 (parts_changed changes.items) }
+    requires some { 0 < length changes.items }
+    ensures call { outcome_call result ≡ task_call task }
+    ensures kept { (a : Assignment) → H.agrees hand.new a → H.agrees hand.old a }
+    ensures told { (a : Assignment) → H.agrees hand.new a → IsDone (PinHolds a task.pins) (arc_value task.operation) task.args.items reply (AreChanges changes.items) → IsTrueOf a (outcome_call result) (outcome_reply result) (outcome_pins result) }
+    ensures rises { H.failed hand.old < H.failed hand.new → outcome_reply result ≡ replies.Failed failures.Device }
+    ensures counted { H.failed hand.old ≤ H.failed hand.new }
+    ensures cause { outcome_reply result ≡ replies.Failed failures.Device → DeviceFailed (H.failed hand.old) (H.failed hand.new) }
+{
+    let phase = go_on(reply, changes, NewPins::none());
+    perform(Run { alloc, task, phase }, hand)
+}
+
+// Does the body of a call on the bytes read of its parts, and writes what it changed. The bytes of part p stand at place p.
+fn run_read<H: Hand>(alloc: Global, hand: &mut H, task: Task, read: &[FileBytes]) -> Outcome
+    requires read { (p : ℕ) → Reads (body_of (arc_value task.operation)).statements p → p < length read.now }
+    ensures call { outcome_call result ≡ task_call task }
+    ensures kept { (a : Assignment) → H.agrees hand.new a → H.agrees hand.old a }
+    ensures told { (a : Assignment) → H.agrees hand.new a → AreRead a (task_call task) read.now → IsTrueOf a (outcome_call result) (outcome_reply result) (outcome_pins result) }
+    ensures rises { H.failed hand.old < H.failed hand.new → outcome_reply result ≡ replies.Failed failures.Device }
+    ensures counted { H.failed hand.old ≤ H.failed hand.new }
+    ensures cause { outcome_reply result ≡ replies.Failed failures.Device → DeviceFailed (H.failed hand.old) (H.failed hand.new) }
+{
+    match judge(alloc, &task.operation, &task.args, read) {
+        Verdict::Done(reply, changes) => {
+            if changes.is_empty() {
+                ended(task, Reply::Done(reply))
+            } else {
+                written(alloc, hand, task, reply, changes)
+            }
+        }
+        Verdict::Refused(word) => ended(task, Reply::Refused(word)),
+        Verdict::Damaged => ended(task, Reply::Failed(Failure::Damaged)),
+        Verdict::Memory => ended(task, Reply::Failed(Failure::Memory)),
+    }
 }
 
 /// Runs a call: its device calls one after the other, as a [`Run`] makes them, until it has ended. It is what `perform` gives of a new run,
@@ -143,8 +189,5 @@ pub fn run_at_once<H: Hand>(alloc: Global, ticket: Ticket, hand: &mut H) -> Outc
         Ok(()) => {}
         Err(fault) => return failed(task, fault),
     }
-    match conclude(alloc, &task, &read) {
-        Phase::Ended(reply, news) => ended(task, reply, news),
-        phase => perform(Run { alloc, task, phase }, hand),
-    }
+    run_read(alloc, hand, task, &read)
 }

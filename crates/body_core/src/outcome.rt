@@ -54,17 +54,17 @@ impl Outcome {
     }
 
     /// The pins that the run read by, one for each part of the object.
-    pub fn pins(&self) -> Pins
-        ensures { result ≡ (outcome_call self.now).pins }
+    pub fn pins(&self) -> &Pins
+        ensures { result.now ≡ (outcome_call self.now).pins }
     {
-        self.pins
+        &self.pins
     }
 
     /// What the call replies.
-    pub fn reply(&self) -> Reply
-        ensures { result ≡ outcome_reply self.now }
+    pub fn reply(&self) -> &Reply
+        ensures { result.now ≡ outcome_reply self.now }
     {
-        self.reply
+        &self.reply
     }
 
     /// The new pins of the parts that the body changed, in the order of the parts, one for each at most. Only

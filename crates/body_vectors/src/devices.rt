@@ -43,7 +43,7 @@ fn set_seven<H: Hand>(
         assert!(rt; bytes.as_slice() == SEVEN);
     }
     (
-        outcome.reply(),
+        *outcome.reply(),
         outcome.sealed().len(),
         outcome.new_pins().len(),
     )

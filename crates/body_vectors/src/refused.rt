@@ -133,12 +133,12 @@ fn refused_perform(rt: HostRuntime) {
     };
     let pins = Pins::new(&[pin]);
     let mut outcome = put_seven(&rt, alloc, &cell, pins, &mut hand);
-    if outcome.reply() != Reply::Done(None) {
-        assert!(rt; outcome.reply() == Reply::Failed(Failure::Memory));
+    if *outcome.reply() != Reply::Done(None) {
+        assert!(rt; *outcome.reply() == Reply::Failed(Failure::Memory));
         assert!(rt; outcome.new_pins().is_empty() && outcome.sealed().is_empty());
         outcome = put_seven(&rt, alloc, &cell, pins, &mut hand);
     }
-    assert!(rt; outcome.reply() == Reply::Done(None));
+    assert!(rt; *outcome.reply() == Reply::Done(None));
     let copy = match outcome.copy(alloc) {
         Ok(copy) => copy,
         Err(_) => outcome.copy(alloc).expect(&rt, "memory"),

@@ -172,10 +172,7 @@ impl Desk {
         let Some(place) = self.roster.place_of_call(outcome) else {
             return None;
         };
-        let reply = outcome.reply();
-        let ended = self
-            .roster
-            .end(place, &reply, outcome.new_pins(), outcome.sealed());
+        let ended = self.roster.end(place, outcome.reply(), outcome.new_pins(), outcome.sealed());
         self.roster.admit();
         let place = self.roster.history().len();
         let Ended { session, free } = ended;

@@ -213,10 +213,10 @@ impl Running {
         &self.call
     }
 
-    pub(crate) fn pins(&self) -> Pins
-        ensures { result ≡ self.now.pins }
+    pub(crate) fn pins(&self) -> &Pins
+        ensures { result.now ≡ self.now.pins }
     {
-        self.pins
+        &self.pins
     }
 
     // Whether its ticket was taken.

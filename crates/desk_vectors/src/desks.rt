@@ -53,7 +53,7 @@ fn comes_to<H: Hand>(
 ) -> bool {
     match receipt_of(alloc, desk, hand, op, &[Datum::Integer(1)]) {
         Some(receipt) => {
-            receipt.noted.reply() == want
+            *receipt.noted.reply() == want
                 && are_files(&receipt.free, free)
                 && are_files(desk.pins().as_slice(), pins)
         }

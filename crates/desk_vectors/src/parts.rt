@@ -87,7 +87,7 @@ fn has(alloc: Global, shelf: &mut MemShelf, name: &[u8], want: Option<&[u8]>) ->
 // Whether a call puts 7.
 fn puts_seven(alloc: Global, desk: &mut Desk, hand: &mut MemHand) -> bool {
     match receipt_of(alloc, desk, hand, "put", &[Datum::Integer(7)]) {
-        Some(receipt) => receipt.noted.reply() == Reply::Done(None),
+        Some(receipt) => *receipt.noted.reply() == Reply::Done(None),
         None => false,
     }
 }

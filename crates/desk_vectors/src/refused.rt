@@ -127,7 +127,7 @@ fn goes_on(alloc: Global, desk: &mut Desk, hand: &mut MemHand, first: Outcome) -
     let Some(second) = outcome_of(alloc, desk, hand, 2) else {
         return false;
     };
-    let failed = second.reply() == Reply::Failed(Failure::Memory);
+    let failed = *second.reply() == Reply::Failed(Failure::Memory);
     if failed != starved || desk.finish(second).is_err() || !desk.runs(3) {
         return false;
     }

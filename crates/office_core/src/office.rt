@@ -44,7 +44,8 @@ const BEDS: usize = 64;
 /// A room that threads share.
 #[derive(Drop)]
 pub struct Office {
-    room: Mutex<Room>,
+    // The room lies elsewhere: who looks for the lock writes where the lock lies.
+    room: Mutex<Box<Room>>,
     beds: Vec<Condvar>,
     // Where those sleep whose call is not yet submitted.
     door: Condvar,
@@ -95,6 +96,7 @@ fn add_beds(beds: &mut Vec<Condvar>, count: usize)
 impl Office {
     /// An office with this room. The error is that memory was refused.
     pub fn open(alloc: Global, room: Room) -> Result<Office, AllocError> {
+        let room = Box::new(alloc, room)?;
         let mut beds = Vec::with_capacity(alloc, BEDS)?;
         add_beds(&mut beds, BEDS);
         Ok(Office {
@@ -105,7 +107,7 @@ impl Office {
     }
 
     // The room, once no other thread has it.
-    fn enter<R: Wait>(&self, rt: &R) -> MutexGuard<'_, Room> {
+    fn enter<R: Wait>(&self, rt: &R) -> MutexGuard<'_, Box<Room>> {
         for _ in 0..LOOKS {
             if let Some(room) = self.room.try_lock() {
                 return room;
@@ -133,7 +135,7 @@ impl Office {
     // The room, once a call of this operation would not wait long, or some milliseconds have passed. A call that is submitted while one
     // runs that excludes it stands in a queue: its thread has to be woken for its turn, and no other call of its operation can run
     // until it is. One that is submitted when the other has ended starts at once.
-    fn enter_in_turn<R: Wait>(&self, rt: &R, op: &str) -> MutexGuard<'_, Room> {
+    fn enter_in_turn<R: Wait>(&self, rt: &R, op: &str) -> MutexGuard<'_, Box<Room>> {
         for _ in 0..NAPS {
             let room = self.enter(rt);
             let pace = room.pace(op);
@@ -328,13 +330,15 @@ impl Office {
     pub fn close(self, seats: Vec<Seat>, receipts: &[Receipt]) -> Result<Closed, CloseRefused>
         ensures { (r : RoomState) × Closes r seats.items receipts.now result }
     {
-        self.room.into_inner().close(seats, receipts)
+        let room = Box::into_inner(self.room.into_inner());
+        room.close(seats, receipts)
     }
 
     /// The same by slips, as [`Room::close_by_slips`].
     pub fn close_by_slips(self, seats: Vec<Seat>, slips: &[Slip]) -> Result<Closed, CloseRefused>
         ensures { (r : RoomState) × ClosesBySlips r seats.items slips.now result }
     {
-        self.room.into_inner().close_by_slips(seats, slips)
+        let room = Box::into_inner(self.room.into_inner());
+        room.close_by_slips(seats, slips)
     }
 }

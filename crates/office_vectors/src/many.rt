@@ -170,7 +170,7 @@ fn is_get(desk: &Desk, number: u32) -> bool {
 fn told(before: u32, entry: &Entry) -> Option<u32> {
     match entry.args() {
         [] => {
-            if entry.reply() == Reply::Done(Some(Datum::Integer(before))) {
+            if *entry.reply() == Reply::Done(Some(Datum::Integer(before))) {
                 Some(before)
             } else {
                 None

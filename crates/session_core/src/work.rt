@@ -3,7 +3,7 @@
 ghost use Rattle.std.specs.Prelude.{◌≡◌, ◌<◌, ◌++◌, ◌∷◌, [], IsTrue};
 ghost use Rattle.std.specs.Vec.{vec_len, vec_capacity};
 ghost use Rattle.board_core.specs.Lists.{Every};
-ghost use Rattle.slip_core.specs.Slips.{IsTrueTold, told_of};
+ghost use Rattle.slip_core.specs.Slips.{IsTrueTold};
 ghost use Rattle.shelf_core.specs.Device.{Assignment};
 ghost use Rattle.session_core.specs.Truth.{Keeps, AreTrue, OutcomeIsTrue};
 
@@ -14,11 +14,10 @@ use crate::order::Offices;
 use crate::output::{Output, Start};
 use crate::reading::Reading;
 use crate::room::make_room_in;
-use board_core::receipt::Receipt;
 use body_core::at_once::run_at_once;
 use body_core::outcome::Outcome;
 use body_core::ticket::Ticket;
-use desk_core::answer::SubmitFault;
+use desk_core::answer::{Finished, SubmitFault};
 use office_core::office::Office;
 use office_core::seat::{Seat, Started, Submitted, Tried};
 use path_tree::name::Name;
@@ -142,12 +141,10 @@ fn performed<H: Hand>(alloc: Global, ticket: Ticket, hand: &mut H) -> Outcome
 }
 
 // Hands an outcome in, until it is taken.
-fn completed<R: Wait>(rt: &R, office: &Office, seat: &mut Seat, outcome: Outcome) -> Receipt
-    ensures { result.noted.outcome ≡ outcome }
-{
+fn completed<R: Wait>(rt: &R, office: &Office, seat: &mut Seat, outcome: &Outcome) -> Finished {
     for _ in rt.forever() {
-        if let Ok(finished) = office.complete_in_place(rt, seat, &outcome) {
-            return finished.receipt(outcome);
+        if let Ok(finished) = office.complete_in_place(rt, seat, outcome) {
+            return finished;
         }
     }
     unreachable!()
@@ -214,6 +211,10 @@ fn begun<R: Wait, I: Read + Drop, W: Write + Drop, J: Start>(
         }
     };
     say(rt, output, Line::Accepted(number));
+    let tried = match tried {
+        Tried::Ticket(ticket) => return Some(ticket),
+        other => other,
+    };
     let ticket = started(rt, office, output, seat, reading, tried);
     if ticket.is_none() {
         say(rt, output, Line::Withdrawn(number));
@@ -235,12 +236,12 @@ fn make_room<R: Wait, W: Write + Drop, J: Start>(
     make_room_in(receipts) && room.make(args).is_ok() && output.lock(rt).make_room()
 }
 
-// Keeps what a receipt tells. There is room for it, so that no receipt is lost.
-fn keep(receipts: &mut Vec<Slip>, room: &mut SlipRoom, receipt: &Receipt)
+// Keeps what the receipt of an outcome tells. There is room for it, so that no receipt is lost.
+fn keep(receipts: &mut Vec<Slip>, room: &mut SlipRoom, finished: &Finished, outcome: &Outcome)
     requires { vec_len receipts.now < vec_capacity receipts.now }
-    ensures { (a : Assignment) → Every (IsTrueTold a) receipts.old.items → IsTrueTold a (told_of receipt.now) → Every (IsTrueTold a) receipts.new.items }
+    ensures { (a : Assignment) → Every (IsTrueTold a) receipts.old.items → OutcomeIsTrue a outcome.now → Every (IsTrueTold a) receipts.new.items }
 {
-    if let Some(slip) = room.slip(receipt) {
+    if let Some(slip) = room.slip_by(finished.place, finished.session, outcome) {
         receipts.push_reserved(slip);
     }
 }
@@ -270,11 +271,10 @@ fn serve_at<R: Wait, I: Read + Drop, W: Write + Drop, H: Hand + Drop, J: Start>(
         return;
     };
     let outcome = performed(alloc, ticket, &mut worked.hand);
-    let receipt = completed(rt, office, seat, outcome);
-    let reply = receipt.noted.reply();
-    let _said = output.lock(rt).say_ended(receipt.noted.number(), &reply);
-    keep(&mut worked.receipts, &mut worked.room, &receipt);
-    put_off(&mut worked.hand, &receipt.free, &mut worked.free);
+    let finished = completed(rt, office, seat, &outcome);
+    let _said = output.lock(rt).say_ended(outcome.number(), outcome.reply());
+    keep(&mut worked.receipts, &mut worked.room, &finished, &outcome);
+    put_off(&mut worked.hand, &finished.free, &mut worked.free);
 }
 
 // One call of the object that is opened.

@@ -3,6 +3,7 @@ use Rattle.std.specs.Prelude.{◌≡◌, ℕ, ◌-◌, ◌<◌, List, slice_get,
 use Rattle.decl_core.specs.ObjectMap.{operation_of}
 use Rattle.shelf_core.specs.Device.{Assignment}
 use Rattle.body_core.specs.declared.new_pins.NewPin.{NewPin}
+use Rattle.body_core.specs.declared.outcome.Outcome.{Outcome}
 use Rattle.body_core.specs.declared.reply.Reply.{Reply}
 use Rattle.body_core.specs.Calls.{Call}
 use Rattle.body_core.specs.Outcomes.{outcome_call, outcome_reply, outcome_pins, new_if_done}
@@ -23,14 +24,18 @@ pub record Told : Type 0 where
 abbrev pub pins_told : Told → List NewPin
 pins_told t = new_if_done t.reply t.news
 
-abbrev pub told_of : Receipt → Told
-told_of r = record {
-  place = r.place;
-  session = r.noted.session;
-  call = outcome_call r.noted.outcome;
-  reply = outcome_reply r.noted.outcome;
-  news = outcome_pins r.noted.outcome;
+-- the same of an outcome of a call of this session, whose entry has this place
+abbrev pub told_by : ℕ → ℕ → Outcome → Told
+told_by place session o = record {
+  place = place;
+  session = session;
+  call = outcome_call o;
+  reply = outcome_reply o;
+  news = outcome_pins o;
 }
+
+abbrev pub told_of : Receipt → Told
+told_of r = told_by r.place r.noted.session r.noted.outcome
 
 -- An entry is the one that is told: it tells of the call all that is told, and of its pins those of the parts that its operation reads.
 pub record IsEntryTold (t : Told) (e : Noted) : Type 0 where

@@ -1,13 +1,13 @@
 //! The making of slips, with memory that is taken ahead.
 
 ghost use Rattle.std.specs.Prelude.{◌≡◌, IfSome};
-ghost use Rattle.slip_core.specs.Slips.{told_of};
+ghost use Rattle.slip_core.specs.Slips.{told_of, told_by};
 
 use crate::short::Short;
 use crate::slim::{Slim, are, slims};
 use crate::slip::Slip;
 use board_core::receipt::Receipt;
-use body_core::outcome::NewPin;
+use body_core::outcome::{NewPin, Outcome};
 use body_core::reply::Reply;
 use decl_core::id::MOST_PARTS;
 use shelf_core::hand::Stamp;
@@ -104,21 +104,28 @@ impl SlipRoom {
         ensures { IfSome result (λ s. s ≡ told_of receipt.now) }
     {
         let noted = &receipt.noted;
+        self.slip_by(receipt.place, noted.session, &noted.outcome)
+    }
+
+    /// The same of an outcome of a call of this session, whose entry has this place.
+    pub fn slip_by(&mut self, place: usize, session: u32, outcome: &Outcome) -> Option<Slip>
+        ensures { IfSome result (λ s. s ≡ told_by place session outcome.now) }
+    {
         let args = mem::replace(&mut self.args, Vec::new(self.alloc));
-        if !are(&args, noted.args()) {
+        if !are(&args, outcome.args()) {
             return None;
         }
-        let Ok(operation) = Arc::try_clone(noted.operation()) else {
+        let Ok(operation) = Arc::try_clone(outcome.operation()) else {
             return None;
         };
-        let reply = Short::within(&mut self.reply, &noted.reply())?;
-        let pins = noted.pins();
+        let reply = Short::within(&mut self.reply, outcome.reply())?;
+        let pins = outcome.pins();
         let pins = self.pins.filled(self.alloc, pins.as_slice())?;
-        let news = self.news.filled(self.alloc, noted.new_pins())?;
+        let news = self.news.filled(self.alloc, outcome.new_pins())?;
         Some(Slip {
-            place: receipt.place,
-            number: noted.number(),
-            session: noted.session,
+            place,
+            number: outcome.number(),
+            session,
             operation,
             args,
             reply,

@@ -150,7 +150,7 @@ impl Slip {
         if !are(&self.args, entry.args()) {
             return false;
         }
-        if !self.reply.is(&entry.reply()) {
+        if !self.reply.is(entry.reply()) {
             return false;
         }
         if !same_news(entry.new_pins(), self.new_pins()) {

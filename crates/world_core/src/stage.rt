@@ -220,7 +220,7 @@ impl Stage {
             Ok(receipt) => {
                 truth_is_noted();
                 self.desk.history();
-                let reply = receipt.noted.reply();
+                let reply = *receipt.noted.reply();
                 // The end stands in the trace, so one place more is no more than its length.
                 let _all = self.desk.trace().len();
                 let starts = self.begin(before + 1);

@@ -37,7 +37,7 @@ end-ended-requires c =
         subst (λ st. WritesInOrder st 0 (parts_of done)) (sym same) c.new_pins.ensures.rising,
         λ p has. subst (λ st. Writes st p) (sym same) (c.new_pins.ensures.inside p has),
       );
-      news = c.new_pins.ensures.pins ∙ sym (done_twice reply news) ∙ ap (new_if_done reply) (sym c.new_pins.ensures.pins) ∙ ap (λ r. new_if_done r done) (sym c.reply-reply.ensures);
+      news = c.new_pins.ensures.pins ∙ sym (done_twice reply news) ∙ ap (new_if_done reply) (sym c.new_pins.ensures.pins) ∙ ap (λ r. new_if_done r done) (sym c.reply.ensures);
       few = (
         omega (arith, news_few operation (parts_of done) c.new_pins.ensures.rising, count_few (writes_of (body_of operation)) 0 16, length-map done (λ (n : NewPin). n.part)),
         omega (arith, news_few operation (parts_of c.sealed.result.now) c.sealed.ensures.rising, count_few (writes_of (body_of operation)) 0 16, length-map c.sealed.result.now (λ (n : NewPin). n.part)),
@@ -57,13 +57,13 @@ returns-clause-board c =
     let news : List NewPin = outcome_news c.args.outcome.now in
     let done = c.new_pins.result.now in
     let e : Noted = entry_of r reply news in
-    let entry : entry_of r c.reply-reply.result done ≡ e =
-    ap (λ x. entry_of r x done) c.reply-reply.ensures ∙ ap (λ ns. noted_of r.number r.call reply (read_pins r.call.operation r.pins) ns) (ap (new_if_done reply) c.new_pins.ensures.pins ∙ done_twice reply news) in
+    let entry : entry_of r c.reply.result.now done ≡ e =
+    ap (λ x. entry_of r x done) c.reply.ensures ∙ ap (λ ns. noted_of r.number r.call reply (read_pins r.call.operation r.pins) ns) (ap (new_if_done reply) c.new_pins.ensures.pins ∙ done_twice reply news) in
     let made : c.end-ended.new.self ≡ ended before e = c.end-ended.ensures.board r found.1 ∙ ap (ended before) entry in
     let admits : Admits (ended before e) after = subst (λ b. Admits b after) made c.admit.ensures in
-    let is : done ≡ new_if_done c.reply-reply.result news = c.new_pins.ensures.pins ∙ ap (λ x. new_if_done x news) (sym c.reply-reply.ensures) in
-    let files : c.sealed.result.now ≡ left_if_failed c.reply-reply.result news = c.sealed.ensures.files ∙ ap (λ x. left_if_failed x news) (sym c.reply-reply.ensures) in
-    let left : left_behind before.pins c.reply-reply.result news ≡ left_behind c.args.self.now.pins reply news = ap (λ (b : Board). left_behind b.pins c.reply-reply.result news) c.self.view_is ∙ ap (λ x. left_behind c.args.self.now.pins x news) c.reply-reply.ensures in
+    let is : done ≡ new_if_done c.reply.result.now news = c.new_pins.ensures.pins ∙ ap (λ x. new_if_done x news) (sym c.reply.ensures) in
+    let files : c.sealed.result.now ≡ left_if_failed c.reply.result.now news = c.sealed.ensures.files ∙ ap (λ x. left_if_failed x news) (sym c.reply.ensures) in
+    let left : left_behind before.pins c.reply.result.now news ≡ left_behind c.args.self.now.pins reply news = ap (λ (b : Board). left_behind b.pins c.reply.result.now news) c.self.view_is ∙ ap (λ x. left_behind c.args.self.now.pins x news) c.reply.ensures in
     record {
       call = r;
       runs = subst (λ (b : Board). Among r b.running) c.self.view_is (among_at before.running c.in-Some.place r found.1);
