@@ -22,15 +22,15 @@ use std::time::Duration;
 use turn_core::turns::Pace;
 use value_core::datum::Datum;
 
-/// How often a thread looks whether the room is free before it sleeps, and how long it pauses between two looks. A room is held for a
-/// few microseconds, and a thread that sleeps is woken in tens of them.
-const LOOKS: usize = 32;
+/// How often a thread looks whether the room is free before it sleeps. A room is held for a microsecond or two, and a thread that sleeps is
+/// woken in tens of them. One pause between two looks lasts up to 140 cycles: with more of them a room that is free stands empty.
+const LOOKS: usize = 512;
+
+/// How often a thread looks whether the call that its own would wait for has ended, before it sleeps or submits all the same, and how
+/// long it pauses between two looks. It is long enough for a call that writes one small file.
+const GLANCES: usize = 64;
 
 const PAUSES: usize = 12;
-
-/// How often a thread looks whether the call that its own would wait for has ended, before it sleeps or submits all the same. It is
-/// long enough for a call that writes one small file.
-const GLANCES: usize = 64;
 
 /// How long it sleeps then, in microseconds, if nobody wakes it.
 const NAP: u64 = 1000;
@@ -112,9 +112,7 @@ impl Office {
             if let Some(room) = self.room.try_lock() {
                 return room;
             }
-            for _ in 0..PAUSES {
-                spin_loop();
-            }
+            spin_loop();
         }
         self.room.lock(rt)
     }
