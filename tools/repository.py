@@ -34,7 +34,7 @@ def files(folder):
 
 
 def digest(top, lines, name, kit, *more):
-    """The sha256 of all that a crate's proof rests on: the kit's line, and the line in crates.txt and the files of the
+    """The sha256 of all that a crate's proof rests on: the kit's logic, and the line in crates.txt and the files of the
     crate and of each below it; of the crate itself also the files of the folders `more`."""
     summed = hashlib.sha256()
 
