@@ -1,6 +1,7 @@
 //! A desk: its tables, in which no waiting call may start.
 
 ghost use Rattle.std.specs.Prelude.{◌≡◌, ℕ, ◌+◌, ◌<◌, ◌≤◌, ◌⊎◌, ◌↔◌, length, IfOk, IfErr, OnOk, IfSome, IfNone, IsTrue, Some, None, slice_get};
+ghost use Rattle.std.specs.Arc.{arc_value};
 ghost use Rattle.body_core.specs.Outcomes.{outcome_call};
 ghost use Rattle.board_core.specs.Lists.{Every};
 ghost use Rattle.board_core.specs.Calls.{AcceptedCall};
@@ -24,6 +25,7 @@ use exclude_core::analyse::Accepted;
 use shelf_core::pins::Pins;
 use std::alloc::{AllocError, Global};
 use std::marker::Model;
+use std::sync::Arc;
 use value_core::datum::Datum;
 use value_core::value::Value;
 
@@ -97,27 +99,36 @@ impl Desk {
         ensures history { self.new.history ≡ self.old.history }
         ensures pins { self.new.pins ≡ self.old.pins }
     {
+        match self.submit_and_share(session, op, args) {
+            Ok((number, _call)) => return Ok(number),
+            Err(fault) => return Err(fault),
+        }
+    }
+
+    /// The same, and hands out the call beside its number, shared.
+    pub fn submit_and_share(
+        &mut self,
+        session: u32,
+        op: &str,
+        args: &[Datum],
+    ) -> Result<(u32, Arc<Call>), SubmitFault>
+        ensures number { IfOk result (λ r. r.0 ≡ length self.old.calls + 1) }
+        ensures taken { IfOk result (λ r. IsTaken self.old (record { session = session; name = op.now; arguments = args.now }) (arc_value r.1)) }
+        ensures board { IfOk result (λ r. Settles (joined self.old (arc_value r.1)) self.new) }
+        ensures refused { IfErr result (λ f. IsRefused self.old (record { session = session; name = op.now; arguments = args.now }) f × (self.new ≡ self.old)) }
+        ensures history { self.new.history ≡ self.old.history }
+        ensures pins { self.new.pins ≡ self.old.pins }
+    {
         let place = match self.roster.asked(session, op.as_bytes(), args) {
             Ok(place) => place,
             Err(fault) => return Err(fault),
         };
         match self.roster.join(session, place, args) {
-            Ok(number) => {
+            Ok((number, call)) => {
                 self.roster.admit();
-                Ok(number)
+                Ok((number, call))
             }
             Err(AllocError) => Err(SubmitFault::Memory),
-        }
-    }
-
-    /// The refusal that a submission of this would meet, want of memory aside.
-    pub fn refusal(&self, session: u32, op: &str, args: &[Datum]) -> Option<SubmitFault>
-        ensures some { IfSome result (λ f. IsRefused self.now (record { session = session; name = op.now; arguments = args.now }) f) }
-        ensures none { IfNone result ((call : AcceptedCall) × IsTaken self.now (record { session = session; name = op.now; arguments = args.now }) call) }
-    {
-        match self.roster.asked(session, op.as_bytes(), args) {
-            Ok(_) => None,
-            Err(fault) => Some(fault),
         }
     }
 

@@ -48,7 +48,7 @@ pub(crate) fn waits_for(waiting: &[Waiting], session: u32) -> bool
 pub(crate) fn runs_for(running: &[Running], session: u32) -> bool
     ensures { result ≡ list_any (λ r. r.call.session == session) running.now }
 {
-    running.iter().any(|r| r.call().session() == session)
+    running.iter().any(|r| r.session() == session)
 }
 
 // Whether a call of this number waits.

@@ -32,14 +32,23 @@ pub(crate) struct ForTicket {
     ghost fits: { ArgumentsFit (arc_value operation) args.items },
 }
 
+// What a call needs that waits or runs. It lies apart, so that little is moved where calls start and end.
+#[derive(Drop)]
+pub(crate) struct Kit {
+    call: Arc<Call>,
+    ticket: Option<ForTicket>,
+    room: EntryRoom,
+    free: Vec<Stamp>,
+    // those of its start, once it runs
+    pins: Pins,
+}
+
 // A call that waits.
 #[derive(Drop)]
 pub(crate) struct Waiting {
     number: u32,
-    call: Arc<Call>,
-    ticket: ForTicket,
-    room: EntryRoom,
-    free: Vec<Stamp>,
+    session: u32,
+    kit: Box<Kit>,
 }
 
 impl Model for Waiting {
@@ -62,11 +71,8 @@ impl Model for Waiting {
 #[derive(Drop)]
 pub(crate) struct Running {
     number: u32,
-    call: Arc<Call>,
-    ticket: Option<ForTicket>,
-    room: EntryRoom,
-    free: Vec<Stamp>,
-    pins: Pins,
+    session: u32,
+    kit: Box<Kit>,
 }
 
 impl Model for Running {
@@ -141,12 +147,20 @@ impl Waiting {
         let ticket = ForTicket::new(alloc, operation, args)?;
         let room = EntryRoom::new(alloc, operation)?;
         let free = Vec::with_capacity(alloc, MOST_PARTS)?;
+        let kit = Box::new(
+            alloc,
+            Kit {
+                call,
+                ticket: Some(ticket),
+                room,
+                free,
+                pins: Pins::new(&[]),
+            },
+        )?;
         Ok(Waiting {
             number,
-            call,
-            ticket,
-            room,
-            free,
+            session,
+            kit,
         })
     }
 
@@ -154,7 +168,7 @@ impl Waiting {
     pub(crate) fn share(&self) -> Result<Arc<Call>, AllocError>
         ensures { IfOk result (λ c. arc_value c ≡ self.now.call) }
     {
-        let call = Arc::try_clone(&self.call)?;
+        let call = Arc::try_clone(&self.kit.call)?;
         Ok(call)
     }
 
@@ -167,33 +181,29 @@ impl Waiting {
     pub(crate) fn op(&self) -> OpId
         ensures { result ≡ self.now.call.op }
     {
-        self.call.op()
+        self.kit.call.op()
     }
 
     pub(crate) fn session(&self) -> u32
         ensures { result ≡ self.now.call.session }
     {
-        self.call.session()
+        self.session
     }
 
     // It runs, with these pins.
-    pub(crate) fn start(self, pins: Pins) -> Running
-        ensures { result ≡ record { number = self.number; call = self.call; pins = pins; taken = false } }
+    pub(crate) fn start(self, pins: &Pins) -> Running
+        ensures { result ≡ record { number = self.number; call = self.call; pins = pins.now; taken = false } }
     {
         let Waiting {
             number,
-            call,
-            ticket,
-            room,
-            free,
+            session,
+            mut kit,
         } = self;
+        kit.pins = *pins;
         Running {
             number,
-            call,
-            ticket: Some(ticket),
-            room,
-            free,
-            pins,
+            session,
+            kit,
         }
     }
 }
@@ -207,23 +217,29 @@ impl Running {
         self.number
     }
 
+    pub(crate) fn session(&self) -> u32
+        ensures { result ≡ self.now.call.session }
+    {
+        self.session
+    }
+
     pub(crate) fn call(&self) -> &Call
         ensures { result.now ≡ self.now.call }
     {
-        &self.call
+        &self.kit.call
     }
 
     pub(crate) fn pins(&self) -> &Pins
         ensures { result.now ≡ self.now.pins }
     {
-        &self.pins
+        &self.kit.pins
     }
 
     // Whether its ticket was taken.
     pub(crate) fn is_taken(&self) -> bool
         ensures { result ≡ self.now.taken }
     {
-        self.ticket.is_none()
+        self.kit.ticket.is_none()
     }
 
     // Its ticket, once.
@@ -233,9 +249,8 @@ impl Running {
         ensures none { IfNone result (self.old.taken ≡ true) }
         ensures taken { self.new ≡ record { number = self.old.number; call = self.old.call; pins = self.old.pins; taken = true } }
     {
-        let ForTicket { operation, args } = self.ticket.take()?;
-        let pins = self.pins;
-        Some(Ticket::new(self.number, operation, args, pins))
+        let ForTicket { operation, args } = self.kit.ticket.take()?;
+        Some(Ticket::new(self.number, operation, args, self.kit.pins))
     }
 
     // It has ended, with this reply and these new pins.
@@ -248,12 +263,16 @@ impl Running {
     {
         let Running {
             number,
+            session: _,
+            kit,
+        } = self;
+        let Kit {
             call,
             ticket: _,
             room,
             free,
             pins,
-        } = self;
+        } = Box::into_inner(kit);
         let kept = Entry::new(room, number, call, reply, pins.as_slice(), news);
         Left { kept, free }
     }

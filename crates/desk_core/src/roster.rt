@@ -163,11 +163,11 @@ fn asked_at(waiting: &[Waiting], place: usize) -> (u32, OpId)
 }
 
 // Moves the call at this place to those that run.
-fn start_at(waiting: &mut Vec<Waiting>, running: &mut Vec<Running>, place: usize, pins: Pins)
+fn start_at(waiting: &mut Vec<Waiting>, running: &mut Vec<Running>, place: usize, pins: &Pins)
     requires there { place < length waiting.old.items }
     requires room { length running.old.items < vec_capacity running.old }
     ensures waiting { waiting.new.items ≡ take place waiting.old.items ++ drop (place + 1) waiting.old.items }
-    ensures running { (w : WaitingCall) → slice_get waiting.old.items place ≡ Some w → running.new.items ≡ running.old.items ++ (record { number = w.number; call = w.call; pins = pins; taken = false }) ∷ [] }
+    ensures running { (w : WaitingCall) → slice_get waiting.old.items place ≡ Some w → running.new.items ≡ running.old.items ++ (record { number = w.number; call = w.call; pins = pins.now; taken = false }) ∷ [] }
     ensures waiting_room { vec_capacity waiting.new ≡ vec_capacity waiting.old }
     ensures running_room { vec_capacity running.new ≡ vec_capacity running.old }
 {
@@ -268,13 +268,54 @@ fn published(pins: &Pins, news: &[NewPin]) -> Pins
     }
 }
 
+// Publishes new pins, and gives the files that nobody needs any more. Where there are none, the pins are not written.
+fn publish(
+    pins: &mut Pins,
+    free: Vec<Stamp>,
+    reply: &Reply,
+    news: &[NewPin],
+    sealed: &[NewPin],
+    running: &[Running],
+) -> Vec<Stamp>
+    requires parts { (p : ℕ) → HasPart news.now p → p < length pins.old }
+    requires empty { free.items ≡ [] }
+    requires room { 16 ≤ vec_capacity free }
+    requires few { (length pins.old ≤ 16) × (length sealed.now ≤ 16) }
+    ensures pins { pins.new ≡ with_new pins.old news.now }
+    ensures free { (all : List ANewPin) → (news.now ≡ new_if_done reply.now all) → (sealed.now ≡ left_if_failed reply.now all) → Picks (IsNeeded pins.new running.now) [] (left_behind pins.old reply.now all) result.items }
+{
+    if news.is_empty() {
+        return freed(
+            free,
+            reply,
+            pins.as_slice(),
+            news,
+            sealed,
+            pins.as_slice(),
+            running,
+        );
+    }
+    let after = published(pins, news);
+    let free = freed(
+        free,
+        reply,
+        pins.as_slice(),
+        news,
+        sealed,
+        after.as_slice(),
+        running,
+    );
+    *pins = after;
+    free
+}
+
 // The number, the session and the operation of the running call at this place.
 fn running_at(running: &[Running], place: usize) -> (u32, u32, OpId)
     requires { place < length running.now }
     ensures { (r : RunningCall) → slice_get running.now place ≡ Some r → (result.0 ≡ r.number) × (result.1 ≡ r.call.session) × (result.2 ≡ r.call.op) }
 {
     let asked = &running[place];
-    (asked.number(), asked.call().session(), asked.call().op())
+    (asked.number(), asked.session(), asked.call().op())
 }
 
 // Takes out the running call at this place, which has ended.
@@ -329,8 +370,7 @@ impl Roster {
         let (number, op) = asked_at(&self.waiting, place);
         self.counters.start(op);
         note_start(&mut self.marks, number);
-        let pins = self.pins;
-        start_at(&mut self.waiting, &mut self.running, place, pins);
+        start_at(&mut self.waiting, &mut self.running, place, &self.pins);
     }
 
     // Starts calls as long as one may start.
@@ -352,13 +392,14 @@ impl Roster {
         session: u32,
         place: usize,
         args: &[Datum],
-    ) -> Result<u32, AllocError>
+    ) -> Result<(u32, Arc<Call>), AllocError>
         requires place { place < length self.old.object.operations.items }
         requires fits { (operation : Operation) → slice_get (bodies self.old.object) place ≡ Some operation → ArgumentsFit operation args.now }
         requires few { length self.old.calls < 65536 }
         requires open_few { length self.old.waiting + length self.old.running < 256 }
         requires free { is_busy self.old session ≡ false }
-        ensures number { IfOk result (λ n. n ≡ length self.old.calls + 1) }
+        ensures number { IfOk result (λ r. r.0 ≡ length self.old.calls + 1) }
+        ensures shared { IfOk result (λ r. (operation : Operation) → slice_get (bodies self.old.object) place ≡ Some operation → arc_value r.1 ≡ record { session = session; op = place; operation = operation; arguments = args.now }) }
         ensures ok { OnOk result ((operation : Operation) → slice_get (bodies self.old.object) place ≡ Some operation → self.new ≡ joined self.old (record { session = session; op = place; operation = operation; arguments = args.now })) }
         ensures err { OnErr result (self.new ≡ self.old) }
     {
@@ -372,6 +413,7 @@ impl Roster {
             args,
         )?;
         let call = asked.share()?;
+        let shared = asked.share()?;
         make_room(
             &mut self.calls,
             &mut self.places,
@@ -383,7 +425,7 @@ impl Roster {
         self.places.push_reserved(0);
         self.calls.push_reserved(call);
         self.waiting.push_reserved(asked);
-        Ok(number)
+        Ok((number, shared))
     }
 
     // Takes a waiting call out.
@@ -425,22 +467,12 @@ impl Roster {
         ensures free { (all : List ANewPin) → (news.now ≡ new_if_done reply.now all) → (sealed.now ≡ left_if_failed reply.now all) → Picks (IsNeeded self.new.pins self.new.running) [] (left_behind self.old.pins reply.now all) result.free.items }
     {
         let (number, session, op) = running_at(&self.running, place);
-        let pins = published(&self.pins, news);
         let Left { kept, free } = end_at(&mut self.running, place, reply, news);
         self.counters.finish(op);
         note_end(&mut self.marks, self.history.len());
         note(&mut self.history, kept);
         self.places[number as usize - 1] = self.history.len();
-        let free = freed(
-            free,
-            reply,
-            self.pins.as_slice(),
-            news,
-            sealed,
-            pins.as_slice(),
-            &self.running,
-        );
-        self.pins = pins;
+        let free = publish(&mut self.pins, free, reply, news, sealed, &self.running);
         Ended { session, free }
     }
 

@@ -65,9 +65,8 @@ fn is_taken(desk: &mut Desk, session: u32, number: u32) -> bool {
     let first = desk.submit(session, "put", &[Datum::Integer(7)]);
     if first == Err(SubmitFault::Memory) {
         let is_same = look(desk) == before && desk.call(number).is_none();
-        let is_open = desk.refusal(session, "put", &[Datum::Integer(7)]).is_none();
         let again = desk.submit(session, "put", &[Datum::Integer(7)]);
-        return is_same && is_open && again == Ok(number);
+        return is_same && again == Ok(number);
     }
     first == Ok(number)
 }

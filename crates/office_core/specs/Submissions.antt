@@ -1,5 +1,5 @@
 -- Submissions, and what a wait for a start answers.
-use Rattle.std.specs.Prelude.{◌≡◌, ◌⊎◌, ℕ, List, [], ◌∷◌, Some}
+use Rattle.std.specs.Prelude.{◌≡◌, ℕ, List, Some}
 use Rattle.std.specs.Arc.{arc_value}
 use Rattle.value_core.specs.declared.datum.Datum.{Datum}
 use Rattle.decl_core.specs.declared.object.Operation.{Operation}
@@ -18,15 +18,10 @@ use Rattle.office_core.specs.declared.seat.Tried.TheVariants.{Ticket, Cancelled,
 use Rattle.office_core.specs.Rooms.{RoomState}
 
 abbrev pub submitted_operation : Submitted → Operation
-submitted_operation s = arc_value s.operation
+submitted_operation s = (arc_value s.call).operation
 
 abbrev pub submitted_args : Submitted → List Datum
-submitted_args s = s.args.items
-
--- the first operation of this name
-abbrev pub IsFirstNamed : List ℕ → List Operation → Operation → Type 0
-IsFirstNamed name [] operation = ⊥
-IsFirstNamed name (x ∷ xs) operation = (HasName name x × (x ≡ operation)) ⊎ ((HasName name x → ⊥) × IsFirstNamed name xs operation)
+submitted_args s = (arc_value s.call).arguments
 
 -- a submission is of an operation of this name, with these arguments
 pub record Asks (name : List ℕ) (args : List Datum) (s : Submitted) : Type 0 where

@@ -1,12 +1,10 @@
 //! What is looked up of a room.
 
-ghost use Rattle.std.specs.Prelude.{◌≡◌, ◌↔◌, ◌+◌, IsTrue, IfSome, IfNone, map, length, slice_get, Some};
-ghost use Rattle.std.specs.Arc.{arc_value};
+ghost use Rattle.std.specs.Prelude.{◌≡◌, ◌↔◌, ◌+◌, IsTrue, IfSome, IfNone, length, slice_get, Some};
 ghost use Rattle.decl_core.specs.ObjectMap.{operation_of};
 ghost use Rattle.board_core.specs.declared.receipt.Receipt.{Receipt as AReceipt};
 ghost use Rattle.board_core.specs.Lists.{Every};
-ghost use Rattle.desk_core.specs.Answers.{HasName};
-ghost use Rattle.office_core.specs.Submissions.{IsFirstNamed, IsCallOf, IsOf};
+ghost use Rattle.office_core.specs.Submissions.{IsCallOf, IsOf};
 ghost use Rattle.slip_core.specs.Slips.{Told, StandsIn};
 ghost use Rattle.office_core.specs.Closing.{Stands, Misses, place_of_receipt, place_told};
 
@@ -15,46 +13,18 @@ use board_core::call::Call;
 use board_core::entry::Entry;
 use board_core::receipt::Receipt;
 use board_core::same::same_args;
-use decl_core::object::Operation;
 use decl_core::same::same_declaration;
 use desk_core::desk::Desk;
 use slip_core::slip::Slip;
-use std::sync::Arc;
-
-// Whether an operation has this name.
-fn has_name(operation: &Operation, name: &[u8]) -> bool
-    ensures { IsTrue result ↔ HasName name.now operation.now }
-{
-    operation.name.is_spelled_by(name)
-}
-
-// The first operation of this name.
-pub(crate) fn operation_named<'a>(
-    operations: &'a [Arc<Operation>],
-    name: &[u8],
-) -> Option<&'a Arc<Operation>>
-    ensures some { IfSome result (λ x. IsFirstNamed name.now (map (λ o. arc_value o) operations.now) (arc_value x.now)) }
-{
-    match operations.split_first() {
-        None => None,
-        Some((operation, rest)) => {
-            if has_name(operation, name) {
-                Some(operation)
-            } else {
-                operation_named(rest, name)
-            }
-        }
-    }
-}
 
 // Whether an accepted call has the operation and the arguments of a submission.
 fn is_call_of(call: &Call, submitted: &Submitted) -> bool
     ensures { IsTrue result ↔ IsCallOf submitted.now call.now }
 {
-    if !same_declaration(call.operation(), &submitted.operation) {
+    if !same_declaration(call.operation(), submitted.call.operation()) {
         return false;
     }
-    same_args(call.args(), &submitted.args)
+    same_args(call.args(), submitted.call.args())
 }
 
 // Whether the call of that number has the operation and the arguments of a submission.

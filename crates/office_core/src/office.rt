@@ -291,7 +291,8 @@ impl Office {
         let before = room.desk().trace().len();
         let answer = room.complete_in_place(seat, outcome);
         let ended = answer.is_ok() && room.note_end(outcome.number());
-        let beds = started(&mut room, before);
+        // What happened first is the end of this call, where it was taken.
+        let beds = started(&mut room, before.saturating_add(1));
         let opens = ended && room.is_open();
         drop(room);
         self.wake(beds);

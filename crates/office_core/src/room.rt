@@ -12,7 +12,7 @@ ghost use Rattle.office_core.specs.Submissions.{Asks, IsOf, Tells, Tries};
 ghost use Rattle.office_core.specs.Seats.{IsFresh, Advances, Receives, ReceivesInPlace, Completes, CompletesInPlace, fault_with};
 ghost use Rattle.office_core.specs.Closing.{Closes, ClosesBySlips, IsIdle, AreSeatsOf, IsOpen};
 
-use crate::find::{first_mismatch, first_mismatched_slip, is_of, operation_named};
+use crate::find::{first_mismatch, first_mismatched_slip, is_of};
 use crate::seat::{CompleteFault, NotTaken, Seat, Submitted, Tried};
 use crate::seats::are_seats;
 use board_core::receipt::Receipt;
@@ -24,7 +24,6 @@ use shelf_core::pins::Pins;
 use slip_core::slip::Slip;
 use std::alloc::{AllocError, Global};
 use std::marker::Model;
-use std::sync::Arc;
 use turn_core::turns::{Pace, Turns};
 use value_core::datum::Datum;
 
@@ -37,7 +36,6 @@ pub const MOST_SESSIONS: u32 = 1024;
 /// (`IsSound`, `Rests`) holds of it, as [`Room::desk`] says.
 #[derive(Drop)]
 pub struct Room {
-    alloc: Global,
     desk: Desk,
     given: u32,
     // Which call runs that others wait for. No clause hangs on it.
@@ -115,11 +113,7 @@ fn seat_after(seat: &Seat, place: usize) -> Seat
 
 // Takes apart a submission that has been answered.
 fn spend(submitted: Submitted) {
-    let Submitted {
-        number: _,
-        operation: _,
-        args: _,
-    } = submitted;
+    let Submitted { number: _, call: _ } = submitted;
 }
 
 // Why an outcome was not taken, with the outcome, which is handed back.
@@ -146,7 +140,6 @@ impl Room {
         let turns = Turns::new(&accepted);
         let desk = Desk::open(alloc, accepted, pins)?;
         Ok(Room {
-            alloc,
             desk,
             given: 0,
             turns,
@@ -191,28 +184,10 @@ impl Room {
         ensures given { self.new.given ≡ self.old.given }
         ensures seat { seat.new ≡ seat.old }
     {
-        if let Some(fault) = self.desk.refusal(seat.session, op, args) {
-            return Err(fault);
-        }
-        let operations = &self.desk.accepted().object().operations;
-        let Some(operation) = operation_named(operations, op.as_bytes()) else {
-            return Err(SubmitFault::Memory);
-        };
-        let Ok(operation) = Arc::try_clone(operation) else {
-            return Err(SubmitFault::Memory);
-        };
-        let Ok(copy) = args.to_vec(self.alloc) else {
-            return Err(SubmitFault::Memory);
-        };
-        let number = match self.desk.submit(seat.session, op, args) {
-            Ok(number) => number,
+        match self.desk.submit_and_share(seat.session, op, args) {
+            Ok((number, call)) => return Ok(Submitted { number, call }),
             Err(fault) => return Err(fault),
-        };
-        Ok(Submitted {
-            number,
-            operation,
-            args: copy,
-        })
+        }
     }
 
     /// Looks whether a submitted call has started, as the desk's `collect` does, where the call of that number has
@@ -350,7 +325,6 @@ impl Room {
         ensures { result.desk ≡ self.board }
     {
         let Room {
-            alloc: _,
             desk,
             given: _,
             turns: _,

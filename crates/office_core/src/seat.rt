@@ -2,11 +2,10 @@
 
 ghost use Rattle.std.specs.Prelude.{◌≡◌, ◌≤◌};
 
+use board_core::call::Call;
 use body_core::outcome::Outcome;
 use body_core::ticket::Ticket;
-use decl_core::object::Operation;
 use std::sync::Arc;
-use value_core::datum::Datum;
 
 /// A session that was given out: the greatest place of the history that it has seen, and how many receipts it had.
 #[derive(Debug, Drop)]
@@ -30,8 +29,7 @@ impl Seat {
 /// An accepted call that is waited for. It has to be spent, by a wait for its start.
 pub struct Submitted {
     pub(crate) number: u32,
-    pub(crate) operation: Arc<Operation>,
-    pub(crate) args: Vec<Datum>,
+    pub(crate) call: Arc<Call>,
 }
 
 impl Submitted {

@@ -27,8 +27,8 @@ use Rattle.desk_core.proofs.Starting.{ended_out, writes_within, running_within}
 use Rattle.desk_core.proofs.Tables.{ended_is}
 use Rattle.desk_core.proofs.roster.Roster.end.Goals as goal
 
-pub published-pins-requires : goal.published-pins-requires
-published-pins-requires c = λ p has.
+pub publish-free-requires-clause-parts : goal.publish-free-requires-clause-parts
+publish-free-requires-clause-parts c = λ p has.
     let b : Board = board_of c.self.inside in
     let sound : IsSound b = c.self.invariant.sound in
     let r : RunningCall = c.requires.there.0 in
@@ -90,7 +90,7 @@ invariant_of-self c =
     let all : c.note_end.new.marks.items ≡ c.self.inside.marks.items ++ marks.End (length b.history) ∷ [] = c.note_end.ensures.items ∙ ap (λ n. c.self.inside.marks.items ++ marks.End n ∷ []) place in
     let trace : events_of c.note.new.items.items c.note_end.new.marks.items ≡ b.trace ++ End e.number e.reply ∷ [] = events_same history all ∙ events_end b.history e c.self.inside.marks.items c.self.invariant.marks in
     let running = c.end_at-kept.ensures.running ∙ ended_out b.running c.args.place r sound.counted.apart is in
-    let pins = c.published-pins.ensures ∙ ap (published b.pins) (c.requires.news ∙ sym (done_twice c.args.reply.now c.args.news.now)) in
+    let pins = c.publish-free.ensures.pins ∙ ap (published b.pins) (c.requires.news ∙ sym (done_twice c.args.reply.now c.args.news.now)) in
     let made = ended_is b e _ _ _ _ trace history running pins in
     let n : ℕ = length c.self.inside.accepted.operations.items in
     let yes = (c.finish.ensures.answer n (paths_of b) (past_of b) c.self.invariant.stands).1
@@ -130,6 +130,6 @@ returns-clause-board c = λ s is0.
     let all : c.note_end.new.marks.items ≡ c.self.inside.marks.items ++ marks.End (length b.history) ∷ [] = c.note_end.ensures.items ∙ ap (λ n. c.self.inside.marks.items ++ marks.End n ∷ []) place in
     let trace : events_of c.note.new.items.items c.note_end.new.marks.items ≡ b.trace ++ End e.number e.reply ∷ [] = events_same history all ∙ events_end b.history e c.self.inside.marks.items c.self.invariant.marks in
     let running = c.end_at-kept.ensures.running ∙ ended_out b.running c.args.place r sound.counted.apart is in
-    let pins = c.published-pins.ensures ∙ ap (published b.pins) (c.requires.news ∙ sym (done_twice c.args.reply.now c.args.news.now)) in
+    let pins = c.publish-free.ensures.pins ∙ ap (published b.pins) (c.requires.news ∙ sym (done_twice c.args.reply.now c.args.news.now)) in
     let made = ended_is b e _ _ _ _ trace history running pins in
     made ∙ ap (λ x. ended x e) c.self.view_is ∙ ap (λ (x : RunningCall). ended c.args.self.now (entry_of x c.args.reply.now c.args.news.now)) one

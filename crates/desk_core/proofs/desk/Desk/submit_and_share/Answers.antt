@@ -1,4 +1,4 @@
-use Rattle.std.proofs.Common.{◌∙◌, arith, refl, ap, subst}
+use Rattle.std.proofs.Common.{◌≡◌, ◌∙◌, arith, refl, ap, subst, sym}
 use Rattle.std.specs.Arc.{arc_value}
 use Rattle.std.proofs.lemmas.List.{length-map}
 use Rattle.std.proofs.lemmas.Option.{slice_get_within}
@@ -8,7 +8,7 @@ use Rattle.desk_core.specs.Answers.{Asked, IsTaken, IsRefused}
 use Rattle.desk_core.specs.declared.answer.SubmitFault.TheVariants.{Memory}
 use Rattle.board_core.specs.Started.{Settles}
 use Rattle.board_core.proofs.Admission.{rests_after, joined_history, settled}
-use Rattle.desk_core.proofs.desk.Desk.submit.Goals as goal
+use Rattle.desk_core.proofs.desk.Desk.submit_and_share.Goals as goal
 
 pub join-requires-clause-place : goal.join-requires-clause-place
 join-requires-clause-place c =
@@ -18,14 +18,23 @@ join-requires-clause-place c =
 pub invariant_of-self : goal.invariant_of-self
 invariant_of-self c = rests_after _ _ c.admit.ensures
 
-pub returns-in-Ok-join-clause-board : goal.returns-in-Ok-join-clause-board
-returns-in-Ok-join-clause-board c =
+pub returns-in-Ok-join-clause-taken : goal.returns-in-Ok-join-clause-taken
+returns-in-Ok-join-clause-taken c =
     let taken0 = c.in-Ok.ensures.taken in
     let asked : Asked = record { session = c.args.session; name = c.args.op.now; arguments = c.args.args.now } in
     let call : AcceptedCall = record { session = c.args.session; op = c.in-Ok.place; operation = taken0.0; arguments = c.args.args.now } in
     let taken : IsTaken c.self.inside.roster asked call = subst (λ name. IsTaken c.self.inside.roster (record { session = c.args.session; name = name; arguments = c.args.args.now }) call) c.as_bytes.ensures.value taken0.1 in
+    let is : arc_value c.in-Ok-join.call ≡ call = c.in-Ok-join.ensures.shared taken0.0 taken0.1.asked.named.there in
+    subst (λ (b : Board). IsTaken b asked (arc_value c.in-Ok-join.call)) c.self.view_is (subst (IsTaken c.self.inside.roster asked) (sym is) taken)
+
+pub returns-in-Ok-join-clause-board : goal.returns-in-Ok-join-clause-board
+returns-in-Ok-join-clause-board c =
+    let taken0 = c.in-Ok.ensures.taken in
+    let call : AcceptedCall = record { session = c.args.session; op = c.in-Ok.place; operation = taken0.0; arguments = c.args.args.now } in
+    let is : arc_value c.in-Ok-join.call ≡ call = c.in-Ok-join.ensures.shared taken0.0 taken0.1.asked.named.there in
     let admits : Admits (joined c.self.inside.roster call) c.admit.new.self = subst (λ b. Admits b c.admit.new.self) (c.in-Ok-join.ensures.ok taken0.0 taken0.1.asked.named.there) c.admit.ensures in
-    subst (λ (b : Board). (x : AcceptedCall) × IsTaken b asked x × Settles (joined b x) c.admit.new.self) c.self.view_is (call, taken, settled _ _ admits)
+    subst (λ (b : Board). Settles (joined b (arc_value c.in-Ok-join.call)) c.admit.new.self) c.self.view_is
+    (subst (λ x. Settles (joined c.self.inside.roster x) c.admit.new.self) (sym is) (settled _ _ admits))
 
 pub returns-in-Ok-join-clause-history : goal.returns-in-Ok-join-clause-history
 returns-in-Ok-join-clause-history c =
