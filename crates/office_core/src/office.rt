@@ -27,8 +27,9 @@ use value_core::datum::Datum;
 const LOOKS: usize = 512;
 
 /// How often a thread looks whether the call that its own would wait for has ended, before it sleeps or submits all the same, and how
-/// long it pauses between two looks. It is long enough for a call that writes one small file.
-const GLANCES: usize = 64;
+/// long it pauses between two looks. A call that writes one small file ends in less than half of that time: so mostly somebody looks when it does,
+/// and nobody has to be woken.
+const GLANCES: usize = 160;
 
 const PAUSES: usize = 12;
 
