@@ -18,20 +18,24 @@ use slip_core::slip::Slip;
 use std::alloc::{AllocError, Global};
 use std::hint::spin_loop;
 use std::sync::{Condvar, Mutex, MutexGuard, Wait};
+use std::thread::yield_now;
 use std::time::Duration;
 use turn_core::turns::Pace;
 use value_core::datum::Datum;
 
 /// How often a thread looks whether the room is free before it sleeps. A room is held for a microsecond or two, and a thread that sleeps is
 /// woken in tens of them. One pause between two looks lasts up to 140 cycles: with more of them a room that is free stands empty.
-const LOOKS: usize = 512;
+const LOOKS: usize = 128;
 
-/// How often a thread looks whether the call that its own would wait for has ended, before it sleeps or submits all the same, and how
-/// long it pauses between two looks. A call that writes one small file ends in less than half of that time: so mostly somebody looks when it does,
-/// and nobody has to be woken.
+/// How often it then looks and lets another thread run between two looks: it may be the one that has the room.
+const PATIENT_LOOKS: usize = 64;
+
+/// How often a thread looks whether the call that its own would wait for has ended, before it sleeps or submits all the same. Between two looks
+/// it pauses a little and lets another thread run, for who looks may stand in the way of the one that is waited for. A call that writes one
+/// small file ends in less than half of that time: so mostly somebody looks when it does, and nobody has to be woken.
 const GLANCES: usize = 160;
 
-const PAUSES: usize = 12;
+const PAUSES: usize = 4;
 
 /// How long it sleeps then, in microseconds, if nobody wakes it.
 const NAP: u64 = 1000;
@@ -115,6 +119,12 @@ impl Office {
             }
             spin_loop();
         }
+        for _ in 0..PATIENT_LOOKS {
+            if let Some(room) = self.room.try_lock() {
+                return room;
+            }
+            yield_now();
+        }
         self.room.lock(rt)
     }
 
@@ -127,6 +137,7 @@ impl Office {
             for _ in 0..PAUSES {
                 spin_loop();
             }
+            yield_now();
         }
         false
     }
