@@ -1,7 +1,10 @@
 -- The pins that an entry keeps.
-use Rattle.std.proofs.Common.{◌≡◌, ◌≢◌, ℕ, zero, suc, ◌+◌, ◌<◌, ◌≤◌, inl, inr, ◌==◌, Bool, true, false, List, [], ◌∷◌, length, Some, refl, sym, ◌∙◌, ap, subst, arith, if◌then◌else◌}
+use Rattle.std.proofs.Common.{◌≡◌, ◌≢◌, ℕ, zero, suc, ◌+◌, ◌^◌, ◌/◌, ◌<◌, ◌≤◌, inl, inr, ◌==◌, Bool, true, false, List, [], ◌∷◌, length, Some, refl, sym, ◌∙◌, ap, subst, arith, if◌then◌else◌}
 use Rattle.std.specs.Prelude.{slice_get}
 use Rattle.std.specs.Int.{bit_at}
+use Rattle.std.proofs.Math.Nat.{div-lt_iff_lt-mul}
+use Rattle.std.proofs.lemmas.Nat.{pow_pos}
+use Rattle.std.proofs.lemmas.Nat.Bits.{bit_at_above}
 use Rattle.std.proofs.lemmas.Bool.{cases_eq, eq-eqb}
 use Rattle.std.proofs.lemmas.Bool.Decides.{eqb_tells}
 use Rattle.std.proofs.lemmas.Option.{slice_get_within}
@@ -48,6 +51,20 @@ pub count_more : (parts p m n : ℕ) → m ≤ n → count_in parts p m ≤ coun
 count_more parts p zero n less = omega arith
 count_more parts p (suc m) zero less = absurd (omega (arith, less))
 count_more parts p (suc m) (suc n) less = omega (arith, count_more parts (p + 1) m n (omega (arith, less)))
+
+-- of parts above all of a set none is in it
+count_above : (parts k p n : ℕ) → parts < 2 ^ k → k ≤ p → count_in parts p n ≡ 0
+count_above parts k p zero below above = refl
+count_above parts k p (suc n) below above =
+    let rest : count_in parts (p + 1) n ≡ 0 = count_above parts k (p + 1) n below (omega (arith, above)) in
+    ap (λ b. (if b == 1 then 1 else 0) + count_in parts (p + 1) n) (bit_at_above parts k p below above) ∙ omega (arith, rest)
+
+below_pow : (n p : ℕ) → n / 2 ^ p ≡ 0 → n < 2 ^ p
+below_pow n p none = omega (arith, (div-lt_iff_lt-mul {k = 2 ^ p} {x = n} {y = 1} (pow_pos p)).0 (omega (arith, none)))
+
+-- where no bit of a set is left from a part on, none of the parts from it on is in it
+pub none_left : (parts p n : ℕ) → parts / 2 ^ p ≡ 0 → count_in parts p n ≡ 0
+none_left parts p n none = count_above parts p p n (below_pow parts p none) (omega arith)
 
 counts_one : (parts p n : ℕ) → bit_at parts p ≡ 1 → count_in parts p (suc n) ≡ 1 + count_in parts (p + 1) n
 counts_one parts p n set = ap (λ b. (if b then 1 else 0) + count_in parts (p + 1) n) (eq-eqb (bit_at parts p) 1 set)

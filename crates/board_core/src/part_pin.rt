@@ -21,7 +21,7 @@ fn count_from(parts: u16, part: usize, left: usize) -> usize
     ensures count { result ≡ count_in parts part left }
     ensures few { result ≤ left }
 {
-    if left == 0 {
+    if left == 0 || parts >> part == 0 {
         return 0;
     }
     let rest = count_from(parts, part + 1, left - 1);

@@ -24,11 +24,9 @@ use turn_core::turns::Pace;
 use value_core::datum::Datum;
 
 /// How often a thread looks whether the room is free before it sleeps. A room is held for a microsecond or two, and a thread that sleeps is
-/// woken in tens of them. One pause between two looks lasts up to 140 cycles: with more of them a room that is free stands empty.
-const LOOKS: usize = 128;
-
-/// How often it then looks and lets another thread run between two looks: it may be the one that has the room.
-const PATIENT_LOOKS: usize = 64;
+/// woken in tens of them. One pause between two looks lasts up to 140 cycles: with more of them a room that is free stands empty. So long, some
+/// 80 microseconds, since each thread that comes while one sleeps sleeps too.
+const LOOKS: usize = 1024;
 
 /// How often a thread looks whether the call that its own would wait for has ended, before it sleeps or submits all the same. Between two looks
 /// it pauses a little and lets another thread run, for who looks may stand in the way of the one that is waited for. A call that writes one
@@ -40,8 +38,9 @@ const PAUSES: usize = 4;
 /// How long it sleeps then, in microseconds, if nobody wakes it.
 const NAP: u64 = 1000;
 
-/// How often it does so before it submits its call all the same.
-const NAPS: usize = 4;
+/// How often it does so before it submits its call all the same. A queue of calls stays a queue as long as calls join it, and each of them lasts
+/// as long as a thread takes to be woken: in so many naps one of fifteen ends also where that is a millisecond.
+const NAPS: usize = 16;
 
 /// How many places there are at which waiters sleep: session `n` sleeps at `n % BEDS`.
 const BEDS: usize = 64;
@@ -119,12 +118,6 @@ impl Office {
             }
             spin_loop();
         }
-        for _ in 0..PATIENT_LOOKS {
-            if let Some(room) = self.room.try_lock() {
-                return room;
-            }
-            yield_now();
-        }
         self.room.lock(rt)
     }
 
@@ -142,7 +135,7 @@ impl Office {
         false
     }
 
-    // The room, once a call of this operation would not wait long, or some milliseconds have passed. A call that is submitted while one
+    // The room, once a call of this operation would not wait long, or some 20 milliseconds have passed. A call that is submitted while one
     // runs that excludes it stands in a queue: its thread has to be woken for its turn, and no other call of its operation can run
     // until it is. One that is submitted when the other has ended starts at once.
     fn enter_in_turn<R: Wait>(&self, rt: &R, op: &str) -> MutexGuard<'_, Box<Room>> {
@@ -206,7 +199,7 @@ impl Office {
     /// Submits a call of this seat's session, and looks under the same lock whether it has started. It answers the number of the
     /// call, and what the look tells. A fault is one of `submit`.
     ///
-    /// While a call runs that this one would wait for, it holds the submission back, for some milliseconds at most.
+    /// While a call runs that this one would wait for, it holds the submission back, for some 20 milliseconds at most.
     pub fn submit_and_try<R: Wait>(
         &self,
         rt: &R,
@@ -303,8 +296,12 @@ impl Office {
         let before = room.desk().trace().len();
         let answer = room.complete_in_place(seat, outcome);
         let ended = answer.is_ok() && room.note_end(outcome.number());
-        // What happened first is the end of this call, where it was taken.
-        let beds = started(&mut room, before.saturating_add(1));
+        // What happened first is the end of this call, where it was taken. Mostly no call starts by it.
+        let beds = if room.desk().trace().len() > before.saturating_add(1) {
+            started(&mut room, before.saturating_add(1))
+        } else {
+            0
+        };
         let opens = ended && room.is_open();
         drop(room);
         self.wake(beds);
