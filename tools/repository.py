@@ -41,11 +41,13 @@ CLAUSES = {"requires", "ensures", "ghost"}
 
 
 def without_bodies(source):
-    """A source without its comments and without the bodies of its functions, but those of constant functions, which types may
-    name. What is left are types, constants, signatures and clauses."""
+    """A source without comments, without functions that no other crate can name, and without the bodies of the others, but those of
+    constant functions, which types may name. What is left are types, constants, imports, and signatures with their clauses."""
     pieces = [it for it in PIECE.findall(source) if not it.startswith("//")]
     words = [at for at, it in enumerate(pieces) if not it.isspace()]
-    kept, at = [], 0
+    before = {at: pieces[words[place - 1]] if place else "" for place, at in enumerate(words)}
+    # What is kept, where in it the item begins that is read, and whether each block that is open is that of a trait or its impl.
+    kept, start, blocks, at = [], 0, [], 0
 
     def behind(opening):
         """The place behind the brace that closes the one at this place."""
@@ -56,12 +58,20 @@ def without_bodies(source):
                 return place + 1
         raise ValueError("a brace is not closed")
 
-    before = {at: pieces[words[place - 1]] if place else "" for place, at in enumerate(words)}
     while at < len(pieces):
-        kept.append(pieces[at])
+        piece = pieces[at]
+        kept.append(piece)
         at += 1
-        if kept[-1] != "fn" or before[at - 1] == "const":
+        if piece == "{":
+            header = "".join(kept[start:])
+            blocks.append(bool(re.search(r"\btrait\b|\bimpl\b.*\bfor\b", header, re.S)))
+        elif piece == "}" and blocks:
+            blocks.pop()
+        if piece in ("{", "}", ";"):
+            start = len(kept)
+        if piece != "fn" or before[at - 1] == "const":
             continue
+        is_visible = bool(blocks and blocks[-1]) or re.search(r"\bpub\s+(?!\()", "".join(kept[start:]))
         # The signature and the clauses, up to the body or to the end of a function that has none.
         in_clause = False
         while at < len(pieces) and (in_clause or pieces[at] not in ("{", ";", "}")):
@@ -76,12 +86,38 @@ def without_bodies(source):
         if at < len(pieces) and pieces[at] == "{":
             kept.append("{}")
             at = behind(at)
+        if not is_visible:
+            del kept[start:]
+        start = len(kept)
     return " ".join("".join(kept).split())
 
 
+IMPORT = re.compile(r"(?:(pub) )?(ghost )?\buse ([^;{}]*?)(?:\{([^{}]*)\}|(\w+))(?: as (\w+))?;")
+
+
+def without_spare_names(source):
+    """What `without_bodies` left, without the imports that nothing in it names, and without the names of private modules."""
+    source = re.sub(r"(?<!pub )\bmod \w+;", "", source)
+    rest = IMPORT.sub("", source)
+
+    def is_named(item):
+        name = item.split(" as ")[-1].split("::")[-1].replace("◌", "").strip()
+        if not re.fullmatch(r"[\w']+", name):
+            return name in rest
+        return re.search(rf"(?<![\w']){name}(?![\w'])", rest) is not None
+
+    def kept(found):
+        public, ghost, path, several, one, other = found.groups()
+        items = [it.strip() for it in several.split(",")] if several is not None else [f"{one} as {other}" if other else one]
+        items = [it for it in items if it and (public or is_named(it))]
+        return f"{public or ''} {ghost or ''}use {path}{{{', '.join(items)}}};" if items else ""
+
+    return " ".join(IMPORT.sub(kept, source).split())
+
+
 def interface(folder):
-    """What a proof of a crate above may read of the crate in this folder: its definitions, and its sources without bodies and without
-    those private constants that only bodies name. A call is known by its contract alone."""
+    """What a proof of a crate above may read of the crate in this folder: its definitions, and of its sources the types, the constants and
+    the signatures and clauses of the functions that other crates can name. A call is known by its contract alone."""
     sources = {it.relative_to(folder): without_bodies(it.read_text(encoding="utf-8")) for it in files(folder / "src")}
     specs = {it.relative_to(folder): it.read_text(encoding="utf-8") for it in files(folder / "specs")}
     private = re.compile(r"\bconst (\w+): [^;{}]*;")
@@ -92,7 +128,8 @@ def interface(folder):
         is_named = len(re.findall(rf"\b{found[1]}\b", text)) > 1
         return found[0] if is_public or is_named else ""
 
-    return {**{it: " ".join(private.sub(kept, source).split()) for it, source in sources.items()}, **specs}
+    sources = {it: without_spare_names(private.sub(kept, source)) for it, source in sources.items()}
+    return {it: text for it, text in {**sources, **specs}.items() if text}
 
 
 @functools.cache

@@ -6,12 +6,10 @@ use Rattle.decl_core.specs.Touched.{Reads}
 use Rattle.shelf_core.specs.Device.{Assignment, Shows}
 use Rattle.shelf_core.specs.declared.hand.Stamp.{Stamp}
 use Rattle.body_core.specs.declared.new_pins.NewPin.{NewPin}
-use Rattle.body_core.specs.declared.phase.Phase.{Phase}
-use Rattle.body_core.specs.declared.phase.Phase.TheVariants.{Reading, Creating, Appending, Sealing, Ended}
 use Rattle.body_core.specs.declared.reply.Reply.{Reply}
 use Rattle.body_core.specs.Calls.{Call}
 use Rattle.body_core.specs.Outcomes.{new_if_done}
-use Rattle.body_core.specs.Phases.{EarlierAreRead, AreRead, HasNoPen, PenHoldsIn}
+use Rattle.body_core.specs.Phases.{EarlierAreRead, AreRead}
 use Rattle.body_core.specs.Steps.{IsNext, ReadsNone}
 use Rattle.body_core.specs.Truths.{IsTrueAt}
 use Rattle.body_core.proofs.Fronts.{with_row, with_row_length, read_next, whole_part}
@@ -57,11 +55,3 @@ has_place call from part pin read after last got next is low grows rest p reads 
 pub told_of_ended : (a : Assignment) (call of : Call) (reply told : Reply) (news left : List NewPin) → of ≡ call → told ≡ reply → left ≡ news → IsTrueAt a call reply news → IsTrueAt a of told (new_if_done told left)
 told_of_ended a call of reply told news left is same all true =
     subst (λ c. IsTrueAt a c told (new_if_done told left)) (sym is) (subst (λ r. IsTrueAt a call r (new_if_done r left)) (sym same) (subst (λ (n : List NewPin). IsTrueAt a call reply (new_if_done reply n)) (sym all) (pins_told a call reply news true)))
-
--- a run without a pen has in it what it appended
-pub no_pen_there : (pending : ℕ → List ℕ → Type 0) (phase : Phase) → HasNoPen phase → PenHoldsIn pending phase
-no_pen_there pending (Reading r) none = tt
-no_pen_there pending (Creating plan) none = tt
-no_pen_there pending (Appending plan pen k) none = absurd none
-no_pen_there pending (Sealing plan pen) none = absurd none
-no_pen_there pending (Ended reply news) none = tt

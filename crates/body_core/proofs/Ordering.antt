@@ -95,3 +95,10 @@ pub has_written : (all : Statements) (from : ℕ) (news : List NewPin) (p : ℕ)
 has_written all from [] p is has = absurd has
 has_written all from (new ∷ news) p is (inl e) = subst (Writes all) e is.1
 has_written all from (new ∷ news) p is (inr has) = has_written all (new.part + 1) news p is.2 has
+
+-- what is sealed of changes in order is in order
+pub sealed_front : (all : Statements) (changes given : List Change) (none news : List NewPin) (more : List ℕ) → none ≡ [] → given ≡ changes → parts_of none ++ parts_changed given ≡ parts_of news ++ more
+    → WritesInOrder all 0 (parts_changed changes) → WritesInOrder all 0 (parts_of news)
+sealed_front all changes given none news more none_is same parts order =
+    let is : parts_changed changes ≡ parts_of news ++ more = ap (λ (ns : List NewPin). parts_of ns ++ parts_changed changes) (sym none_is) ∙ (ap (λ (cs : List Change). parts_of none ++ parts_changed cs) (sym same) ∙ parts) in
+    front all 0 (parts_of news) more (subst (WritesInOrder all 0) is order)

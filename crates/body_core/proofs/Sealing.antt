@@ -1,5 +1,5 @@
 -- What a run has sealed, when all of it is sealed, and with one file more.
-use Rattle.std.proofs.Common.{◌≡◌, ◌==◌, ℕ, ◌≤◌, List, [], ◌∷◌, ◌++◌, length, Option, Some, slice_get, if◌then◌else◌, Bool, true, false, sym, ap, ◌∙◌, subst, arith}
+use Rattle.std.proofs.Common.{◌≡◌, ◌==◌, ℕ, zero, suc, ◌≤◌, List, [], ◌∷◌, ◌++◌, length, drop, Option, Some, slice_get, if◌then◌else◌, Bool, true, false, sym, ap, ◌∙◌, subst, arith}
 use Rattle.value_core.specs.declared.datum.Datum.{Datum}
 use Rattle.value_core.specs.Contents.{Contents}
 use Rattle.decl_core.specs.declared.object.Operation.{Operation}
@@ -49,3 +49,10 @@ sealed_more a (c ∷ changes) [] change new is part holds sealed =
     let same : change ≡ c = sym (some_same is) in
     (part ∙ ap (λ (d : Change). d.part) same, subst (λ (d : Change). Holds a new.stamp d.bytes) same holds, tt)
 sealed_more a (c ∷ changes) (n ∷ news) change new is part holds sealed = (sealed.0, sealed.1, sealed_more a changes news change new is part holds sealed.2)
+
+-- what stands in front of the rest of a row, and what is left behind it
+pub next_dropped : {X : Type 0} (all : List X) (n : ℕ) (x : X) (rest : List X) → drop n all ≡ x ∷ rest → (slice_get all n ≡ Some x) × (drop (suc n) all ≡ rest)
+next_dropped [] zero x rest is = absurd cc
+next_dropped [] (suc n) x rest is = absurd cc
+next_dropped (y ∷ ys) zero x rest is = (cc, cc)
+next_dropped (y ∷ ys) (suc n) x rest is = next_dropped ys n x rest is

@@ -15,19 +15,18 @@ ghost use Rattle.body_core.specs.Tasks.{task_call};
 ghost use Rattle.body_core.specs.Tickets.{ticket_call};
 ghost use Rattle.body_core.specs.Outcomes.{outcome_call, outcome_reply, outcome_news, outcome_pins};
 ghost use Rattle.body_core.specs.Truths.{IsTrueOf, IsDone, PinHolds, AreChanges};
-ghost use Rattle.body_core.specs.Written.{WritesInOrder, parts_changed};
+ghost use Rattle.body_core.specs.Written.{WritesInOrder, parts_of, parts_changed};
 
 use crate::file_bytes::FileBytes;
+use crate::files::write_files;
 use crate::judge::{Change, Verdict, judge};
 use crate::new_pins::NewPins;
 use crate::outcome::Outcome;
-use crate::perform::perform;
 use crate::read::{put, read_chunk};
 use crate::reply::{Failure, Reply};
-use crate::run::Run;
 use crate::task::Task;
 use crate::ticket::Ticket;
-use crate::write::go_on;
+use crate::write::failure;
 use shelf_core::hand::{Hand, HandFault, Stamp};
 use std::alloc::{AllocError, Global};
 use value_core::datum::Datum;
@@ -90,6 +89,30 @@ fn read_from<H: Hand>(
     }
 }
 
+// How a call ended that sealed these files.
+fn ended_with(task: Task, reply: Reply, news: NewPins) -> Outcome
+    requires { WritesInOrder (body_of (arc_value task.operation)).statements 0 (parts_of news) }
+    ensures call { outcome_call result ≡ task_call task }
+    ensures reply { outcome_reply result ≡ reply }
+    ensures news { outcome_news result ≡ news }
+{
+    let Task {
+        number,
+        operation,
+        args,
+        pins,
+        reads: _,
+    } = task;
+    Outcome {
+        number,
+        operation,
+        args,
+        pins,
+        reply,
+        news,
+    }
+}
+
 // How a call ended that made no file.
 fn ended(task: Task, reply: Reply) -> Outcome
     ensures call { outcome_call result ≡ task_call task }
@@ -118,24 +141,14 @@ fn failed(task: Task, fault: HandFault) -> Outcome
     ensures call { outcome_call result ≡ task_call task }
     ensures reply { outcome_reply result ≡ replies.Failed (failure_of fault) }
 {
-    let failure = match fault {
-        HandFault::Device => Failure::Device,
-        HandFault::Memory => Failure::Memory,
-    };
-    ended(task, Reply::Failed(failure))
+    ended(task, Reply::Failed(failure(fault)))
 }
 
-// Writes what the body of a call changed.
-fn written<H: Hand>(
-    alloc: Global,
-    hand: &mut H,
-    task: Task,
-    reply: Option<Datum>,
-    changes: Vec<Change>,
-) -> Outcome
+// Writes what the body of a call changed. It is a call of its own, so that a call that changes nothing has no room for it to clear.
+#[inline(never)]
+fn written<H: Hand>(hand: &mut H, task: Task, reply: Option<Datum>, changes: Vec<Change>) -> Outcome
     requires few { length changes.items ≤ 16 }
     requires rising { WritesInOrder (body_of (arc_value task.operation)).statements 0 (parts_changed changes.items) }
-    requires some { 0 < length changes.items }
     ensures call { outcome_call result ≡ task_call task }
     ensures kept { (a : Assignment) → H.agrees hand.new a → H.agrees hand.old a }
     ensures told { (a : Assignment) → H.agrees hand.new a → IsDone (PinHolds a task.pins) (arc_value task.operation) task.args.items reply (AreChanges changes.items) → IsTrueOf a (outcome_call result) (outcome_reply result) (outcome_pins result) }
@@ -143,8 +156,11 @@ fn written<H: Hand>(
     ensures counted { H.failed hand.old ≤ H.failed hand.new }
     ensures cause { outcome_reply result ≡ replies.Failed failures.Device → DeviceFailed (H.failed hand.old) (H.failed hand.new) }
 {
-    let phase = go_on(reply, changes, NewPins::none());
-    perform(Run { alloc, task, phase }, hand)
+    let (news, fault) = write_files(hand, &changes, NewPins::none());
+    match fault {
+        None => ended_with(task, Reply::Done(reply), news),
+        Some(fault) => ended_with(task, Reply::Failed(failure(fault)), news),
+    }
 }
 
 // Does the body of a call on the bytes read of its parts, and writes what it changed. The bytes of part p stand at place p.
@@ -162,7 +178,7 @@ fn run_read<H: Hand>(alloc: Global, hand: &mut H, task: Task, read: &[FileBytes]
             if changes.is_empty() {
                 ended(task, Reply::Done(reply))
             } else {
-                written(alloc, hand, task, reply, changes)
+                written(hand, task, reply, changes)
             }
         }
         Verdict::Refused(word) => ended(task, Reply::Refused(word)),

@@ -16,6 +16,7 @@ mod conclude;
 mod eval;
 mod evaluate;
 mod file_bytes;
+mod files;
 pub mod fits;
 mod judge;
 pub mod laws;

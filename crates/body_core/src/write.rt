@@ -22,7 +22,7 @@ use value_core::datum::Datum;
 pub(crate) const CHUNK: usize = 4096;
 
 // How a run ends for a fault.
-fn failure(fault: HandFault) -> Failure
+pub(crate) fn failure(fault: HandFault) -> Failure
     ensures { result ≡ failure_of fault }
 {
     match fault {

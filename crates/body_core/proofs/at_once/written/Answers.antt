@@ -1,24 +1,29 @@
-use Rattle.std.proofs.Common.{refl, sym, subst}
+use Rattle.std.proofs.Common.{◌≡◌, ◌≤◌, List, length, drop, arith, sym, ap, ◌∙◌, subst}
 use Rattle.std.specs.Arc.{arc_value}
+use Rattle.decl_core.specs.Bodies.{body_of}
+use Rattle.body_core.specs.declared.new_pins.NewPin.{NewPin}
 use Rattle.body_core.specs.Phases.{AreSealed}
-use Rattle.body_core.specs.Steps.{IsJudged, place_in}
 use Rattle.body_core.specs.Tasks.{task_call}
-use Rattle.body_core.proofs.AtOnce.{no_pen_there}
-use Rattle.body_core.proofs.Ordering.{judged_in_order}
-use Rattle.body_core.proofs.Serving.{judged_reads}
-use Rattle.body_core.proofs.Stepping.{judged_there}
+use Rattle.body_core.proofs.AtOnce.{told_of_ended}
+use Rattle.body_core.proofs.Ordering.{sealed_front}
+use Rattle.body_core.proofs.Sealing.{all_sealed}
 use Rattle.body_core.proofs.at_once.written.Goals as goal
 
-pub invariant_of-perform : goal.invariant_of-perform
-invariant_of-perform g c =
-    let call = task_call c.args.task in
-    let judged : IsJudged call (place_in c.go_on-phase.result) = judged_there call (arc_value c.args.task.operation) c.args.changes.items c.none.result c.args.reply (place_in c.go_on-phase.result) refl c.requires.rising c.none.ensures c.go_on-phase.ensures.more c.go_on-phase.ensures.done in
-    record {
-      inside = λ no. no (judged_in_order call (place_in c.go_on-phase.result) judged);
-      reading = judged_reads call (place_in c.go_on-phase.result) judged;
-    }
+pub ended_with-requires : goal.ended_with-requires
+ended_with-requires g c =
+    let parts = c.write_files-news.ensures.parts in
+    sealed_front (body_of (arc_value c.args.task.operation)).statements c.args.changes.items c.deref.result.now c.none.result c.write_files-news.result.0 parts.0 c.none.ensures c.deref.ensures.value parts.1 c.requires.rising
 
-pub returns-clause-told : goal.returns-clause-told
-returns-clause-told g c = λ a is done.
-    c.perform.ensures.told (no_pen_there (g.H.Hand.pending c.args.hand.now) c.go_on-phase.result c.go_on-phase.ensures.pen) a is
-    (record { found = c.go_on-phase.ensures.found a (task_call c.args.task) done (subst (λ news. AreSealed a c.args.changes.items news) (sym c.none.ensures) tt) })
+pub ended_with-requires-in-Some : goal.ended_with-requires-in-Some
+ended_with-requires-in-Some g c =
+    let parts = c.write_files-news.ensures.parts in
+    sealed_front (body_of (arc_value c.args.task.operation)).statements c.args.changes.items c.deref.result.now c.none.result c.write_files-news.result.0 parts.0 c.none.ensures c.deref.ensures.value parts.1 c.requires.rising
+
+pub returns-in-None-clause-told : goal.returns-in-None-clause-told
+returns-in-None-clause-told g c = λ a is done whole.
+    let changes = c.args.changes.items in
+    let news = c.write_files-news.result.0 in
+    let there : drop (length c.none.result) changes ≡ c.deref.result.now = ap (λ (ns : List NewPin). drop (length ns) changes) c.none.ensures ∙ sym c.deref.ensures.value in
+    let sealed = c.write_files-news.ensures.sealed a is changes there (subst (λ ns. AreSealed a changes ns) (sym c.none.ensures) tt) in
+    let all : length changes ≤ length news = omega (arith, c.write_files-news.ensures.all c.in-None.is, ap length c.deref.ensures.value) in
+    told_of_ended a (task_call c.args.task) _ _ _ news _ c.ended_with.ensures.call c.ended_with.ensures.reply c.ended_with.ensures.news (all_sealed a _ _ _ _ changes news all done sealed)
