@@ -28,7 +28,7 @@ IsKit k = IsForSome (arc_value k.call) k.ticket × IsRoomFor (arc_value k.call).
 
 -- the ticket of a waiting call is not taken
 abbrev pub IsWaiting : WaitingInside → Type 0
-IsWaiting w = (w.session ≡ (arc_value w.kit.value.call).session) × (is_none w.kit.value.ticket ≡ false) × IsKit w.kit.value
+IsWaiting w = (w.session ≡ (arc_value w.kit.value.call).session) × (w.op ≡ (arc_value w.kit.value.call).op) × (is_none w.kit.value.ticket ≡ false) × IsKit w.kit.value
 
 abbrev pub IsRunning : RunningInside → Type 0
 IsRunning r = (r.session ≡ (arc_value r.kit.value.call).session) × IsKit r.kit.value

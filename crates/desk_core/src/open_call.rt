@@ -48,6 +48,8 @@ pub(crate) struct Kit {
 pub(crate) struct Waiting {
     number: u32,
     session: u32,
+    // Here too, since admission goes through the operations of all that wait.
+    op: OpId,
     kit: Box<Kit>,
 }
 
@@ -160,6 +162,7 @@ impl Waiting {
         Ok(Waiting {
             number,
             session,
+            op,
             kit,
         })
     }
@@ -181,7 +184,7 @@ impl Waiting {
     pub(crate) fn op(&self) -> OpId
         ensures { result ≡ self.now.call.op }
     {
-        self.kit.call.op()
+        self.op
     }
 
     pub(crate) fn session(&self) -> u32
@@ -197,6 +200,7 @@ impl Waiting {
         let Waiting {
             number,
             session,
+            op: _,
             mut kit,
         } = self;
         kit.pins = *pins;
