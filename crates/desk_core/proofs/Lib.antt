@@ -5,3 +5,4 @@ pub mod Marking
 pub mod Places
 pub mod Telling
 pub mod Sending
+pub mod Queueing

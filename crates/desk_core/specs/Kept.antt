@@ -1,5 +1,5 @@
 -- The tables of a desk.
-use Rattle.std.specs.Prelude.{◌≡◌, ◌≢◌, ℕ, zero, suc, ◌+◌, ◌*◌, ◌≤◌, ◌<◌, Bool, true, List, length, map, take, slice_get, Option, Some, None, vec_capacity}
+use Rattle.std.specs.Prelude.{◌≡◌, ◌≢◌, ℕ, zero, suc, ◌+◌, ◌*◌, ◌≤◌, ◌<◌, Bool, true, List, length, map, take, slice_get, slice_index, Option, Some, None, vec_capacity}
 use Rattle.std.specs.Arc.{arc_value}
 use Rattle.path_tree.specs.Path.{Path}
 use Rattle.path_tree.specs.Trace.{Event}
@@ -50,7 +50,7 @@ board_of d =
       calls = map (λ c. arc_value c) d.calls.items;
       trace = events_of d.history.items d.marks.items;
       history = d.history.items;
-      waiting = d.waiting.items;
+      waiting = d.waiting;
       running = d.running.items;
       left = d.left.items;
       opening = d.opening;
@@ -59,9 +59,9 @@ board_of d =
 
 -- there is room for all that the calls which wait or run will add
 pub record HasRoom (d : Inside) : Type 0 where
-  pub marks : length d.marks.items + 2 * length d.waiting.items + length d.running.items ≤ vec_capacity d.marks
-  pub history : length d.history.items + length d.waiting.items + length d.running.items ≤ vec_capacity d.history
-  pub running : length d.waiting.items + length d.running.items ≤ vec_capacity d.running
+  pub marks : length d.marks.items + 2 * length d.waiting + length d.running.items ≤ vec_capacity d.marks
+  pub history : length d.history.items + length d.waiting + length d.running.items ≤ vec_capacity d.history
+  pub running : length d.waiting + length d.running.items ≤ vec_capacity d.running
 
 -- a board that is sound, counters that stand for it, marks and places of its entries, and room
 pub record IsKept (d : Inside) : Type 0 where
@@ -82,6 +82,10 @@ CanStart n paths t w = OpCanStart n paths t w.call.op
 -- the operations that are marked as refused may not start
 abbrev pub AreRefused : ℕ → List Path → List Event → List Bool → Type 0
 AreRefused n paths t refused = (op : ℕ) → slice_get refused op ≡ Some true → OpCanStart n paths t op → ⊥
+
+-- no operation but this one has a count and may start
+abbrev pub OthersRest : ℕ → List Path → List Event → List ℕ → ℕ → Type 0
+OthersRest n paths t counts last = (op : ℕ) → slice_index counts op ≢ 0 → op ≢ last → OpCanStart n paths t op → ⊥
 
 -- the call at this place is the first that can start
 pub record IsFirst (n : ℕ) (paths : List Path) (t : List Event) (waiting : List WaitingCall) (k : ℕ) : Type 0 where

@@ -1,4 +1,5 @@
 pub mod Open
 pub mod Kept
+pub mod Queue
 pub mod Answers
 pub mod Told

@@ -12,5 +12,6 @@ mod find;
 mod free;
 mod marks;
 mod open_call;
+mod queue;
 mod roster;
 mod text;

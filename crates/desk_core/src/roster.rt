@@ -33,6 +33,7 @@ use crate::find::{place_of, place_of_call, place_of_left, runs, runs_for, waits,
 use crate::free::freed;
 use crate::marks::{Mark, event_of, note, note_end, note_start};
 use crate::open_call::{Left, Running, Waiting};
+use crate::queue::Queue;
 use crate::text::{call_of, push_marks};
 use board_core::call::Call;
 use board_core::entry::Entry;
@@ -63,9 +64,6 @@ const MOST_OPEN: usize = 256;
 /// The most numbers of calls.
 const MOST_CALLS: usize = 65_536;
 
-/// The most operations of an object.
-const MOST_OPERATIONS: usize = 32;
-
 // The tables of a desk. Between its calls a waiting call may start.
 #[derive(Drop)]
 pub(crate) struct Roster {
@@ -76,7 +74,7 @@ pub(crate) struct Roster {
     places: Vec<usize>,
     marks: Vec<Mark>,
     history: Vec<Entry>,
-    waiting: Vec<Waiting>,
+    waiting: Queue,
     running: Vec<Running>,
     left: Vec<bool>,
     opening: Pins,
@@ -107,37 +105,6 @@ pub(crate) struct Ended {
     pub(crate) free: Vec<Stamp>,
 }
 
-// Whether a call of this operation can start. An operation that was refused is not asked again.
-fn asks(counters: &Counters, refused: &mut [bool], op: OpId) -> bool
-    ensures answer { (n : ℕ) (paths : List Path) (t : List Event) → StandsFor counters.now n paths t → AreRefused n paths t refused.old → (IsTrue result ↔ OpCanStart n paths t op) }
-    ensures refused { (n : ℕ) (paths : List Path) (t : List Event) → StandsFor counters.now n paths t → AreRefused n paths t refused.old → AreRefused n paths t refused.new }
-{
-    let place = op as usize;
-    if place >= refused.len() {
-        return counters.can_start(op);
-    }
-    if refused[place] {
-        return false;
-    }
-    let can = counters.can_start(op);
-    refused[place] = !can;
-    can
-}
-
-// The place of the first waiting call that can start.
-fn first_to_start(counters: &Counters, waiting: &[Waiting]) -> Option<usize>
-    ensures some { (n : ℕ) (paths : List Path) (t : List Event) → StandsFor counters.now n paths t → IfSome result (IsFirst n paths t waiting.now) }
-    ensures none { (n : ℕ) (paths : List Path) (t : List Event) → StandsFor counters.now n paths t → IfNone result (Every (λ w. CanStart n paths t w → ⊥) waiting.now) }
-{
-    let mut refused = [false; MOST_OPERATIONS];
-    for place in 0..waiting.len() {
-        if asks(counters, &mut refused, waiting[place].op()) {
-            return Some(place);
-        }
-    }
-    None
-}
-
 // Whether arguments fit the operation at this place.
 fn fits(object: &Object, place: usize, args: &[Datum]) -> bool
     requires { place < length object.now.operations.items }
@@ -163,15 +130,14 @@ fn asked_at(waiting: &[Waiting], place: usize) -> (u32, OpId)
 }
 
 // Moves the call at this place to those that run.
-fn start_at(waiting: &mut Vec<Waiting>, running: &mut Vec<Running>, place: usize, pins: &Pins)
-    requires there { place < length waiting.old.items }
+fn start_at(waiting: &mut Queue, running: &mut Vec<Running>, place: usize, pins: &Pins)
+    requires there { place < length waiting.old }
     requires room { length running.old.items < vec_capacity running.old }
-    ensures waiting { waiting.new.items ≡ take place waiting.old.items ++ drop (place + 1) waiting.old.items }
-    ensures running { (w : WaitingCall) → slice_get waiting.old.items place ≡ Some w → running.new.items ≡ running.old.items ++ (record { number = w.number; call = w.call; pins = pins.now; taken = false }) ∷ [] }
-    ensures waiting_room { vec_capacity waiting.new ≡ vec_capacity waiting.old }
+    ensures waiting { waiting.new ≡ take place waiting.old ++ drop (place + 1) waiting.old }
+    ensures running { (w : WaitingCall) → slice_get waiting.old place ≡ Some w → running.new.items ≡ running.old.items ++ (record { number = w.number; call = w.call; pins = pins.now; taken = false }) ∷ [] }
     ensures running_room { vec_capacity running.new ≡ vec_capacity running.old }
 {
-    let asked = waiting.remove(place);
+    let asked = waiting.take(place);
     running.push_reserved(asked.start(pins));
 }
 
@@ -186,63 +152,44 @@ fn asked_of(
 ) -> Result<Waiting, AllocError>
     requires place { place < length object.now.operations.items }
     requires fits { (operation : Operation) → slice_get (bodies object.now) place ≡ Some operation → ArgumentsFit operation args.now }
-    ensures { IfOk result (λ w. (operation : Operation) → slice_get (bodies object.now) place ≡ Some operation → w ≡ record { number = number; call = record { session = session; op = place; operation = operation; arguments = args.now } }) }
+    ensures op { IfOk result (λ w. w.call.op < 32) }
+    ensures call { IfOk result (λ w. (operation : Operation) → slice_get (bodies object.now) place ≡ Some operation → w ≡ record { number = number; call = record { session = session; op = place; operation = operation; arguments = args.now } }) }
 {
     let operation = &object.operations[place];
     Waiting::new(alloc, number, session, place as OpId, operation, args)
 }
 
-// Makes room for one call more that waits, and for all that the calls which wait or run will add.
+// Makes room for all that one call more and the calls which wait or run will add.
 fn make_room(
     calls: &mut Vec<Arc<Call>>,
     places: &mut Vec<usize>,
     marks: &mut Vec<Mark>,
     history: &mut Vec<Entry>,
-    waiting: &mut Vec<Waiting>,
+    waits: usize,
     running: &mut Vec<Running>,
 ) -> Result<(), AllocError>
-    requires { length waiting.old.items + length running.old.items < 256 }
+    requires { waits + length running.old.items < 256 }
     ensures calls { calls.new.items ≡ calls.old.items }
     ensures places { places.new.items ≡ places.old.items }
     ensures marks { marks.new.items ≡ marks.old.items }
     ensures history { history.new.items ≡ history.old.items }
-    ensures waiting { waiting.new.items ≡ waiting.old.items }
     ensures running { running.new.items ≡ running.old.items }
     ensures marks_kept { vec_capacity marks.old ≤ vec_capacity marks.new }
     ensures history_kept { vec_capacity history.old ≤ vec_capacity history.new }
     ensures running_kept { vec_capacity running.old ≤ vec_capacity running.new }
     ensures calls_room { OnOk result (length calls.old.items < vec_capacity calls.new) }
     ensures places_room { OnOk result (length places.old.items < vec_capacity places.new) }
-    ensures waiting_room { OnOk result (length waiting.old.items < vec_capacity waiting.new) }
-    ensures marks_room { OnOk result (length marks.old.items + 2 * length waiting.old.items + length running.old.items + 2 ≤ vec_capacity marks.new) }
-    ensures history_room { OnOk result (length history.old.items + length waiting.old.items + length running.old.items + 1 ≤ vec_capacity history.new) }
-    ensures running_room { OnOk result (length waiting.old.items + length running.old.items + 1 ≤ vec_capacity running.new) }
+    ensures marks_room { OnOk result (length marks.old.items + 2 * waits + length running.old.items + 2 ≤ vec_capacity marks.new) }
+    ensures history_room { OnOk result (length history.old.items + waits + length running.old.items + 1 ≤ vec_capacity history.new) }
+    ensures running_room { OnOk result (waits + length running.old.items + 1 ≤ vec_capacity running.new) }
 {
-    let waits = waiting.len();
     let runs = running.len();
     calls.reserve(1)?;
     places.reserve(1)?;
-    waiting.reserve(1)?;
     marks.reserve(2 * waits + runs + 2)?;
     history.reserve(waits + runs + 1)?;
     running.reserve(waits + 1)?;
     Ok(())
-}
-
-// Takes out the waiting call of this number.
-fn leave(waiting: &mut Vec<Waiting>, number: u32)
-    ensures items { waiting.new.items ≡ filter (λ w. not (w.number == number)) waiting.old.items }
-    ensures room { vec_capacity waiting.new ≡ vec_capacity waiting.old }
-{
-    waiting.retain(|w| w.number() != number);
-}
-
-// Takes out the waiting calls of this session.
-fn leave_of(waiting: &mut Vec<Waiting>, session: u32)
-    ensures items { waiting.new.items ≡ filter (λ w. not (w.call.session == session)) waiting.old.items }
-    ensures room { vec_capacity waiting.new ≡ vec_capacity waiting.old }
-{
-    waiting.retain(|w| w.session() != session);
 }
 
 // The ticket of the running call at this place.
@@ -338,6 +285,7 @@ impl Roster {
     {
         let counters = counters_of(alloc, accepted.object())?;
         let left = vec![in alloc; false; MOST_SESSIONS]?;
+        let waiting = Queue::new(alloc)?;
         Ok(Roster {
             alloc,
             accepted,
@@ -346,7 +294,7 @@ impl Roster {
             places: Vec::new(alloc),
             marks: Vec::new(alloc),
             history: Vec::new(alloc),
-            waiting: Vec::new(alloc),
+            waiting,
             running: Vec::new(alloc),
             left,
             opening: pins,
@@ -359,7 +307,7 @@ impl Roster {
         ensures some { IfSome result (λ k. (w : WaitingCall) × (slice_get self.now.waiting k ≡ Some w) × IsNext self.now w) }
         ensures none { IfNone result (Rests self.now) }
     {
-        first_to_start(&self.counters, &self.waiting)
+        self.waiting.next(&self.counters)
     }
 
     // Starts the call at this place, which is next.
@@ -367,7 +315,7 @@ impl Roster {
         requires { (w : WaitingCall) × (slice_get self.old.waiting place ≡ Some w) × IsNext self.old w }
         ensures { (w : WaitingCall) → slice_get self.old.waiting place ≡ Some w → self.new ≡ started self.old w }
     {
-        let (number, op) = asked_at(&self.waiting, place);
+        let (number, op) = asked_at(self.waiting.calls(), place);
         self.counters.start(op);
         note_start(&mut self.marks, number);
         start_at(&mut self.waiting, &mut self.running, place, &self.pins);
@@ -419,12 +367,12 @@ impl Roster {
             &mut self.places,
             &mut self.marks,
             &mut self.history,
-            &mut self.waiting,
+            self.waiting.len(),
             &mut self.running,
         )?;
         self.places.push_reserved(0);
         self.calls.push_reserved(call);
-        self.waiting.push_reserved(asked);
+        self.waiting.push(asked);
         Ok((number, shared))
     }
 
@@ -432,14 +380,14 @@ impl Roster {
     pub(crate) fn dismiss(&mut self, number: u32)
         ensures { self.new ≡ dismissed self.old number }
     {
-        leave(&mut self.waiting, number);
+        self.waiting.leave(number);
     }
 
     // Takes out the waiting calls of a session.
     pub(crate) fn release(&mut self, session: u32)
         ensures { self.new ≡ released self.old session }
     {
-        leave_of(&mut self.waiting, session);
+        self.waiting.leave_of(session);
     }
 
     // Marks a session as one that has left.
@@ -494,7 +442,7 @@ impl Roster {
     fn is_busy(&self, session: u32) -> bool
         ensures { result ≡ is_busy self.now session }
     {
-        waits_for(&self.waiting, session) || runs_for(&self.running, session)
+        waits_for(self.waiting.calls(), session) || runs_for(&self.running, session)
     }
 
     // The place of the operation that is asked for, where nothing speaks against the call.
@@ -541,7 +489,7 @@ impl Roster {
     pub(crate) fn waits(&self, number: u32) -> bool
         ensures { result ≡ waits_in self.now number }
     {
-        waits(&self.waiting, number)
+        waits(self.waiting.calls(), number)
     }
 
     // Whether a call of this number runs.

@@ -39,7 +39,7 @@ returns-then-len-ge-MOST_OPEN-clause-refused c =
     let call : AcceptedCall = record { session = c.args.session; op = c.in-Some.place; operation = operation; arguments = c.args.args.now } in
     let asked : IsAsked c.args.self.now (record { session = c.args.session; name = c.args.name.now; arguments = c.args.args.now }) call =
     record { session = refl; named = named; arguments = refl; fits = (c.fits.ensures operation named0.1.there).0 c.if-not-fits.false } in
-    let w : c.len.result ≡ length c.args.self.now.waiting = omega (arith, c.len.ensures, c.self.inside.waiting.ok.0, ap (λ (b : Board). length b.waiting) c.self.view_is) in
+    let w : c.len.result ≡ length c.args.self.now.waiting = omega (arith, c.len.ensures, ap (λ (b : Board). length b.waiting) c.self.view_is) in
     let r : c.len-2.result ≡ length c.args.self.now.running = omega (arith, c.len-2.ensures, c.self.inside.running.ok.0, ap (λ (b : Board). length b.running) c.self.view_is) in
     let free : is_busy c.args.self.now c.args.session ≡ false = sym c.is_busy.ensures ∙ c.if-is_busy.false in
     (here, (call, asked), free, omega (arith, w, r, c.if-len-ge-MOST_OPEN.true))
@@ -54,7 +54,7 @@ returns-then-len-ge-MOST_CALLS-clause-refused c =
     let call : AcceptedCall = record { session = c.args.session; op = c.in-Some.place; operation = operation; arguments = c.args.args.now } in
     let asked : IsAsked c.args.self.now (record { session = c.args.session; name = c.args.name.now; arguments = c.args.args.now }) call =
     record { session = refl; named = named; arguments = refl; fits = (c.fits.ensures operation named0.1.there).0 c.if-not-fits.false } in
-    let w : c.len.result ≡ length c.args.self.now.waiting = omega (arith, c.len.ensures, c.self.inside.waiting.ok.0, ap (λ (b : Board). length b.waiting) c.self.view_is) in
+    let w : c.len.result ≡ length c.args.self.now.waiting = omega (arith, c.len.ensures, ap (λ (b : Board). length b.waiting) c.self.view_is) in
     let r : c.len-2.result ≡ length c.args.self.now.running = omega (arith, c.len-2.ensures, c.self.inside.running.ok.0, ap (λ (b : Board). length b.running) c.self.view_is) in
     let n : c.len-3.result ≡ length c.args.self.now.calls = omega (arith, c.len-3.ensures, c.self.inside.calls.ok.0, length-map c.self.inside.calls.items (λ x. arc_value x), ap (λ (b : Board). length b.calls) c.self.view_is) in
     let free : is_busy c.args.self.now c.args.session ≡ false = sym c.is_busy.ensures ∙ c.if-is_busy.false in
@@ -70,7 +70,7 @@ returns-clause-taken c =
     let call : AcceptedCall = record { session = c.args.session; op = c.in-Some.place; operation = operation; arguments = c.args.args.now } in
     let asked : IsAsked c.args.self.now (record { session = c.args.session; name = c.args.name.now; arguments = c.args.args.now }) call =
     record { session = refl; named = named; arguments = refl; fits = (c.fits.ensures operation named0.1.there).0 c.if-not-fits.false } in
-    let w : c.len.result ≡ length c.args.self.now.waiting = omega (arith, c.len.ensures, c.self.inside.waiting.ok.0, ap (λ (b : Board). length b.waiting) c.self.view_is) in
+    let w : c.len.result ≡ length c.args.self.now.waiting = omega (arith, c.len.ensures, ap (λ (b : Board). length b.waiting) c.self.view_is) in
     let r : c.len-2.result ≡ length c.args.self.now.running = omega (arith, c.len-2.ensures, c.self.inside.running.ok.0, ap (λ (b : Board). length b.running) c.self.view_is) in
     let n : c.len-3.result ≡ length c.args.self.now.calls = omega (arith, c.len-3.ensures, c.self.inside.calls.ok.0, length-map c.self.inside.calls.items (λ x. arc_value x), ap (λ (b : Board). length b.calls) c.self.view_is) in
     let free : is_busy c.args.self.now c.args.session ≡ false = sym c.is_busy.ensures ∙ c.if-is_busy.false in

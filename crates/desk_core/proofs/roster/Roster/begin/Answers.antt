@@ -23,7 +23,7 @@ invariant_of-self c =
     let is : slice_get b.waiting c.args.place ≡ Some w = subst (λ (x : Board). slice_get x.waiting c.args.place ≡ Some w) (sym c.self.view_is) c.requires.1 in
     let next : IsNext b w = subst (λ (x : Board). IsNext x w) (sym c.self.view_is) c.requires.2 in
     let sound : IsSound b = c.self.invariant.sound in
-    let asked = c.asked_at-number.ensures w (ap (λ xs. slice_get xs c.args.place) c.deref.ensures.value ∙ is) in
+    let asked = c.asked_at-number.ensures w (ap (λ xs. slice_get xs c.args.place) c.calls.ensures ∙ is) in
     let all = c.self.inside.marks.items in
     let trace : events_of c.self.inside.history.items c.note_start.new.marks.items ≡ b.trace ++ Start w.number ∷ [] =
     ap (events_of c.self.inside.history.items) c.note_start.ensures.items ∙ events_start c.self.inside.history.items all c.asked_at-number.result.0 ∙ ap (λ n. b.trace ++ Start n ∷ []) asked.0 in
@@ -56,6 +56,6 @@ pub returns : goal.returns
 returns c = λ w is0.
     let b : Board = board_of c.self.inside in
     let is : slice_get b.waiting c.args.place ≡ Some w = subst (λ (x : Board). slice_get x.waiting c.args.place ≡ Some w) (sym c.self.view_is) is0 in
-    let asked = c.asked_at-number.ensures w (ap (λ xs. slice_get xs c.args.place) c.deref.ensures.value ∙ is) in
+    let asked = c.asked_at-number.ensures w (ap (λ xs. slice_get xs c.args.place) c.calls.ensures ∙ is) in
     started_is b w _ _ _ (ap (events_of c.self.inside.history.items) c.note_start.ensures.items ∙ events_start c.self.inside.history.items c.self.inside.marks.items c.asked_at-number.result.0 ∙ ap (λ n. b.trace ++ Start n ∷ []) asked.0) (c.start_at.ensures.waiting ∙ taken_out b.waiting c.args.place w c.self.invariant.sound.counted.in_order is) (c.start_at.ensures.running w is)
     ∙ ap (λ x. started x w) c.self.view_is

@@ -11,9 +11,9 @@ use Rattle.desk_core.proofs.roster.Roster.dismiss.Goals as goal
 pub invariant_of-self : goal.invariant_of-self
 invariant_of-self c =
     let b : Board = board_of c.self.inside in
-    let made = dismissed_is b c.args.number _ c.leave.ensures.items in
-    let w = ap length c.leave.ensures.items in
-    let fewer = filter_le (λ (x : WaitingCall). not (x.number == c.args.number)) c.self.inside.waiting.items in
+    let made = dismissed_is b c.args.number _ c.leave.ensures in
+    let w = ap length c.leave.ensures in
+    let fewer = filter_le (λ (x : WaitingCall). not (x.number == c.args.number)) c.self.inside.waiting in
     record {
       marks = c.self.invariant.marks;
       places = c.self.invariant.places;
@@ -27,4 +27,4 @@ invariant_of-self c =
     }
 
 pub returns : goal.returns
-returns c = dismissed_is (board_of c.self.inside) c.args.number _ c.leave.ensures.items ∙ ap (λ b. dismissed b c.args.number) c.self.view_is
+returns c = dismissed_is (board_of c.self.inside) c.args.number _ c.leave.ensures ∙ ap (λ b. dismissed b c.args.number) c.self.view_is

@@ -1,4 +1,4 @@
-use Rattle.std.proofs.Common.{◌≡◌, ◌∙◌, ◌<◌, ◌≤◌, ◌+◌, rules, ◌∷◌, [], ◌++◌, sym, ap, subst, false, arith, length, length-append, Some, map}
+use Rattle.std.proofs.Common.{◌≡◌, ◌∙◌, refl, ◌<◌, ◌≤◌, ◌+◌, rules, ◌∷◌, [], ◌++◌, sym, ap, subst, false, arith, length, length-append, Some, map}
 use Rattle.std.specs.Prelude.{slice_get}
 use Rattle.std.specs.Arc.{arc_value}
 use Rattle.std.proofs.lemmas.List.{map-append, length-map}
@@ -21,8 +21,7 @@ pub invariant_of-self : goal.invariant_of-self
 invariant_of-self c =
     let b : Board = board_of c.self.inside in
     let e = c.make_room.ensures in
-    let made = same_is b _ _ _ _ _ (ap (map (λ x. arc_value x)) e.calls) e.waiting (events_same e.history e.marks) e.history e.running in
-    let w = ap length e.waiting in
+    let made = same_is b _ _ _ _ _ (ap (map (λ x. arc_value x)) e.calls) refl (events_same e.history e.marks) e.history e.running in
     let r = ap length e.running in
     record {
       marks = subst (λ h. Every (IsMarkIn (length h)) c.make_room.new.marks.items) (sym e.history) (subst (Every (IsMarkIn (length c.self.inside.history.items))) (sym e.marks) c.self.invariant.marks);
@@ -31,9 +30,9 @@ invariant_of-self c =
       sound = subst IsSound (sym made) c.self.invariant.sound;
       stands = subst (StandsFor c.self.inside.counters (length c.self.inside.accepted.operations.items) (paths_of b)) (sym (ap past_of made)) c.self.invariant.stands;
       room = record {
-        marks = omega (arith, w, r, ap length e.marks, e.marks_kept, c.self.invariant.room.marks);
-        history = omega (arith, w, r, ap length e.history, e.history_kept, c.self.invariant.room.history);
-        running = omega (arith, w, r, e.running_kept, c.self.invariant.room.running);
+        marks = omega (arith, r, ap length e.marks, e.marks_kept, c.self.invariant.room.marks);
+        history = omega (arith, r, ap length e.history, e.history_kept, c.self.invariant.room.history);
+        running = omega (arith, r, e.running_kept, c.self.invariant.room.running);
       };
     }
 
@@ -41,7 +40,7 @@ pub returns-in_err-make_room-clause-err : goal.returns-in_err-make_room-clause-e
 returns-in_err-make_room-clause-err c =
     let b : Board = board_of c.self.inside in
     let e = c.make_room.ensures in
-    let same = same_is b _ _ _ _ _ (ap (map (λ x. arc_value x)) e.calls) e.waiting (events_same e.history e.marks) e.history e.running ∙ c.self.view_is in
+    let same = same_is b _ _ _ _ _ (ap (map (λ x. arc_value x)) e.calls) refl (events_same e.history e.marks) e.history e.running ∙ c.self.view_is in
     search (rules, same)
 
 pub invariant_of-self-2 : goal.invariant_of-self-2
@@ -51,14 +50,14 @@ invariant_of-self-2 c =
     let sound : IsSound b = c.self.invariant.sound in
     let body = some_body b.object c.args.place (subst (λ (x : Board). c.args.place < length x.object.operations.items) (sym c.self.view_is) c.requires.place) in
     let call : AcceptedCall = record { session = c.args.session; op = c.args.place; operation = body.0; arguments = c.args.args.now } in
-    let asked = c.in_ok-asked.ensures body.0 (subst (λ o. slice_get (bodies o) c.args.place ≡ Some body.0) (sym c.object.ensures.same) body.1) in
+    let asked = c.in_ok-asked.ensures.call body.0 (subst (λ o. slice_get (bodies o) c.args.place ≡ Some body.0) (sym c.object.ensures.same) body.1) in
     let calls : map (λ x. arc_value x) c.push_reserved-2.new.self.items ≡ b.calls ++ call ∷ [] =
     ap (map (λ x. arc_value x)) (c.push_reserved-2.ensures.items ∙ ap (λ xs. xs ++ c.in_ok-call.call ∷ []) e.calls)
     ∙ map-append (λ x. arc_value x) c.self.inside.calls.items (c.in_ok-call.call ∷ []) ∙ ap (λ x. b.calls ++ x ∷ []) (c.in_ok-call.ensures ∙ ap (λ (w : WaitingCall). w.call) asked) in
     let number : c.len.result + 1 ≡ length b.calls + 1 = omega (arith, c.len.ensures, c.self.inside.calls.ok.0, length-map c.self.inside.calls.items (λ x. arc_value x)) in
     let one : WaitingCall = record { number = length b.calls + 1; call = call } in
-    let waiting : c.push_reserved-3.new.self.items ≡ b.waiting ++ one ∷ [] =
-    c.push_reserved-3.ensures.items ∙ ap (λ xs. xs ++ c.in_ok-asked.asked ∷ []) e.waiting
+    let waiting : c.push.new.self ≡ b.waiting ++ one ∷ [] =
+    c.push.ensures
     ∙ ap (λ (w : WaitingCall). b.waiting ++ w ∷ []) (asked ∙ ap (λ n. record { number = n; call = call }) number) in
     let made = joined_is b call _ _ _ _ _ calls waiting (events_same e.history e.marks) e.history e.running in
     let fits = c.requires.fits body.0 (subst (λ (x : Board). slice_get (bodies x.object) c.args.place ≡ Some body.0) c.self.view_is body.1) in
@@ -78,9 +77,9 @@ invariant_of-self-2 c =
       sound = subst IsSound (sym made) (sound-joined b call sound (made_of b.object call body.1 fits) few open_few (not_open b call.session (subst (λ (x : Board). is_busy x c.args.session ≡ false) (sym c.self.view_is) c.requires.free)));
       stands = subst (StandsFor c.self.inside.counters (length c.self.inside.accepted.operations.items) (paths_of b)) (sym (ap past_of made ∙ past_joined b call sound.counted)) c.self.invariant.stands;
       room = record {
-        marks = omega (arith, w, r, ap length e.marks, all.marks_room);
-        history = omega (arith, w, r, ap length e.history, all.history_room);
-        running = omega (arith, w, r, all.running_room);
+        marks = omega (arith, w, r, ap length e.marks, all.marks_room, c.len-2.ensures);
+        history = omega (arith, w, r, ap length e.history, all.history_room, c.len-2.ensures);
+        running = omega (arith, w, r, all.running_room, c.len-2.ensures);
       };
     }
 
@@ -90,12 +89,12 @@ returns-clause-ok c = λ operation is0.
     let e = c.make_room.ensures in
     let call : AcceptedCall = record { session = c.args.session; op = c.args.place; operation = operation; arguments = c.args.args.now } in
     let is : slice_get (bodies b.object) c.args.place ≡ Some operation = subst (λ (x : Board). slice_get (bodies x.object) c.args.place ≡ Some operation) (sym c.self.view_is) is0 in
-    let asked = c.in_ok-asked.ensures operation (subst (λ o. slice_get (bodies o) c.args.place ≡ Some operation) (sym c.object.ensures.same) is) in
+    let asked = c.in_ok-asked.ensures.call operation (subst (λ o. slice_get (bodies o) c.args.place ≡ Some operation) (sym c.object.ensures.same) is) in
     let calls : map (λ x. arc_value x) c.push_reserved-2.new.self.items ≡ b.calls ++ call ∷ [] =
     ap (map (λ x. arc_value x)) (c.push_reserved-2.ensures.items ∙ ap (λ xs. xs ++ c.in_ok-call.call ∷ []) e.calls)
     ∙ map-append (λ x. arc_value x) c.self.inside.calls.items (c.in_ok-call.call ∷ []) ∙ ap (λ x. b.calls ++ x ∷ []) (c.in_ok-call.ensures ∙ ap (λ (w : WaitingCall). w.call) asked) in
     let number : c.len.result + 1 ≡ length b.calls + 1 = omega (arith, c.len.ensures, c.self.inside.calls.ok.0, length-map c.self.inside.calls.items (λ x. arc_value x)) in
-    let waiting : c.push_reserved-3.new.self.items ≡ b.waiting ++ (record { number = length b.calls + 1; call = call }) ∷ [] =
-    c.push_reserved-3.ensures.items ∙ ap (λ xs. xs ++ c.in_ok-asked.asked ∷ []) e.waiting
+    let waiting : c.push.new.self ≡ b.waiting ++ (record { number = length b.calls + 1; call = call }) ∷ [] =
+    c.push.ensures
     ∙ ap (λ (w : WaitingCall). b.waiting ++ w ∷ []) (asked ∙ ap (λ n. record { number = n; call = call }) number) in
     joined_is b call _ _ _ _ _ calls waiting (events_same e.history e.marks) e.history e.running ∙ ap (λ x. joined x call) c.self.view_is

@@ -12,15 +12,15 @@ use Rattle.desk_core.proofs.roster.Roster.open.Goals as goal
 
 pub invariant_of-result : goal.invariant_of-result
 invariant_of-result c =
-    let made = opened_is c.args.accepted c.args.pins (ap (map (λ x. arc_value x)) c.new.ensures.items) (events_are c.new-4.ensures.items c.new-3.ensures.items) c.new-4.ensures.items c.new-5.ensures.items c.new-6.ensures.items (search rules) in
+    let made = opened_is c.args.accepted c.args.pins (ap (map (λ x. arc_value x)) c.new-2.ensures.items) (events_are c.new-5.ensures.items c.new-4.ensures.items) c.new-5.ensures.items c.in_ok-waiting.ensures c.new-6.ensures.items (search rules) in
     let stands : StandsFor c.in_ok-counters.counters (length c.args.accepted.operations.items) (object_of c.args.accepted).paths [] = subst (λ o. StandsFor c.in_ok-counters.counters (length o.operations.items) (object_of o).paths []) c.object.ensures.same c.in_ok-counters.ensures in
-    let t = ap length c.new-3.ensures.items in
-    let h = ap length c.new-4.ensures.items in
-    let w = ap length c.new-5.ensures.items in
+    let t = ap length c.new-4.ensures.items in
+    let h = ap length c.new-5.ensures.items in
+    let w = ap length c.in_ok-waiting.ensures in
     let r = ap length c.new-6.ensures.items in
     record {
-      marks = no_marks _ _ c.new-3.ensures.items;
-      places = no_places _ _ _ (ap length c.new.ensures.items) c.new-2.ensures.items;
+      marks = no_marks _ _ c.new-4.ensures.items;
+      places = no_places _ _ _ (ap length c.new-2.ensures.items) c.new-3.ensures.items;
       sound = subst IsSound (sym made) (sound-opened c.args.accepted c.args.pins c.object.ensures.exclusive c.requires.each stands.satisfied);
       stands = subst (StandsFor c.in_ok-counters.counters (length c.args.accepted.operations.items) (object_of c.args.accepted).paths) (sym (ap past_of made)) stands;
       room = record { marks = omega (arith, t, w, r); history = omega (arith, h, w, r); running = omega (arith, w, r) };
@@ -28,4 +28,4 @@ invariant_of-result c =
 
 pub returns : goal.returns
 returns c =
-    opened_is c.args.accepted c.args.pins (ap (map (λ x. arc_value x)) c.new.ensures.items) (events_are c.new-4.ensures.items c.new-3.ensures.items) c.new-4.ensures.items c.new-5.ensures.items c.new-6.ensures.items (search rules)
+    opened_is c.args.accepted c.args.pins (ap (map (λ x. arc_value x)) c.new-2.ensures.items) (events_are c.new-5.ensures.items c.new-4.ensures.items) c.new-5.ensures.items c.in_ok-waiting.ensures c.new-6.ensures.items (search rules)

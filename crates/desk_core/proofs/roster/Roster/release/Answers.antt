@@ -11,9 +11,9 @@ use Rattle.desk_core.proofs.roster.Roster.release.Goals as goal
 pub invariant_of-self : goal.invariant_of-self
 invariant_of-self c =
     let b : Board = board_of c.self.inside in
-    let made = released_is b c.args.session _ c.leave_of.ensures.items in
-    let w = ap length c.leave_of.ensures.items in
-    let fewer = filter_le (λ (x : WaitingCall). not (x.call.session == c.args.session)) c.self.inside.waiting.items in
+    let made = released_is b c.args.session _ c.leave_of.ensures in
+    let w = ap length c.leave_of.ensures in
+    let fewer = filter_le (λ (x : WaitingCall). not (x.call.session == c.args.session)) c.self.inside.waiting in
     record {
       marks = c.self.invariant.marks;
       places = c.self.invariant.places;
@@ -27,4 +27,4 @@ invariant_of-self c =
     }
 
 pub returns : goal.returns
-returns c = released_is (board_of c.self.inside) c.args.session _ c.leave_of.ensures.items ∙ ap (λ b. released b c.args.session) c.self.view_is
+returns c = released_is (board_of c.self.inside) c.args.session _ c.leave_of.ensures ∙ ap (λ b. released b c.args.session) c.self.view_is

@@ -5,7 +5,7 @@ use Rattle.desk_core.specs.Kept.{OpCanStart, CanStart}
 use Rattle.board_core.specs.Calls.{WaitingCall}
 use Rattle.desk_core.proofs.Starting.{Every-more}
 use Rattle.board_core.proofs.Traces.{true_false}
-use Rattle.desk_core.proofs.roster.first_to_start.Goals as goal
+use Rattle.desk_core.proofs.queue.first_to_start.Goals as goal
 
 none_set : (n k : ℕ) → slice_get (replicate n false) k ≡ Some true → ⊥
 none_set zero k is = absurd cc

@@ -2,7 +2,7 @@ use Rattle.std.proofs.Common.{◌≡◌, Bool, true, false, not, inl, inr, refl,
 use Rattle.desk_core.specs.Kept.{OpCanStart}
 use Rattle.desk_core.proofs.Places.{get_set}
 use Rattle.board_core.proofs.Traces.{true_false}
-use Rattle.desk_core.proofs.roster.asks.Goals as goal
+use Rattle.desk_core.proofs.queue.asks.Goals as goal
 
 not_true : (b : Bool) → not b ≡ true → b ≡ false
 not_true true h = absurd cc

@@ -1,7 +1,0 @@
-use Rattle.std.proofs.Common.{◌==◌, not, rules}
-use Rattle.std.proofs.lemmas.Fn.{filter_same}
-use Rattle.board_core.specs.Calls.{WaitingCall}
-use Rattle.desk_core.proofs.roster.leave.Goals as goal
-
-pub returns-clause-items : goal.returns-clause-items
-returns-clause-items c = filter_same _ (λ (w : WaitingCall). not (w.number == c.args.number)) _ (λ x b q h. search rules) _ _ c.retain.ensures.filtered
