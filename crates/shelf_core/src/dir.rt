@@ -33,9 +33,14 @@ struct Writing<F> {
 #[derive(Drop)]
 struct Reading<F> {
     number: u64,
-    // How many bytes it had when it was opened or sealed.
-    len: u64,
+    // How many bytes it had when it was sealed or asked, where it was.
+    len: Option<u64>,
     file: F,
+}
+
+// Whether a read ends with the last byte of a file of this stamp. It tells by itself whether the file has as many bytes.
+fn ends_with(stamp: &Stamp, at: usize, count: usize) -> bool {
+    count > 0 && at.checked_add(count) == Some(stamp.len)
 }
 
 /// A hand that keeps its files in a folder, the one of number N as `FOLDER/N.val`.
@@ -170,7 +175,7 @@ where
         } = self.writing.swap_remove(place);
         self.turn_to(Reading {
             number,
-            len: len as u64,
+            len: Some(len as u64),
             file,
         });
         Some(len)
@@ -197,9 +202,27 @@ where
         }
         self.set_path(number)?;
         let file = File::open(&self.rt, self.path.as_str()).map_err(fault_of)?;
-        let len = file.metadata().map_err(fault_of)?.len();
-        self.turn_to(Reading { number, len, file });
+        self.turn_to(Reading {
+            number,
+            len: None,
+            file,
+        });
         Ok(())
+    }
+
+    // Whether the file that is read has as many bytes as this. The system is asked once.
+    fn is_long(&mut self, len: usize) -> Result<bool, HandFault>
+        ensures { self.new.failures ≡ self.old.failures }
+    {
+        let Some(reading) = &mut self.reading else {
+            return Ok(false);
+        };
+        let has = match reading.len {
+            Some(has) => has,
+            None => reading.file.metadata().map_err(fault_of)?.len(),
+        };
+        reading.len = Some(has);
+        Ok(has >= len as u64)
     }
 
     // Reads at a place of a file.
@@ -207,12 +230,12 @@ where
         ensures { self.new.failures ≡ self.old.failures }
     {
         self.open(stamp.number)?;
+        if !ends_with(stamp, at, into.len()) && !self.is_long(stamp.len)? {
+            return Err(HandFault::Device);
+        }
         let Some(reading) = &self.reading else {
             return Err(HandFault::Device);
         };
-        if reading.len < stamp.len as u64 {
-            return Err(HandFault::Device);
-        }
         reading
             .file
             .read_exact_at(into, at as u64)
