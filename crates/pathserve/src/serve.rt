@@ -16,11 +16,20 @@ use std::rt::Files;
 use std::sync::{Arc, Wait};
 use std::thread::Threads;
 use turn_core::ahead::{AheadHand, Ends};
+use turn_core::sealed::Sealed;
 
 // Numbers from this one on, which hands share.
 fn numbers_from<R: AllocGlobal>(rt: &R, first: u64) -> Result<Arc<Numbers>, AllocError> {
     match Arc::new(rt.alloc(), Numbers::new(first)) {
         Ok(numbers) => Ok(numbers),
+        Err(_) => Err(AllocError),
+    }
+}
+
+// What the hands of a folder share.
+fn shared<R: AllocGlobal>(rt: &R) -> Result<Arc<Sealed>, AllocError> {
+    match Arc::new(rt.alloc(), Sealed::new(rt.alloc())?) {
+        Ok(sealed) => Ok(sealed),
         Err(_) => Err(AllocError),
     }
 }
@@ -35,10 +44,11 @@ pub fn place_of<R: Files + AllocGlobal + Clone + Drop>(
 ) -> Result<Place<AheadHand<R>>, Failure> {
     let left = value_numbers(rt, rt.alloc(), folder)?;
     let numbers = numbers_from(rt, number_above(&left))?;
+    let sealed = shared(rt)?;
     let mut hands = Vec::new(rt.alloc());
     for _ in 0..sessions {
         let hand = DirHand::new(rt.clone()?, folder, Arc::try_clone(&numbers)?)?;
-        let hand = AheadHand::new(rt.clone()?, hand, folder)?;
+        let hand = AheadHand::new(rt.clone()?, hand, folder, Arc::try_clone(&sealed)?)?;
         if hands.push(hand).is_err() {
             return Err(Failure::Memory);
         }

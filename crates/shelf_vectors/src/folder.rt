@@ -5,7 +5,7 @@ use crate::hand_calls::Call::{
     Seal, Stamped,
 };
 use crate::hand_calls::{A, B, C, D};
-use crate::places::Line::{Ahead, AheadEnds, All, At, Denied, Hand, Other, Shelf};
+use crate::places::Line::{Ahead, AheadEnds, All, At, Denied, Hand, Other, Shelf, Twin};
 use crate::places::{Line, Place};
 use crate::scratch::Deed::{Has, Lacks, MakeFolder, Mode, Remove, RemoveFolder, Write};
 use crate::scratch::Scratch;
@@ -131,6 +131,45 @@ const AHEAD: &[Line] = &[
     At("8.val", Lacks),
     AheadEnds,
     Ahead(&[Create(C), Discard(C), Failures(1)]),
+];
+
+// Hands that share what they sealed last.
+const SHARED: &[Line] = &[
+    Ahead(&[
+        Create(A),
+        Append(A, b"on"),
+        Append(A, b"e"),
+        Seal(A, 3),
+        Number(A, 1),
+    ]),
+    // Each of them reads it without the system, at each place.
+    At("1.val", Write(b"ONE")),
+    Twin(&[Read(A, 1, b"n"), Read(A, 2, b"e"), Read(A, 3, b"")]),
+    Ahead(&[Read(A, 0, b"one")]),
+    // Where a stamp says that it is longer, the system is asked, and so of a file that nobody wrote.
+    Twin(&[Stamped(B, 1, 4), NoRead(B, 0), Failures(1)]),
+    Twin(&[Stamped(B, 9, 3), NoRead(B, 0), Failures(2)]),
+    // Of two files that are written at a time it is the later one.
+    Ahead(&[Create(B), Create(C), Append(B, b"two"), Append(C, b"three")]),
+    Ahead(&[Seal(B, 3), Seal(C, 5), Number(B, 2), Number(C, 3)]),
+    At("2.val", Write(b"TWO")),
+    At("3.val", Write(b"THREE")),
+    Twin(&[Read(B, 0, b"TWO"), Read(C, 0, b"three")]),
+    // What one of them retires is shared no more.
+    Ahead(&[Retire(C)]),
+    At("3.val", Lacks),
+    Twin(&[NoRead(C, 1), Failures(3)]),
+    AheadEnds,
+    // It is the last eight that are shared.
+    Ahead(&[Create(D), Append(D, b"4"), Seal(D, 1)]),
+    Ahead(&[Create(D), Append(D, b"5"), Seal(D, 1)]),
+    Ahead(&[Create(D), Append(D, b"6"), Seal(D, 1)]),
+    Ahead(&[Create(D), Append(D, b"7"), Seal(D, 1)]),
+    Ahead(&[Create(D), Append(D, b"8"), Seal(D, 1)]),
+    Ahead(&[Create(D), Append(D, b"9"), Seal(D, 1)]),
+    Twin(&[Read(A, 0, b"one"), Read(B, 0, b"TWO")]),
+    Ahead(&[Create(D), Append(D, b"last"), Seal(D, 4)]),
+    Twin(&[Read(D, 1, b"ast"), Read(A, 0, b"ONE")]),
 ];
 
 // The one file that a name has, and that nothing else is left.
@@ -268,13 +307,14 @@ const ONLY_READ: &[Line] = &[
 ];
 
 // Of each script: its name, the folder of its devices, which is `.` or is made by the script, and their first number.
-const SCRIPTS: [(&str, &str, u64, &[Line]); 11] = [
+const SCRIPTS: [(&str, &str, u64, &[Line]); 12] = [
     ("all", ".", 1, &[All]),
     ("there", ".", 40, THERE),
     ("come", ".", 1, COMING),
     ("lost", ".", 1, LOST),
     ("two", ".", 7, TWO),
     ("ahead", ".", 1, AHEAD),
+    ("shared", ".", 1, SHARED),
     ("name", "in", 1, NAMES),
     ("bad", "in", 1, BAD_NAMES),
     ("place", ".", 1, IN_PLACE),

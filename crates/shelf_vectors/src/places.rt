@@ -15,6 +15,7 @@ use std::process::Abort;
 use std::rt::Files;
 use std::sync::Arc;
 use turn_core::ahead::{AheadHand, Ends};
+use turn_core::sealed::Sealed;
 
 /// What is done in a folder, or what is there.
 #[derive(Clone, Copy, Drop)]
@@ -27,7 +28,9 @@ pub enum Line {
     Other(&'static [Call]),
     /// Calls of a hand on the folder that has its next file ready, with the same numbers and the same files of the script.
     Ahead(&'static [Call]),
-    /// That hand ends.
+    /// Calls of another such hand, which shares with it what they sealed last.
+    Twin(&'static [Call]),
+    /// The first of these two ends.
     AheadEnds,
     /// Calls of the shelf.
     Shelf(&'static [Entry]),
@@ -37,12 +40,13 @@ pub enum Line {
     At(&'static str, Deed),
 }
 
-/// Three hands and a shelf in one folder, with the files of a script.
+/// Four hands and a shelf in one folder, with the files of a script.
 #[derive(Drop)]
 pub struct Place<R: Files + AllocGlobal> {
     hand: DirHand<R>,
     other: DirHand<R>,
     ahead: AheadHand<R>,
+    twin: AheadHand<R>,
     shelf: DirShelf<R>,
     files: FileRow,
 }
@@ -55,8 +59,11 @@ where
     pub fn new(rt: R, folder: &str, first: u64) -> io::Result<Place<R>> {
         let numbers = Arc::new(rt.alloc(), Numbers::new(first))?;
         let others = Arc::try_clone(&numbers)?;
+        let sealed = Arc::new(rt.alloc(), Sealed::new(rt.alloc())?)?;
         let ahead = DirHand::new(rt, folder, Arc::try_clone(&numbers)?)?;
-        let ahead = AheadHand::new(rt, ahead, folder)?;
+        let ahead = AheadHand::new(rt, ahead, folder, Arc::try_clone(&sealed)?)?;
+        let twin = DirHand::new(rt, folder, Arc::try_clone(&numbers)?)?;
+        let twin = AheadHand::new(rt, twin, folder, sealed)?;
         let hand = DirHand::new(rt, folder, numbers)?;
         let other = DirHand::new(rt, folder, others)?;
         let shelf = DirShelf::new(rt, folder)?;
@@ -65,6 +72,7 @@ where
             hand,
             other,
             ahead,
+            twin,
             shelf,
             files,
         })
@@ -104,6 +112,7 @@ where
             Line::Hand(calls) => self.calls(rt, alloc, calls, &[], number),
             Line::Other(calls) => self.files.play(rt, &mut self.other, calls, number),
             Line::Ahead(calls) => self.files.play(rt, &mut self.ahead, calls, number),
+            Line::Twin(calls) => self.files.play(rt, &mut self.twin, calls, number),
             Line::AheadEnds => self.ahead.end(),
             Line::Shelf(entries) => self.calls(rt, alloc, &[], entries, number),
             Line::Denied(calls, entries) => {

@@ -3,6 +3,7 @@
 ghost use Rattle.std.specs.Prelude.{◌≡◌, ◌<◌, ◌≤◌, IfOk, IsTrue, length};
 ghost use Rattle.shelf_core.specs.Device.{FaultCause};
 
+use crate::sealed::{MOST_BYTES, Sealed};
 use itoa::Buffer;
 use shelf_core::dir::DirHand;
 use shelf_core::hand::{Hand, HandFault, Pen, Stamp};
@@ -10,12 +11,13 @@ use std::alloc::AllocError;
 use std::fs;
 use std::os::unix::fs::FileExt;
 use std::rt::Files;
+use std::sync::Arc;
 
 // The most bytes that a path has beyond its folder: a slash, 20 digits and the ending.
 const NAME_BYTES: usize = 25;
 
 // The most bytes of the last read that are kept.
-const MOST_KEPT: usize = 4096;
+const MOST_KEPT: usize = MOST_BYTES;
 
 /// What is done once, after the last call of a hand.
 pub trait Ends: Drop {
@@ -28,6 +30,8 @@ pub trait Ends: Drop {
 /// - After a `retire` an empty file is made, if none is ready: the next `create` gives it, where it still lies in the folder. Where none can be
 ///   made, or it lies there no more, `create` makes one, and fails as a `DirHand` does. A failure ahead is none of a call.
 /// - A read of the same stamp, place and length as the last one, of at most 4,096 bytes, is answered from memory: a sealed file does not change.
+/// - A file of at most 4,096 bytes that it seals is shared with the other hands of its folder (`Sealed`), and a read of one that is shared is answered from
+///   there, until one of them retires it.
 /// - `end` removes the file that is ready.
 ///
 /// Its other answers, and its failures, are those of the `DirHand`. Only `create`, and the making ahead, take memory.
@@ -43,6 +47,11 @@ pub struct AheadHand<R: Files + AllocGlobal> {
     // The bytes of the last read, and where they stand.
     kept: Vec<u8>,
     kept_of: Option<(Stamp, usize)>,
+    // The bytes of the file that was created last, as long as they are few, and its number.
+    written: Vec<u8>,
+    written_of: Option<u64>,
+    // What the hands of the folder sealed last.
+    sealed: Arc<Sealed>,
     failures: u64,
 }
 
@@ -61,14 +70,20 @@ fn count(failures: &mut u64, fault: HandFault) -> HandFault
 }
 
 impl<R: Files + AllocGlobal + Drop> AheadHand<R> {
-    /// A hand over this one, whose folder is named. It touches no file yet.
-    pub fn new(rt: R, inner: DirHand<R>, folder: &str) -> Result<AheadHand<R>, AllocError>
+    /// A hand over this one, whose folder is named, and what the hands of that folder share. It touches no file yet.
+    pub fn new(
+        rt: R,
+        inner: DirHand<R>,
+        folder: &str,
+        sealed: Arc<Sealed>,
+    ) -> Result<AheadHand<R>, AllocError>
         ensures { IfOk result (λ hand. hand.failures ≡ 0) }
     {
         let alloc = rt.alloc();
         let path = String::with_capacity(alloc, folder.len().saturating_add(NAME_BYTES))?;
         let folder = String::from_str(alloc, folder)?;
         let kept = Vec::with_capacity(alloc, MOST_KEPT)?;
+        let written = Vec::with_capacity(alloc, MOST_BYTES)?;
         Ok(AheadHand {
             rt,
             inner,
@@ -77,6 +92,9 @@ impl<R: Files + AllocGlobal + Drop> AheadHand<R> {
             ready: None,
             kept,
             kept_of: None,
+            written,
+            written_of: None,
+            sealed,
             failures: 0,
         })
     }
@@ -153,6 +171,43 @@ where
             self.kept_of = Some((*stamp, at));
         }
     }
+
+    // Notes the file that is written next, which has no bytes yet.
+    fn note_created(&mut self, number: u64)
+        ensures { self.new.failures ≡ self.old.failures }
+    {
+        self.written.clear();
+        self.written_of = Some(number);
+    }
+
+    // Notes what was appended to a file, as long as it has few bytes.
+    fn note_appended(&mut self, number: u64, bytes: &[u8])
+        ensures { self.new.failures ≡ self.old.failures }
+    {
+        if self.written_of != Some(number) {
+            return;
+        }
+        if bytes.len() > MOST_BYTES - self.written.len().min(MOST_BYTES) {
+            self.written_of = None;
+            return;
+        }
+        if self.written.extend_from_slice(bytes).is_err() {
+            self.written_of = None;
+        }
+    }
+
+    // Shares a file that was sealed, where all its bytes were noted.
+    fn share(&mut self, stamp: &Stamp)
+        ensures { self.new.failures ≡ self.old.failures }
+    {
+        if self.written_of != Some(stamp.number) {
+            return;
+        }
+        self.written_of = None;
+        if self.written.len() == stamp.len {
+            self.sealed.keep(stamp.number, &self.written);
+        }
+    }
 }
 
 /// Its failures are those of a `DirHand`, call by call.
@@ -178,24 +233,34 @@ where
 
     fn create(&mut self) -> Result<Pen, HandFault> {
         if let Some(number) = self.take_ready() {
+            self.note_created(number);
             return Ok(Pen { number });
         }
         match self.inner.create() {
-            Ok(pen) => Ok(pen),
+            Ok(pen) => {
+                self.note_created(pen.number);
+                Ok(pen)
+            }
             Err(fault) => Err(count(&mut self.failures, fault)),
         }
     }
 
     fn append(&mut self, pen: &mut Pen, bytes: &[u8]) -> Result<(), HandFault> {
         match self.inner.append(pen, bytes) {
-            Ok(()) => Ok(()),
+            Ok(()) => {
+                self.note_appended(pen.number, bytes);
+                Ok(())
+            }
             Err(fault) => Err(count(&mut self.failures, fault)),
         }
     }
 
     fn seal(&mut self, pen: Pen) -> Result<Stamp, (Pen, HandFault)> {
         match self.inner.seal(pen) {
-            Ok(stamp) => Ok(stamp),
+            Ok(stamp) => {
+                self.share(&stamp);
+                Ok(stamp)
+            }
             Err((pen, fault)) => {
                 let fault = count(&mut self.failures, fault);
                 Err((pen, fault))
@@ -212,6 +277,10 @@ where
             into.copy_from_slice(&self.kept);
             return Ok(());
         }
+        if self.sealed.read(stamp, at, into) {
+            self.keep(stamp, at, into);
+            return Ok(());
+        }
         match self.inner.read(stamp, at, into) {
             Ok(()) => {
                 self.keep(stamp, at, into);
@@ -223,6 +292,7 @@ where
 
     fn retire(&mut self, stamp: &Stamp) -> Result<(), HandFault> {
         self.kept_of = None;
+        self.sealed.forget(stamp.number);
         let answer = match self.inner.retire(stamp) {
             Ok(()) => Ok(()),
             Err(fault) => Err(count(&mut self.failures, fault)),
