@@ -2,7 +2,6 @@
 import pathlib
 import random
 import re
-import socket
 import subprocess
 import threading
 
@@ -15,14 +14,22 @@ PORTS = iter(random.sample(range(10_000, 32_000), 22_000))
 TURN = threading.Lock()
 
 
+def used_ports():
+    """The ports that a socket of this machine has. No connection is made to see that: a server of another run that serves one
+    session would take it for that session."""
+    tables = [pathlib.Path("/proc/net/tcp"), pathlib.Path("/proc/net/tcp6")]
+    rows = [row for it in tables if it.exists() for row in it.read_text(encoding="ascii").splitlines()[1:]]
+    return {int(row.split()[1].rpartition(":")[2], 16) for row in rows}
+
+
 def free_port():
-    """A port that nobody listens on, another one each time. It is not bound to see that: a child between its fork and its exec
+    """A port that no socket has, another one each time. It is not bound to see that: a child between its fork and its exec
     would have it bound on."""
     with TURN:
+        used = used_ports()
         for port in PORTS:
-            with socket.socket() as it:
-                if it.connect_ex(("127.0.0.1", port)):
-                    return port
+            if port not in used:
+                return port
     raise OSError("no port is free")
 
 
