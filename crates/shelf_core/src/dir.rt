@@ -33,8 +33,8 @@ struct Writing<F> {
 #[derive(Drop)]
 struct Reading<F> {
     number: u64,
-    // How many bytes it had when it was sealed or asked, where it was.
-    len: Option<u64>,
+    // How many bytes it had when it was sealed or asked for them, and 0 where it was not.
+    len: u64,
     file: F,
 }
 
@@ -175,7 +175,7 @@ where
         } = self.writing.swap_remove(place);
         self.turn_to(Reading {
             number,
-            len: Some(len as u64),
+            len: len as u64,
             file,
         });
         Some(len)
@@ -204,25 +204,23 @@ where
         let file = File::open(&self.rt, self.path.as_str()).map_err(fault_of)?;
         self.turn_to(Reading {
             number,
-            len: None,
+            len: 0,
             file,
         });
         Ok(())
     }
 
-    // Whether the file that is read has as many bytes as this. The system is asked once.
+    // Whether the file that is read has so many bytes. The system is asked where that is not known.
     fn is_long(&mut self, len: usize) -> Result<bool, HandFault>
         ensures { self.new.failures ≡ self.old.failures }
     {
         let Some(reading) = &mut self.reading else {
             return Ok(false);
         };
-        let has = match reading.len {
-            Some(has) => has,
-            None => reading.file.metadata().map_err(fault_of)?.len(),
-        };
-        reading.len = Some(has);
-        Ok(has >= len as u64)
+        if reading.len < len as u64 {
+            reading.len = reading.file.metadata().map_err(fault_of)?.len();
+        }
+        Ok(reading.len >= len as u64)
     }
 
     // Reads at a place of a file.
