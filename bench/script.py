@@ -6,7 +6,7 @@ usage: bench/script.py [RUNS]
 Per run: microseconds a call after 1, 30,000 and 60,000 calls of history, in bulk (1,000 calls are sent, and all their answers
 read) and in turn (each line is sent once the answer to the one before it was read); seconds for all 65,536 calls in one
 piece of input; and the most memory that was resident. Then a call more, which has to be refused as HistoryFull. The program
-is crates/pathserve/out/pathserve: `./pathserve` builds it. It is no part of the gate.
+is crates/pathserve/out/pathserve: `tools/prove` builds it. It is no part of the gate.
 """
 import os
 import pathlib
@@ -111,7 +111,7 @@ def measure():
 def main(words):
     runs = int(words[0]) if words else 3
     if not PROGRAM.exists():
-        raise SystemExit(f"there is no {PROGRAM.relative_to(TOP)}: ./pathserve builds it")
+        raise SystemExit(f"there is no {PROGRAM.relative_to(TOP)}: tools/prove builds it")
     heads = [f"{way} at {history}" for history in HISTORIES for way in ("bulk", "turn")]
     print("microseconds a call:", ", ".join(heads), "| seconds for all | MB")
     for _ in range(runs):

@@ -15,7 +15,7 @@ connection, its latency. Of an operation X
 A row a case: calls a second as measured (the median of the runs, and the least and the most) and by the model, and the ratio. The
 program is crates/pathserve/out/pathserve unless another is named; N calls a case, 16,000 where it is not given, but 3,000 a connection
 at most; 9 runs. The folders are made where TMPDIR says. It needs `cc`. The load runs on the same machine, so the figures are of
-both. --rows prints the rows as docs/SERVING.md has them. It is no part of the gate.
+both. --rows prints the rows as bench/README.md has them. It is no part of the gate.
 """
 import argparse
 import os

@@ -8,6 +8,8 @@ TOP = pathlib.Path(__file__).resolve().parent.parent
 SERVED = TOP / "cases" / "serve"
 ESCAPES = {"n": b"\n", "r": b"\r", "t": b"\t", "\\": b"\\", "^": b"^", "|": b"|", "#": b"#", "*": b"*"}
 PIECE = re.compile(r"(\d+)(\+?)\*")
+# A count that stands where none counts: not at the beginning of a piece, and its sign not escaped.
+MISPLACED = re.compile(r"\d+\+?\*")
 BLOCK = re.compile(r"(\w+) block (\d+) of (\S+)")
 REPORT = re.compile(rb"(?:.*\n)*\d+ objects, (\d+) refused\n\Z")
 FAULT = re.compile(rb"(?:lex|path|decl) \d+ [A-Za-z]+(?: at \d+)?\n\Z")
@@ -103,6 +105,9 @@ def read_text(raw, place=None, more=0):
             found = PIECE.match(piece)
             times = int(found[1]) + (more if found[2] else 0) if found else 1
             body = piece[found.end() :] if found else piece
+            if count := MISPLACED.search(body):
+                said = f"{count[0]!r} counts at the beginning of a piece only: write |{count[0]} or {count[0][:-1]}\\*"
+                raise BadCase(f"{line!r}: {said}")
             for number in range(times):
                 mark = add_piece(out, body, number if found else None, place, mark)
         if has_end:
@@ -222,7 +227,7 @@ def with_each(block):
 
 def escaped(lines):
     """The lines of the notation whose text these lines are."""
-    return [re.sub(r"[\\\\^|]", r"\\\g<0>", it) for it in lines]
+    return [re.sub(r"[\\^|*]", r"\\\g<0>", it) for it in lines]
 
 
 class Reader:
@@ -273,7 +278,15 @@ class Reader:
                 row, *answers = row.split(" => ")
                 puts = {"<row>": f"|{row}|"}
                 puts.update({f"<answer{'' if place == 1 else f' {place}'}>": answer for place, answer in enumerate(answers, 1)})
+                self.refuse_unused(number, puts)
                 yield number, puts
+
+    def refuse_unused(self, number, puts):
+        """Refuses a row of which a part is put nowhere: it would say less than it seems to."""
+        lines = [line for name, section in self.sections.items() if name != "rows" for line in section]
+        for word in puts:
+            if not any(word in it for it in [*lines, *self.words]):
+                raise BadCase(f"line {number}: nothing takes the {word} of this row")
 
     def lines(self, name, puts):
         """The lines of a section, with the words of a row put in."""

@@ -33,6 +33,15 @@ def free_port():
     raise OSError("no port is free")
 
 
+def has_ended(process):
+    """Whether a process has ended. One that its new parent has not waited for (as under the gate) still has its folder."""
+    try:
+        stat = pathlib.Path(f"/proc/{process}/stat").read_text(encoding="ascii", errors="replace")
+    except (FileNotFoundError, ProcessLookupError):
+        return True
+    return stat.rpartition(")")[2].split()[0] in "ZX"
+
+
 class Told:
     """What one connection was told: the object that it opened, and how each of its calls ended. A call has to end before the
     next one is accepted, or anything else is answered but a cancel."""

@@ -12,6 +12,7 @@ FORMS = {
     "hears among": re.compile(r"(\w+)&(?: (?P<text>.*))?"),
     "runs": re.compile(r"(\w+) runs (?P<text>.*)"),
     "opens": re.compile(r"(\w+) opens"),
+    "is refused": re.compile(r"(\w+) is refused"),
     "hangs up": re.compile(r"(\w+) hangs up"),
     "sends no more": re.compile(r"(\w+) sends no more"),
     "resets": re.compile(r"(\w+) resets"),
@@ -21,10 +22,13 @@ FORMS = {
     "server starts": re.compile(r"(server) starts(?: (?P<text>.*))?"),
     "server ends": re.compile(r"(server) ends"),
     "server is killed": re.compile(r"(server) is killed"),
+    "server is told to stop": re.compile(r"(server) is told to stop"),
     "port is taken": re.compile(r"(port) is taken"),
     "folder is removed": re.compile(r"(folder) is removed"),
     "file holds": re.compile(r"(file) (?P<text>\S+ holds [0-9a-f]*)"),
 }
+# Steps whose texts are in the notation: what is not is refused before the case runs.
+READ = ("sends", "presses", "hears", "hears among")
 # Steps of one connection that follow one another are one step.
 JOINED = ("sends", "hears among")
 TIMES = re.compile(r"(\d+) times:")
@@ -87,6 +91,8 @@ def steps_of(lines):
         if not step:
             raise BadCase(f"line {number}: no such step: {line!r}")
         form, who, text = step
+        if form in READ:
+            read_text([text], "")
         last = found[-1] if found else None
         if last and form in JOINED and (last.form, last.who) == (form, who):
             last.texts.append(text)
@@ -161,9 +167,21 @@ def value_number(name):
     return int(found[1]) if found and int(found[1]) < END_OF_NUMBERS else None
 
 
+def names_in(place, wanted):
+    """The names of what is in a folder, and of all files below a folder in it of which one is wanted."""
+    opened = {name.partition("/")[0] for name, _ in wanted if "/" in name.rstrip("/")}
+    names = set()
+    for it in place.iterdir() if place.exists() else ():
+        if it.name in opened:
+            names |= {str(inner.relative_to(place)) for inner in it.rglob("*") if inner.is_file()}
+        else:
+            names.add(it.name)
+    return names
+
+
 def folder_faults(wanted, place):
     """What a folder has that is not wanted, and lacks that is."""
-    names = {it.name for it in place.iterdir()} if place.exists() else set()
+    names = names_in(place, wanted)
     values = sorted(number for it in names if (number := value_number(it)) is not None)
     names -= {f"{it}.val" for it in values}
     faults = []

@@ -2,8 +2,13 @@
  *
  * usage: client PORT OBJECT CALL ..    (a CALL is an operation with its arguments, as in "put 7")
  * build: cc -o client client.c
+ *
+ * Exit statuses: 0 each call was answered; 1 the object was not opened; 2 usage; 3 there is no server, or it was gone
+ * before the last answer.
  */
 #include <arpa/inet.h>
+#include <errno.h>
+#include <signal.h>
 #include <stdio.h>
 #include <stdlib.h>
 #include <string.h>
@@ -12,15 +17,31 @@
 /* A line that the server writes has at most some 600 bytes. */
 static char line[1024];
 
+/* The call that was sent, and has no last line yet. */
+static const char *sent;
+
+/* Ends the program: the server is gone, or there is none. */
+static void gone(const char *what, const char *why)
+{
+    fprintf(stderr, *why ? "client: %s: %s\n" : "client: %s%s\n", what, why);
+    if (sent)
+        fprintf(stderr, "client: it is not known whether this was done: %s\n", sent);
+    exit(3);
+}
+
+/* Reads the next line. One that was cut is none. */
+static void hear(FILE *from)
+{
+    if (!fgets(line, sizeof line, from) || !strchr(line, '\n'))
+        gone("the server is gone", "");
+}
+
 /* Sends WORD, a space and TEXT as one line, and reads the first answer. */
 static void ask(FILE *to, FILE *from, const char *word, const char *text)
 {
-    fprintf(to, *text ? "%s %s\n" : "%s%s\n", word, text);
-    fflush(to);
-    if (!fgets(line, sizeof line, from)) {
-        fprintf(stderr, "the server is gone\n");
-        exit(1);
-    }
+    if (fprintf(to, *text ? "%s %s\n" : "%s%s\n", word, text) < 0 || fflush(to) != 0)
+        gone("the server is gone", "");
+    hear(from);
 }
 
 int main(int count, char **words)
@@ -34,26 +55,31 @@ int main(int count, char **words)
         fprintf(stderr, "usage: client PORT OBJECT CALL ..\n");
         return 2;
     }
+    /* What is sent to a server that is gone is told by fflush, and does not end this program. */
+    signal(SIGPIPE, SIG_IGN);
     server.sin_port = htons((unsigned short)atoi(words[1]));
     server.sin_addr.s_addr = htonl(INADDR_LOOPBACK);
-    if (connection < 0 || connect(connection, (struct sockaddr *)&server, sizeof server) != 0) {
-        perror("connect");
-        return 1;
-    }
+    if (connection < 0 || connect(connection, (struct sockaddr *)&server, sizeof server) != 0)
+        gone("there is no server", strerror(errno));
     to = fdopen(connection, "w");
     from = fdopen(connection, "r");
+    if (!to || !from)
+        gone("no memory", "");
     ask(to, from, "open", words[2]);
     if (strncmp(line, "opened ", 7) != 0) {
         fputs(line, stderr);
         return 1;
     }
     for (k = 3; k < count; k++) {
+        sent = words[k];
         ask(to, from, "call", words[k]);
         /* The call waits until the paths admit it; then comes its last line. */
-        if (strncmp(line, "accepted ", 9) == 0 && !fgets(line, sizeof line, from))
-            return 1;
+        if (strncmp(line, "accepted ", 9) == 0)
+            hear(from);
         printf("%s: %s", words[k], line);
+        fflush(stdout);
     }
+    sent = NULL;
     ask(to, from, "quit", "");
     return 0;
 }

@@ -2,31 +2,64 @@
 """Calls operations of an object that `pathserve serve` serves, and prints how each call ended.
 
 usage: client.py PORT OBJECT CALL ..    (a CALL is an operation with its arguments, as in "put 7")
+
+Exit statuses: 0 each call was answered; 1 the object was not opened; 2 usage; 3 there is no server, or it was gone
+before the last answer. A program that calls is better off with pathclient.py, in this folder.
 """
 import socket
 import sys
 
 
-def main():
-    port, name, *calls = sys.argv[1:]
-    with socket.create_connection(("127.0.0.1", int(port))) as connection:
+class Gone(Exception):
+    """The server closed the connection."""
+
+
+def line_of(lines):
+    """The next line. One that was cut is none."""
+    line = lines.readline()
+    if not line.endswith("\n"):
+        raise Gone
+    return line.rstrip("\n")
+
+
+def ask(lines, line):
+    """Sends a line and gives the first answer."""
+    print(line, file=lines, flush=True)
+    return line_of(lines)
+
+
+def main(words):
+    if len(words) < 2 or not words[0].isdigit():
+        print(__doc__, file=sys.stderr)
+        return 2
+    port, name, *calls = words
+    try:
+        connection = socket.create_connection(("127.0.0.1", int(port)))
+    except OSError as error:
+        print(f"client: there is no server: {error.strerror}", file=sys.stderr)
+        return 3
+    sent = None
+    try:
         lines = connection.makefile("rw", newline="\n")
-
-        def ask(line):
-            """Sends a line and gives the first answer."""
-            print(line, file=lines, flush=True)
-            return lines.readline().rstrip("\n")
-
-        opened = ask(f"open {name}")
+        opened = ask(lines, f"open {name}")
         if not opened.startswith("opened "):
-            sys.exit(opened)
-        for call in calls:
-            answer = ask(f"call {call}")
+            print(opened, file=sys.stderr)
+            return 1
+        for sent in calls:
+            answer = ask(lines, f"call {sent}")
             if answer.startswith("accepted "):
                 # The call waits until the paths admit it; this is its last line.
-                answer = lines.readline().rstrip("\n")
-            print(f"{call}: {answer}")
-        ask("quit")
+                answer = line_of(lines)
+            print(f"{sent}: {answer}", flush=True)
+        sent = None
+        ask(lines, "quit")
+    except (Gone, OSError):
+        print("client: the server is gone", file=sys.stderr)
+        if sent is not None:
+            print(f"client: it is not known whether this was done: {sent}", file=sys.stderr)
+        return 3
+    return 0
 
 
-main()
+if __name__ == "__main__":
+    sys.exit(main(sys.argv[1:]))

@@ -10,7 +10,7 @@ use Rattle.decl_core.specs.declared.object.Param.{Param}
 use Rattle.decl_core.specs.Form.{Body}
 use Rattle.decl_core.specs.Bodies.{body_of}
 use Rattle.decl_core.specs.ObjectMap.{params_of, operations_of}
-use Rattle.body_core.specs.Calls.{ArgumentsFit}
+use Rattle.apply_core.specs.Fits.{ArgumentsFit}
 use Rattle.audit_core.specs.Operations.{body_among}
 
 sorts_kept : (ps : List Param) → map (λ p. p.1) (params_of ps) ≡ map (λ p. p.kind) ps

@@ -16,11 +16,11 @@ use Rattle.decl_core.specs.Bodies.{body_of}
 use Rattle.decl_core.specs.Meaning.{done, refused, apply_body}
 use Rattle.decl_core.specs.ObjectMap.{object_of, parts_of}
 use Rattle.decl_core.specs.PartKinds.{AreKindsOf, EachKindsOf}
-use Rattle.body_core.specs.Calls.{ArgumentsFit, HoldsReads}
-use Rattle.body_core.specs.Spread.{ReplyTells}
-use Rattle.body_core.specs.History.{IsReplyOn, left_by}
-use Rattle.body_core.specs.declared.reply.Reply.{Reply}
-use Rattle.body_core.specs.declared.reply.Reply.TheVariants.{Done, Refused, Failed}
+use Rattle.apply_core.specs.Fits.{ArgumentsFit, HoldsReads}
+use Rattle.apply_core.specs.Spread.{ReplyTells}
+use Rattle.apply_core.specs.History.{IsReplyOn, left_by}
+use Rattle.apply_core.specs.declared.reply.Reply.{Reply}
+use Rattle.apply_core.specs.declared.reply.Reply.TheVariants.{Done, Refused, Failed}
 use Rattle.trace_core.specs.Events.{body_at}
 use Rattle.audit_core.specs.declared.calls.Running.{Running}
 use Rattle.audit_core.specs.Replies.{IsAnswer, Did, IsDoneSo, CanDo, Tries}

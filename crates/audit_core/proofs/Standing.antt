@@ -14,8 +14,8 @@ use Rattle.value_core.specs.declared.kind.Kind.{Kind}
 use Rattle.value_core.specs.Contents.{Contents, kind_of}
 use Rattle.value_core.specs.Spelling.{Spells}
 use Rattle.decl_core.specs.ObjectForm.{ObjectForm}
-use Rattle.body_core.specs.declared.reply.Reply.{Reply}
-use Rattle.body_core.specs.History.{End as Ended, IsReplyOn, left_by, leads_to, IsLegal}
+use Rattle.apply_core.specs.declared.reply.Reply.{Reply}
+use Rattle.apply_core.specs.History.{End as Ended, IsReplyOn, left_by, leads_to, IsLegal}
 use Rattle.trace_core.specs.Events.{Called, Happened, began, ended, call_of, trace_of, history_of, IsRunning, body_at}
 use Rattle.audit_core.specs.declared.state.Audit.{Audit}
 use Rattle.audit_core.specs.declared.calls.Running.{Running}

@@ -17,9 +17,9 @@ use Rattle.value_core.specs.Contents.{Contents, kind_of, IsContents}
 use Rattle.value_core.specs.Spelling.{spelling}
 use Rattle.decl_core.specs.ObjectForm.{ObjectForm, OperationForm}
 use Rattle.decl_core.specs.RefusalWord.{IsRefusalWord, IsLower}
-use Rattle.body_core.specs.declared.reply.Failure.TheVariants.{Device, Memory, Damaged}
-use Rattle.body_core.specs.declared.reply.Reply.{Reply}
-use Rattle.body_core.specs.declared.reply.Reply.TheVariants.{Done, Refused, Failed}
+use Rattle.apply_core.specs.declared.reply.Failure.TheVariants.{Device, Memory, Damaged}
+use Rattle.apply_core.specs.declared.reply.Reply.{Reply}
+use Rattle.apply_core.specs.declared.reply.Reply.TheVariants.{Done, Refused, Failed}
 use Rattle.word_core.specs.Words.{Word, bare, AreWords}
 use Rattle.word_core.specs.Data.{◌>>=◌, integer_of, session_of, session_bytes, data_of, datum_word}
 use Rattle.word_core.specs.Ending.{Ending, ending_words, ending_of, TellEnding}

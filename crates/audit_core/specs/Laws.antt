@@ -6,7 +6,7 @@ use Rattle.path_tree.specs.Satisfies.{SatisfiesAll}
 use Rattle.value_core.specs.Datum.{IsDatum, elem_of}
 use Rattle.value_core.specs.Contents.{Contents, kind_of, IsContents}
 use Rattle.decl_core.specs.ObjectForm.{ObjectForm}
-use Rattle.body_core.specs.History.{IsLegal}
+use Rattle.apply_core.specs.History.{IsLegal}
 use Rattle.trace_core.specs.Events.{Called, Happened, began, ended, trace_of, history_of, IsRunning, body_at}
 use Rattle.trace_core.specs.Laws.{HasNames, IsReply}
 use Rattle.trace_core.specs.Text.{operation_name, trace_text, told_of}

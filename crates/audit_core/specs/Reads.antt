@@ -3,8 +3,8 @@ use Rattle.std.specs.Prelude.{List, [], ◌∷◌, Option, Some, None}
 use Rattle.word_core.specs.Words.{Word, bare, quoted}
 use Rattle.word_core.specs.Data.{◌>>=◌}
 use Rattle.word_core.specs.Ending.{done_of}
-use Rattle.body_core.specs.declared.reply.Reply.{Reply}
-use Rattle.body_core.specs.declared.reply.Reply.TheVariants.{Done}
+use Rattle.apply_core.specs.declared.reply.Reply.{Reply}
+use Rattle.apply_core.specs.declared.reply.Reply.TheVariants.{Done}
 use Rattle.value_core.specs.declared.datum.Datum.TheVariants.{Text}
 use Rattle.audit_core.specs.Said.{reply_by}
 

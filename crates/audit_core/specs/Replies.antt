@@ -7,11 +7,11 @@ use Rattle.decl_core.specs.declared.object.Operation.{Operation}
 use Rattle.decl_core.specs.Bodies.{body_of}
 use Rattle.decl_core.specs.Meaning.{apply_body}
 use Rattle.decl_core.specs.ObjectForm.{ObjectForm}
-use Rattle.body_core.specs.Calls.{ArgumentsFit, HoldsReads}
-use Rattle.body_core.specs.Spread.{ReplyTells}
-use Rattle.body_core.specs.declared.reply.Reply.{Reply}
-use Rattle.body_core.specs.declared.reply.Reply.TheVariants.{Done, Refused, Failed}
-use Rattle.body_core.specs.History.{IsReplyOn, left_by}
+use Rattle.apply_core.specs.Fits.{ArgumentsFit, HoldsReads}
+use Rattle.apply_core.specs.Spread.{ReplyTells}
+use Rattle.apply_core.specs.declared.reply.Reply.{Reply}
+use Rattle.apply_core.specs.declared.reply.Reply.TheVariants.{Done, Refused, Failed}
+use Rattle.apply_core.specs.History.{IsReplyOn, left_by}
 use Rattle.trace_core.specs.Events.{body_at}
 use Rattle.audit_core.specs.declared.calls.Running.{Running}
 

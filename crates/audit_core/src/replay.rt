@@ -7,8 +7,8 @@ ghost use Rattle.audit_core.specs.View.{told_view};
 
 use crate::calls::Running;
 use crate::told::ToldReply;
-use body_core::apply::apply_all;
-use body_core::fits::{arguments_fit, parts_fit};
+use apply_core::apply::apply_all;
+use apply_core::fits::{arguments_fit, parts_fit};
 use decl_core::object::{Object, Operation};
 use std::alloc::{AllocError, Global};
 use value_core::datum::Datum;

@@ -8,7 +8,7 @@ ghost use Rattle.audit_core.specs.Operations.{operation_names};
 ghost use Rattle.decl_core.specs.ObjectMap.{operations_of};
 ghost use Rattle.audit_core.specs.Operations.{body_among};
 
-use body_core::fits::arguments_fit;
+use apply_core::fits::arguments_fit;
 use decl_core::object::Operation;
 use path_tree::node::OpId;
 use std::sync::Arc;

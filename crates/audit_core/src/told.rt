@@ -5,14 +5,14 @@ ghost use Rattle.std.specs.List.{list_all};
 ghost use Rattle.value_core.specs.declared.datum.Datum.TheVariants.{Integer};
 ghost use Rattle.word_core.specs.Words.{bare};
 ghost use Rattle.word_core.specs.View.{word_of};
-ghost use Rattle.body_core.specs.declared.reply.Reply.TheVariants.{Done};
+ghost use Rattle.apply_core.specs.declared.reply.Reply.TheVariants.{Done};
 ghost use Rattle.audit_core.specs.Replies.{IsAnswer, IsFailure};
 ghost use Rattle.audit_core.specs.Said.{refused_by as refused_in, failed_by as failed_in, reply_of as reply_of_words, reply_behind, is_lower as is_lower_letter, is_refusal_text as is_refusal_word};
 ghost use Rattle.line_read.specs.Reads.{Reads};
 ghost use Rattle.audit_core.specs.Reads.{done_reply as done_in, text_reply as text_in};
 ghost use Rattle.audit_core.specs.View.{told_view};
 
-use body_core::reply::{Failure, Reply};
+use apply_core::reply::{Failure, Reply};
 use line_core::words::is_same_word;
 use line_read::front::{is_blank, next_bare, only_bare};
 use std::alloc::{AllocError, Global};

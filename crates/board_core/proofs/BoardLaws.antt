@@ -13,13 +13,14 @@ use Rattle.decl_core.specs.Touched.{Reads}
 use Rattle.decl_core.specs.declared.object.Operation.{Operation}
 use Rattle.decl_core.specs.declared.object.Param.{Param}
 use Rattle.decl_core.proofs.Footprints.{writes_are_reads}
-use Rattle.shelf_core.specs.declared.hand.Stamp.{Stamp}
-use Rattle.shelf_core.specs.Device.{Assignment}
+use Rattle.hand_core.specs.declared.hand.Stamp.{Stamp}
+use Rattle.hand_core.specs.Device.{Assignment}
 use Rattle.body_core.specs.declared.new_pins.NewPin.{NewPin}
-use Rattle.body_core.specs.declared.reply.Failure.TheVariants as failures
-use Rattle.body_core.specs.declared.reply.Reply.{Reply}
-use Rattle.body_core.specs.declared.reply.Reply.TheVariants.{Done, Refused, Failed}
-use Rattle.body_core.specs.Calls.{IsNamed, call_of}
+use Rattle.apply_core.specs.declared.reply.Failure.TheVariants as failures
+use Rattle.apply_core.specs.declared.reply.Reply.{Reply}
+use Rattle.apply_core.specs.declared.reply.Reply.TheVariants.{Done, Refused, Failed}
+use Rattle.apply_core.specs.Fits.{IsNamed}
+use Rattle.body_core.specs.Calls.{call_of}
 use Rattle.body_core.specs.Outcomes.{new_if_done}
 use Rattle.body_core.specs.Truths.{IsTrueOf, IsTrueAt, AreSpelled, AreLeft, PinHolds}
 use Rattle.board_core.proofs.Kept.{kept_at}

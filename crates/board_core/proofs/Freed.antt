@@ -1,7 +1,7 @@
 -- What is picked is not needed.
 use Rattle.std.proofs.Common.{◌≡◌, ℕ, inl, inr, List, [], ◌∷◌, ◌++◌, Some, ◌∙◌, ap, subst}
 use Rattle.std.specs.Prelude.{slice_get}
-use Rattle.shelf_core.specs.declared.hand.Stamp.{Stamp}
+use Rattle.hand_core.specs.declared.hand.Stamp.{Stamp}
 use Rattle.board_core.specs.Lists.{Every}
 use Rattle.board_core.specs.Calls.{WaitingCall, RunningCall}
 use Rattle.board_core.specs.Board.{Board, Admits, rests, starts, started}

@@ -15,9 +15,9 @@ use Rattle.decl_core.specs.Footprint.{reads_of, writes_of}
 use Rattle.decl_core.specs.Touched.{Reads, Writes}
 use Rattle.decl_core.proofs.Footprints.{writes_are_reads}
 use Rattle.decl_core.proofs.Touched.{reads_bits, writes_bits}
-use Rattle.shelf_core.specs.declared.hand.Stamp.{Stamp}
+use Rattle.hand_core.specs.declared.hand.Stamp.{Stamp}
 use Rattle.body_core.specs.Written.{WritesInOrder}
-use Rattle.body_core.proofs.HeldReads.{reads_held}
+use Rattle.apply_core.proofs.HeldReads.{reads_held}
 use Rattle.board_core.specs.declared.part_pin.PartPin.{PartPin}
 use Rattle.board_core.specs.ReadPins.{put_if, pins_in, read_pins, count_in, pin_at}
 

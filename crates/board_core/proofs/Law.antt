@@ -19,18 +19,19 @@ use Rattle.decl_core.specs.Touched.{Reads, Writes}
 use Rattle.decl_core.specs.Typed.{IsHeld}
 use Rattle.decl_core.proofs.Footprints.{apply_is_local, others_stay, writes_are_reads}
 use Rattle.decl_core.proofs.Touched.{reads_bits}
-use Rattle.shelf_core.specs.declared.hand.Stamp.{Stamp}
-use Rattle.shelf_core.specs.Device.{Assignment, IsWhole, bytes_of}
+use Rattle.hand_core.specs.declared.hand.Stamp.{Stamp}
+use Rattle.hand_core.specs.Device.{Assignment, IsWhole, bytes_of}
 use Rattle.body_core.specs.declared.new_pins.NewPin.{NewPin}
-use Rattle.body_core.specs.declared.reply.Reply.{Reply}
-use Rattle.body_core.specs.declared.reply.Reply.TheVariants.{Done, Refused, Failed}
-use Rattle.body_core.specs.Calls.{IsNamed, call_of}
-use Rattle.body_core.specs.History.{IsReplyOn, left_by}
+use Rattle.apply_core.specs.declared.reply.Reply.{Reply}
+use Rattle.apply_core.specs.declared.reply.Reply.TheVariants.{Done, Refused, Failed}
+use Rattle.apply_core.specs.Fits.{IsNamed}
+use Rattle.body_core.specs.Calls.{call_of}
+use Rattle.apply_core.specs.History.{IsReplyOn, left_by}
 use Rattle.body_core.specs.Outcomes.{new_if_done}
 use Rattle.body_core.specs.Phases.{HasPart}
 use Rattle.body_core.specs.Truths.{AreSpelled, PinHolds, IsLeft, IsTrueAt, PinsAreWhole, pin_for}
-use Rattle.body_core.proofs.HeldReads.{reads_held}
-use Rattle.body_core.proofs.Spreading.{refused_leaves}
+use Rattle.apply_core.proofs.HeldReads.{reads_held}
+use Rattle.apply_core.proofs.Spreading.{refused_leaves}
 use Rattle.body_core.proofs.Stepping.{some_same}
 use Rattle.board_core.specs.Calls.{Noted}
 use Rattle.board_core.specs.Board.{published}

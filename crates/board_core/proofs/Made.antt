@@ -7,7 +7,7 @@ use Rattle.decl_core.specs.declared.object.Object.{Object}
 use Rattle.decl_core.specs.declared.object.Operation.{Operation}
 use Rattle.decl_core.specs.PartKinds.{EachKindsOf}
 use Rattle.decl_core.specs.ObjectMap.{operation_of, operations_of}
-use Rattle.body_core.specs.Calls.{ArgumentsFit}
+use Rattle.apply_core.specs.Fits.{ArgumentsFit}
 use Rattle.value_core.specs.declared.kind.Kind.{Kind}
 use Rattle.board_core.specs.Calls.{AcceptedCall}
 use Rattle.board_core.specs.Board.{bodies, call_at}

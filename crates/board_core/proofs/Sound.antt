@@ -16,9 +16,9 @@ use Rattle.decl_core.specs.ObjectMap.{operation_of}
 use Rattle.decl_core.specs.Touched.{Writes, ConflictAt}
 use Rattle.exclude_core.specs.Exclusive.{IsExclusive, AreSeparated}
 use Rattle.exclude_core.proofs.NeverMeet.{separated_never_meet}
-use Rattle.shelf_core.specs.declared.hand.Stamp.{Stamp}
+use Rattle.hand_core.specs.declared.hand.Stamp.{Stamp}
 use Rattle.body_core.specs.declared.new_pins.NewPin.{NewPin}
-use Rattle.body_core.specs.declared.reply.Reply.{Reply}
+use Rattle.apply_core.specs.declared.reply.Reply.{Reply}
 use Rattle.body_core.specs.Outcomes.{new_if_done}
 use Rattle.body_core.specs.Phases.{HasPart}
 use Rattle.body_core.specs.Truths.{pin_for}

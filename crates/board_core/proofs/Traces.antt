@@ -10,7 +10,7 @@ use Rattle.path_tree.specs.Trace.{Call as PathCall}
 use Rattle.path_tree.specs.Satisfies.{Satisfies, SatisfiesAll}
 use Rattle.path_tree.proofs.CountLaws.{end_satisfies}
 use Rattle.body_core.proofs.Stepping.{some_same}
-use Rattle.body_core.specs.declared.reply.Reply.{Reply}
+use Rattle.apply_core.specs.declared.reply.Reply.{Reply}
 use Rattle.board_core.specs.declared.event.TraceEvent.{TraceEvent}
 use Rattle.board_core.specs.declared.event.TraceEvent.TheVariants.{Start, End}
 use Rattle.board_core.specs.Lists.{Every}

@@ -2,8 +2,8 @@
 use Rattle.std.specs.Prelude.{ℕ, Bool, List}
 use Rattle.value_core.specs.declared.datum.Datum.{Datum}
 use Rattle.decl_core.specs.declared.object.Operation.{Operation}
-use Rattle.shelf_core.specs.declared.hand.Stamp.{Stamp}
-use Rattle.body_core.specs.declared.reply.Reply.{Reply}
+use Rattle.hand_core.specs.declared.hand.Stamp.{Stamp}
+use Rattle.apply_core.specs.declared.reply.Reply.{Reply}
 use Rattle.body_core.specs.declared.new_pins.NewPin.{NewPin}
 use Rattle.board_core.specs.declared.part_pin.PartPin.{PartPin}
 

@@ -6,11 +6,12 @@ use Rattle.value_core.specs.Spelling.{Spells}
 use Rattle.decl_core.specs.declared.object.Operation.{Operation}
 use Rattle.decl_core.specs.Bodies.{body_of}
 use Rattle.decl_core.specs.Touched.{Reads, Writes}
-use Rattle.shelf_core.specs.declared.hand.Stamp.{Stamp}
-use Rattle.shelf_core.specs.Device.{Assignment, IsWhole, bytes_of}
+use Rattle.hand_core.specs.declared.hand.Stamp.{Stamp}
+use Rattle.hand_core.specs.Device.{Assignment, IsWhole, bytes_of}
 use Rattle.body_core.specs.declared.new_pins.NewPin.{NewPin}
-use Rattle.body_core.specs.Calls.{call_of, IsNamed}
-use Rattle.body_core.specs.History.{End, IsLegal, leads_to}
+use Rattle.apply_core.specs.Fits.{IsNamed}
+use Rattle.body_core.specs.Calls.{call_of}
+use Rattle.apply_core.specs.History.{End, IsLegal, leads_to}
 use Rattle.body_core.specs.Outcomes.{new_if_done}
 use Rattle.body_core.specs.Phases.{HasPart}
 use Rattle.body_core.specs.Truths.{IsTrueOf}

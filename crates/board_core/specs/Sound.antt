@@ -12,9 +12,9 @@ use Rattle.decl_core.specs.ObjectMap.{object_of}
 use Rattle.decl_core.specs.ObjectMap.{operation_of}
 use Rattle.decl_core.specs.Touched.{Reads}
 use Rattle.exclude_core.specs.Exclusive.{IsExclusive}
-use Rattle.shelf_core.specs.declared.hand.Stamp.{Stamp}
-use Rattle.body_core.specs.Calls.{ArgumentsFit}
-use Rattle.body_core.specs.declared.reply.Reply.{Reply}
+use Rattle.hand_core.specs.declared.hand.Stamp.{Stamp}
+use Rattle.apply_core.specs.Fits.{ArgumentsFit}
+use Rattle.apply_core.specs.declared.reply.Reply.{Reply}
 use Rattle.board_core.specs.declared.event.TraceEvent.{TraceEvent}
 use Rattle.board_core.specs.declared.event.TraceEvent.TheVariants.{Start, End}
 use Rattle.board_core.specs.Lists.{Every, EachPair, Among}

@@ -1,6 +1,6 @@
 //! What happens to the calls of an object.
 
-use body_core::reply::Reply;
+use apply_core::reply::Reply;
 
 /// What happened to a call.
 #[derive(Clone, Copy, Debug, PartialEq, Eq)]

@@ -4,7 +4,7 @@ ghost use Rattle.std.specs.Prelude.{◌≡◌, ◌↔◌, ◌+◌, ◌++◌, ◌
 ghost use Rattle.board_core.specs.ReadPins.{pins_in, count_in};
 
 use decl_core::footprint::is_in;
-use shelf_core::hand::Stamp;
+use hand_core::hand::Stamp;
 
 /// The pin of a part.
 #[derive(Clone, Copy, Debug, PartialEq, Eq)]

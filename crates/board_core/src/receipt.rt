@@ -4,11 +4,11 @@ ghost use Rattle.std.specs.Prelude.{◌≡◌};
 ghost use Rattle.std.specs.Arc.{arc_value};
 ghost use Rattle.body_core.specs.Outcomes.{outcome_call, outcome_reply, outcome_pins};
 
+use apply_core::reply::Reply;
 use body_core::outcome::{NewPin, Outcome};
-use body_core::reply::Reply;
 use decl_core::object::Operation;
-use shelf_core::hand::Stamp;
-use shelf_core::pins::Pins;
+use hand_core::hand::Stamp;
+use hand_core::pins::Pins;
 use std::sync::Arc;
 use value_core::datum::Datum;
 

@@ -3,7 +3,7 @@
 ghost use Rattle.std.specs.Prelude.{◌≡◌, ◌↔◌, IsTrue};
 
 use body_core::outcome::NewPin;
-use shelf_core::hand::Stamp;
+use hand_core::hand::Stamp;
 use value_core::datum::Datum;
 
 /// Whether two rows of data are the same.

@@ -16,7 +16,7 @@ use Rattle.decl_core.proofs.Footprints.{writes_are_reads}
 use Rattle.body_core.specs.declared.judge.Change.{Change}
 use Rattle.body_core.specs.Truths.{IsChanged, AreChanges, bytes_for}
 use Rattle.body_core.specs.Verdicts.{ReadAs, Rising, IsChangeOf, IsRewritten, IsStep, MayLeave}
-use Rattle.body_core.proofs.HeldReads.{reads_held}
+use Rattle.apply_core.proofs.HeldReads.{reads_held}
 
 -- the change of a part that is written is found from its bytes before and its value after
 pub is_rewritten : (statements : Statements) (read : List (List ℕ)) (after : List Contents) (n : ℕ) (bytes : List ℕ) (value : Contents) (change : Option Change) → Writes statements n → ReadAs read n bytes → slice_get after n ≡ Some value → IsChangeOf bytes n value change → IsStep statements read after n change

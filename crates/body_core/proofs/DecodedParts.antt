@@ -6,7 +6,7 @@ use Rattle.std.proofs.lemmas.Option.{slice_get-get_or, slice_get_within}
 use Rattle.value_core.specs.declared.kind.Elem.TheVariants as elem
 use Rattle.value_core.specs.Contents.{Contents, array}
 use Rattle.decl_core.specs.declared.object.Operation.{Operation}
-use Rattle.body_core.specs.Calls.{HoldsReads}
+use Rattle.apply_core.specs.Fits.{HoldsReads}
 use Rattle.body_core.specs.Truths.{AreSpelled}
 use Rattle.body_core.specs.Verdicts.{ReadAs, IsPart}
 

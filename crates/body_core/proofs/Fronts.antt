@@ -5,8 +5,8 @@ use Rattle.std.proofs.lemmas.List.{take_all, take-append-drop, length-replicate}
 use Rattle.std.proofs.lemmas.Bool.{cases_lt}
 use Rattle.decl_core.specs.Bodies.{body_of}
 use Rattle.decl_core.specs.Touched.{Reads}
-use Rattle.shelf_core.specs.Device.{Assignment, Shows, front_of}
-use Rattle.shelf_core.specs.declared.hand.Stamp.{Stamp}
+use Rattle.hand_core.specs.Device.{Assignment, Shows, front_of}
+use Rattle.hand_core.specs.declared.hand.Stamp.{Stamp}
 use Rattle.body_core.specs.Calls.{Call}
 use Rattle.body_core.specs.Truths.{PinHolds}
 use Rattle.body_core.specs.Phases.{IsFront, EarlierAreRead, AreRead}

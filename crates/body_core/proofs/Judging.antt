@@ -3,7 +3,7 @@ use Rattle.std.proofs.Common.{◌≡◌, ℕ, List, Option, Some, slice_get, sym
 use Rattle.value_core.specs.declared.datum.Datum.{Datum}
 use Rattle.value_core.specs.Contents.{Contents}
 use Rattle.decl_core.specs.declared.object.Operation.{Operation}
-use Rattle.shelf_core.specs.Device.{Assignment}
+use Rattle.hand_core.specs.Device.{Assignment}
 use Rattle.body_core.specs.Calls.{Call}
 use Rattle.body_core.specs.Truths.{PinHolds, AreSpelled, IsDone, IsRefused}
 use Rattle.body_core.specs.Verdicts.{ReadAs}

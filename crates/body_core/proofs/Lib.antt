@@ -1,15 +1,10 @@
 pub mod AtOnce
-pub mod Bits
-pub mod Blocks
 pub mod Changes
 pub mod DecodedParts
 pub mod Ended
 pub mod Fronts
-pub mod HeldReads
-pub mod Histories
 pub mod Judged
 pub mod Judging
-pub mod KindsKept
 pub mod Leading
 pub mod NewPinRows
 pub mod Ordering
@@ -17,9 +12,6 @@ pub mod Pens
 pub mod SameRuns
 pub mod Sealing
 pub mod Serving
-pub mod Spreading
 pub mod Stepping
 pub mod Telling
-pub mod Totals
 pub mod Touching
-pub mod TypedFits

@@ -3,7 +3,7 @@ use Rattle.std.proofs.Common.{◌≡◌, ◌==◌, ℕ, zero, suc, ◌≤◌, Li
 use Rattle.value_core.specs.declared.datum.Datum.{Datum}
 use Rattle.value_core.specs.Contents.{Contents}
 use Rattle.decl_core.specs.declared.object.Operation.{Operation}
-use Rattle.shelf_core.specs.Device.{Assignment, Holds, IsWhole, bytes_of, front_of}
+use Rattle.hand_core.specs.Device.{Assignment, Holds, IsWhole, bytes_of, front_of}
 use Rattle.std.proofs.lemmas.List.{take_all}
 use Rattle.body_core.specs.declared.judge.Change.{Change}
 use Rattle.body_core.specs.declared.new_pins.NewPin.{NewPin}

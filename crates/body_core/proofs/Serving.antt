@@ -1,13 +1,13 @@
 -- A run reads the pins of its call.
 use Rattle.std.proofs.Common.{◌≡◌, ℕ, ◌+◌, List, [], ◌∷◌, ◌++◌, Option, Some, None, refl, sym, ap, subst, ◌∙◌}
-use Rattle.shelf_core.specs.declared.hand.Stamp.{Stamp}
-use Rattle.shelf_core.specs.declared.hand.HandFault.{HandFault}
-use Rattle.shelf_core.specs.declared.hand.HandFault.TheVariants as faults
+use Rattle.hand_core.specs.declared.hand.Stamp.{Stamp}
+use Rattle.hand_core.specs.declared.hand.HandFault.{HandFault}
+use Rattle.hand_core.specs.declared.hand.HandFault.TheVariants as faults
 use Rattle.body_core.specs.declared.new_pins.NewPin.{NewPin}
 use Rattle.body_core.specs.declared.phase.Phase.{Phase}
-use Rattle.body_core.specs.declared.reply.Failure.TheVariants as failures
-use Rattle.body_core.specs.declared.reply.Reply.{Reply}
-use Rattle.body_core.specs.declared.reply.Reply.TheVariants as replies
+use Rattle.apply_core.specs.declared.reply.Failure.TheVariants as failures
+use Rattle.apply_core.specs.declared.reply.Reply.{Reply}
+use Rattle.apply_core.specs.declared.reply.Reply.TheVariants as replies
 use Rattle.body_core.specs.Calls.{Call}
 use Rattle.body_core.specs.Phases.{failure_of}
 use Rattle.body_core.specs.Steps.{Place, place_in, at_read, at_create, at_append, at_seal, at_end, Starts, with_part, with_none, IsJudged, changed, not_changed, Follows, reads_on, reads_next, reads_last, creates, appends_on, appends_last, seals_on, seals_last, fails, stays, IsNext, IsPinOf, ReadsItsPin, ReadIsServed, PinsServed, NewsServed}

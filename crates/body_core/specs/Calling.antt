@@ -1,15 +1,15 @@
 -- The device calls of a step.
 use Rattle.std.specs.Prelude.{◌≡◌, ℕ, ◌⊎◌, List, length, Option, Some, Result}
 use Rattle.std.specs.Result.{IsErr}
-use Rattle.shelf_core.specs.declared.hand.HandFault.{HandFault}
-use Rattle.shelf_core.specs.declared.hand.Pen.{Pen}
-use Rattle.shelf_core.specs.declared.hand.Stamp.{Stamp}
-use Rattle.shelf_core.specs.Made.{Made, creates, appends, seals, discards, reads}
+use Rattle.hand_core.specs.declared.hand.HandFault.{HandFault}
+use Rattle.hand_core.specs.declared.hand.Pen.{Pen}
+use Rattle.hand_core.specs.declared.hand.Stamp.{Stamp}
+use Rattle.hand_core.specs.Made.{Made, creates, appends, seals, discards, reads}
 use Rattle.body_core.specs.declared.phase.Phase.{Phase}
 use Rattle.body_core.specs.declared.phase.Phase.TheVariants.{Reading, Creating, Appending, Sealing, Ended}
-use Rattle.body_core.specs.declared.reply.Failure.TheVariants as failures
-use Rattle.body_core.specs.declared.reply.Reply.{Reply}
-use Rattle.body_core.specs.declared.reply.Reply.TheVariants as replies
+use Rattle.apply_core.specs.declared.reply.Failure.TheVariants as failures
+use Rattle.apply_core.specs.declared.reply.Reply.{Reply}
+use Rattle.apply_core.specs.declared.reply.Reply.TheVariants as replies
 
 -- a call was made of the file of this number; where it failed, that file was given up after it
 abbrev pub MakesOrGivesUp : {H : Type 0} → (H → Made → H → Type 0) → ℕ → Made → Type 0 → H → H → Type 0

@@ -3,8 +3,8 @@ use Rattle.std.specs.Prelude.{List, []}
 use Rattle.std.specs.Arc.{arc_value}
 use Rattle.body_core.specs.declared.new_pins.NewPin.{NewPin}
 use Rattle.body_core.specs.declared.outcome.Outcome.{Outcome}
-use Rattle.body_core.specs.declared.reply.Reply.{Reply}
-use Rattle.body_core.specs.declared.reply.Reply.TheVariants.{Done, Refused, Failed}
+use Rattle.apply_core.specs.declared.reply.Reply.{Reply}
+use Rattle.apply_core.specs.declared.reply.Reply.TheVariants.{Done, Refused, Failed}
 use Rattle.body_core.specs.Calls.{Call, call_of}
 
 abbrev pub outcome_call : Outcome → Call

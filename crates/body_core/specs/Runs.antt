@@ -1,12 +1,12 @@
 -- What a run is, to its callers: its call, how it ended, what it has sealed, and what it has found, by an assignment.
 use Rattle.std.specs.Prelude.{◌≡◌, ◌≢◌, ℕ, List, Option, Some, None}
 use Rattle.std.proofs.Common.{refl}
-use Rattle.shelf_core.specs.Device.{Assignment}
-use Rattle.shelf_core.specs.Made.{Made}
+use Rattle.hand_core.specs.Device.{Assignment}
+use Rattle.hand_core.specs.Made.{Made}
 use Rattle.body_core.specs.declared.new_pins.NewPin.{NewPin}
 use Rattle.body_core.specs.declared.phase.Phase.{Phase}
 use Rattle.body_core.specs.declared.phase.Phase.TheVariants.{Reading, Creating, Appending, Sealing, Ended}
-use Rattle.body_core.specs.declared.reply.Reply.{Reply}
+use Rattle.apply_core.specs.declared.reply.Reply.{Reply}
 use Rattle.body_core.specs.declared.run.Run.{Run}
 use Rattle.body_core.specs.Calling.{StepMakes}
 use Rattle.body_core.specs.Calls.{Call}

@@ -3,17 +3,17 @@ use Rattle.std.specs.Prelude.{◌≡◌, ◌≢◌, ℕ, ◌+◌, ◌<◌, ◌�
 use Rattle.value_core.specs.declared.datum.Datum.{Datum}
 use Rattle.decl_core.specs.Bodies.{body_of}
 use Rattle.decl_core.specs.Touched.{Reads}
-use Rattle.shelf_core.specs.declared.hand.HandFault.{HandFault}
-use Rattle.shelf_core.specs.declared.hand.Stamp.{Stamp}
+use Rattle.hand_core.specs.declared.hand.HandFault.{HandFault}
+use Rattle.hand_core.specs.declared.hand.Stamp.{Stamp}
 use Rattle.body_core.specs.declared.judge.Change.{Change}
 use Rattle.body_core.specs.declared.new_pins.NewPin.{NewPin}
 use Rattle.body_core.specs.declared.phase.Phase.{Phase}
 use Rattle.body_core.specs.declared.phase.Phase.TheVariants.{Reading, Creating, Appending, Sealing, Ended}
-use Rattle.body_core.specs.declared.reply.Failure.TheVariants as failures
-use Rattle.body_core.specs.declared.reply.Reply.{Reply}
-use Rattle.body_core.specs.declared.reply.Reply.TheVariants as replies
-use Rattle.body_core.specs.declared.step.Need.{Need}
-use Rattle.body_core.specs.declared.step.Need.TheVariants as needs
+use Rattle.apply_core.specs.declared.reply.Failure.TheVariants as failures
+use Rattle.apply_core.specs.declared.reply.Reply.{Reply}
+use Rattle.apply_core.specs.declared.reply.Reply.TheVariants as replies
+use Rattle.apply_core.specs.declared.need.Need.{Need}
+use Rattle.apply_core.specs.declared.need.Need.TheVariants as needs
 use Rattle.body_core.specs.Calls.{Call}
 use Rattle.body_core.specs.Phases.{IsSettled, failure_of}
 use Rattle.body_core.specs.Written.{WritesInOrder, parts_of, parts_changed, parts_written}

@@ -9,12 +9,12 @@ use Rattle.decl_core.specs.declared.object.Operation.{Operation}
 use Rattle.decl_core.specs.Bodies.{body_of}
 use Rattle.decl_core.specs.Form.{Statements}
 use Rattle.decl_core.specs.Touched.{Reads, Writes}
-use Rattle.body_core.specs.declared.act.Stop.{Stop}
-use Rattle.body_core.specs.declared.act.Stop.TheVariants as stops
+use Rattle.apply_core.specs.declared.act.Stop.{Stop}
+use Rattle.apply_core.specs.declared.act.Stop.TheVariants as stops
 use Rattle.body_core.specs.declared.judge.Change.{Change}
 use Rattle.body_core.specs.declared.judge.Verdict.{Verdict}
 use Rattle.body_core.specs.declared.judge.Verdict.TheVariants.{Done, Refused, Damaged, Memory}
-use Rattle.body_core.specs.Calls.{IsNamed}
+use Rattle.apply_core.specs.Fits.{IsNamed}
 use Rattle.body_core.specs.Truths.{AreSpelled, IsDone, IsRefused, IsDamaged, AreChanges}
 use Rattle.body_core.specs.Written.{WritesInOrder, parts_changed}
 

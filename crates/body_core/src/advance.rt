@@ -1,10 +1,10 @@
 //! One step of a run, by where it stands.
 
 ghost use Rattle.std.specs.Prelude.{◌≡◌, ◌≢◌, ◌+◌, ◌<◌, ◌≤◌, ◌⊎◌, ℕ, List, Some, None};
-ghost use Rattle.shelf_core.specs.declared.hand.Stamp.{Stamp};
-ghost use Rattle.shelf_core.specs.Device.{Assignment, IsFree, Failed as DeviceFailed};
-ghost use Rattle.body_core.specs.declared.reply.Failure.TheVariants as failures;
-ghost use Rattle.body_core.specs.declared.reply.Reply.TheVariants as replies;
+ghost use Rattle.hand_core.specs.declared.hand.Stamp.{Stamp};
+ghost use Rattle.hand_core.specs.Device.{Assignment, IsFree, Failed as DeviceFailed};
+ghost use Rattle.apply_core.specs.declared.reply.Failure.TheVariants as failures;
+ghost use Rattle.apply_core.specs.declared.reply.Reply.TheVariants as replies;
 ghost use Rattle.body_core.specs.Calling.{StepMakes};
 ghost use Rattle.body_core.specs.Tasks.{task_call};
 ghost use Rattle.body_core.specs.Steps.{Follows, FailsWith, NewsServed, ReadIsServed, place_in};
@@ -12,11 +12,11 @@ ghost use Rattle.body_core.specs.Phases.{ending_of, sealed_in, answer_to, step_a
 
 use crate::phase::Phase;
 use crate::read::read_step;
-use crate::reply::{Failure, Reply};
 use crate::step::StepAnswer;
 use crate::task::Task;
 use crate::write::{append_step, create_step, seal_step};
-use shelf_core::hand::{Hand, HandFault};
+use apply_core::reply::{Failure, Reply};
+use hand_core::hand::{Hand, HandFault};
 use std::alloc::Global;
 
 // What a step answers that left a run here that had not ended.

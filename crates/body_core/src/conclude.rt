@@ -4,9 +4,9 @@ ghost use Rattle.std.specs.Prelude.{◌≡◌, ◌≢◌, ◌^◌, ◌<◌, [], 
 ghost use Rattle.std.specs.Arc.{arc_value};
 ghost use Rattle.decl_core.specs.Bodies.{body_of};
 ghost use Rattle.decl_core.specs.Touched.{Reads};
-ghost use Rattle.shelf_core.specs.Device.{Assignment};
-ghost use Rattle.body_core.specs.declared.reply.Failure.TheVariants as failures;
-ghost use Rattle.body_core.specs.declared.reply.Reply.TheVariants as replies;
+ghost use Rattle.hand_core.specs.Device.{Assignment};
+ghost use Rattle.apply_core.specs.declared.reply.Failure.TheVariants as failures;
+ghost use Rattle.apply_core.specs.declared.reply.Reply.TheVariants as replies;
 ghost use Rattle.body_core.specs.Tasks.{task_call};
 ghost use Rattle.body_core.specs.Steps.{IsJudged, place_in};
 ghost use Rattle.body_core.specs.Phases.{ending_of, sealed_in, HasNoPen, AreRead, FoundBy, IsSettled, work_in};
@@ -15,9 +15,9 @@ use crate::file_bytes::FileBytes;
 use crate::judge::{Verdict, judge};
 use crate::new_pins::NewPins;
 use crate::phase::Phase;
-use crate::reply::{Failure, Reply};
 use crate::task::Task;
 use crate::write::go_on;
+use apply_core::reply::{Failure, Reply};
 use std::alloc::Global;
 
 // The run goes on to what the body changed, or it has ended. The bytes read of part p stand at place p.

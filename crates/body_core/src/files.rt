@@ -1,9 +1,9 @@
 //! The files of a call that is run at once.
 
 ghost use Rattle.std.specs.Prelude.{◌≡◌, ◌+◌, ◌<◌, ◌≤◌, ◌++◌, ℕ, List, length, drop, Some, None, OnOk, IfOk, IfErr};
-ghost use Rattle.shelf_core.specs.Device.{Assignment, FaultCause, Holds, Failed as DeviceFailed};
-ghost use Rattle.shelf_core.specs.Made.{IsDeviceErr};
-ghost use Rattle.shelf_core.specs.declared.hand.HandFault.TheVariants as faults;
+ghost use Rattle.hand_core.specs.Device.{Assignment, FaultCause, Holds, Failed as DeviceFailed};
+ghost use Rattle.hand_core.specs.Made.{IsDeviceErr};
+ghost use Rattle.hand_core.specs.declared.hand.HandFault.TheVariants as faults;
 ghost use Rattle.body_core.specs.declared.judge.Change.{Change as AChange};
 ghost use Rattle.body_core.specs.Phases.{AreSealed};
 ghost use Rattle.body_core.specs.Written.{parts_of, parts_changed};
@@ -11,7 +11,7 @@ ghost use Rattle.body_core.specs.Written.{parts_of, parts_changed};
 use crate::judge::Change;
 use crate::new_pins::{NewPin, NewPins};
 use crate::write::CHUNK;
-use shelf_core::hand::{Hand, HandFault, Pen, Stamp};
+use hand_core::hand::{Hand, HandFault, Pen, Stamp};
 
 // Adds bytes to a file, a chunk in each device call.
 fn append_all<H: Hand>(hand: &mut H, pen: &mut Pen, bytes: &[u8]) -> Result<(), HandFault>

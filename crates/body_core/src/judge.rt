@@ -8,11 +8,11 @@ ghost use Rattle.std.specs.Int.{bit_at};
 ghost use Rattle.value_core.specs.Contents.{Contents};
 ghost use Rattle.decl_core.specs.Bodies.{body_of};
 ghost use Rattle.decl_core.specs.Touched.{Reads, Writes};
-ghost use Rattle.body_core.specs.Calls.{ArgumentsFit};
+ghost use Rattle.apply_core.specs.Fits.{ArgumentsFit};
 
-use crate::act::Stop;
-use crate::evaluate::evaluate;
 use crate::file_bytes::FileBytes;
+use apply_core::act::Stop;
+use apply_core::evaluate::evaluate;
 use decl_core::footprint::{is_in, reads, writes};
 use decl_core::object::Operation;
 use std::alloc::{AllocError, Global};

@@ -3,7 +3,7 @@
 ghost use Rattle.std.specs.Prelude.{◌≡◌, ◌<◌, ◌≤◌, ◌++◌, ◌∷◌, [], length};
 
 use decl_core::id::MOST_PARTS;
-use shelf_core::hand::Stamp;
+use hand_core::hand::Stamp;
 use std::marker::Model;
 
 /// A file that was sealed for a part.

@@ -9,9 +9,9 @@ ghost use Rattle.body_core.specs.Written.{WritesInOrder, parts_of};
 
 pub use crate::new_pins::NewPin;
 use crate::new_pins::NewPins;
-use crate::reply::Reply;
+use apply_core::reply::Reply;
 use decl_core::object::Operation;
-use shelf_core::pins::Pins;
+use hand_core::pins::Pins;
 use std::alloc::{AllocError, Global};
 use std::sync::Arc;
 use value_core::datum::Datum;

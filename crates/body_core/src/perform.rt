@@ -3,10 +3,10 @@
 ghost use Rattle.std.specs.Prelude.{◌≡◌, ◌≢◌, ◌⊎◌, ◌<◌, ◌≤◌, ℕ, Some, None};
 ghost use Rattle.decl_core.specs.Bodies.{body_of};
 ghost use Rattle.decl_core.specs.Touched.{Writes};
-ghost use Rattle.shelf_core.specs.declared.hand.Stamp.{Stamp};
-ghost use Rattle.shelf_core.specs.Device.{Assignment, Always, Failed as DeviceFailed};
-ghost use Rattle.body_core.specs.declared.reply.Failure.TheVariants as failures;
-ghost use Rattle.body_core.specs.declared.reply.Reply.TheVariants as replies;
+ghost use Rattle.hand_core.specs.declared.hand.Stamp.{Stamp};
+ghost use Rattle.hand_core.specs.Device.{Assignment, Always, Failed as DeviceFailed};
+ghost use Rattle.apply_core.specs.declared.reply.Failure.TheVariants as failures;
+ghost use Rattle.apply_core.specs.declared.reply.Reply.TheVariants as replies;
 ghost use Rattle.body_core.specs.Truths.{IsTrueOf};
 ghost use Rattle.body_core.specs.Phases.{HasPart};
 ghost use Rattle.body_core.specs.Runs.{run_call, run_ending, run_place, run_sealed, PenHolds, SoFar};
@@ -16,7 +16,7 @@ ghost use Rattle.body_core.specs.Written.{WritesInOrder, parts_of};
 
 use crate::outcome::Outcome;
 use crate::run::Run;
-use shelf_core::hand::Hand;
+use hand_core::hand::Hand;
 
 /// Steps until the run has ended.
 pub fn perform<H: Hand>(run: Run, hand: &mut H) -> Outcome

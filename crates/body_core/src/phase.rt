@@ -5,8 +5,8 @@ ghost use Rattle.std.specs.Prelude.{◌≡◌, ◌<◌, ◌≤◌, length};
 use crate::file_bytes::FileBytes;
 use crate::judge::Change;
 use crate::new_pins::NewPins;
-use crate::reply::Reply;
-use shelf_core::hand::{Pen, Stamp};
+use apply_core::reply::Reply;
+use hand_core::hand::{Pen, Stamp};
 use value_core::datum::Datum;
 
 /// A run that reads.

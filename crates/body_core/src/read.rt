@@ -2,10 +2,10 @@
 
 ghost use Rattle.std.specs.Prelude.{◌≡◌, ◌≢◌, ◌+◌, ◌*◌, ◌-◌, ◌^◌, ◌<◌, ◌≤◌, ◌⊎◌, min, ◌++◌, [], ◌∷◌, ℕ, List, Result, length, take, drop, replicate, Some, OnOk, IfErr, slice_get};
 ghost use Rattle.std.specs.Result.{IsErr, IsErrOf};
-ghost use Rattle.shelf_core.specs.Device.{Assignment, FaultCause, Shows, Failed as DeviceFailed};
-ghost use Rattle.shelf_core.specs.Made.{reads, IsDeviceErr};
-ghost use Rattle.body_core.specs.declared.reply.Failure.TheVariants as failures;
-ghost use Rattle.body_core.specs.declared.reply.Reply.TheVariants as replies;
+ghost use Rattle.hand_core.specs.Device.{Assignment, FaultCause, Shows, Failed as DeviceFailed};
+ghost use Rattle.hand_core.specs.Made.{reads, IsDeviceErr};
+ghost use Rattle.apply_core.specs.declared.reply.Failure.TheVariants as failures;
+ghost use Rattle.apply_core.specs.declared.reply.Reply.TheVariants as replies;
 ghost use Rattle.body_core.specs.Calling.{MakesRead};
 ghost use Rattle.body_core.specs.Truths.{PinHolds};
 ghost use Rattle.body_core.specs.Tasks.{task_call};
@@ -18,7 +18,7 @@ use crate::new_pins::NewPins;
 use crate::phase::{Phase, Read};
 use crate::task::Task;
 use crate::write::{CHUNK, failed};
-use shelf_core::hand::{Hand, HandFault, Stamp};
+use hand_core::hand::{Hand, HandFault, Stamp};
 use std::alloc::{AllocError, Global};
 
 // Reads what stands from this place on to the end of the bytes.

@@ -1,14 +1,14 @@
 //! Runs of calls.
 
 ghost use Rattle.std.specs.Prelude.{◌≡◌, ◌≢◌, ◌+◌, ◌<◌, ◌≤◌, ◌⊎◌, ◌↔◌, [], ℕ, List, Some, None, IfOk, IfErr, IsTrue};
-ghost use Rattle.body_core.specs.declared.reply.Reply.{Reply as AReply};
+ghost use Rattle.apply_core.specs.declared.reply.Reply.{Reply as AReply};
 ghost use Rattle.std.specs.Arc.{arc_value};
 ghost use Rattle.decl_core.specs.Bodies.{body_of};
 ghost use Rattle.decl_core.specs.Touched.{Reads, Writes};
-ghost use Rattle.shelf_core.specs.declared.hand.Stamp.{Stamp};
-ghost use Rattle.shelf_core.specs.Device.{Assignment, IsFree, Failed as DeviceFailed};
-ghost use Rattle.body_core.specs.declared.reply.Failure.TheVariants as failures;
-ghost use Rattle.body_core.specs.declared.reply.Reply.TheVariants as replies;
+ghost use Rattle.hand_core.specs.declared.hand.Stamp.{Stamp};
+ghost use Rattle.hand_core.specs.Device.{Assignment, IsFree, Failed as DeviceFailed};
+ghost use Rattle.apply_core.specs.declared.reply.Failure.TheVariants as failures;
+ghost use Rattle.apply_core.specs.declared.reply.Reply.TheVariants as replies;
 ghost use Rattle.body_core.specs.Truths.{IsTrueOf};
 ghost use Rattle.body_core.specs.Tasks.{task_call};
 ghost use Rattle.body_core.specs.Steps.{Starts, Follows, FailsWith, NewsServed, PinsServed, ReadsItsPin, place_in, need_at, parts_at};
@@ -20,11 +20,12 @@ use crate::conclude::conclude;
 use crate::new_pins::NewPins;
 use crate::outcome::Outcome;
 use crate::phase::{Phase, Read, let_go};
-use crate::reply::{Failure, Reply};
-use crate::step::{Need, StepAnswer};
+use crate::step::StepAnswer;
 use crate::task::Task;
 use crate::ticket::Ticket;
-use shelf_core::hand::Hand;
+use apply_core::need::Need;
+use apply_core::reply::{Failure, Reply};
+use hand_core::hand::Hand;
 use std::alloc::Global;
 use std::mem;
 
@@ -98,7 +99,7 @@ fn news_of(phase: &Phase) -> NewPins
 impl Run {
     ghost use Rattle.body_core.specs.Tickets.{ticket_call};
     ghost use Rattle.body_core.specs.Outcomes.{outcome_call, outcome_reply, outcome_news, outcome_pins};
-    ghost use Rattle.body_core.specs.declared.step.Need.TheVariants as needs;
+    ghost use Rattle.apply_core.specs.declared.need.Need.TheVariants as needs;
     ghost use Rattle.body_core.specs.Runs.{run_call, run_ending, run_sealed, run_pen, run_place, run_work, RunMakes, PenHolds, SoFar};
 
     /// A run that has made no call. It takes no memory. Where the operation reads no part, its body is

@@ -1,21 +1,6 @@
-//! What a run needs, and what its steps answer.
+//! What the steps of a run answer.
 
-use shelf_core::hand::HandFault;
-
-/// The device call that a run makes next.
-#[derive(Clone, Copy, Debug, PartialEq, Eq)]
-pub enum Need {
-    /// It reads from a file that is pinned.
-    Read,
-    /// It begins a file.
-    Create,
-    /// It adds bytes to a file.
-    Append,
-    /// It ends a file.
-    Seal,
-    /// It makes none: it has ended.
-    Done,
-}
+use hand_core::hand::HandFault;
 
 /// What a step answers.
 #[derive(Clone, Copy, Debug, PartialEq, Eq)]

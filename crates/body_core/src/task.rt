@@ -5,14 +5,14 @@ ghost use Rattle.std.specs.Arc.{arc_value};
 ghost use Rattle.std.specs.Int.{bit_at};
 ghost use Rattle.decl_core.specs.Bodies.{body_of};
 ghost use Rattle.decl_core.specs.Touched.{Reads};
-ghost use Rattle.body_core.specs.Calls.{ArgumentsFit};
+ghost use Rattle.apply_core.specs.Fits.{ArgumentsFit};
 
 use crate::ticket::Ticket;
 use decl_core::footprint::{is_in, reads};
 use decl_core::id::MOST_PARTS;
 use decl_core::object::Operation;
-use shelf_core::hand::Stamp;
-use shelf_core::pins::Pins;
+use hand_core::hand::Stamp;
+use hand_core::pins::Pins;
 use std::sync::Arc;
 use value_core::datum::Datum;
 

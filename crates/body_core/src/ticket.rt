@@ -2,10 +2,11 @@
 
 ghost use Rattle.std.specs.Prelude.{◌≡◌};
 ghost use Rattle.std.specs.Arc.{arc_value};
-ghost use Rattle.body_core.specs.Calls.{ArgumentsFit, HasPins};
+ghost use Rattle.apply_core.specs.Fits.{ArgumentsFit};
+ghost use Rattle.body_core.specs.Calls.{HasPins};
 
 use decl_core::object::Operation;
-use shelf_core::pins::Pins;
+use hand_core::pins::Pins;
 use std::sync::Arc;
 use value_core::datum::Datum;
 

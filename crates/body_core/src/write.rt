@@ -1,10 +1,10 @@
 //! The steps of a run that writes what its body changed.
 
 ghost use Rattle.std.specs.Prelude.{◌≡◌, ◌≢◌, ◌+◌, ◌-◌, ◌*◌, ◌^◌, ◌<◌, ◌≤◌, ◌⊎◌, [], ℕ, List, length, Some, Option};
-ghost use Rattle.shelf_core.specs.declared.hand.Stamp.{Stamp};
-ghost use Rattle.shelf_core.specs.Device.{Assignment, IsFree, Failed as DeviceFailed};
-ghost use Rattle.body_core.specs.declared.reply.Failure.TheVariants as failures;
-ghost use Rattle.body_core.specs.declared.reply.Reply.TheVariants as replies;
+ghost use Rattle.hand_core.specs.declared.hand.Stamp.{Stamp};
+ghost use Rattle.hand_core.specs.Device.{Assignment, IsFree, Failed as DeviceFailed};
+ghost use Rattle.apply_core.specs.declared.reply.Failure.TheVariants as failures;
+ghost use Rattle.apply_core.specs.declared.reply.Reply.TheVariants as replies;
 ghost use Rattle.body_core.specs.Calling.{MakesCreate, MakesAppend, MakesSeal};
 ghost use Rattle.body_core.specs.Calls.{Call};
 ghost use Rattle.body_core.specs.Truths.{PinHolds, IsDone, AreChanges};
@@ -14,8 +14,8 @@ ghost use Rattle.body_core.specs.Phases.{ending_of, sealed_in, failure_of, IsCur
 use crate::judge::Change;
 use crate::new_pins::{NewPin, NewPins};
 use crate::phase::{Phase, Plan};
-use crate::reply::{Failure, Reply};
-use shelf_core::hand::{Hand, HandFault, Pen};
+use apply_core::reply::{Failure, Reply};
+use hand_core::hand::{Hand, HandFault, Pen};
 use value_core::datum::Datum;
 
 /// The most bytes of one device call.

@@ -1,13 +1,14 @@
 //! Calls of operations, as the tests make them.
 
-use body_core::apply::apply_all;
-use body_core::fits::{arguments_fit, parts_fit, pins_fit};
-use body_core::reply::Reply;
+use apply_core::apply::apply_all;
+use apply_core::fits::{arguments_fit, parts_fit};
+use apply_core::reply::Reply;
+use body_core::fits::pins_fit;
 use body_core::run::Run;
 use body_core::ticket::Ticket;
 use decl_core::object::{Object, Operation};
 use decl_read::read::read_objects;
-use shelf_core::pins::Pins;
+use hand_core::pins::Pins;
 use std::alloc::Global;
 use std::process::Abort;
 use std::sync::Arc;

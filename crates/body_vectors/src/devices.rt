@@ -1,15 +1,15 @@
 //! Runs over devices that fail, and over files whose bytes are damaged.
 
 use crate::calls::{Bytes, SEVEN, ZERO, object, run_of};
+use apply_core::reply::{Failure, Reply};
 use body_core::perform::perform;
-use body_core::reply::{Failure, Reply};
 use decl_core::object::Object;
-use shelf_core::fuse::FuseHand;
-use shelf_core::hand::{Hand, Stamp};
-use shelf_core::memory::MemHand;
-use shelf_core::once::OnceHand;
-use shelf_core::pins::Pins;
-use shelf_core::whole::{fetch, put};
+use device_core::fuse::FuseHand;
+use device_core::memory::MemHand;
+use device_core::once::OnceHand;
+use hand_core::hand::{Hand, Stamp};
+use hand_core::pins::Pins;
+use hand_core::whole::{fetch, put};
 use std::alloc::Global;
 use std::process::Abort;
 use value_core::datum::Datum;

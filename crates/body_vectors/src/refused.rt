@@ -5,20 +5,21 @@
 //! .. growth refused. With no growth refused they are happy paths.
 
 use crate::calls::{CELL, SEVEN, ZERO, operation, reply_in_place};
-use body_core::apply::apply;
-use body_core::fits::{arguments_fit, pins_fit, values_fit};
+use apply_core::apply::apply;
+use apply_core::fits::{arguments_fit, values_fit};
+use apply_core::reply::{Failure, Reply};
+use body_core::fits::pins_fit;
 use body_core::outcome::Outcome;
 use body_core::perform::perform;
-use body_core::reply::{Failure, Reply};
 use body_core::run::Run;
 use body_core::ticket::Ticket;
 use decl_core::object::Object;
 use decl_read::fault::DeclFault;
 use decl_read::read::read_objects;
-use shelf_core::hand::{Hand, HandFault};
-use shelf_core::memory::MemHand;
-use shelf_core::pins::Pins;
-use shelf_core::whole::{fetch, put};
+use device_core::memory::MemHand;
+use hand_core::hand::{Hand, HandFault};
+use hand_core::pins::Pins;
+use hand_core::whole::{fetch, put};
 use std::alloc::Global;
 use std::process::Abort;
 use value_core::datum::Datum;

@@ -19,7 +19,7 @@ use Rattle.decl_core.specs.Bodies.{body_of}
 use Rattle.decl_core.specs.Touched.{Writes}
 use Rattle.decl_core.specs.Typed.{IsHeld}
 use Rattle.decl_core.proofs.Footprints.{writes_are_reads}
-use Rattle.body_core.proofs.HeldReads.{reads_held}
+use Rattle.apply_core.proofs.HeldReads.{reads_held}
 use Rattle.body_core.specs.Calls.{HasPins}
 use Rattle.board_core.proofs.Lists.{Every-snoc, Every-map, Every-at, Every-among, among_at, filter_one, filter_less, eqb_same}
 use Rattle.board_core.proofs.Sound.{made_at}

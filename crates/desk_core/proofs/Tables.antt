@@ -6,7 +6,7 @@ use Rattle.decl_core.specs.declared.object.Object.{Object}
 use Rattle.board_core.specs.declared.event.TraceEvent.{TraceEvent}
 use Rattle.board_core.specs.declared.event.TraceEvent.TheVariants.{Start, End}
 use Rattle.board_core.specs.Calls.{AcceptedCall, WaitingCall, RunningCall, Noted}
-use Rattle.shelf_core.specs.declared.hand.Stamp.{Stamp}
+use Rattle.hand_core.specs.declared.hand.Stamp.{Stamp}
 use Rattle.body_core.specs.Outcomes.{new_if_done}
 use Rattle.board_core.specs.Board.{Board, most_sessions, opened, joined, dismissed, released, taken_at, marked, started, ended, published}
 

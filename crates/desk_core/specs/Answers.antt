@@ -5,7 +5,8 @@ use Rattle.std.specs.Str.{str_to_ascii_lowercase}
 use Rattle.value_core.specs.declared.datum.Datum.{Datum}
 use Rattle.decl_core.specs.declared.object.Object.{Object}
 use Rattle.decl_core.specs.declared.object.Operation.{Operation}
-use Rattle.body_core.specs.Calls.{ArgumentsFit, call_of}
+use Rattle.apply_core.specs.Fits.{ArgumentsFit}
+use Rattle.body_core.specs.Calls.{call_of}
 use Rattle.body_core.specs.Outcomes.{outcome_call, outcome_reply, outcome_news}
 use Rattle.body_core.specs.declared.outcome.Outcome.{Outcome}
 use Rattle.board_core.specs.declared.receipt.Receipt.{Receipt}

@@ -6,7 +6,7 @@ ghost use Rattle.desk_core.specs.Answers.{receipt_by};
 use board_core::receipt::{NotedOutcome, Receipt};
 use body_core::outcome::Outcome;
 use body_core::ticket::Ticket;
-use shelf_core::hand::Stamp;
+use hand_core::hand::Stamp;
 use thiserror::Error;
 
 /// Why a call is refused. The first that applies is told.

@@ -22,7 +22,7 @@ use board_core::event::TraceEvent;
 use board_core::receipt::Receipt;
 use body_core::outcome::Outcome;
 use exclude_core::analyse::Accepted;
-use shelf_core::pins::Pins;
+use hand_core::pins::Pins;
 use std::alloc::{AllocError, Global};
 use std::marker::Model;
 use std::sync::Arc;

@@ -2,7 +2,7 @@
 
 ghost use Rattle.std.specs.Prelude.{◌≡◌, ◌↔◌, ℕ, ◌+◌, ◌<◌, ◌≤◌, ◌⊎◌, [], ◌∷◌, ◌++◌, length, IsTrue, IsSome, IfSome, IfNone, List, map, Some, slice_get, vec_capacity};
 ghost use Rattle.std.specs.Int.{bit_at};
-ghost use Rattle.shelf_core.specs.declared.hand.Stamp.{Stamp as AStamp};
+ghost use Rattle.hand_core.specs.declared.hand.Stamp.{Stamp as AStamp};
 ghost use Rattle.body_core.specs.Truths.{pin_for};
 ghost use Rattle.body_core.specs.Outcomes.{new_if_done, left_if_failed};
 ghost use Rattle.body_core.specs.declared.new_pins.NewPin.{NewPin as ANewPin};
@@ -11,10 +11,10 @@ ghost use Rattle.board_core.specs.Lists.{Among};
 ghost use Rattle.board_core.specs.Free.{IsFileOf, IsIn, IsRead, IsNeeded, Picks, IsReadBy, replaced, left_behind};
 
 use crate::open_call::Running;
+use apply_core::reply::Reply;
 use body_core::outcome::NewPin;
-use body_core::reply::Reply;
 use decl_core::footprint;
-use shelf_core::hand::Stamp;
+use hand_core::hand::Stamp;
 
 // Whether a pin is of the file of this number.
 fn is_file_of(number: u64, pin: &Stamp) -> bool

@@ -3,22 +3,23 @@
 ghost use Rattle.std.specs.Prelude.{◌≡◌, ◌≤◌, [], IfOk, IfSome, IfNone, true, false, length, vec_capacity};
 ghost use Rattle.std.specs.Arc.{arc_value};
 ghost use Rattle.decl_core.specs.Bodies.{body_of};
-ghost use Rattle.body_core.specs.Calls.{ArgumentsFit, HasPins, call_of};
+ghost use Rattle.apply_core.specs.Fits.{ArgumentsFit};
+ghost use Rattle.body_core.specs.Calls.{HasPins, call_of};
 ghost use Rattle.body_core.specs.Tickets.{ticket_call};
 ghost use Rattle.body_core.specs.Written.{WritesInOrder, parts_of};
 ghost use Rattle.board_core.specs.Calls.{noted_of};
 ghost use Rattle.board_core.specs.ReadPins.{read_pins};
 
+use apply_core::reply::Reply;
 use board_core::call::Call;
 use board_core::entry::{Entry, EntryRoom};
 use body_core::outcome::NewPin;
-use body_core::reply::Reply;
 use body_core::ticket::Ticket;
 use decl_core::id::MOST_PARTS;
 use decl_core::object::Operation;
+use hand_core::hand::Stamp;
+use hand_core::pins::Pins;
 use path_tree::node::OpId;
-use shelf_core::hand::Stamp;
-use shelf_core::pins::Pins;
 use std::alloc::{AllocError, Global};
 use std::marker::Model;
 use std::sync::Arc;

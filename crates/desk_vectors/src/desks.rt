@@ -2,12 +2,12 @@
 //! met a damaged part.
 
 use crate::make::{Bytes, CELL, ZERO, desk_of, pinned, receipt_of};
-use body_core::reply::{Failure, Reply};
+use apply_core::reply::{Failure, Reply};
 use desk_core::desk::Desk;
-use shelf_core::hand::{Hand, Stamp};
-use shelf_core::memory::MemHand;
-use shelf_core::once::OnceHand;
-use shelf_core::pins::Pins;
+use device_core::memory::MemHand;
+use device_core::once::OnceHand;
+use hand_core::hand::{Hand, Stamp};
+use hand_core::pins::Pins;
 use std::alloc::Global;
 use std::process::Abort;
 use value_core::datum::Datum;

@@ -4,7 +4,7 @@ use crate::make::{CELL, ZERO, desk_of, has_turn_of, pinned};
 use desk_core::answer::SubmitFault::{Full, HistoryFull, SessionBusy, UnknownOp};
 use desk_core::answer::{Cancelled, SubmitFault};
 use desk_core::desk::Desk;
-use shelf_core::memory::MemHand;
+use device_core::memory::MemHand;
 use std::alloc::Global;
 use std::process::Abort;
 use value_core::datum::Datum;

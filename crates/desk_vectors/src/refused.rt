@@ -6,15 +6,15 @@
 //! refused they are happy paths.
 
 use crate::make::{CELL, ZERO, look, outcome_of};
+use apply_core::reply::{Failure, Reply};
 use body_core::outcome::Outcome;
-use body_core::reply::{Failure, Reply};
 use decl_read::read::read_objects;
 use desk_core::answer::{Cancelled, SubmitFault};
 use desk_core::desk::Desk;
+use device_core::memory::MemHand;
 use exclude_core::analyse::{Accepted, analyse};
-use shelf_core::memory::MemHand;
-use shelf_core::pins::Pins;
-use shelf_core::whole::put;
+use hand_core::pins::Pins;
+use hand_core::whole::put;
 use std::alloc::Global;
 use std::process::Abort;
 use value_core::datum::Datum;

@@ -4,9 +4,9 @@ use crate::make::{Bytes, CELL, ZERO, desk_of, has_turn_of, look, outcome_of, pin
 use body_core::outcome::Outcome;
 use desk_core::answer::Stranger;
 use desk_core::desk::Desk;
-use shelf_core::hand::Stamp;
-use shelf_core::memory::MemHand;
-use shelf_core::pins::Pins;
+use device_core::memory::MemHand;
+use hand_core::hand::Stamp;
+use hand_core::pins::Pins;
 use std::alloc::Global;
 use std::process::Abort;
 use value_core::datum::Datum;

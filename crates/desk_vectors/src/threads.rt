@@ -4,7 +4,7 @@
 use crate::make::{CELL, ZERO, desk_of, pinned, receipt_of};
 use board_core::receipt::Receipt;
 use desk_core::desk::Desk;
-use shelf_core::memory::MemHand;
+use device_core::memory::MemHand;
 use std::alloc::Global;
 use std::process::Abort;
 use std::thread;

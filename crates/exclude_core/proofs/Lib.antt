@@ -10,4 +10,3 @@ pub mod Rest
 pub mod Certified
 pub mod OneCertificate
 pub mod Searching
-pub mod Reports

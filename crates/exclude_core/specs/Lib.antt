@@ -4,7 +4,5 @@ pub mod Search
 pub mod Exclusive
 pub mod Certificate
 pub mod Refusals
-pub mod Report
-pub mod CheckFaults
 pub mod Rest
 pub mod CertificateLaws

@@ -1,6 +1,6 @@
 //! What stands around two names of a path.
 
-use crate::tokens::{begins, find_name, first_tokens, is_symbol, tokens_from};
+use note_core::tokens::{begins, find_name, first_tokens, is_symbol, tokens_from};
 use path_tree::token::{Kind, Symbol, Token};
 
 /// Why a path that names two operations keeps them not apart, with the number of the token in the path where that stands.

@@ -1,16 +1,16 @@
 //! The explanation of a source.
 
-use crate::fault::{is_want_of_memory, push_fault};
-use crate::page::{Page, push_help, push_new_line, push_note};
 use crate::proposal::{place_for_path, proposal};
 use crate::refusal::{Case, push_case};
-use crate::said::Words;
-use crate::span::Span;
-use crate::tokens::section;
 use decl_core::object::Object;
 use decl_read::fault::DeclFault;
 use decl_read::read::read_objects;
 use exclude_core::analyse::{Refusal, Refused, analyse};
+use explain_fault::fault::{is_want_of_memory, push_fault};
+use note_core::page::{Page, push_help, push_new_line, push_note};
+use note_core::said::Words;
+use note_core::span::Span;
+use note_core::tokens::section;
 use path_tree::lex::lex;
 use path_tree::token::Symbol;
 use std::alloc::{AllocError, Global};
@@ -134,11 +134,16 @@ fn is_wanted(object: &Object, only: Option<&[u8]>) -> bool {
 }
 
 // Adds what is said of a fault of the source, which no want of memory is.
-fn push_told(out: &mut Vec<u8>, page: Page<'_>, fault: DeclFault) -> Result<(), AllocError> {
+fn push_told(
+    alloc: Global,
+    out: &mut Vec<u8>,
+    page: Page<'_>,
+    fault: DeclFault,
+) -> Result<(), AllocError> {
     if is_want_of_memory(fault) {
         Err(AllocError)
     } else {
-        push_fault(out, page, fault)
+        push_fault(alloc, out, page, fault)
     }
 }
 
@@ -150,7 +155,7 @@ fn push_source(
     only: Option<&[u8]>,
 ) -> Result<(), AllocError> {
     match read_objects(alloc, page.source) {
-        Err(fault) => push_told(out, page, fault),
+        Err(fault) => push_told(alloc, out, page, fault),
         Ok(all) => {
             for (number, object) in all.into_values().enumerate() {
                 if is_wanted(&object, only) {
@@ -189,7 +194,7 @@ pub fn explain(
                 source,
                 tokens: &[],
             };
-            push_told(&mut out, page, DeclFault::Lex(fault))?;
+            push_told(alloc, &mut out, page, DeclFault::Lex(fault))?;
         }
     }
     Ok(out)

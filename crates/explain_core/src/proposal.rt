@@ -1,13 +1,13 @@
 //! A path that keeps the operations of an object apart.
 
-use crate::fault::is_want_of_memory;
-use crate::span::{behind, front};
-use crate::tokens::{count_before, count_to, from_last, from_symbol, is_symbol, tokens_from};
 use decl_core::object::Object;
 use decl_read::fault::DeclFault;
 use decl_read::read::read_objects;
 use exclude_core::analyse::{Refusal, analyse};
 use exclude_core::footprint::footprint;
+use explain_fault::fault::is_want_of_memory;
+use note_core::span::{behind, front};
+use note_core::tokens::{count_before, count_to, from_last, from_symbol, is_symbol, tokens_from};
 use path_tree::token::{Symbol, Token};
 use std::alloc::{AllocError, Global};
 

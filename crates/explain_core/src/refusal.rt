@@ -1,11 +1,11 @@
 //! Two operations that are not kept apart.
 
 use crate::around::{Around, why_in};
-use crate::page::{Page, push_help, push_note};
-use crate::said::Words;
-use crate::span::span_of;
-use crate::tokens::{count_to, find_name, first_tokens, from_symbol, section, tokens_from};
 use crate::touch::{Touch, touch_of};
+use note_core::page::{Page, push_help, push_note};
+use note_core::said::Words;
+use note_core::span::span_of;
+use note_core::tokens::{count_to, find_name, first_tokens, from_symbol, section, tokens_from};
 use path_tree::token::{Symbol, Token};
 use std::alloc::AllocError;
 

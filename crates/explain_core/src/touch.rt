@@ -1,7 +1,7 @@
 //! Where an operation touches a part.
 
-use crate::span::{Span, span_of};
-use crate::tokens::{begins, is_name, is_symbol, tokens_from};
+use note_core::span::{Span, span_of};
+use note_core::tokens::{begins, is_name, is_symbol, tokens_from};
 use path_tree::token::{Symbol, Token};
 
 /// Where an operation touches a part: the statement that changes it, or the place that reads it.

@@ -1,11 +1,11 @@
 //! An analyser whose memory is refused, and the texts of refusals.
 
 use crate::texts::{CELL, only_object};
+use check_core::report::CheckFault;
 use decl_core::object::Object;
 use decl_read::fault::DeclFault;
 use decl_read::read::read_objects;
 use exclude_core::analyse::{Refusal, analyse};
-use exclude_core::report::CheckFault;
 use std::alloc::Global;
 use std::process::Abort;
 

@@ -1,7 +1,7 @@
 //! Reports to writers that fail.
 
 use crate::texts::{CELL, LOOSE};
-use exclude_core::report::{CheckEnd, CheckFault, check_report};
+use check_core::report::{CheckEnd, CheckFault, check_report};
 use std::alloc::Global;
 use std::io::{self, ErrorKind, Write};
 use std::process::Abort;

@@ -1,9 +1,9 @@
 -- What receipts say of a closed desk.
 use Rattle.std.specs.Prelude.{◌≡◌, ℕ, ◌+◌, List, slice_get, Some}
 use Rattle.value_core.specs.Contents.{Contents}
-use Rattle.shelf_core.specs.Device.{Assignment}
+use Rattle.hand_core.specs.Device.{Assignment}
 use Rattle.body_core.specs.Truths.{IsTrueOf}
-use Rattle.body_core.specs.History.{IsLegal, leads_to}
+use Rattle.apply_core.specs.History.{IsLegal, leads_to}
 use Rattle.body_core.specs.Outcomes.{outcome_call, outcome_reply, outcome_pins}
 use Rattle.board_core.specs.declared.receipt.Receipt.{Receipt}
 use Rattle.board_core.specs.Lists.{Every, Among}

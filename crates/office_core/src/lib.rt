@@ -7,6 +7,7 @@
 #![tactic(auto)]
 
 mod find;
+pub mod late;
 pub mod laws;
 pub mod office;
 pub mod room;

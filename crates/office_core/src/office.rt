@@ -1,12 +1,13 @@
 //! The lock round a room.
 
-ghost use Rattle.std.specs.Prelude.{◌≡◌, ◌<◌, ◌≤◌, ◌+◌, IfOk, length, vec_capacity};
+ghost use Rattle.std.specs.Prelude.{◌≡◌, ◌<◌, ◌≤◌, ◌+◌, IfErr, IfOk, IfSome, length, vec_capacity};
 ghost use Rattle.office_core.specs.Rooms.{RoomState};
 ghost use Rattle.office_core.specs.declared.seat.Submitted.{Submitted as Ask};
 ghost use Rattle.office_core.specs.Submissions.{Asks, IsStartOf, Tells};
 ghost use Rattle.office_core.specs.Seats.{Receives, ReceivesInPlace};
 ghost use Rattle.office_core.specs.Closing.{Closes, ClosesBySlips};
 
+use crate::late::Late;
 use crate::room::{CloseRefused, Closed, Room, SeatsFull, with_outcome};
 use crate::seat::{CompleteFault, NotTaken, Seat, Started, Submitted, Tried};
 use board_core::event::TraceEvent;
@@ -19,7 +20,7 @@ use std::alloc::{AllocError, Global};
 use std::hint::spin_loop;
 use std::sync::{Condvar, Mutex, MutexGuard, Wait};
 use std::thread::yield_now;
-use std::time::Duration;
+use std::time::{Clock, Duration};
 use turn_core::turns::Pace;
 use value_core::datum::Datum;
 
@@ -35,12 +36,19 @@ const GLANCES: usize = 160;
 
 const PAUSES: usize = 4;
 
+/// After so many of these looks it reads the clock: where others are to run too, each look may last as long as they do.
+const LOOKS_A_CLOCK: usize = 16;
+
 /// How long it sleeps then, in microseconds, if nobody wakes it.
 const NAP: u64 = 1000;
 
-/// How often it does so before it submits its call all the same. A queue of calls stays a queue as long as calls join it, and each of them lasts
+/// How often it does so at most before it submits its call all the same. A queue of calls stays a queue as long as calls join it, and each of them lasts
 /// as long as a thread takes to be woken: in so many naps one of fifteen ends also where that is a millisecond.
 const NAPS: usize = 16;
+
+/// How long it is held back at most by [`Office::submit_and_try`], in milliseconds, however busy the machine is, but for the time until the thread
+/// runs again.
+const HOLD: u64 = 10;
 
 /// How many places there are at which waiters sleep: session `n` sleeps at `n % BEDS`.
 const BEDS: usize = 64;
@@ -97,6 +105,28 @@ fn add_beds(beds: &mut Vec<Condvar>, count: usize)
     add_beds(beds, count - 1);
 }
 
+// Submits a call, and looks whether it has started.
+fn submit_and_look(
+    room: &mut Room,
+    seat: &mut Seat,
+    op: &str,
+    args: &[Datum],
+) -> Result<(u32, Tried), SubmitFault>
+    ensures tells { IfOk result (λ r. (s : Ask) × Asks op.now args.now s × (r.0 ≡ s.number) × Tells s r.1) }
+    ensures seat { seat.new ≡ seat.old }
+{
+    let submitted = match room.submit(seat, op, args) {
+        Ok(submitted) => submitted,
+        Err(fault) => return Err(fault),
+    };
+    let number = submitted.number();
+    let tried = room.look(submitted);
+    if let Tried::Ticket(_) = &tried {
+        room.note_start(number);
+    }
+    Ok((number, tried))
+}
+
 impl Office {
     /// An office with this room. The error is that memory was refused.
     pub fn open(alloc: Global, room: Room) -> Result<Office, AllocError> {
@@ -121,11 +151,14 @@ impl Office {
         self.room.lock(rt)
     }
 
-    // Looks for some microseconds whether there were more notifications at the door than these.
-    fn glance(&self, seen: u64) -> bool {
-        for _ in 0..GLANCES {
+    // Looks for some microseconds whether there were more notifications at the door than these, but no longer than the watch tells.
+    fn glance<R: Clock>(&self, rt: &R, seen: u64, late: &mut Late, most: Duration) -> bool {
+        for look in 0..GLANCES {
             if self.door.notifications() != seen {
                 return true;
+            }
+            if look % LOOKS_A_CLOCK == LOOKS_A_CLOCK - 1 && late.is_over(rt, most) {
+                return false;
             }
             for _ in 0..PAUSES {
                 spin_loop();
@@ -135,31 +168,43 @@ impl Office {
         false
     }
 
-    // The room, once a call of this operation would not wait long, or some 20 milliseconds have passed. A call that is submitted while one
-    // runs that excludes it stands in a queue: its thread has to be woken for its turn, and no other call of its operation can run
-    // until it is. One that is submitted when the other has ended starts at once.
-    fn enter_in_turn<R: Wait>(&self, rt: &R, op: &str) -> MutexGuard<'_, Box<Room>> {
+    // The room, once a call of this operation would not wait long. Nothing where the watch tells before that that so much time has passed. A
+    // call that is submitted while one runs that excludes it stands in a queue: its thread has to be woken for its turn, and no other call of
+    // its operation can run until it is. One that is submitted when the other has ended starts at once.
+    fn enter_in_turn<R: Wait + Clock>(
+        &self,
+        rt: &R,
+        op: &str,
+        late: &mut Late,
+        most: Duration,
+    ) -> Option<MutexGuard<'_, Box<Room>>> {
         for _ in 0..NAPS {
             let room = self.enter(rt);
             let pace = room.pace(op);
             let seen = self.door.notifications();
             match pace {
-                Pace::Now => return room,
+                Pace::Now => return Some(room),
                 Pace::Soon => {
                     drop(room);
-                    if !self.glance(seen) {
-                        return self.enter(rt);
+                    if late.is_over(rt, most) {
+                        return None;
+                    }
+                    if !self.glance(rt, seen, late, most) {
+                        return Some(self.enter(rt));
                     }
                 }
                 Pace::InTurn => {
                     drop(room);
-                    if !self.glance(seen) {
+                    if late.is_over(rt, most) {
+                        return None;
+                    }
+                    if !self.glance(rt, seen, late, most) {
                         self.door.sleep(rt, seen, Duration::from_micros(NAP));
                     }
                 }
             }
         }
-        self.enter(rt)
+        None
     }
 
     // Wakes who sleeps in these beds.
@@ -174,9 +219,10 @@ impl Office {
         }
     }
 
-    /// The next session, from 1 to 1,024. The error is that there is none left.
+    /// The next session, from 1 to 1,024. The error is that there is none left, and tells how many were given out.
     pub fn seat<R: Wait>(&self, rt: &R) -> Result<Seat, SeatsFull>
-        ensures { IfOk result (λ s. (0 < s.session) × (s.session ≤ 1024) × (s.seen ≡ 0) × (s.count ≡ 0)) }
+        ensures full { IfErr result (λ e. 1024 ≤ e.given) }
+        ensures ok { IfOk result (λ s. (0 < s.session) × (s.session ≤ 1024) × (s.seen ≡ 0) × (s.count ≡ 0)) }
     {
         self.enter(rt).seat()
     }
@@ -199,8 +245,8 @@ impl Office {
     /// Submits a call of this seat's session, and looks under the same lock whether it has started. It answers the number of the
     /// call, and what the look tells. A fault is one of `submit`.
     ///
-    /// While a call runs that this one would wait for, it holds the submission back, for some 20 milliseconds at most.
-    pub fn submit_and_try<R: Wait>(
+    /// While a call runs that this one would wait for, it holds the submission back, for 10 milliseconds at most.
+    pub fn submit_and_try<R: Wait + Clock>(
         &self,
         rt: &R,
         seat: &mut Seat,
@@ -210,18 +256,33 @@ impl Office {
         ensures tells { IfOk result (λ r. (s : Ask) × Asks op.now args.now s × (r.0 ≡ s.number) × Tells s r.1) }
         ensures seat { seat.new ≡ seat.old }
     {
-        let mut guard = self.enter_in_turn(rt, op);
-        let room: &mut Room = &mut guard;
-        let submitted = match room.submit(seat, op, args) {
-            Ok(submitted) => submitted,
-            Err(fault) => return Err(fault),
+        let mut late = Late::new();
+        let most = Duration::from_millis(HOLD);
+        let mut guard = match self.enter_in_turn(rt, op, &mut late, most) {
+            Some(guard) => guard,
+            None => self.enter(rt),
         };
-        let number = submitted.number();
-        let tried = room.look(submitted);
-        if let Tried::Ticket(_) = &tried {
-            room.note_start(number);
-        }
-        Ok((number, tried))
+        submit_and_look(&mut guard, seat, op, args)
+    }
+
+    /// The same, but where the watch tells before the call's turn that so much time has passed, nothing is submitted, and it answers nothing.
+    pub fn submit_in_turn<R: Wait + Clock>(
+        &self,
+        rt: &R,
+        seat: &mut Seat,
+        op: &str,
+        args: &[Datum],
+        late: &mut Late,
+        most: Duration,
+    ) -> Option<Result<(u32, Tried), SubmitFault>>
+        ensures tells { IfSome result (λ found. IfOk found (λ r. (s : Ask) × Asks op.now args.now s × (r.0 ≡ s.number) × Tells s r.1)) }
+        ensures seat { seat.new ≡ seat.old }
+    {
+        let mut guard = match self.enter_in_turn(rt, op, late, most) {
+            Some(guard) => guard,
+            None => return None,
+        };
+        Some(submit_and_look(&mut guard, seat, op, args))
     }
 
     /// Looks whether a submitted call has started or was cancelled, as [`Room::try_start`]. It does not wait for that.

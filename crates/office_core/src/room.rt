@@ -1,6 +1,6 @@
 //! What lies under the lock.
 
-ghost use Rattle.std.specs.Prelude.{◌≡◌, ◌+◌, ◌≤◌, ◌<◌, length, IfOk, IfErr, OnOk, OnErr, IfSome, IfNone, Ok, Err};
+ghost use Rattle.std.specs.Prelude.{◌≡◌, ◌+◌, ◌≤◌, ◌<◌, length, IfOk, IfErr, IfSome, IfNone, Ok, Err};
 ghost use Rattle.board_core.specs.Board.{opened, Rests};
 ghost use Rattle.board_core.specs.Sound.{IsSound};
 ghost use Rattle.desk_core.specs.Answers.{Cancels};
@@ -20,7 +20,7 @@ use body_core::outcome::Outcome;
 use desk_core::answer::{Cancelled, Collected, Finished, SubmitFault};
 use desk_core::desk::Desk;
 use exclude_core::analyse::Accepted;
-use shelf_core::pins::Pins;
+use hand_core::pins::Pins;
 use slip_core::slip::Slip;
 use std::alloc::{AllocError, Global};
 use std::marker::Model;
@@ -59,7 +59,10 @@ impl Model for Room {
 
 /// All sessions are given out.
 #[derive(Clone, Copy, Debug, PartialEq, Eq)]
-pub struct SeatsFull;
+pub struct SeatsFull {
+    /// How many.
+    pub given: u32,
+}
 
 /// Why a room is not closed. The first that applies is told.
 #[derive(Clone, Copy, Debug, PartialEq, Eq)]
@@ -156,14 +159,14 @@ impl Room {
         &self.desk
     }
 
-    /// The next session, from 1 to 1,024. The error is that there is none left, and nothing is changed.
+    /// The next session, from 1 to 1,024. The error is that there is none left, and tells how many were given out; nothing is changed.
     pub fn seat(&mut self) -> Result<Seat, SeatsFull>
         ensures ok { IfOk result (λ seat. IsFresh (self.old.given + 1) seat × (self.old.given < 1024) × (self.new.given ≡ self.old.given + 1)) }
-        ensures full { OnErr result ((1024 ≤ self.old.given) × (self.new.given ≡ self.old.given)) }
+        ensures full { IfErr result (λ e. (e.given ≡ self.old.given) × (1024 ≤ e.given) × (self.new.given ≡ self.old.given)) }
         ensures board { self.new.board ≡ self.old.board }
     {
         if self.given >= MOST_SESSIONS {
-            return Err(SeatsFull);
+            return Err(SeatsFull { given: self.given });
         }
         self.given += 1;
         Ok(new_seat(self.given))

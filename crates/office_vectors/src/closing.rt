@@ -1,16 +1,16 @@
 //! When a room and an office are closed.
 
 use crate::make::{finish, room, stuck, turn};
+use apply_core::reply::Reply;
 use board_core::receipt::Receipt;
 use board_core::same::same_stamps;
 use body_core::perform::perform;
-use body_core::reply::Reply;
 use body_core::run::Run;
+use device_core::memory::MemHand;
+use hand_core::pins::Pins;
 use office_core::office::Office;
 use office_core::room::{CloseFault, CloseRefused, Closed, Room};
 use office_core::seat::{Seat, Started};
-use shelf_core::memory::MemHand;
-use shelf_core::pins::Pins;
 use slip_core::room::SlipRoom;
 use slip_core::slip::Slip;
 use std::alloc::Global;

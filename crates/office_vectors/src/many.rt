@@ -1,18 +1,18 @@
 //! 64 threads that call, cancel and leave at random.
 
 use crate::make::{room, stuck};
+use apply_core::reply::Reply;
 use board_core::entry::Entry;
 use board_core::event::TraceEvent;
 use board_core::receipt::Receipt;
 use body_core::perform::perform;
-use body_core::reply::Reply;
 use body_core::run::Run;
 use desk_core::answer::SubmitFault;
 use desk_core::desk::Desk;
+use device_core::memory::MemHand;
 use office_core::office::Office;
 use office_core::room::Closed;
 use office_core::seat::{Seat, Started, Submitted};
-use shelf_core::memory::MemHand;
 use std::alloc::Global;
 use std::sync::{Mutex, Wait};
 use std::thread;

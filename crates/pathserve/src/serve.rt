@@ -1,22 +1,25 @@
 //! `pathserve serve` over any runtime, hands and writer.
 
-use crate::answer::{ACCEPTED, REFUSED};
-use crate::explanation::explained;
-use crate::failure::Failure;
+use crate::start::{Names, Need, tell_lack};
+use ahead_core::ahead::{AheadHand, Ends};
+use ahead_core::sealed::Sealed;
+use answer_core::answer::{ACCEPTED, REFUSED};
+use answer_core::explanation::explained;
+use answer_core::failure::Failure;
+use device_core::dir::DirHand;
+use device_core::numbers::Numbers;
+use hand_core::hand::Hand;
+use line_core::LinesFault;
 use serve_core::folder::{number_above, value_numbers};
+use serve_core::gate::Gate;
 use serve_core::serve::{Place, ServeEnd, serve_on};
-use shelf_core::dir::DirHand;
-use shelf_core::hand::Hand;
-use shelf_core::numbers::Numbers;
 use std::alloc::AllocError;
 use std::io::Write;
-use std::net::TcpListener;
 use std::os::unix::fs::FileExt;
 use std::rt::Files;
 use std::sync::{Arc, Wait};
 use std::thread::Threads;
-use turn_core::ahead::{AheadHand, Ends};
-use turn_core::sealed::Sealed;
+use std::time::Clock;
 
 // Numbers from this one on, which hands share.
 fn numbers_from<R: AllocGlobal>(rt: &R, first: u64) -> Result<Arc<Numbers>, AllocError> {
@@ -43,7 +46,8 @@ pub fn place_of<R: Files + AllocGlobal + Clone + Drop>(
     sessions: usize,
 ) -> Result<Place<AheadHand<R>>, Failure> {
     let left = value_numbers(rt, rt.alloc(), folder)?;
-    let numbers = numbers_from(rt, number_above(&left))?;
+    let first = number_above(&left);
+    let numbers = numbers_from(rt, first)?;
     let sealed = shared(rt)?;
     let mut hands = Vec::new(rt.alloc());
     for _ in 0..sessions {
@@ -57,27 +61,38 @@ pub fn place_of<R: Files + AllocGlobal + Clone + Drop>(
     Ok(Place {
         folder,
         left,
+        first,
         numbers,
         hands,
     })
 }
 
-fn status_of_serve(end: ServeEnd) -> u8 {
+// The exit status of a server that ended so.
+fn status_of_serve(end: ServeEnd) -> Result<u8, Failure> {
     match end {
-        ServeEnd::Whole => ACCEPTED,
-        ServeEnd::Refused => REFUSED,
+        ServeEnd::Whole => Ok(ACCEPTED),
+        ServeEnd::Refused => Ok(REFUSED),
+        ServeEnd::Unopened => Err(Failure::ReadFault),
     }
 }
 
-/// `pathserve serve`: serves the objects of a source to a connection of the listener for each hand, over the parts in a folder,
-/// and gives the exit status: 0 where each object was served, closed and saved, 1 where a line says what was refused or
-/// damaged.
+// What was lacking where a server ended so.
+fn lacking(ended: &Result<ServeEnd, LinesFault>) -> Option<Need> {
+    match ended {
+        Ok(ServeEnd::Unopened) => Some(Need::Parts),
+        _ => None,
+    }
+}
+
+/// `pathserve serve`: serves the objects of a source to a connection at the gate for each hand, over the parts in a folder,
+/// and gives the exit status: 0 where each object was served, closed and saved, 1 where a line says what was refused, damaged
+/// or mixed.
 ///
-/// Where the name of a file is given, `error` gets why its source is refused.
+/// Where names are given, `error` gets why the source is refused, or why the server did not start.
 ///
 /// A failure is `ReadFault`, `WriteFault` or `Memory`, the first that was met. What did not hang on it was still done.
 pub fn serve_objects<
-    R: Files + AllocGlobal + Threads + Wait + Clone + Drop + Sync,
+    R: Files + AllocGlobal + Threads + Wait + Clock + Clone + Drop + Sync,
     H: Hand + Ends + Drop + Send,
     W: Write,
     E: Write,
@@ -85,17 +100,25 @@ pub fn serve_objects<
     rt: &R,
     source: &[u8],
     place: Place<H>,
-    listener: &TcpListener,
+    gate: &Gate,
     writer: &mut W,
-    explains: Option<&str>,
+    explains: Option<&Names>,
     error: &mut E,
 ) -> Result<u8, Failure>
 where
     R::File: FileExt,
 {
-    let ended = match serve_on(rt, rt.alloc(), source, place, listener, writer) {
-        Ok(end) => Ok(status_of_serve(end)),
+    let ended = serve_on(rt, rt.alloc(), source, place, gate, writer, error);
+    if let Some(names) = explains {
+        tell_lack(rt.alloc(), lacking(&ended), names, error);
+    }
+    let ended = match ended {
+        Ok(end) => status_of_serve(end),
         Err(fault) => Err(Failure::from(fault)),
     };
-    explained(rt.alloc(), ended, explains, source, None, error)
+    let file = match explains {
+        Some(names) => Some(names.file.as_str()),
+        None => None,
+    };
+    explained(rt.alloc(), ended, file, source, None, error)
 }

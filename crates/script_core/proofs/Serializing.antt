@@ -10,13 +10,13 @@ use Rattle.decl_core.specs.Bodies.{body_of}
 use Rattle.decl_core.specs.declared.object.Object.{Object}
 use Rattle.decl_core.specs.ObjectMap.{object_of}
 use Rattle.line_core.specs.Runs.{Runs}
-use Rattle.body_core.specs.declared.reply.Failure.TheVariants as failures
-use Rattle.body_core.specs.declared.reply.Reply.{Reply}
-use Rattle.body_core.specs.declared.reply.Reply.TheVariants as replies
+use Rattle.apply_core.specs.declared.reply.Failure.TheVariants as failures
+use Rattle.apply_core.specs.declared.reply.Reply.{Reply}
+use Rattle.apply_core.specs.declared.reply.Reply.TheVariants as replies
 use Rattle.body_core.specs.Calls.{Call}
 use Rattle.body_core.specs.Steps.{sealed_at}
-use Rattle.body_core.specs.History.{IsLegal, IsReplyOn, left_by, leads_to}
-use Rattle.body_core.specs.HistoryLaws.{LegalByOne, LeadsByOne}
+use Rattle.apply_core.specs.History.{IsLegal, IsReplyOn, left_by, leads_to}
+use Rattle.apply_core.specs.HistoryLaws.{LegalByOne, LeadsByOne}
 use Rattle.board_core.specs.declared.event.TraceEvent.{TraceEvent}
 use Rattle.board_core.specs.Lists.{Every, Among}
 use Rattle.board_core.specs.Calls.{AcceptedCall, RunningCall, Noted}

@@ -4,7 +4,7 @@ use Rattle.std.specs.List.{flat_map}
 use Rattle.value_core.specs.declared.datum.Datum.{Datum}
 use Rattle.decl_core.specs.declared.object.Object.{Object}
 use Rattle.decl_core.specs.ObjectMap.{object_of}
-use Rattle.body_core.specs.declared.step.Need.{Need}
+use Rattle.apply_core.specs.declared.need.Need.{Need}
 use Rattle.body_core.specs.declared.step.StepAnswer.{StepAnswer}
 use Rattle.body_core.specs.declared.step.StepAnswer.TheVariants.{Went, Failed, AlreadyDone}
 use Rattle.trace_core.specs.Text.{trace_text}

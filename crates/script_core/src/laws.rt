@@ -2,7 +2,7 @@
 
 ghost use Rattle.script_core.specs.Laws.{ScriptsAreSerial};
 
-use body_core::laws::{leads_by_one, legal_by_one};
+use apply_core::laws::{leads_by_one, legal_by_one};
 use world_core::laws::fails_only_with_its_device;
 
 /// What a script writes on finishes and values is what the sequential object gives, call by call as they finish. So the finish

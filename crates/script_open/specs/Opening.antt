@@ -4,7 +4,7 @@ use Rattle.decl_core.specs.ObjectForm.{ObjectForm}
 use Rattle.decl_read.specs.declared.fault.DeclFault.{DeclFault}
 use Rattle.decl_read.specs.Sources.{AreObjectsOf}
 use Rattle.exclude_core.specs.Exclusive.{IsExclusive, IsFirstUnseparated}
-use Rattle.exclude_core.specs.Report.{IsToldFault, fault_line, refused_line}
+use Rattle.check_core.specs.Report.{IsToldFault, fault_line, refused_line}
 use Rattle.script_text.specs.Answers.{bad_line}
 use Rattle.script_open.specs.Named.{NamesObject}
 

@@ -3,7 +3,7 @@ use Rattle.std.specs.Prelude.{◌≡◌, ℕ, List}
 use Rattle.decl_core.specs.ObjectForm.{ObjectForm}
 use Rattle.decl_core.specs.ObjectMap.{object_of}
 use Rattle.exclude_core.specs.Exclusive.{IsExclusive, IsFirstUnseparated}
-use Rattle.exclude_core.specs.Report.{refused_line}
+use Rattle.check_core.specs.Report.{refused_line}
 use Rattle.script_open.specs.Opening.{IsReady, IsTold}
 use Rattle.script_open.specs.declared.open.Opened.{Opened}
 use Rattle.script_open.specs.declared.open.Opened.TheVariants as opened

@@ -4,18 +4,18 @@ ghost use Rattle.std.specs.Prelude.{◌≡◌, ◌≢◌, ◌↔◌, ◌++◌, �
 ghost use Rattle.std.specs.Map.{values_of};
 ghost use Rattle.decl_core.specs.ObjectMap.{object_of, objects_of};
 ghost use Rattle.exclude_core.specs.Refusals.{IsWhy};
-ghost use Rattle.exclude_core.specs.Report.{IsWantOfMemory, fault_line};
+ghost use Rattle.check_core.specs.Report.{IsWantOfMemory, fault_line};
 ghost use Rattle.script_open.specs.Named.{NamesObject};
 ghost use Rattle.script_open.specs.Opening.{no_object_line};
 ghost use Rattle.script_open.specs.View.{IsOpened, IsJudged, IsRefusedLine};
 ghost use Rattle.script_text.specs.Answers.{bad_line};
 
 use crate::head::named_object;
+use check_core::report::{push_source_fault, push_unseparated};
 use decl_core::object::Object;
 use decl_read::fault::DeclFault;
 use decl_read::read::read_objects;
 use exclude_core::analyse::{Accepted, Refusal, Refused, analyse};
-use exclude_core::report::{push_source_fault, push_unseparated};
 use indexmap::IndexMap;
 use path_tree::lex::fault::LexFault;
 use path_tree::name::Name;

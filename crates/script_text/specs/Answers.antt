@@ -2,9 +2,9 @@
 use Rattle.std.specs.Prelude.{ℕ, Bool, true, false, List, [], ◌∷◌, ◌++◌, codes, decimal}
 use Rattle.value_core.specs.Contents.{Contents}
 use Rattle.value_core.specs.declared.kind.Kind.{Kind}
-use Rattle.body_core.specs.declared.reply.Reply.{Reply}
-use Rattle.body_core.specs.declared.step.Need.{Need}
-use Rattle.body_core.specs.declared.step.Need.TheVariants.{Read, Create, Append, Seal, Done}
+use Rattle.apply_core.specs.declared.reply.Reply.{Reply}
+use Rattle.apply_core.specs.declared.need.Need.{Need}
+use Rattle.apply_core.specs.declared.need.Need.TheVariants.{Read, Create, Append, Seal, Done}
 use Rattle.word_core.specs.Words.{bare, line_of}
 use Rattle.word_core.specs.Data.{session_word}
 use Rattle.word_core.specs.Ending.{finish_words}

@@ -7,8 +7,8 @@ ghost use Rattle.std.specs.Prelude.{◌≡◌, ◌++◌, OnOk};
 ghost use Rattle.decl_core.specs.ObjectMap.{object_of, parts_of};
 ghost use Rattle.script_text.specs.Answers as answers;
 
-use body_core::reply::Reply;
-use body_core::step::Need;
+use apply_core::need::Need;
+use apply_core::reply::Reply;
 use decl_core::object::{Object, Part};
 use std::alloc::{AllocError, Global};
 use trace_core::reply::reply_ending;

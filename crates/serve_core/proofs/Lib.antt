@@ -1,1 +1,3 @@
 pub mod Sorting
+pub mod Numbering
+pub mod Sending

@@ -4,7 +4,7 @@ use Rattle.std.proofs.lemmas.List.{append-nil, map-append}
 use Rattle.decl_core.specs.declared.object.Object.{Object}
 use Rattle.decl_core.specs.ObjectForm.{ObjectForm}
 use Rattle.decl_core.specs.ObjectMap.{object_of, objects_of}
-use Rattle.exclude_core.specs.Report.{refused_line}
+use Rattle.check_core.specs.Report.{refused_line}
 use Rattle.decl_read.specs.Sources.{AreObjectsOf}
 use Rattle.serve_core.specs.Judging.{AreJudged, no_object, and_accepted, and_refused, refused}
 use Rattle.serve_core.specs.declared.judge.Judged.{Judged}

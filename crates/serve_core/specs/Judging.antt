@@ -4,7 +4,7 @@ use Rattle.decl_core.specs.ObjectForm.{ObjectForm}
 use Rattle.decl_read.specs.declared.fault.DeclFault.{DeclFault}
 use Rattle.decl_read.specs.Sources.{AreObjectsOf}
 use Rattle.exclude_core.specs.Exclusive.{IsExclusive, IsFirstUnseparated}
-use Rattle.exclude_core.specs.Report.{IsToldFault, fault_line, refused_line}
+use Rattle.check_core.specs.Report.{IsToldFault, fault_line, refused_line}
 
 -- of these objects, in order, these are accepted, and the others are told a line each
 pub data AreJudged : List ObjectForm → List ObjectForm → List ℕ → Type 0 where

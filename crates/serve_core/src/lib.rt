@@ -6,8 +6,10 @@
 
 pub mod close;
 pub mod folder;
+pub mod gate;
+pub mod gather;
 pub mod judge;
 pub mod listen;
 pub mod open;
 pub mod serve;
-mod trouble;
+pub mod trouble;

@@ -1,23 +1,27 @@
 //! Connections, each of them served on threads of its own.
 
-use crate::trouble::{Trouble, fault_of};
+use crate::gate::Door;
+use crate::trouble::fault_of;
+use ahead_core::ahead::Ends;
 use crossbeam_channel::Receiver;
+use hand_core::hand::Hand;
 use line_core::LinesFault;
 use office_core::seat::Seat;
 use session_core::end::SessionEnd;
 use session_core::order::Offices;
 use session_core::serve::serve_session;
-use shelf_core::hand::Hand;
 use slip_core::slip::Slip;
 use std::alloc::{AllocError, Global};
-use std::net::{TcpListener, TcpStream};
-use std::sync::Wait;
+use std::net::TcpStream;
+use std::sync::{Mutex, Wait};
 use std::thread;
 use std::thread::Threads;
-use std::time::Duration;
-use turn_core::ahead::Ends;
+use std::time::{Clock, Duration};
+use talk_core::bell::Bell;
+use talk_core::fault::SessionFault;
+use talk_core::patient::Patient;
 
-// How long a read waits where nothing comes, in milliseconds.
+// How long a read waits where nothing comes, and a write where nothing is taken, in milliseconds.
 const PAUSE: u64 = 250;
 
 /// What a session leaves to its object.
@@ -27,82 +31,164 @@ pub struct Left {
     pub object: Option<usize>,
     pub seat: Option<Seat>,
     pub receipts: Vec<Slip>,
+    /// Why it ended, where that was not by `quit` or the end of its input.
+    pub fault: Option<SessionFault>,
 }
 
-// Has answers go out at once, and a read return after a while where nothing comes. Where the system can't do that, it is done
-// without.
+/// What a thread that was to serve a connection leaves.
+#[derive(Drop)]
+pub enum Came {
+    /// A session.
+    Session(Left),
+    /// No connection could be taken, or not be served.
+    Fault(LinesFault),
+}
+
+/// Where threads put what they leave.
+pub trait Basket {
+    /// Adds what one thread leaves.
+    fn put<R: Wait>(&self, rt: &R, came: Came);
+}
+
+/// What threads leave, in room that is taken before they begin.
+#[derive(Drop)]
+pub struct Leavings {
+    all: Mutex<Vec<Came>>,
+}
+
+impl Leavings {
+    // Room for so many, none of which is there yet.
+    fn with_room(alloc: Global, count: usize) -> Result<Leavings, AllocError> {
+        let room = Vec::with_capacity(alloc, count)?;
+        Ok(Leavings {
+            all: Mutex::new(room),
+        })
+    }
+
+    // All that was left.
+    fn into_all(self) -> Vec<Came> {
+        self.all.into_inner()
+    }
+}
+
+impl Basket for Leavings {
+    fn put<R: Wait>(&self, rt: &R, came: Came) {
+        let _put = self.all.lock(rt).push(came);
+    }
+}
+
+// Has answers go out at once, and a read return after a while where nothing comes, as a write where nothing is taken. Where the
+// system can't do that, it is done without.
 fn prepare(stream: &TcpStream) {
     let _ = stream.set_nodelay(true);
     let _ = stream.set_read_timeout(Some(Duration::from_millis(PAUSE)));
+    let _ = stream.set_write_timeout(Some(Duration::from_millis(PAUSE)));
 }
 
-// Takes a connection, serves the session over it with the next hand, and has the hand end. The error is that none could be taken, or not be served.
-fn serve_next<R: Threads + Wait + Sync, H: Hand + Ends + Drop + Send, O: Offices + Sync>(
+// Serves a session over a connection, and has the hand end.
+fn serve_stream<R: Threads + Wait + Clock + Sync, H: Hand + Ends + Drop + Send, O: Offices + Sync>(
     rt: &R,
     alloc: Global,
-    listener: &TcpListener,
-    hands: &Receiver<H>,
+    stream: TcpStream,
+    bell: &Bell,
+    hand: H,
     offices: &O,
-) -> Result<Option<Left>, LinesFault> {
-    let Ok(hand) = hands.recv(rt) else {
-        return Ok(None);
-    };
-    let (stream, _) = listener.accept().map_err(fault_of)?;
+) -> Came {
     prepare(&stream);
-    let writer = stream.try_clone().map_err(fault_of)?;
+    let writer = match stream.try_clone() {
+        Ok(writer) => writer,
+        Err(error) => return Came::Fault(fault_of(error)),
+    };
     let SessionEnd {
         object,
         seat,
         receipts,
         writer: _,
         mut hand,
-        fault: _,
-    } = serve_session(rt, alloc, stream, writer, offices, hand);
+        fault,
+    } = serve_session(
+        rt,
+        alloc,
+        stream,
+        Patient::new(writer, bell),
+        bell,
+        offices,
+        hand,
+    );
     hand.end();
-    Ok(Some(Left {
+    Came::Session(Left {
         object,
         seat,
         receipts,
-    }))
+        fault,
+    })
+}
+
+// Takes a connection and serves it with the next hand. `None`: no more are taken.
+fn serve_next<
+    R: Threads + Wait + Clock + Sync,
+    H: Hand + Ends + Drop + Send,
+    O: Offices + Sync,
+    D: Door,
+>(rt: &R, alloc: Global, door: &D, hands: &Receiver<H>, offices: &O) -> Option<Came> {
+    let Ok(hand) = hands.recv(rt) else {
+        return None;
+    };
+    match door.accept() {
+        Ok(Some(stream)) => Some(serve_stream(rt, alloc, stream, door.bell(), hand, offices)),
+        Ok(None) => None,
+        Err(error) => Some(Came::Fault(fault_of(error))),
+    }
+}
+
+// The same, and puts what came of it to the others.
+fn serve_into<
+    R: Threads + Wait + Clock + Sync,
+    H: Hand + Ends + Drop + Send,
+    O: Offices + Sync,
+    D: Door,
+    B: Basket,
+>(rt: &R, alloc: Global, door: &D, hands: &Receiver<H>, offices: &O, basket: &B) {
+    if let Some(came) = serve_next(rt, alloc, door, hands, offices) {
+        basket.put(rt, came);
+    }
+}
+
+// Does so in so many threads where these can be made, and else one after another, and returns when all have ended.
+fn serve_each<
+    R: Threads + Wait + Clock + Sync,
+    H: Hand + Ends + Drop + Send,
+    O: Offices + Sync,
+    D: Door + Sync,
+    B: Basket + Sync,
+>(rt: &R, alloc: Global, count: usize, door: &D, hands: &Receiver<H>, offices: &O, basket: &B) {
+    // A refusal of memory comes only once all have ended, and takes nothing from what they left.
+    let _ended = thread::map_indices(
+        rt,
+        alloc,
+        count,
+        &|_part| serve_into(rt, alloc, door, hands, offices, basket),
+    );
 }
 
 /// Serves a connection for each hand, each on threads of its own where these can be made and else one after another, until all have
-/// ended. It gives what the sessions left. A connection that could not be taken or served is noted: as want of memory, or else as a
-/// `ReadFault`.
+/// ended, or no more are taken and those that were have ended. It gives what came of them.
 ///
-/// The error is that memory was refused; of what the sessions left nothing is known then.
-pub fn serve_all<R: Threads + Wait + Sync, H: Hand + Ends + Drop + Send, O: Offices + Sync>(
-    rt: &R,
-    alloc: Global,
-    listener: &TcpListener,
-    hands: Vec<H>,
-    offices: &O,
-    trouble: &mut Trouble,
-) -> Result<Vec<Left>, AllocError> {
+/// The error is that memory was refused; nobody was served then. The room for what comes is taken before.
+pub fn serve_all<
+    R: Threads + Wait + Clock + Sync,
+    H: Hand + Ends + Drop + Send,
+    O: Offices + Sync,
+    D: Door + Sync,
+>(rt: &R, alloc: Global, door: &D, hands: Vec<H>, offices: &O) -> Result<Vec<Came>, AllocError> {
     let sessions = hands.len();
-    let mut left = Vec::with_capacity(alloc, sessions)?;
+    let leavings = Leavings::with_room(alloc, sessions)?;
     let (to, free) = crossbeam_channel::unbounded(alloc)?;
     for hand in hands {
         if to.send(rt, hand).is_err() {
             return Err(AllocError);
         }
     }
-    let came = thread::map_indices(
-        rt,
-        alloc,
-        sessions,
-        &|_part| serve_next(rt, alloc, listener, &free, offices),
-    )?;
-    for one in came {
-        match one {
-            Ok(Some(one)) => {
-                if left.push(one).is_err() {
-                    return Err(AllocError);
-                }
-            }
-            Ok(None) => {}
-            Err(fault) => trouble.note(fault),
-        }
-    }
-    Ok(left)
+    serve_each(rt, alloc, sessions, door, &free, offices, &leavings);
+    Ok(leavings.into_all())
 }

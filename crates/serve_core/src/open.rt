@@ -2,16 +2,17 @@
 
 ghost use Rattle.std.specs.Prelude.{◌≡◌, length, IfOk};
 
+use decl_core::object::Object;
 use exclude_core::analyse::Accepted;
+use hand_core::hand::Hand;
+use hand_core::pins::Pins;
+use hand_core::shelf::Shelf;
 use line_core::LinesFault;
 use office_core::office::Office;
 use office_core::room::Room;
 use path_tree::name::Name;
 use session_core::order::Named;
-use shelf_core::hand::Hand;
 use shelf_core::open::{OpenFault, open_parts};
-use shelf_core::pins::Pins;
-use shelf_core::shelf::Shelf;
 use std::alloc::{AllocError, Global};
 use value_core::value::Value;
 
@@ -43,15 +44,20 @@ impl From<AllocError> for NotOpened {
     }
 }
 
-/// Adds `part OBJECT.PART damaged`, the part by its place.
-pub fn push_damaged(out: &mut Vec<u8>, accepted: &Accepted, part: usize) -> Result<(), AllocError> {
-    let object = accepted.object();
-    out.extend_from_slice(b"part ")?;
+/// Adds `OBJECT.PART`, the part by its place.
+pub fn push_part(out: &mut Vec<u8>, object: &Object, part: usize) -> Result<(), AllocError> {
     out.extend_from_slice(object.name.as_bytes())?;
     out.extend_from_slice(b".")?;
     if let Some(part) = object.parts.get(part) {
         out.extend_from_slice(part.name.as_bytes())?;
     }
+    Ok(())
+}
+
+/// Adds `part OBJECT.PART damaged`.
+pub fn push_damaged(out: &mut Vec<u8>, object: &Object, part: usize) -> Result<(), AllocError> {
+    out.extend_from_slice(b"part ")?;
+    push_part(out, object, part)?;
     out.extend_from_slice(b" damaged\n")
 }
 
@@ -68,7 +74,7 @@ fn parts_of<S: Shelf, H: Hand>(
         Ok(opened) => Ok(opened),
         Err(OpenFault::Damaged(part)) => {
             let mut line = Vec::new(alloc);
-            push_damaged(&mut line, accepted, part)?;
+            push_damaged(&mut line, accepted.object(), part)?;
             Err(NotOpened::Damaged(line))
         }
         Err(OpenFault::Device) => Err(NotOpened::Fault(LinesFault::ReadFault)),

@@ -1,38 +1,13 @@
 //! How a session ended.
 
 ghost use Rattle.std.specs.Prelude.{◌≡◌, ◌↔◌, IsTrue, List, ℕ, Option};
-ghost use Rattle.session_core.specs.Written.{IsNoteOf, AreNoted, IsWritten, HasWritten, heard_fault as heard_in, or_memory as or_memory_in, told_fault};
+ghost use Rattle.talk_core.specs.Written.{IsNoteOf, AreNoted, IsWritten, HasWritten, heard_fault as heard_in, or_memory as or_memory_in, told_fault};
 
-use crate::note::Note;
-use crate::output::Health;
 use office_core::seat::Seat;
 use slip_core::slip::Slip;
-
-/// Why a session ended, where it was not by `quit` or the end of its input.
-#[derive(Clone, Copy, Debug, PartialEq, Eq)]
-pub enum SessionFault {
-    /// A line has more than 4,096 bytes.
-    LineTooLong,
-    /// A read failed.
-    ReadFault,
-    /// A write failed. The lines that were written are whole but for the last one.
-    WriteFault,
-    /// Memory was refused.
-    Memory,
-    /// The last line of a call that was written is of no receipt.
-    LogMixed,
-}
-
-/// What the reading thread met.
-#[derive(Clone, Copy, Debug, PartialEq, Eq)]
-pub enum HearFault {
-    /// A line has more than 4,096 bytes.
-    LineTooLong,
-    /// A read failed.
-    ReadFault,
-    /// Memory was refused.
-    Memory,
-}
+use talk_core::fault::{HearFault, SessionFault};
+use talk_core::note::Note;
+use talk_core::output::Health;
 
 /// What a session hands back.
 #[derive(Drop)]

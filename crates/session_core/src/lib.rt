@@ -2,21 +2,14 @@
 //!
 //! `serve::serve_session` serves one client. The calling thread (`work`) reads lines, submits, awaits, performs and completes
 //! the calls, keeps their receipts, and retires the files that they leave. Where a call has to wait, it lends the reading side
-//! (`ear`, `reading`) to a second thread (`listen`), which answers cancels at once, hands the rest over in order (`relay`), and
-//! gives the reading side back when the first thread has nothing else to do. What is written goes through `output`, under a
-//! lock: whole lines, each noted where it is the last line of a receipt. `end` compares the notes with the receipts and tells
-//! the fault. Which lines there are is `session_text`'s.
+//! to a second thread (`listen`), which answers cancels at once, hands the rest over in order, and gives the reading side back when the
+//! first thread has nothing else to do; and a third thread (`sender`) sends what is held back. `end` compares the notes of what was written with the receipts and tells
+//! the fault. What is heard and said goes through `talk_core`.
 #![tactic(auto)]
 
-mod ear;
 pub mod end;
 mod listen;
-pub mod note;
 pub mod order;
-pub mod output;
-pub mod reader;
-mod reading;
-mod relay;
-mod room;
+mod sender;
 pub mod serve;
 mod work;

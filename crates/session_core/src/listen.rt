@@ -1,32 +1,28 @@
 //! The second thread of a session: it reads while a call waits.
 
-use crate::ear::{Ear, Heard};
-use crate::end::HearFault;
 use crate::order::Offices;
-use crate::output::{Output, Start};
-use crate::relay::Relay;
 use crossbeam_channel::Receiver;
 use session_text::line::{Line, Refusal};
 use session_text::session::Action;
 use std::alloc::Global;
 use std::io::{Read, Write};
-use std::sync::{Mutex, Wait};
+use std::sync::Wait;
+use talk_core::ear::{Ear, Heard};
+use talk_core::fault::HearFault;
+use talk_core::mouth::Mouth;
+use talk_core::output::Start;
+use talk_core::relay::Relay;
 
 // Writes a line at once.
-fn tell<R: Wait, W: Write + Drop, J: Start>(
-    rt: &R,
-    output: &Mutex<Output<W, J>>,
-    line: Line,
-) -> bool {
-    let mut output = output.lock(rt);
-    output.say(line) && output.flush()
+fn tell<R: Wait, W: Write + Drop, J: Start>(rt: &R, mouth: &Mouth<W, J>, line: Line) -> bool {
+    mouth.say(rt, line) && mouth.flush(rt)
 }
 
 // Cancels a call of the object that is opened, and answers at once.
 fn cancel<R: Wait, W: Write + Drop, J: Start, O: Offices>(
     rt: &R,
     offices: &O,
-    output: &Mutex<Output<W, J>>,
+    mouth: &Mouth<W, J>,
     opened: Option<(usize, u32)>,
     number: u32,
 ) -> bool {
@@ -37,7 +33,7 @@ fn cancel<R: Wait, W: Write + Drop, J: Start, O: Offices>(
         return true;
     };
     let answer = office.cancel(rt, number);
-    tell(rt, output, Line::Cancel(number, answer))
+    tell(rt, mouth, Line::Cancel(number, answer))
 }
 
 /// A session leaves its object.
@@ -53,7 +49,7 @@ pub(crate) fn leave<R: Wait, O: Offices>(rt: &R, offices: &O, opened: Option<(us
 fn heed<R: Wait, I: Read + Drop, W: Write + Drop, J: Start, O: Offices>(
     rt: &R,
     offices: &O,
-    output: &Mutex<Output<W, J>>,
+    mouth: &Mouth<W, J>,
     relay: &Relay<I>,
     ear: &mut Ear<I>,
     heard: Heard,
@@ -61,7 +57,7 @@ fn heed<R: Wait, I: Read + Drop, W: Write + Drop, J: Start, O: Offices>(
     match heard {
         Heard::Nothing => ear.read(),
         Heard::Action(Action::Cancel(number)) => {
-            if !cancel(rt, offices, output, ear.opened(), number) {
+            if !cancel(rt, offices, mouth, ear.opened(), number) {
                 ear.end(None);
             }
         }
@@ -71,7 +67,7 @@ fn heed<R: Wait, I: Read + Drop, W: Write + Drop, J: Start, O: Offices>(
             }
         }
         Heard::LineTooLong => {
-            let _told = tell(rt, output, Line::Refused(Refusal::LineTooLong));
+            let _told = tell(rt, mouth, Line::Refused(Refusal::LineTooLong));
         }
         Heard::End(_) => return false,
     }
@@ -83,7 +79,7 @@ fn listen_on<R: Wait, I: Read + Drop, W: Write + Drop, J: Start, O: Offices>(
     rt: &R,
     alloc: Global,
     offices: &O,
-    output: &Mutex<Output<W, J>>,
+    mouth: &Mouth<W, J>,
     relay: &Relay<I>,
     ear: Ear<I>,
 ) {
@@ -93,7 +89,7 @@ fn listen_on<R: Wait, I: Read + Drop, W: Write + Drop, J: Start, O: Offices>(
             break;
         }
         let heard = ear.hear(alloc);
-        if !heed(rt, offices, output, relay, &mut ear, heard) {
+        if !heed(rt, offices, mouth, relay, &mut ear, heard) {
             leave(rt, offices, ear.opened());
             break;
         }
@@ -107,7 +103,7 @@ pub(crate) fn listen<R: Wait, I: Read + Drop, W: Write + Drop, J: Start, O: Offi
     alloc: Global,
     from: Receiver<Ear<I>>,
     offices: &O,
-    output: &Mutex<Output<W, J>>,
+    mouth: &Mouth<W, J>,
     relay: &Relay<I>,
 ) {
     relay.arrive(rt);
@@ -115,6 +111,6 @@ pub(crate) fn listen<R: Wait, I: Read + Drop, W: Write + Drop, J: Start, O: Offi
         let Ok(ear) = from.recv(rt) else {
             break;
         };
-        listen_on(rt, alloc, offices, output, relay, ear);
+        listen_on(rt, alloc, offices, mouth, relay, ear);
     }
 }

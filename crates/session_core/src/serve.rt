@@ -1,25 +1,30 @@
 //! Sessions over a reader and a writer.
 
 ghost use Rattle.std.specs.Prelude.{◌≡◌, ℕ, List, Option};
-ghost use Rattle.session_core.specs.Truth.{Keeps, AreTrue};
-ghost use Rattle.session_core.specs.Written.{IsWritten, HasWritten};
+ghost use Rattle.talk_core.specs.Truth.{Keeps, AreTrue};
+ghost use Rattle.talk_core.specs.Written.{IsWritten, HasWritten};
 
-use crate::ear::Ear;
-use crate::end::{SessionEnd, SessionFault, conclude};
+use crate::end::{SessionEnd, conclude};
 use crate::listen::listen;
-use crate::note::Note;
 use crate::order::Offices;
-use crate::output::{Health, Output, Start};
-use crate::reading::Reading;
-use crate::relay::Relay;
+use crate::sender::send;
 use crate::work::{Worked, work};
-use shelf_core::hand::Hand;
+use hand_core::hand::Hand;
 use std::alloc::Global;
 use std::io::{Read, Write};
 use std::marker::Brand;
-use std::sync::{Mutex, Wait};
+use std::sync::Wait;
 use std::thread;
 use std::thread::Threads;
+use std::time::Clock;
+use talk_core::bell::{Bell, UntilBell};
+use talk_core::ear::Ear;
+use talk_core::fault::SessionFault;
+use talk_core::mouth::Mouth;
+use talk_core::note::Note;
+use talk_core::output::{Health, Start};
+use talk_core::reading::Reading;
+use talk_core::relay::Relay;
 
 // What a session hands back, by what was written and what its first thread left.
 fn ended<W: Drop, H: Drop>(
@@ -39,6 +44,7 @@ fn ended<W: Drop, H: Drop>(
         receipts,
         room: _,
         free: _,
+        late: _,
         fault: met,
     } = worked;
     let fault = conclude(&receipts, notes, health, met);
@@ -56,15 +62,52 @@ fn ended<W: Drop, H: Drop>(
     }
 }
 
-// Serves one session on a writer that held this at first.
-fn serve_from<
+// The work of the first thread, with the third one beside it.
+fn work_beside<
     J: Start + Send + Sync,
-    R: Threads + Wait + Sync,
+    R: Threads + Wait + Clock + Sync,
     I: Read + Drop + Send,
     W: Write + Drop + Send,
     H: Hand + Drop,
     O: Offices + Sync,
->(rt: &R, alloc: Global, reader: I, writer: W, offices: &O, hand: H) -> SessionEnd<W, H>
+>(
+    rt: &R,
+    alloc: Global,
+    offices: &O,
+    mouth: &Mouth<W, J>,
+    reading: Reading<'_, I>,
+    hand: H,
+) -> Worked<H>
+    ensures kept { Keeps H.agrees hand result.hand }
+    ensures told { AreTrue H.agrees result.hand result.receipts.items }
+{
+    let (_, worked) = thread::join(
+        rt,
+        move || send(rt, offices, mouth),
+        move || -> Worked<H>
+            ensures { Keeps H.agrees hand result.hand × AreTrue H.agrees result.hand result.receipts.items }
+        { work(rt, alloc, offices, mouth, reading, hand) },
+    );
+    worked
+}
+
+// Serves one session on a writer that held this at first.
+fn serve_from<
+    J: Start + Send + Sync,
+    R: Threads + Wait + Clock + Sync,
+    I: Read + Drop + Send,
+    W: Write + Drop + Send,
+    H: Hand + Drop,
+    O: Offices + Sync,
+>(
+    rt: &R,
+    alloc: Global,
+    reader: I,
+    writer: W,
+    bell: &Bell,
+    offices: &O,
+    hand: H,
+) -> SessionEnd<W, H>
     requires { W.contents writer ≡ J.start }
     ensures kept { Keeps H.agrees hand result.hand }
     ensures told { AreTrue H.agrees result.hand result.receipts.items }
@@ -83,10 +126,10 @@ fn serve_from<
             };
         }
     };
-    let output: Mutex<Output<W, J>> = Mutex::new(Output::new(alloc, writer));
+    let mouth: Mouth<W, J> = Mouth::new(alloc, writer);
     let relay = Relay::new(alloc);
     let ear = Ear::new(alloc, reader);
-    let shared = &output;
+    let shared = &mouth;
     let lent = &relay;
     let (_, worked) = thread::join(
         rt,
@@ -94,40 +137,59 @@ fn serve_from<
         move || -> Worked<H>
             ensures { Keeps H.agrees hand result.hand × AreTrue H.agrees result.hand result.receipts.items }
         {
-            work(
+            work_beside(
                 rt,
                 alloc,
                 offices,
                 shared,
-                Reading::new(ear, to, lent),
+                Reading::new(ear, to, lent, bell),
                 hand,
             )
         },
     );
-    let (writer, notes, health) = output.into_inner().into_parts();
+    let (writer, notes, health) = mouth.into_parts();
     ended(writer, &notes, health, worked)
 }
 
 /// Serves one session: the calling thread reads lines and does what they ask for; while a call waits for more than some
-/// milliseconds, a thread of its own reads on.
+/// milliseconds, a second thread reads on, and a third one sends what is held back. So nothing is written by a thread that has a call, from its
+/// submission to its end.
 ///
-/// The session ends by `quit`, at the end of its input, or by a fault, which `fault` tells. By an end of input or a fault it
+/// The session ends by `quit`, at the end of its input, when the bell has rung, or by a fault, which `fault` tells. But by `quit` it
 /// leaves its object, also behind a `quit` that stands behind a waiting call: the waiting call is cancelled, calls not yet
 /// submitted are answered `no Gone`, a running call is completed. A read that is interrupted or whose time runs out is no
-/// fault. Where `quit` was read behind a waiting call, the end comes with the next read that returns, so a reader whose reads
-/// never time out may hold it up. Where no second thread can be made, nothing is read while a call waits. The receipts are true of each assignment that agrees with the hand given back, and what was written are
-/// whole lines of the table or of receipts; with `WriteFault` such lines, and a front of one more. Files whose retire
+/// fault. Where `quit` was read behind a waiting call, and where the bell has rung, the end comes with the next read that returns, so a reader
+/// whose reads never time out may hold it up; so may a writer whose writes never do. What stands behind the last line end is done only where it
+/// harms nobody: a call is answered `no Gone`, a cancel `no BadLine`. Where no second thread can be made, nothing is read while a call waits,
+/// and where no third one can be made, nothing is sent meanwhile. The receipts are true of each assignment that agrees with the hand given back,
+/// and what was written are whole lines of the table or of receipts; with `WriteFault` such lines, and a front of one more. Files whose retire
 /// failed are tried again later, and left at the end.
 pub fn serve_session<
-    R: Threads + Wait + Sync,
+    R: Threads + Wait + Clock + Sync,
     I: Read + Drop + Send,
     W: Write + Drop + Send,
     H: Hand + Drop,
     O: Offices + Sync,
->(rt: &R, alloc: Global, reader: I, writer: W, offices: &O, hand: H) -> SessionEnd<W, H>
+>(
+    rt: &R,
+    alloc: Global,
+    reader: I,
+    writer: W,
+    bell: &Bell,
+    offices: &O,
+    hand: H,
+) -> SessionEnd<W, H>
     ensures kept { Keeps H.agrees hand result.hand }
     ensures told { AreTrue H.agrees result.hand result.receipts.items }
     ensures written { HasWritten (W.contents writer) (W.contents result.writer) result.receipts.items result.fault }
 {
-    serve_from::<Brand, R, I, W, H, O>(rt, alloc, reader, writer, offices, hand)
+    serve_from::<Brand, R, UntilBell<'_, I>, W, H, O>(
+        rt,
+        alloc,
+        UntilBell::new(reader, bell),
+        writer,
+        bell,
+        offices,
+        hand,
+    )
 }

@@ -1,39 +1,43 @@
 //! The first thread of a session: it does the calls, and reads too, as long as no call waits.
 
-ghost use Rattle.std.specs.Prelude.{◌≡◌, ◌<◌, ◌++◌, ◌∷◌, [], IsTrue};
+ghost use Rattle.std.specs.Prelude.{◌≡◌, ◌<◌, IsTrue};
 ghost use Rattle.std.specs.Vec.{vec_len, vec_capacity};
 ghost use Rattle.board_core.specs.Lists.{Every};
 ghost use Rattle.slip_core.specs.Slips.{IsTrueTold};
-ghost use Rattle.shelf_core.specs.Device.{Assignment};
-ghost use Rattle.session_core.specs.Truth.{Keeps, AreTrue, OutcomeIsTrue};
+ghost use Rattle.hand_core.specs.Device.{Assignment};
+ghost use Rattle.talk_core.specs.Truth.{Keeps, AreTrue, OutcomeIsTrue};
 
-use crate::ear::Heard;
-use crate::end::HearFault;
 use crate::listen::leave;
 use crate::order::Offices;
-use crate::output::{Output, Start};
-use crate::reading::Reading;
-use crate::room::make_room_in;
 use body_core::at_once::run_at_once;
 use body_core::outcome::Outcome;
 use body_core::ticket::Ticket;
 use desk_core::answer::{Finished, SubmitFault};
+use hand_core::hand::{Hand, Stamp};
+use hand_core::retire::retire_all;
+use office_core::late::Late;
 use office_core::office::Office;
 use office_core::seat::{Seat, Started, Submitted, Tried};
 use path_tree::name::Name;
 use session_text::line::{Line, Refusal};
 use session_text::session::Action;
-use shelf_core::hand::{Hand, Stamp};
 use slip_core::room::SlipRoom;
 use slip_core::slip::Slip;
 use std::alloc::Global;
 use std::io::{Read, Write};
-use std::sync::{Mutex, Wait};
-use std::time::Duration;
+use std::sync::Wait;
+use std::time::{Clock, Duration};
 use std::{mem, str};
+use talk_core::ear::Heard;
+use talk_core::fault::HearFault;
+use talk_core::mouth::Mouth;
+use talk_core::output::Start;
+use talk_core::reading::Reading;
+use talk_core::room::make_room_in;
 use value_core::datum::Datum;
 
-/// How long a call may wait, in milliseconds, before the second thread reads meanwhile, and before `accepted N` is sent.
+/// How long a call may wait, in milliseconds, before the second thread reads meanwhile, and the third one sends what is held back. So long at most
+/// a line that stands ready is held back because calls behind it wait for their turn.
 const BRIEF: u64 = 10;
 
 /// What the first thread leaves.
@@ -46,6 +50,8 @@ pub(crate) struct Worked<H: Drop> {
     pub(crate) room: SlipRoom,
     // files that nobody reads any more, not yet retired
     pub(crate) free: Vec<Stamp>,
+    // how long lines are held back while calls wait
+    pub(crate) late: Late,
     // what ended the hearing, where it was a fault
     pub(crate) fault: Option<HearFault>,
 }
@@ -64,10 +70,10 @@ enum Goes {
 fn flush<R: Wait, W: Write + Drop, J: Start>(
     rt: &R,
     office: &Office,
-    output: &Mutex<Output<W, J>>,
+    mouth: &Mouth<W, J>,
     seat: &Seat,
 ) {
-    if !output.lock(rt).flush() {
+    if !mouth.flush(rt) {
         office.leave(rt, seat.session());
     }
 }
@@ -85,10 +91,12 @@ fn awaited<R: Wait>(rt: &R, office: &Office, submitted: Submitted) -> Option<Tic
     unreachable!()
 }
 
-// The same, while the second thread reads. As long as that thread does not run, it looks again and again.
+// The same, while the second thread reads. As long as that thread does not run, it looks again and again, also whether the session is to
+// end.
 fn awaited_beside<R: Wait, I: Read + Drop>(
     rt: &R,
     office: &Office,
+    seat: &Seat,
     reading: &mut Reading<'_, I>,
     submitted: Submitted,
 ) -> Option<Ticket> {
@@ -96,6 +104,9 @@ fn awaited_beside<R: Wait, I: Read + Drop>(
     for _ in rt.forever() {
         if reading.lend(rt) {
             return awaited(rt, office, submitted);
+        }
+        if reading.is_stopped() {
+            office.leave(rt, seat.session());
         }
         match office.try_start_within(rt, submitted, Duration::from_millis(BRIEF)) {
             Tried::Ticket(ticket) => return Some(ticket),
@@ -107,29 +118,65 @@ fn awaited_beside<R: Wait, I: Read + Drop>(
     unreachable!()
 }
 
+// Has what is held back sent by the third thread, since this one has a call that may start at any time.
+fn ask<R: Wait, I: Read + Drop, W: Write + Drop, J: Start>(
+    rt: &R,
+    mouth: &Mouth<W, J>,
+    reading: &Reading<'_, I>,
+) {
+    if let Some((at, session)) = reading.opened() {
+        mouth.ask(rt, at, session);
+    }
+}
+
 // The same, for what a look at a submission just made told. Before a call is waited for that does not start soon, the lines that are
-// held back are sent.
-fn started<R: Wait, I: Read + Drop, W: Write + Drop, J: Start>(
+// held back are sent, by the third thread.
+fn started<R: Wait + Clock, I: Read + Drop, W: Write + Drop, J: Start>(
     rt: &R,
     office: &Office,
-    output: &Mutex<Output<W, J>>,
+    mouth: &Mouth<W, J>,
+    late: &mut Late,
     seat: &Seat,
     reading: &mut Reading<'_, I>,
     tried: Tried,
 ) -> Option<Ticket> {
     let tried = match tried {
-        Tried::Waiting(back) => { office.try_start_within(rt, back, Duration::from_millis(BRIEF)) }
+        Tried::Waiting(back) => {
+            let most = late.left(rt, Duration::from_millis(BRIEF));
+            office.try_start_within(rt, back, most)
+        }
         other => other,
     };
     match tried {
         Tried::Ticket(ticket) => Some(ticket),
         Tried::Cancelled => None,
         Tried::Waiting(back) => {
-            flush(rt, office, output, seat);
-            awaited_beside(rt, office, reading, back)
+            ask(rt, mouth, reading);
+            late.reset();
+            awaited_beside(rt, office, seat, reading, back)
         }
         Tried::Stranger(back) => awaited(rt, office, back),
     }
+}
+
+// Submits a call, and looks whether it has started. Where it is held back since a call runs that it would wait for, the lines that stand ready are
+// sent after a while, before it is submitted.
+fn submitted<R: Wait + Clock, W: Write + Drop, J: Start>(
+    rt: &R,
+    office: &Office,
+    mouth: &Mouth<W, J>,
+    late: &mut Late,
+    seat: &mut Seat,
+    op: &str,
+    args: &[Datum],
+) -> Result<(u32, Tried), SubmitFault> {
+    let most = Duration::from_millis(BRIEF);
+    if let Some(answer) = office.submit_in_turn(rt, seat, op, args, late, most) {
+        return answer;
+    }
+    flush(rt, office, mouth, seat);
+    late.reset();
+    office.submit_and_try(rt, seat, op, args)
 }
 
 // Runs a started call.
@@ -150,24 +197,6 @@ fn completed<R: Wait>(rt: &R, office: &Office, seat: &mut Seat, outcome: &Outcom
     unreachable!()
 }
 
-// Retires a file that nobody reads any more. Where that fails, it is kept for later, if there is memory.
-fn retire_one<H: Hand>(hand: &mut H, stamp: &Stamp, left: &mut Vec<Stamp>)
-    ensures { Keeps H.agrees hand.old hand.new }
-{
-    if hand.retire(stamp).is_err() {
-        let _kept = left.push(*stamp);
-    }
-}
-
-// Retires files that nobody reads any more, in order, and keeps those whose retire fails.
-fn retire_all<H: Hand>(hand: &mut H, free: &[Stamp], left: &mut Vec<Stamp>)
-    ensures { Keeps H.agrees hand.old hand.new }
-{
-    for stamp in free {
-        retire_one(hand, stamp, left);
-    }
-}
-
 // Retires the files that are left, and keeps those whose retire fails.
 fn retire_left<H: Hand>(alloc: Global, hand: &mut H, left: &mut Vec<Stamp>)
     ensures { Keeps H.agrees hand.old hand.new }
@@ -176,48 +205,49 @@ fn retire_left<H: Hand>(alloc: Global, hand: &mut H, left: &mut Vec<Stamp>)
         return;
     }
     let free = mem::replace(left, Vec::new(alloc));
-    retire_all(hand, &free, left);
+    *left = retire_all(hand, free);
 }
 
 // Keeps the files of a receipt until the next call, or until its line was sent. Without memory they are retired now.
-fn put_off<H: Hand>(hand: &mut H, free: &[Stamp], left: &mut Vec<Stamp>)
+fn put_off<H: Hand>(hand: &mut H, free: Vec<Stamp>, left: &mut Vec<Stamp>)
     ensures { Keeps H.agrees hand.old hand.new }
 {
-    if left.extend_from_slice(free).is_err() {
-        retire_all(hand, free, left);
+    if left.extend_from_slice(&free).is_err() {
+        let _left = retire_all(hand, free);
     }
 }
 
 // Holds a line back.
-fn say<R: Wait, W: Write + Drop, J: Start>(rt: &R, output: &Mutex<Output<W, J>>, line: Line) {
-    let _said = output.lock(rt).say(line);
+fn say<R: Wait, W: Write + Drop, J: Start>(rt: &R, mouth: &Mouth<W, J>, line: Line) {
+    let _said = mouth.say(rt, line);
 }
 
 // A call from its submission to its start, with the lines up to there. It answers no ticket where the call does not start.
-fn begun<R: Wait, I: Read + Drop, W: Write + Drop, J: Start>(
+fn begun<R: Wait + Clock, I: Read + Drop, W: Write + Drop, J: Start>(
     rt: &R,
     office: &Office,
-    output: &Mutex<Output<W, J>>,
+    mouth: &Mouth<W, J>,
+    late: &mut Late,
     reading: &mut Reading<'_, I>,
     seat: &mut Seat,
     op: &str,
     args: &[Datum],
 ) -> Option<Ticket> {
-    let (number, tried) = match office.submit_and_try(rt, seat, op, args) {
+    let (number, tried) = match submitted(rt, office, mouth, late, seat, op, args) {
         Ok(answer) => answer,
         Err(fault) => {
-            say(rt, output, Line::Unsubmitted(fault));
+            say(rt, mouth, Line::Unsubmitted(fault));
             return None;
         }
     };
-    say(rt, output, Line::Accepted(number));
+    say(rt, mouth, Line::Accepted(number));
     let tried = match tried {
         Tried::Ticket(ticket) => return Some(ticket),
         other => other,
     };
-    let ticket = started(rt, office, output, seat, reading, tried);
+    let ticket = started(rt, office, mouth, late, seat, reading, tried);
     if ticket.is_none() {
-        say(rt, output, Line::Withdrawn(number));
+        say(rt, mouth, Line::Withdrawn(number));
     }
     ticket
 }
@@ -225,7 +255,7 @@ fn begun<R: Wait, I: Read + Drop, W: Write + Drop, J: Start>(
 // Makes room for a receipt, its note and its lines. Without memory it answers false.
 fn make_room<R: Wait, W: Write + Drop, J: Start>(
     rt: &R,
-    output: &Mutex<Output<W, J>>,
+    mouth: &Mouth<W, J>,
     receipts: &mut Vec<Slip>,
     room: &mut SlipRoom,
     args: &[Datum],
@@ -233,7 +263,7 @@ fn make_room<R: Wait, W: Write + Drop, J: Start>(
     ensures same { receipts.new.items ≡ receipts.old.items }
     ensures room { IsTrue result → vec_len receipts.new < vec_capacity receipts.new }
 {
-    make_room_in(receipts) && room.make(args).is_ok() && output.lock(rt).make_room()
+    make_room_in(receipts) && room.make(args).is_ok() && mouth.make_room(rt)
 }
 
 // Keeps what the receipt of an outcome tells. There is room for it, so that no receipt is lost.
@@ -248,11 +278,11 @@ fn keep(receipts: &mut Vec<Slip>, room: &mut SlipRoom, finished: &Finished, outc
 
 // One call, where there is room for its receipt. What earlier calls left is retired before it is submitted, while no other call waits
 // for this one.
-fn serve_at<R: Wait, I: Read + Drop, W: Write + Drop, H: Hand + Drop, J: Start>(
+fn serve_at<R: Wait + Clock, I: Read + Drop, W: Write + Drop, H: Hand + Drop, J: Start>(
     rt: &R,
     alloc: Global,
     office: &Office,
-    output: &Mutex<Output<W, J>>,
+    mouth: &Mouth<W, J>,
     reading: &mut Reading<'_, I>,
     seat: &mut Seat,
     worked: &mut Worked<H>,
@@ -263,26 +293,34 @@ fn serve_at<R: Wait, I: Read + Drop, W: Write + Drop, H: Hand + Drop, J: Start>(
     ensures told { AreTrue H.agrees worked.old.hand worked.old.receipts.items → AreTrue H.agrees worked.new.hand worked.new.receipts.items }
 {
     retire_left(alloc, &mut worked.hand, &mut worked.free);
-    if !make_room(rt, output, &mut worked.receipts, &mut worked.room, args) {
-        say(rt, output, Line::Unsubmitted(SubmitFault::Memory));
+    if !make_room(rt, mouth, &mut worked.receipts, &mut worked.room, args) {
+        say(rt, mouth, Line::Unsubmitted(SubmitFault::Memory));
         return;
     }
-    let Some(ticket) = begun(rt, office, output, reading, seat, op, args) else {
+    let begun = begun(rt, office, mouth, &mut worked.late, reading, seat, op, args);
+    let Some(ticket) = begun else {
         return;
     };
     let outcome = performed(alloc, ticket, &mut worked.hand);
     let finished = completed(rt, office, seat, &outcome);
-    let _said = output.lock(rt).say_ended(outcome.number(), outcome.reply());
+    let _said = mouth.say_ended(rt, outcome.number(), outcome.reply());
     keep(&mut worked.receipts, &mut worked.room, &finished, &outcome);
-    put_off(&mut worked.hand, &finished.free, &mut worked.free);
+    put_off(&mut worked.hand, finished.free, &mut worked.free);
 }
 
 // One call of the object that is opened.
-fn serve_call<R: Wait, I: Read + Drop, W: Write + Drop, H: Hand + Drop, J: Start, O: Offices>(
+fn serve_call<
+    R: Wait + Clock,
+    I: Read + Drop,
+    W: Write + Drop,
+    H: Hand + Drop,
+    J: Start,
+    O: Offices,
+>(
     rt: &R,
     alloc: Global,
     offices: &O,
-    output: &Mutex<Output<W, J>>,
+    mouth: &Mouth<W, J>,
     reading: &mut Reading<'_, I>,
     worked: &mut Worked<H>,
     op: &Name,
@@ -300,7 +338,7 @@ fn serve_call<R: Wait, I: Read + Drop, W: Write + Drop, H: Hand + Drop, J: Start
     let mut seat = seat;
     if let Some(office) = offices.office(at) {
         serve_at(
-            rt, alloc, office, output, reading, &mut seat, worked, op, args,
+            rt, alloc, office, mouth, reading, &mut seat, worked, op, args,
         );
     }
     worked.seat = Some((at, seat));
@@ -324,18 +362,18 @@ fn seat_at<R: Wait, O: Offices>(rt: &R, offices: &O, name: &Name) -> Result<(usi
 fn enter<R: Wait, I: Read + Drop, W: Write + Drop, J: Start, O: Offices>(
     rt: &R,
     offices: &O,
-    output: &Mutex<Output<W, J>>,
+    mouth: &Mouth<W, J>,
     reading: &mut Reading<'_, I>,
     name: &Name,
 ) -> Option<(usize, Seat)> {
     match seat_at(rt, offices, name) {
         Ok((at, seat)) => {
             reading.set_opened(at, seat.session());
-            let _said = output.lock(rt).say_opened(name);
+            let _said = mouth.say_opened(rt, name);
             Some((at, seat))
         }
         Err(line) => {
-            say(rt, output, line);
+            say(rt, mouth, line);
             None
         }
     }
@@ -345,24 +383,35 @@ fn enter<R: Wait, I: Read + Drop, W: Write + Drop, J: Start, O: Offices>(
 fn cancel<R: Wait, W: Write + Drop, J: Start, O: Offices>(
     rt: &R,
     offices: &O,
-    output: &Mutex<Output<W, J>>,
+    mouth: &Mouth<W, J>,
     seat: &Option<(usize, Seat)>,
     number: u32,
 ) {
     if let Some((at, _)) = seat {
         if let Some(office) = offices.office(*at) {
             let answer = office.cancel(rt, number);
-            say(rt, output, Line::Cancel(number, answer));
+            say(rt, mouth, Line::Cancel(number, answer));
         }
     }
 }
 
+// Where the session is to end, it leaves its object: calls that were sent ahead are not done.
+fn leave_if_stopped<R: Wait, I: Read + Drop, O: Offices>(
+    rt: &R,
+    offices: &O,
+    reading: &Reading<'_, I>,
+) {
+    if reading.is_stopped() {
+        leave(rt, offices, reading.opened());
+    }
+}
+
 // Does what a line asks for.
-fn act<R: Wait, I: Read + Drop, W: Write + Drop, H: Hand + Drop, J: Start, O: Offices>(
+fn act<R: Wait + Clock, I: Read + Drop, W: Write + Drop, H: Hand + Drop, J: Start, O: Offices>(
     rt: &R,
     alloc: Global,
     offices: &O,
-    output: &Mutex<Output<W, J>>,
+    mouth: &Mouth<W, J>,
     reading: &mut Reading<'_, I>,
     worked: &mut Worked<H>,
     action: Action,
@@ -372,29 +421,30 @@ fn act<R: Wait, I: Read + Drop, W: Write + Drop, H: Hand + Drop, J: Start, O: Of
 {
     match action {
         Action::Open(name) => {
-            if let Some(entered) = enter(rt, offices, output, reading, &name) {
+            if let Some(entered) = enter(rt, offices, mouth, reading, &name) {
                 worked.seat = Some(entered);
             }
         }
-        Action::Call(op, args) => serve_call(
-            rt, alloc, offices, output, reading, worked, &op, &args,
-        ),
-        Action::Cancel(number) => cancel(rt, offices, output, &worked.seat, number),
+        Action::Call(op, args) => {
+            leave_if_stopped(rt, offices, reading);
+            serve_call(rt, alloc, offices, mouth, reading, worked, &op, &args)
+        }
+        Action::Cancel(number) => cancel(rt, offices, mouth, &worked.seat, number),
         Action::Quit => {
-            say(rt, output, Line::Bye);
+            say(rt, mouth, Line::Bye);
             return Goes::Quits;
         }
-        Action::Answer(refusal) => say(rt, output, Line::Refused(refusal)),
+        Action::Answer(refusal) => say(rt, mouth, Line::Refused(refusal)),
     }
     Goes::On
 }
 
 // Does what lines ask for, in order.
-fn act_all<R: Wait, I: Read + Drop, W: Write + Drop, H: Hand + Drop, J: Start, O: Offices>(
+fn act_all<R: Wait + Clock, I: Read + Drop, W: Write + Drop, H: Hand + Drop, J: Start, O: Offices>(
     rt: &R,
     alloc: Global,
     offices: &O,
-    output: &Mutex<Output<W, J>>,
+    mouth: &Mouth<W, J>,
     reading: &mut Reading<'_, I>,
     worked: &mut Worked<H>,
     actions: Vec<Action>,
@@ -403,7 +453,7 @@ fn act_all<R: Wait, I: Read + Drop, W: Write + Drop, H: Hand + Drop, J: Start, O
     ensures told { AreTrue H.agrees worked.old.hand worked.old.receipts.items → AreTrue H.agrees worked.new.hand worked.new.receipts.items }
 {
     for action in actions {
-        match act(rt, alloc, offices, output, reading, worked, action) {
+        match act(rt, alloc, offices, mouth, reading, worked, action) {
             Goes::On => {}
             other => return other,
         }
@@ -416,23 +466,24 @@ fn rest<R: Wait, W: Write + Drop, H: Hand + Drop, J: Start, O: Offices>(
     rt: &R,
     alloc: Global,
     offices: &O,
-    output: &Mutex<Output<W, J>>,
+    mouth: &Mouth<W, J>,
     worked: &mut Worked<H>,
 ) -> bool
     ensures kept { Keeps H.agrees worked.old.hand worked.new.hand }
     ensures same { worked.new.receipts.items ≡ worked.old.receipts.items }
 {
-    let sent = output.lock(rt).flush();
+    let sent = mouth.flush(rt);
+    worked.late.reset();
     retire_left(alloc, &mut worked.hand, &mut worked.free);
     sent
 }
 
 // Does what was heard. Before more is read, the lines that are held back are sent.
-fn heed<R: Wait, I: Read + Drop, W: Write + Drop, H: Hand + Drop, J: Start, O: Offices>(
+fn heed<R: Wait + Clock, I: Read + Drop, W: Write + Drop, H: Hand + Drop, J: Start, O: Offices>(
     rt: &R,
     alloc: Global,
     offices: &O,
-    output: &Mutex<Output<W, J>>,
+    mouth: &Mouth<W, J>,
     reading: &mut Reading<'_, I>,
     worked: &mut Worked<H>,
     heard: Heard,
@@ -441,14 +492,14 @@ fn heed<R: Wait, I: Read + Drop, W: Write + Drop, H: Hand + Drop, J: Start, O: O
     ensures told { AreTrue H.agrees worked.old.hand worked.old.receipts.items → AreTrue H.agrees worked.new.hand worked.new.receipts.items }
 {
     match heard {
-        Heard::Action(action) => act(rt, alloc, offices, output, reading, worked, action),
+        Heard::Action(action) => act(rt, alloc, offices, mouth, reading, worked, action),
         Heard::LineTooLong => {
-            say(rt, output, Line::Refused(Refusal::LineTooLong));
+            say(rt, mouth, Line::Refused(Refusal::LineTooLong));
             Goes::On
         }
         Heard::End(fault) => Goes::Leaves(fault),
         Heard::Nothing => {
-            if !rest(rt, alloc, offices, output, worked) {
+            if !rest(rt, alloc, offices, mouth, worked) {
                 return Goes::Leaves(None);
             }
             reading.read();
@@ -459,11 +510,11 @@ fn heed<R: Wait, I: Read + Drop, W: Write + Drop, H: Hand + Drop, J: Start, O: O
 
 // Does what the second thread heard. Where there is nothing to do, the lines that are held back are sent, and more is waited for, or
 // the reading side.
-fn follow<R: Wait, I: Read + Drop, W: Write + Drop, H: Hand + Drop, J: Start, O: Offices>(
+fn follow<R: Wait + Clock, I: Read + Drop, W: Write + Drop, H: Hand + Drop, J: Start, O: Offices>(
     rt: &R,
     alloc: Global,
     offices: &O,
-    output: &Mutex<Output<W, J>>,
+    mouth: &Mouth<W, J>,
     reading: &mut Reading<'_, I>,
     worked: &mut Worked<H>,
 ) -> Goes
@@ -472,9 +523,9 @@ fn follow<R: Wait, I: Read + Drop, W: Write + Drop, H: Hand + Drop, J: Start, O:
 {
     let actions = reading.taken(rt, alloc);
     if !actions.is_empty() {
-        return act_all(rt, alloc, offices, output, reading, worked, actions);
+        return act_all(rt, alloc, offices, mouth, reading, worked, actions);
     }
-    if !rest(rt, alloc, offices, output, worked) {
+    if !rest(rt, alloc, offices, mouth, worked) {
         return Goes::Leaves(None);
     }
     reading.await_ear(rt);
@@ -482,11 +533,11 @@ fn follow<R: Wait, I: Read + Drop, W: Write + Drop, H: Hand + Drop, J: Start, O:
 }
 
 // One turn: what is heard next is done.
-fn turn<R: Wait, I: Read + Drop, W: Write + Drop, H: Hand + Drop, J: Start, O: Offices>(
+fn turn<R: Wait + Clock, I: Read + Drop, W: Write + Drop, H: Hand + Drop, J: Start, O: Offices>(
     rt: &R,
     alloc: Global,
     offices: &O,
-    output: &Mutex<Output<W, J>>,
+    mouth: &Mouth<W, J>,
     reading: &mut Reading<'_, I>,
     worked: &mut Worked<H>,
 ) -> Goes
@@ -494,17 +545,24 @@ fn turn<R: Wait, I: Read + Drop, W: Write + Drop, H: Hand + Drop, J: Start, O: O
     ensures told { AreTrue H.agrees worked.old.hand worked.old.receipts.items → AreTrue H.agrees worked.new.hand worked.new.receipts.items }
 {
     match reading.hear(alloc) {
-        Some(heard) => heed(rt, alloc, offices, output, reading, worked, heard),
-        None => follow(rt, alloc, offices, output, reading, worked),
+        Some(heard) => heed(rt, alloc, offices, mouth, reading, worked, heard),
+        None => follow(rt, alloc, offices, mouth, reading, worked),
     }
 }
 
 // Takes turns until the session ends, and gives the fault that ended the hearing. But by `quit` the session leaves its object.
-fn take_turns<R: Wait, I: Read + Drop, W: Write + Drop, H: Hand + Drop, J: Start, O: Offices>(
+fn take_turns<
+    R: Wait + Clock,
+    I: Read + Drop,
+    W: Write + Drop,
+    H: Hand + Drop,
+    J: Start,
+    O: Offices,
+>(
     rt: &R,
     alloc: Global,
     offices: &O,
-    output: &Mutex<Output<W, J>>,
+    mouth: &Mouth<W, J>,
     reading: &mut Reading<'_, I>,
     worked: &mut Worked<H>,
 ) -> Option<HearFault>
@@ -512,7 +570,7 @@ fn take_turns<R: Wait, I: Read + Drop, W: Write + Drop, H: Hand + Drop, J: Start
     ensures told { AreTrue H.agrees worked.old.hand worked.old.receipts.items → AreTrue H.agrees worked.new.hand worked.new.receipts.items }
 {
     for _ in rt.forever() {
-        match turn(rt, alloc, offices, output, reading, worked) {
+        match turn(rt, alloc, offices, mouth, reading, worked) {
             Goes::On => {}
             Goes::Leaves(fault) => {
                 leave(rt, offices, reading.opened());
@@ -526,11 +584,18 @@ fn take_turns<R: Wait, I: Read + Drop, W: Write + Drop, H: Hand + Drop, J: Start
 
 /// Serves a session: reads lines and does what they ask for, in order. While a call waits, the second thread reads. Before it waits
 /// it sends the lines that are held back, and retires the files that are left.
-pub(crate) fn work<R: Wait, I: Read + Drop, W: Write + Drop, H: Hand + Drop, J: Start, O: Offices>(
+pub(crate) fn work<
+    R: Wait + Clock,
+    I: Read + Drop,
+    W: Write + Drop,
+    H: Hand + Drop,
+    J: Start,
+    O: Offices,
+>(
     rt: &R,
     alloc: Global,
     offices: &O,
-    output: &Mutex<Output<W, J>>,
+    mouth: &Mouth<W, J>,
     reading: Reading<'_, I>,
     hand: H,
 ) -> Worked<H>
@@ -543,11 +608,13 @@ pub(crate) fn work<R: Wait, I: Read + Drop, W: Write + Drop, H: Hand + Drop, J: 
         receipts: Vec::new(alloc),
         room: SlipRoom::new(alloc),
         free: Vec::new(alloc),
+        late: Late::new(),
         fault: None,
     };
     let mut reading = reading;
-    worked.fault = take_turns(rt, alloc, offices, output, &mut reading, &mut worked);
-    let _sent = rest(rt, alloc, offices, output, &mut worked);
+    worked.fault = take_turns(rt, alloc, offices, mouth, &mut reading, &mut worked);
+    let _sent = rest(rt, alloc, offices, mouth, &mut worked);
     reading.over(rt);
+    mouth.close(rt);
     worked
 }

@@ -1,6 +1,6 @@
 -- Which lines may answer which request.
 use Rattle.std.specs.Prelude.{⊤, ◌≡◌, ℕ, List, Option, Some, None}
-use Rattle.body_core.specs.declared.reply.Reply.{Reply}
+use Rattle.apply_core.specs.declared.reply.Reply.{Reply}
 use Rattle.session_text.specs.declared.line.Line.{Line}
 use Rattle.session_text.specs.declared.line.Line.TheVariants as lines
 use Rattle.session_text.specs.declared.line.Refusal.TheVariants as refusals
@@ -28,8 +28,10 @@ MayAnswer (Some (calls op args)) (told (lines.Accepted n)) = ⊤
 MayAnswer (Some (calls op args)) (told (lines.Withdrawn n)) = ⊤
 MayAnswer (Some (calls op args)) (told (lines.Unsubmitted fault)) = ⊤
 MayAnswer (Some (calls op args)) (told (lines.Refused refusals.NotOpen)) = ⊤
+MayAnswer (Some (calls op args)) (told (lines.Refused refusals.Gone)) = ⊤
 MayAnswer (Some (cancels n)) (told (lines.Cancel m answer)) = m ≡ n
 MayAnswer (Some (cancels n)) (told (lines.Refused refusals.NotOpen)) = ⊤
+MayAnswer (Some (cancels n)) (told (lines.Refused refusals.BadLine)) = ⊤
 MayAnswer (Some quits) (told lines.Bye) = ⊤
 MayAnswer None (told (lines.Refused refusals.BadLine)) = ⊤
 MayAnswer None (told (lines.Refused refusals.LineTooLong)) = ⊤

@@ -1,6 +1,6 @@
 -- The texts of the lines that a session writes.
 use Rattle.std.specs.Prelude.{ℕ, List, [], ◌∷◌, codes, decimal}
-use Rattle.body_core.specs.declared.reply.Reply.{Reply}
+use Rattle.apply_core.specs.declared.reply.Reply.{Reply}
 use Rattle.desk_core.specs.declared.answer.SubmitFault.{SubmitFault}
 use Rattle.desk_core.specs.declared.answer.SubmitFault.TheVariants as faults
 use Rattle.desk_core.specs.declared.answer.Cancelled.{Cancelled}
@@ -19,6 +19,7 @@ refusal_name refusals.NotOpen = codes "NotOpen"
 refusal_name refusals.Opened = codes "Opened"
 refusal_name refusals.NoObject = codes "NoObject"
 refusal_name refusals.Full = codes "Full"
+refusal_name refusals.Gone = codes "Gone"
 
 abbrev pub fault_name : SubmitFault → List ℕ
 fault_name faults.Gone = codes "Gone"

@@ -22,3 +22,16 @@ abbrev pub Takes : Bool → List ℕ → Action → Type 0
 Takes opened line action =
     ((q : Request) × IsRequest line q × Does opened q action)
     ⊎ (((q : Request) → IsRequest line q → ⊥) × (action ≡ actions.Answer refusals.BadLine))
+
+-- what is done for the last request of a session where no line end stands behind it: what was read may be the front of a longer line, so no call is done
+-- and none cancelled, while to open an object and to end harm nobody
+abbrev pub DoesLast : Bool → Request → Action → Type 0
+DoesLast true (calls op args) action = action ≡ actions.Answer refusals.Gone
+DoesLast true (cancels n) action = action ≡ actions.Answer refusals.BadLine
+DoesLast b q action = Does b q action
+
+-- what is done for a last line without a line end
+abbrev pub TakesLast : Bool → List ℕ → Action → Type 0
+TakesLast opened line action =
+    ((q : Request) × IsRequest line q × DoesLast opened q action)
+    ⊎ (((q : Request) → IsRequest line q → ⊥) × (action ≡ actions.Answer refusals.BadLine))

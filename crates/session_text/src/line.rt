@@ -6,7 +6,7 @@
 ghost use Rattle.std.specs.Prelude.{◌≡◌, ◌++◌, OnOk};
 ghost use Rattle.session_text.specs.Lines as lines;
 
-use body_core::reply::Reply;
+use apply_core::reply::Reply;
 use desk_core::answer::{Cancelled, SubmitFault};
 use path_tree::name::Name;
 use script_text::answers::{push_cancelled, push_finished, push_refused};
@@ -29,6 +29,8 @@ pub enum Refusal {
     NoObject,
     /// All seats of the object are given out.
     Full,
+    /// The end of the input may have cut it off, and what it asks for could be asked for by another line too.
+    Gone,
 }
 
 /// A line that a session writes, other than `opened NAME` and the last line of a call that has a receipt.
@@ -58,6 +60,7 @@ fn refusal_name(refusal: Refusal) -> &'static str
         Refusal::Opened => "Opened",
         Refusal::NoObject => "NoObject",
         Refusal::Full => "Full",
+        Refusal::Gone => "Gone",
     }
 }
 

@@ -1,7 +1,7 @@
 //! What is done for the lines of a session.
 
 ghost use Rattle.std.specs.Prelude.{◌≡◌, IfOk, false};
-ghost use Rattle.session_text.specs.Table.{Does, Takes};
+ghost use Rattle.session_text.specs.Table.{Does, DoesLast, Takes, TakesLast};
 ghost use Rattle.session_text.specs.View.{request_view};
 
 use crate::line::Refusal;
@@ -52,6 +52,19 @@ impl Session {
         }
     }
 
+    /// What is done for the last line of a session, where no line end stands behind it: it may be the front of a longer line. A call is
+    /// answered `Gone` and a cancel `BadLine`; all else is done as by [`Session::feed`].
+    ///
+    /// The error is that memory was refused.
+    pub fn feed_last(&self, alloc: Global, line: &[u8]) -> Result<Action, AllocError>
+        ensures { IfOk result (TakesLast self.now.is_open line.now) }
+    {
+        match read_line(alloc, line)? {
+            Some(request) => Ok(done_last(self.is_open, request)),
+            None => Ok(Action::Answer(Refusal::BadLine)),
+        }
+    }
+
     /// Tells how the opening of an object went.
     pub fn opened(&mut self, went: bool)
         ensures { self.new.is_open ≡ went }
@@ -84,6 +97,30 @@ fn done_for(is_open: bool, request: Request) -> Action
         },
         Request::Cancel(number) => if is_open {
             Action::Cancel(number)
+        } else {
+            Action::Answer(Refusal::NotOpen)
+        },
+        Request::Quit => Action::Quit,
+    }
+}
+
+// What is done for the last request, where no line end stands behind it.
+fn done_last(is_open: bool, request: Request) -> Action
+    ensures { DoesLast is_open (request_view request) result }
+{
+    match request {
+        Request::Open(name) => if is_open {
+            Action::Answer(Refusal::Opened)
+        } else {
+            Action::Open(name)
+        },
+        Request::Call(_, _) => if is_open {
+            Action::Answer(Refusal::Gone)
+        } else {
+            Action::Answer(Refusal::NotOpen)
+        },
+        Request::Cancel(_) => if is_open {
+            Action::Answer(Refusal::BadLine)
         } else {
             Action::Answer(Refusal::NotOpen)
         },

@@ -2,8 +2,12 @@
 #![tactic(auto)]
 
 #[cfg(test)]
+mod deaf;
+#[cfg(test)]
 mod lines;
 #[cfg(test)]
 mod make;
+#[cfg(test)]
+mod patience;
 #[cfg(test)]
 mod waiting;

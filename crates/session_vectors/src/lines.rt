@@ -1,8 +1,8 @@
 //! What a session answers, and how it ends.
 
 use crate::make::{CELL, Pieces, Short, offices};
+use office_core::office::Office;
 use office_core::seat::Seat;
-use session_core::end::SessionFault;
 use session_core::order::Named;
 use session_core::serve::serve_session;
 use slip_core::slip::Slip;
@@ -10,6 +10,9 @@ use std::alloc::Global;
 use std::process::Abort;
 use std::sync::Wait;
 use std::thread::Threads;
+use std::time::Clock;
+use talk_core::bell::Bell;
+use talk_core::fault::SessionFault;
 
 // The array `[0]`.
 const ZERO: &[u8] = b"\x01\x01\x00\x01\x00\x00\x00\x00";
@@ -44,7 +47,7 @@ fn is_closed(all: Vec<Named>, seats: Vec<Seat>, receipts: &[Slip]) -> bool {
 // Plays a session over these lines, so many bytes a read, with a writer that takes so many bytes. It answers whether what was
 // written is a front of what is expected, as long as the writer takes it, whether the fault is this one, and whether the
 // office is closed with the seat and the receipts.
-fn plays<R: Abort + Threads + Wait + Sync>(
+fn plays<R: Abort + Threads + Wait + Clock + Sync>(
     rt: &R,
     alloc: Global,
     lines: &[u8],
@@ -65,7 +68,7 @@ fn plays<R: Abort + Threads + Wait + Sync>(
         bytes: Vec::new(alloc),
         left: takes,
     };
-    let end = serve_session(rt, alloc, reader, writer, &all, hand);
+    let end = serve_session(rt, alloc, reader, writer, &Bell::new(), &all, hand);
     let mut seats = Vec::new(alloc);
     if let Some(seat) = end.seat {
         seats.push(seat).expect(rt, "memory");
@@ -77,7 +80,12 @@ fn plays<R: Abort + Threads + Wait + Sync>(
 }
 
 // The same for a session without a fault, whole, in pieces and in single bytes.
-fn answers<R: Abort + Threads + Wait + Sync>(rt: &R, alloc: Global, lines: &[u8], told: &[u8]) {
+fn answers<R: Abort + Threads + Wait + Clock + Sync>(
+    rt: &R,
+    alloc: Global,
+    lines: &[u8],
+    told: &[u8],
+) {
     for step in [1, 7, 4096] {
         assert!(rt; plays(rt, alloc, lines, step, false, 4096, told, None));
     }
@@ -156,4 +164,118 @@ fn a_read_fails(rt: HostRuntime) {
             fault
         )
     );
+}
+
+// Lines that are cut off anywhere.
+const CUT: &[u8] = b"open cell\ncall put 77\ncancel 1\nquit\n";
+
+// What is answered, from so many bytes of them on. A call and a cancel are done only where their line end came.
+const CUT_TOLD: &[(usize, &[u8])] = &[
+    (0, b""),
+    (1, b"no BadLine\n"),
+    (6, b"no NoObject\n"),
+    (9, b"opened cell\n"),
+    (11, b"opened cell\nno BadLine\n"),
+    (16, b"opened cell\nno Gone\n"),
+    (22, b"opened cell\naccepted 1\ndone 1\n"),
+    (23, b"opened cell\naccepted 1\ndone 1\nno BadLine\n"),
+    (31, b"opened cell\naccepted 1\ndone 1\ncancel 1 Ended\n"),
+    (
+        32,
+        b"opened cell\naccepted 1\ndone 1\ncancel 1 Ended\nno BadLine\n",
+    ),
+    (
+        35,
+        b"opened cell\naccepted 1\ndone 1\ncancel 1 Ended\nbye\n",
+    ),
+];
+
+// What is answered of the whole lines among so many bytes.
+const WHOLE_TOLD: &[(usize, &[u8])] = &[
+    (0, b""),
+    (10, b"opened cell\n"),
+    (22, b"opened cell\naccepted 1\ndone 1\n"),
+    (31, b"opened cell\naccepted 1\ndone 1\ncancel 1 Ended\n"),
+];
+
+// The row of a table for so many bytes.
+fn told_from(table: &[(usize, &'static [u8])], len: usize) -> &'static [u8] {
+    let mut told: &'static [u8] = b"";
+    for (from, answer) in table {
+        if *from <= len {
+            told = answer;
+        }
+    }
+    told
+}
+
+#[test]
+fn the_input_ends_at_each_byte(rt: HostRuntime) {
+    let alloc = rt.alloc();
+    for len in 0..CUT.len() {
+        let told = told_from(CUT_TOLD, len);
+        answers(&rt, alloc, &CUT[..len], told);
+    }
+}
+
+#[test]
+fn a_read_fails_at_each_byte(rt: HostRuntime) {
+    let alloc = rt.alloc();
+    let fault = Some(SessionFault::ReadFault);
+    for len in 0..CUT.len() {
+        let told = told_from(WHOLE_TOLD, len);
+        assert!(rt; plays(&rt, alloc, &CUT[..len], 7, true, 4096, told, fault));
+    }
+}
+
+#[test]
+fn a_call_without_a_line_end_is_not_done(rt: HostRuntime) {
+    let alloc = rt.alloc();
+    let text = b"open cell\ncall put 7\ncall put 77";
+    answers(
+        &rt,
+        alloc,
+        text,
+        b"opened cell\naccepted 1\ndone 1\nno Gone\n",
+    );
+    answers(&rt, alloc, b"call get", b"no NotOpen\n");
+    answers(
+        &rt,
+        alloc,
+        b"open cell\ncall pop",
+        b"opened cell\nno Gone\n",
+    );
+    answers(&rt, alloc, b"open cell\r", b"opened cell\n");
+}
+
+// Gives out all seats of an office, and one more.
+fn fills<R: Abort + Wait>(rt: &R, office: &Office) {
+    for session in 1..=1024 {
+        let seat = office.seat(rt).expect(rt, "a seat");
+        assert!(rt; seat.session() == session);
+    }
+    assert!(rt; office.seat(rt).is_err());
+}
+
+#[test]
+fn all_seats_are_given_out(rt: HostRuntime) {
+    let alloc = rt.alloc();
+    let (all, hand) = offices(&rt, alloc, CELL, ZERO);
+    let named = all.first().expect(&rt, "an office");
+    fills(&rt, &named.office);
+    let reader = Pieces {
+        bytes: b"open cell\ncall get\nquit\n"
+            .to_vec(alloc)
+            .expect(&rt, "memory"),
+        at: 0,
+        step: 4096,
+        fails: false,
+    };
+    let writer = Short {
+        bytes: Vec::new(alloc),
+        left: 4096,
+    };
+    let end = serve_session(&rt, alloc, reader, writer, &Bell::new(), &all, hand);
+    assert!(rt; end.writer.bytes.as_slice() == b"no Full\nno NotOpen\nbye\n".as_slice());
+    assert!(rt; end.seat.is_none() && end.fault.is_none());
 }

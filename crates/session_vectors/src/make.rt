@@ -1,15 +1,15 @@
 //! Objects, offices, readers and writers, as the tests make them.
 
 use decl_read::read::read_objects;
+use device_core::memory::MemHand;
 use exclude_core::analyse::{Accepted, analyse};
+use hand_core::hand::Hand;
+use hand_core::pins::Pins;
+use hand_core::whole::put;
 use office_core::office::Office;
 use office_core::room::Room;
 use path_tree::name::Name;
 use session_core::order::Named;
-use shelf_core::hand::Hand;
-use shelf_core::memory::MemHand;
-use shelf_core::pins::Pins;
-use shelf_core::whole::put;
 use std::alloc::Global;
 use std::io;
 use std::io::{Read, Write};

@@ -1,26 +1,28 @@
 //! Calls that wait.
 
 use crate::make::{BUFFER, offices};
+use device_core::memory::MemHand;
 use session_core::end::SessionEnd;
 use session_core::order::Named;
 use session_core::serve::serve_session;
-use shelf_core::memory::MemHand;
 use std::alloc::Global;
 use std::io::{Read, Write};
 use std::process::Abort;
 use std::sync::atomic::{AtomicU64, Ordering};
 use std::sync::{Arc, Wait};
 use std::thread::Threads;
+use std::time::Clock;
 use std::{io, thread};
+use talk_core::bell::Bell;
 
 // The queue `<>`.
-const EMPTY: &[u8] = b"\x01\x03\x00\x00";
+pub const EMPTY: &[u8] = b"\x01\x03\x00\x00";
 
 // After so many turns nobody comes any more.
 const MOST_TURNS: u64 = 100_000_000;
 
 // Turns until so many lines were written.
-fn await_lines(written: &AtomicU64, count: u64) {
+pub fn await_lines(written: &AtomicU64, count: u64) {
     for _ in 0..MOST_TURNS {
         if written.load(Ordering::SeqCst) >= count {
             break;
@@ -30,9 +32,9 @@ fn await_lines(written: &AtomicU64, count: u64) {
 
 // A reader that gives each line only once so many lines were written.
 #[derive(Drop)]
-struct Gate {
-    lines: &'static [(u64, &'static [u8])],
-    written: Arc<AtomicU64>,
+pub struct Gate {
+    pub lines: &'static [(u64, &'static [u8])],
+    pub written: Arc<AtomicU64>,
 }
 
 impl Read for Gate {
@@ -52,9 +54,9 @@ impl Read for Gate {
 
 // A writer that counts the lines that were written.
 #[derive(Drop)]
-struct Counted {
-    bytes: Vec<u8>,
-    written: Arc<AtomicU64>,
+pub struct Counted {
+    pub bytes: Vec<u8>,
+    pub written: Arc<AtomicU64>,
 }
 
 impl Write for Counted {
@@ -76,7 +78,7 @@ impl Write for Counted {
 }
 
 // What a session writes on a buffer that is empty, each of its lines coming once so many lines were written.
-fn written<R: Abort + Threads + Wait + Sync>(
+fn written<R: Abort + Threads + Wait + Clock + Sync>(
     rt: &R,
     alloc: Global,
     all: &Vec<Named>,
@@ -99,7 +101,7 @@ fn written<R: Abort + Threads + Wait + Sync>(
         writer,
         hand: _,
         fault,
-    } = serve_session(rt, alloc, reader, writer, all, hand);
+    } = serve_session(rt, alloc, reader, writer, &Bell::new(), all, hand);
     let Counted { bytes, written: _ } = writer;
     assert!(rt; fault.is_none() && receipts.is_empty());
     bytes
@@ -151,7 +153,7 @@ fn quit_waits_for_the_call_before_it(rt: HostRuntime) {
 }
 
 // A session on an empty buffer writes this, and ends by itself.
-fn tells<R: Abort + Threads + Wait + Sync>(
+fn tells<R: Abort + Threads + Wait + Clock + Sync>(
     rt: &R,
     alloc: Global,
     lines: &'static [(u64, &'static [u8])],

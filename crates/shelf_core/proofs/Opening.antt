@@ -8,13 +8,15 @@ use Rattle.value_core.specs.declared.kind.Kind.{Kind}
 use Rattle.value_core.specs.Contents.{Contents, kind_of}
 use Rattle.value_core.specs.Spelling.{Spells}
 use Rattle.decl_core.specs.declared.object.Part.{Part}
-use Rattle.shelf_core.specs.declared.hand.Stamp.{Stamp}
+use Rattle.hand_core.specs.declared.hand.Stamp.{Stamp}
 use Rattle.shelf_core.specs.declared.open.OpenFault.{OpenFault}
 use Rattle.shelf_core.specs.declared.open.OpenFault.TheVariants.{Damaged, Device, Memory}
-use Rattle.shelf_core.specs.Device.{Assignment, Failed, Always, AreServed}
-use Rattle.shelf_core.specs.Papers.{Papers, part_key}
-use Rattle.shelf_core.proofs.Slots.{some_same}
+use Rattle.hand_core.specs.Device.{Assignment, Failed, Always, AreServed}
+use Rattle.hand_core.specs.Papers.{Papers, part_key}
 use Rattle.shelf_core.specs.Opened.{BeginsWith, IsPinned, AreLoaded, ArePinned, AreDamaged, IsDamaged, IsFirstDamaged, OpenCause, PartCause}
+
+some_same : {X : Type 0} {x y : X} → Some x ≡ Some y → x ≡ y
+some_same e = cc
 
 -- one part more is loaded
 loaded_more : (papers : Papers) (object : List ℕ) (parts : List Part) (values : List Contents) (part : Part) (value : Contents) →

@@ -5,11 +5,11 @@ use Rattle.std.specs.FinMap.{insert}
 use Rattle.std.proofs.lemmas.List.{length-append}
 use Rattle.std.proofs.lemmas.Option.{slice_get_within}
 use Rattle.decl_core.specs.declared.object.Part.{Part}
-use Rattle.shelf_core.specs.declared.hand.Stamp.{Stamp}
+use Rattle.hand_core.specs.declared.hand.Stamp.{Stamp}
 use Rattle.shelf_core.specs.declared.save.SaveFault.{SaveFault}
 use Rattle.shelf_core.specs.declared.save.SaveFault.TheVariants.{Damaged, Device, Memory}
-use Rattle.shelf_core.specs.Device.{Assignment, Failed, Always}
-use Rattle.shelf_core.specs.Papers.{Papers, part_key}
+use Rattle.hand_core.specs.Device.{Assignment, Failed, Always}
+use Rattle.hand_core.specs.Papers.{Papers, part_key}
 use Rattle.shelf_core.specs.Saved.{IsFetched, AreFetched, with_parts, IsDamagedPin, SaveCause, PinSaveCause, IsSavedTo, IsStored, MaySave, SaveLeaves, PartLeft, PartLeaves, StoreCause, StoreLeaves}
 use Rattle.shelf_core.proofs.Opening.{failed_since}
 

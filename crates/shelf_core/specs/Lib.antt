@@ -1,11 +1,2 @@
-pub mod Device
-pub mod Faults
-pub mod Files
-pub mod Made
-pub mod MadeFiles
-pub mod MemShelf
 pub mod Opened
-pub mod Papers
-pub mod Pins
 pub mod Saved
-pub mod Wrapped

@@ -6,13 +6,13 @@ use Rattle.value_core.specs.Contents.{Contents}
 use Rattle.value_core.specs.Meaning.{opening_of}
 use Rattle.value_core.specs.Spelling.{Spells}
 use Rattle.decl_core.specs.declared.object.Part.{Part}
-use Rattle.shelf_core.specs.declared.hand.HandFault.{HandFault}
-use Rattle.shelf_core.specs.declared.hand.HandFault.TheVariants as hand
-use Rattle.shelf_core.specs.declared.hand.Stamp.{Stamp}
+use Rattle.hand_core.specs.declared.hand.HandFault.{HandFault}
+use Rattle.hand_core.specs.declared.hand.HandFault.TheVariants as hand
+use Rattle.hand_core.specs.declared.hand.Stamp.{Stamp}
 use Rattle.shelf_core.specs.declared.open.OpenFault.{OpenFault}
 use Rattle.shelf_core.specs.declared.open.OpenFault.TheVariants.{Damaged, Device, Memory}
-use Rattle.shelf_core.specs.Device.{Assignment, Holds}
-use Rattle.shelf_core.specs.Papers.{Papers, part_key}
+use Rattle.hand_core.specs.Device.{Assignment, Holds}
+use Rattle.hand_core.specs.Papers.{Papers, part_key}
 
 abbrev pub open_fault_number : OpenFault → ℕ
 open_fault_number (Damaged part) = 1

@@ -4,13 +4,13 @@ use Rattle.std.specs.FinMap.{insert}
 use Rattle.value_core.specs.Contents.{Contents}
 use Rattle.value_core.specs.Spelling.{Spells}
 use Rattle.decl_core.specs.declared.object.Part.{Part}
-use Rattle.shelf_core.specs.declared.hand.HandFault.{HandFault}
-use Rattle.shelf_core.specs.declared.hand.HandFault.TheVariants as hand
-use Rattle.shelf_core.specs.declared.hand.Stamp.{Stamp}
+use Rattle.hand_core.specs.declared.hand.HandFault.{HandFault}
+use Rattle.hand_core.specs.declared.hand.HandFault.TheVariants as hand
+use Rattle.hand_core.specs.declared.hand.Stamp.{Stamp}
 use Rattle.shelf_core.specs.declared.save.SaveFault.{SaveFault}
 use Rattle.shelf_core.specs.declared.save.SaveFault.TheVariants.{Damaged, Device, Memory}
-use Rattle.shelf_core.specs.Device.{Assignment, bytes_of}
-use Rattle.shelf_core.specs.Papers.{Papers, part_key}
+use Rattle.hand_core.specs.Device.{Assignment, bytes_of}
+use Rattle.hand_core.specs.Papers.{Papers, part_key}
 use Rattle.shelf_core.specs.Opened.{AreDamaged}
 
 abbrev pub save_fault_number : SaveFault → ℕ

@@ -4,15 +4,15 @@ ghost use Rattle.std.specs.Prelude.{◌≡◌, ◌≤◌, ◌⊎◌, ℕ, [], �
 ghost use Rattle.std.specs.FinMap.{get};
 ghost use Rattle.value_core.specs.Contents.{kind_of};
 ghost use Rattle.value_core.specs.Kinds.{IsKind};
-ghost use Rattle.shelf_core.specs.Device.{Assignment, Failed, Always, AreServed};
-ghost use Rattle.shelf_core.specs.Papers.{Papers, part_key};
+ghost use Rattle.hand_core.specs.Device.{Assignment, Failed, Always, AreServed};
+ghost use Rattle.hand_core.specs.Papers.{Papers, part_key};
 ghost use Rattle.shelf_core.specs.Opened.{open_fault_number, open_fault_name, open_fault_of, BeginsWith, IsPinned, AreLoaded, ArePinned, OpenCause, PartCause, PinCause};
 
-use crate::hand::{Hand, HandFault, Stamp};
-use crate::pins::Pins;
-use crate::shelf::Shelf;
-use crate::whole::put;
 use decl_core::object::{Object, Part};
+use hand_core::hand::{Hand, HandFault, Stamp};
+use hand_core::pins::Pins;
+use hand_core::shelf::Shelf;
+use hand_core::whole::put;
 use path_tree::name::Name;
 use std::alloc::{AllocError, Global};
 use thiserror::Error;

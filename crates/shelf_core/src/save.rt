@@ -2,16 +2,16 @@
 
 ghost use Rattle.std.specs.Prelude.{◌≡◌, ◌≤◌, ◌⊎◌, ℕ, List, length, IfOk, IfErr, OnOk, OnErr};
 ghost use Rattle.std.specs.FinMap.{insert};
-ghost use Rattle.shelf_core.specs.Device.{Assignment, Failed, Always, AreServed};
-ghost use Rattle.shelf_core.specs.Papers.{Papers, part_key};
+ghost use Rattle.hand_core.specs.Device.{Assignment, Failed, Always, AreServed};
+ghost use Rattle.hand_core.specs.Papers.{Papers, part_key};
 ghost use Rattle.shelf_core.specs.Saved.{save_fault_number, save_fault_name, save_fault_of, IsFetched, AreFetched, with_parts, SaveCause, PinSaveCause, StoreCause, SaveLeaves, PartLeaves, StoreLeaves};
 
-use crate::hand::{Hand, HandFault, Stamp};
 use crate::open::write_key;
-use crate::pins::Pins;
-use crate::shelf::Shelf;
-use crate::whole::fetch;
 use decl_core::object::{Object, Part};
+use hand_core::hand::{Hand, HandFault, Stamp};
+use hand_core::pins::Pins;
+use hand_core::shelf::Shelf;
+use hand_core::whole::fetch;
 use path_tree::name::Name;
 use std::alloc::{AllocError, Global};
 use thiserror::Error;
@@ -128,8 +128,12 @@ fn store_part<S: Shelf>(
     }
 }
 
-// Saves one part.
-fn save_part<S: Shelf, H: Hand>(
+/// Saves one part of an object, the one of this number, counted from 0: the bytes under its pin are read from the hand, and stored on the shelf
+/// under the part's name, which `key` gets.
+///
+/// The faults are those of `save_parts`. Where the part is damaged nothing is stored; where a device failed or memory was refused,
+/// nothing of it or all.
+pub fn save_part<S: Shelf, H: Hand>(
     alloc: Global,
     object: &Name,
     part: &Part,

@@ -1,6 +1,6 @@
 //! Numbers that several threads draw.
 
-use shelf_core::numbers::Numbers;
+use device_core::numbers::Numbers;
 use std::alloc::{AllocError, Global};
 use std::test::Fail;
 use std::thread;

@@ -5,17 +5,17 @@ use crate::hands::is_a_hand;
 use crate::scratch::{Deed, Scratch};
 use crate::shelf_calls::{Entry, play};
 use crate::shelves::is_a_shelf;
-use shelf_core::dir::DirHand;
-use shelf_core::dir_shelf::DirShelf;
-use shelf_core::numbers::Numbers;
+use ahead_core::ahead::{AheadHand, Ends};
+use ahead_core::sealed::Sealed;
+use device_core::dir::DirHand;
+use device_core::dir_shelf::DirShelf;
+use device_core::numbers::Numbers;
 use std::alloc::Global;
 use std::io;
 use std::os::unix::fs::FileExt;
 use std::process::Abort;
 use std::rt::Files;
 use std::sync::Arc;
-use turn_core::ahead::{AheadHand, Ends};
-use turn_core::sealed::Sealed;
 
 /// What is done in a folder, or what is there.
 #[derive(Clone, Copy, Drop)]

@@ -3,8 +3,8 @@
 use crate::hands::many_bytes;
 use crate::shelf_calls::Entry::{Failures, Load, Nothing, Store};
 use crate::shelf_calls::{Entry, loads, play};
-use shelf_core::mem_shelf::MemShelf;
-use shelf_core::shelf::Shelf;
+use device_core::mem_shelf::MemShelf;
+use hand_core::shelf::Shelf;
 use std::alloc::Global;
 use std::process::Abort;
 

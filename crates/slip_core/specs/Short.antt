@@ -2,8 +2,8 @@
 use Rattle.std.specs.Prelude.{Some, None}
 use Rattle.value_core.specs.declared.datum.Datum.{Datum}
 use Rattle.value_core.specs.declared.datum.Datum.TheVariants.{Integer}
-use Rattle.body_core.specs.declared.reply.Reply.{Reply}
-use Rattle.body_core.specs.declared.reply.Reply.TheVariants.{Done}
+use Rattle.apply_core.specs.declared.reply.Reply.{Reply}
+use Rattle.apply_core.specs.declared.reply.Reply.TheVariants.{Done}
 use Rattle.slip_core.specs.declared.slim.Slim.{Slim}
 use Rattle.slip_core.specs.declared.slim.Slim.TheVariants as slims
 use Rattle.slip_core.specs.declared.short.Form.{Form}

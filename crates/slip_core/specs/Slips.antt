@@ -1,10 +1,10 @@
 -- What slips tell.
 use Rattle.std.specs.Prelude.{◌≡◌, ℕ, ◌-◌, ◌<◌, List, slice_get, Some}
 use Rattle.decl_core.specs.ObjectMap.{operation_of}
-use Rattle.shelf_core.specs.Device.{Assignment}
+use Rattle.hand_core.specs.Device.{Assignment}
 use Rattle.body_core.specs.declared.new_pins.NewPin.{NewPin}
 use Rattle.body_core.specs.declared.outcome.Outcome.{Outcome}
-use Rattle.body_core.specs.declared.reply.Reply.{Reply}
+use Rattle.apply_core.specs.declared.reply.Reply.{Reply}
 use Rattle.body_core.specs.Calls.{Call}
 use Rattle.body_core.specs.Outcomes.{outcome_call, outcome_reply, outcome_pins, new_if_done}
 use Rattle.body_core.specs.Truths.{IsTrueOf}

@@ -3,7 +3,7 @@
 ghost use Rattle.std.specs.Prelude.{◌≡◌, ◌↔◌, IsTrue, IfOk, IfSome};
 ghost use Rattle.slip_core.specs.Short.{reply_of};
 
-use body_core::reply::Reply;
+use apply_core::reply::Reply;
 use std::alloc::{AllocError, Global};
 use std::marker::Model;
 use value_core::datum::Datum;
@@ -26,8 +26,8 @@ enum Form {
 }
 
 impl Model for Short {
-    ghost use Rattle.body_core.specs.declared.reply.Reply.{Reply};
-    ghost use Rattle.body_core.specs.contracts.reply.Reply as r;
+    ghost use Rattle.apply_core.specs.declared.reply.Reply.{Reply};
+    ghost use Rattle.apply_core.specs.contracts.reply.Reply as r;
     ghost use Rattle.std.specs.Coded.{codes};
 
     ghost Value = { Reply };

@@ -7,14 +7,14 @@ ghost use Rattle.slip_core.specs.Slips.{StandsIn, IsEntryTold, pins_told};
 
 use crate::short::Short;
 use crate::slim::{Slim, are};
+use apply_core::reply::Reply;
 use board_core::entry::Entry;
 use board_core::part_pin::PartPin;
 use body_core::outcome::NewPin;
-use body_core::reply::Reply;
 use decl_core::footprint;
 use decl_core::object::Operation;
 use decl_core::same::same_declaration;
-use shelf_core::hand::Stamp;
+use hand_core::hand::Stamp;
 use std::marker::Model;
 use std::sync::Arc;
 

@@ -6,9 +6,9 @@ use Rattle.std.specs.Str.Lines.{lines}
 use Rattle.hex.proofs.HexLemmas.{decode_of-encode_lower}
 use Rattle.value_core.specs.Spelling.{spelling}
 use Rattle.value_core.proofs.Bytes.{spelling_is_bytes}
-use Rattle.body_core.specs.declared.reply.Failure.{Failure}
-use Rattle.body_core.specs.declared.reply.Failure.TheVariants.{Device, Memory, Damaged}
-use Rattle.body_core.specs.declared.reply.Reply.TheVariants.{Done, Refused, Failed}
+use Rattle.apply_core.specs.declared.reply.Failure.{Failure}
+use Rattle.apply_core.specs.declared.reply.Failure.TheVariants.{Device, Memory, Damaged}
+use Rattle.apply_core.specs.declared.reply.Reply.TheVariants.{Done, Refused, Failed}
 use Rattle.word_core.specs.Ending.{failed}
 use Rattle.word_core.specs.Words.{Word, words_text}
 use Rattle.word_core.proofs.Written.{written_words}

@@ -21,10 +21,10 @@ use Rattle.value_core.proofs.Bytes.{spelling_is_bytes}
 use Rattle.path_tree.specs.Identifier.{IsName, IsLetter, IsWordByte}
 use Rattle.decl_core.specs.ObjectForm.{OperationForm, ObjectForm}
 use Rattle.decl_core.specs.RefusalWord.{IsRefusalWord}
-use Rattle.body_core.specs.declared.reply.Failure.{Failure}
-use Rattle.body_core.specs.declared.reply.Failure.TheVariants.{Device, Memory, Damaged}
-use Rattle.body_core.specs.declared.reply.Reply.{Reply}
-use Rattle.body_core.specs.declared.reply.Reply.TheVariants.{Done, Refused, Failed}
+use Rattle.apply_core.specs.declared.reply.Failure.{Failure}
+use Rattle.apply_core.specs.declared.reply.Failure.TheVariants.{Device, Memory, Damaged}
+use Rattle.apply_core.specs.declared.reply.Reply.{Reply}
+use Rattle.apply_core.specs.declared.reply.Reply.TheVariants.{Done, Refused, Failed}
 use Rattle.word_core.specs.Words.{Word}
 use Rattle.word_core.specs.Data.{datum_word}
 use Rattle.word_core.proofs.Numerals.{digits}

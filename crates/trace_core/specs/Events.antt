@@ -4,8 +4,8 @@ use Rattle.value_core.specs.declared.datum.Datum.{Datum}
 use Rattle.path_tree.specs.Trace.{Call, Event, Start, End}
 use Rattle.decl_core.specs.Form.{Body, nothing}
 use Rattle.decl_core.specs.ObjectForm.{OperationForm, ObjectForm}
-use Rattle.body_core.specs.declared.reply.Reply.{Reply}
-use Rattle.body_core.specs.History as history
+use Rattle.apply_core.specs.declared.reply.Reply.{Reply}
+use Rattle.apply_core.specs.History as history
 
 -- a call: its number, its session, the place of its operation in the object, from 0, and its arguments
 pub record Called : Type 0 where

@@ -11,8 +11,8 @@ use Rattle.decl_core.specs.ObjectForm.{ObjectForm}
 use Rattle.decl_core.specs.ObjectMap.{operation_of}
 use Rattle.decl_core.specs.Bodies.{body_of}
 use Rattle.decl_core.specs.RefusalWord.{IsRefusalWord}
-use Rattle.body_core.specs.declared.reply.Reply.{Reply}
-use Rattle.body_core.specs.declared.reply.Reply.TheVariants.{Done, Refused, Failed}
+use Rattle.apply_core.specs.declared.reply.Reply.{Reply}
+use Rattle.apply_core.specs.declared.reply.Reply.TheVariants.{Done, Refused, Failed}
 use Rattle.word_core.specs.Words.{Word, AreWords, line_of}
 use Rattle.trace_core.specs.Events.{Called, form_body}
 use Rattle.trace_core.specs.Text.{TraceLine, call_started, call_ended, event_words, front_words, trace_words, trace_text, lines_of, reply_ending}

@@ -6,10 +6,10 @@ use Rattle.value_core.specs.Contents.{Contents}
 use Rattle.value_core.specs.Spelling.{spelling}
 use Rattle.value_core.specs.declared.kind.Kind.{Kind}
 use Rattle.decl_core.specs.ObjectForm.{ObjectForm}
-use Rattle.body_core.specs.declared.reply.Failure.{Failure}
-use Rattle.body_core.specs.declared.reply.Failure.TheVariants.{Device, Memory, Damaged}
-use Rattle.body_core.specs.declared.reply.Reply.{Reply}
-use Rattle.body_core.specs.declared.reply.Reply.TheVariants.{Done, Refused, Failed}
+use Rattle.apply_core.specs.declared.reply.Failure.{Failure}
+use Rattle.apply_core.specs.declared.reply.Failure.TheVariants.{Device, Memory, Damaged}
+use Rattle.apply_core.specs.declared.reply.Reply.{Reply}
+use Rattle.apply_core.specs.declared.reply.Reply.TheVariants.{Done, Refused, Failed}
 use Rattle.word_core.specs.Words.{Word, bare, line_of}
 use Rattle.word_core.specs.Data.{datum_word, session_word}
 use Rattle.word_core.specs.Ending.{Ending, done, refused, failed, ending_words}

@@ -6,7 +6,7 @@ ghost use Rattle.word_core.specs.Words.{line_of};
 ghost use Rattle.trace_core.specs.Text.{operation_name, start_words, end_words};
 
 use crate::reply::push_reply;
-use body_core::reply::Reply;
+use apply_core::reply::Reply;
 use decl_core::object::Object;
 use path_tree::node::OpId;
 use std::alloc::AllocError;

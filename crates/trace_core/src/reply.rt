@@ -5,7 +5,7 @@ ghost use Rattle.word_core.specs.Words.{behind_word};
 ghost use Rattle.word_core.specs.View.{ending_view};
 ghost use Rattle.trace_core.specs.Text.{failure_word, reply_ending, reply_words};
 
-use body_core::reply::{Failure, Reply};
+use apply_core::reply::{Failure, Reply};
 use std::alloc::AllocError;
 use word_core::ending::{Ending, push_ending};
 

@@ -1,6 +1,6 @@
 //! Ends of calls as they are written. A growth may be refused once in each line.
 
-use body_core::reply::{Failure, Reply};
+use apply_core::reply::{Failure, Reply};
 use std::alloc::{AllocError, Global};
 use trace_core::event::push_end;
 use value_core::datum::Datum;

@@ -4,7 +4,7 @@ pub mod Text
 pub mod TextOrder
 pub mod Datum
 pub mod Cells
-pub mod Line
+pub mod Queue
 pub mod Contents
 pub mod Spelling
 pub mod Laws

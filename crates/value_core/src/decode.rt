@@ -9,12 +9,12 @@ ghost use Rattle.value_core.specs.Rows.{rows_sort, rows_map};
 ghost use Rattle.value_core.specs.TextOrder.{text_cmp};
 ghost use Rattle.std.specs.FinMap as map;
 ghost use Rattle.value_core.specs.Cells.{cells_sort, cells_data};
-ghost use Rattle.value_core.specs.Line.{line_sort, line_data};
+ghost use Rattle.value_core.specs.Queue.{queue_sort, queue_data};
 
 use crate::cells::Cells;
 use crate::kind::{Elem, Kind};
 use crate::limits::MOST_ELEMENTS;
-use crate::line::Line;
+use crate::queue::Queue;
 use crate::reader::{read_datum, read_header, read_row};
 use crate::rows::Rows;
 use crate::text::Text;
@@ -67,12 +67,12 @@ fn decode_cells(alloc: Global, sort: Elem, count: usize, bytes: &[u8]) -> Result
 }
 
 // The elements of a queue, so many, that the bytes are.
-fn decode_line(alloc: Global, sort: Elem, count: usize, bytes: &[u8]) -> Result<Line, DecodeFault>
-    ensures sort { IfOk result (λ line. line_sort line ≡ sort) }
-    ensures found { IfOk result (λ line. SpellElements bytes.now sort count (line_data line)) }
+fn decode_queue(alloc: Global, sort: Elem, count: usize, bytes: &[u8]) -> Result<Queue, DecodeFault>
+    ensures sort { IfOk result (λ line. queue_sort line ≡ sort) }
+    ensures found { IfOk result (λ line. SpellElements bytes.now sort count (queue_data line)) }
     ensures damaged { IsErrOf result DecodeFault.Damaged → (xs : List Datum) → SpellElements bytes.now sort count xs → ⊥ }
 {
-    let mut line = Line::with_capacity(alloc, sort, count)?;
+    let mut line = Queue::with_capacity(alloc, sort, count)?;
     let mut rest = bytes;
     for place in 0..count {
         let Some((datum, behind)) = read_datum(sort, rest) else {
@@ -146,7 +146,7 @@ fn decode_elements(
             Ok(Value::of(Body::Array(cells)))
         }
         Kind::Queue(sort) => {
-            let line = decode_line(alloc, sort, many, bytes)?;
+            let line = decode_queue(alloc, sort, many, bytes)?;
             Ok(Value::of(Body::Queue(line)))
         }
         Kind::Table(sort) => {

@@ -5,14 +5,14 @@ ghost use Rattle.std.specs.List.{flat_map};
 ghost use Rattle.std.specs.Int.{w32, to_be_bytes};
 ghost use Rattle.value_core.specs.Contents.{kind_of};
 ghost use Rattle.value_core.specs.Cells.{cells_data};
-ghost use Rattle.value_core.specs.Line.{line_data};
+ghost use Rattle.value_core.specs.Queue.{queue_data};
 ghost use Rattle.value_core.specs.Spelling.{spelled_text, spelled_datum, header, Spells};
 
 use crate::cells::Cells;
 use crate::datum::Datum;
 use crate::kind::Kind;
 use crate::limits::TextLength;
-use crate::line::Line;
+use crate::queue::Queue;
 use crate::text::Text;
 use crate::value::{Body, Value};
 use std::alloc::{AllocError, Global};
@@ -25,7 +25,7 @@ pub fn encode(alloc: Global, value: &Value) -> Result<Vec<u8>, AllocError>
     put_header(&mut out, value.kind(), value.count() as u16)?;
     match value.body() {
         Body::Array(cells) => put_cells(&mut out, cells)?,
-        Body::Queue(line) => put_line(&mut out, line)?,
+        Body::Queue(line) => put_queue(&mut out, line)?,
         Body::Table(rows) => rows.put(&mut out)?,
     }
     Ok(out)
@@ -75,8 +75,8 @@ fn put_cells(out: &mut Vec<u8>, cells: &Cells) -> Result<(), AllocError>
     Ok(())
 }
 
-fn put_line(out: &mut Vec<u8>, line: &Line) -> Result<(), AllocError>
-    ensures { OnOk result (out.new.items ≡ out.old.items ++ flat_map spelled_datum (line_data line.now)) }
+fn put_queue(out: &mut Vec<u8>, line: &Queue) -> Result<(), AllocError>
+    ensures { OnOk result (out.new.items ≡ out.old.items ++ flat_map spelled_datum (queue_data line.now)) }
 {
     for place in 0..line.len() {
         if let Some(datum) = line.get(place) {

@@ -13,7 +13,7 @@ pub mod encode;
 pub mod kind;
 pub mod laws;
 pub mod limits;
-mod line;
+mod queue;
 mod reader;
 pub mod refusal;
 mod rows;

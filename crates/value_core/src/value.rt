@@ -11,7 +11,7 @@ use crate::cells::Cells;
 use crate::datum::Datum;
 use crate::kind::Kind;
 use crate::limits::{HEADER_BYTES, MOST_ELEMENTS};
-use crate::line::Line;
+use crate::queue::Queue;
 use crate::refusal::{GrowFault, Refusal};
 use crate::rows::Rows;
 use crate::text::Text;
@@ -28,7 +28,7 @@ pub struct Value {
 #[derive(Drop)]
 pub(crate) enum Body {
     Array(Cells),
-    Queue(Line),
+    Queue(Queue),
     Table(Rows),
 }
 
@@ -82,7 +82,7 @@ impl Value {
     {
         let body = match kind {
             Kind::Array(count, sort) => Body::Array(Cells::zeros(alloc, sort, count as usize)?),
-            Kind::Queue(sort) => Body::Queue(Line::new(alloc, sort)),
+            Kind::Queue(sort) => Body::Queue(Queue::new(alloc, sort)),
             Kind::Table(sort) => Body::Table(Rows::new(alloc, sort)),
         };
         Ok(Value { body })

@@ -2,9 +2,9 @@
 use Rattle.std.proofs.Common.{◌≡◌, ℕ, zero, suc, ◌+◌, ◌<◌, ◌≤◌, ◌⊎◌, inl, inr, true, false, List, [], ◌∷◌, ◌++◌, length, Option, Some, None, refl, sym, ◌∙◌, ap, subst, arith, take, drop, map, append_assoc}
 use Rattle.std.specs.Prelude.{slice_get, slice_set}
 use Rattle.value_core.specs.Contents.{Contents}
-use Rattle.shelf_core.specs.declared.file.File.{File}
-use Rattle.shelf_core.specs.Device.{Assignment, AreServed}
-use Rattle.shelf_core.specs.Files.{IsOpen, Serves}
+use Rattle.device_core.specs.declared.file.File.{File}
+use Rattle.hand_core.specs.Device.{Assignment, AreServed}
+use Rattle.device_core.specs.Files.{IsOpen, Serves}
 use Rattle.body_core.specs.Calls.{Call, call_of}
 use Rattle.body_core.specs.Runs.{run_call, run_pen, run_sealed, run_place, SoFar, AreApart, no_pen}
 use Rattle.body_core.specs.Steps.{PinsServed, NewsServed, Starts}
@@ -23,7 +23,7 @@ use Rattle.world_core.specs.Scene.{Standing, AreBegun, call_running, collected}
 use Rattle.world_core.specs.Kept.{IsKept, IsReady, HasNew, standing_of}
 use Rattle.board_core.specs.declared.event.TraceEvent.{TraceEvent}
 use Rattle.board_core.specs.declared.event.TraceEvent.TheVariants.{Start, End}
-use Rattle.body_core.specs.declared.reply.Reply.{Reply}
+use Rattle.apply_core.specs.declared.reply.Reply.{Reply}
 use Rattle.std.proofs.lemmas.List.{length-map}
 use Rattle.board_core.specs.Started.{run_of}
 use Rattle.world_core.proofs.Places.{some_is, one_place, take_set, drop_set, drop_at, at_of_drop, within, length_set, length_snoc, map_snoc, all_taken}

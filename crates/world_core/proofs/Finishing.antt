@@ -4,14 +4,14 @@ use Rattle.std.specs.Prelude.{slice_get, slice_set, not}
 use Rattle.std.specs.List.{filter}
 use Rattle.std.proofs.lemmas.Bool.{ne_eqb}
 use Rattle.value_core.specs.Contents.{Contents}
-use Rattle.shelf_core.specs.declared.file.File.{File}
-use Rattle.shelf_core.specs.declared.hand.Stamp.{Stamp}
-use Rattle.shelf_core.specs.Device.{Assignment, AreServed}
-use Rattle.shelf_core.specs.Files.{HasFiles, Serves, files_of}
+use Rattle.device_core.specs.declared.file.File.{File}
+use Rattle.hand_core.specs.declared.hand.Stamp.{Stamp}
+use Rattle.hand_core.specs.Device.{Assignment, AreServed}
+use Rattle.device_core.specs.Files.{HasFiles, Serves, files_of}
 use Rattle.body_core.specs.declared.new_pins.NewPin.{NewPin}
 use Rattle.body_core.specs.declared.outcome.Outcome.{Outcome}
-use Rattle.body_core.specs.declared.reply.Reply.{Reply}
-use Rattle.body_core.specs.declared.reply.Reply.TheVariants.{Done, Refused, Failed}
+use Rattle.apply_core.specs.declared.reply.Reply.{Reply}
+use Rattle.apply_core.specs.declared.reply.Reply.TheVariants.{Done, Refused, Failed}
 use Rattle.body_core.specs.Calls.{Call}
 use Rattle.body_core.specs.Runs.{run_call, run_sealed, SoFar, AreApart}
 use Rattle.body_core.specs.Steps.{NewsServed}

@@ -9,11 +9,11 @@ use Rattle.value_core.specs.Contents.{Contents}
 use Rattle.value_core.specs.Meaning.{opening_of}
 use Rattle.decl_core.specs.declared.object.Object.{Object}
 use Rattle.decl_core.specs.declared.object.Part.{Part}
-use Rattle.shelf_core.specs.declared.file.File.{File}
-use Rattle.shelf_core.specs.declared.hand.Stamp.{Stamp}
-use Rattle.shelf_core.specs.Device.{Assignment, AreServed, front_of}
-use Rattle.shelf_core.specs.Files.{HasFiles, Serves, files_of}
-use Rattle.shelf_core.specs.Papers.{Papers, part_key}
+use Rattle.device_core.specs.declared.file.File.{File}
+use Rattle.hand_core.specs.declared.hand.Stamp.{Stamp}
+use Rattle.hand_core.specs.Device.{Assignment, AreServed, front_of}
+use Rattle.device_core.specs.Files.{HasFiles, Serves, files_of}
+use Rattle.hand_core.specs.Papers.{Papers, part_key}
 use Rattle.shelf_core.specs.Opened.{BeginsWith, IsPinned, AreLoaded, ArePinned}
 use Rattle.board_core.specs.Board.{Board, opened}
 use Rattle.board_core.specs.Chain.{ShowContents, Shows}

@@ -2,10 +2,10 @@
 use Rattle.std.proofs.Common.{◌≡◌, ◌≢◌, ℕ, ◌⊎◌, inl, inr, Bool, true, false, not, ◌==◌, List, [], ◌∷◌, ◌++◌, length, Some, None, refl, sym, ◌∙◌, ap, subst, map, take, get_or, ◌+◌, ◌<◌}
 use Rattle.std.proofs.lemmas.List.{append-nil, take_more}
 use Rattle.decl_core.specs.declared.object.Object.{Object}
-use Rattle.body_core.specs.declared.reply.Failure.TheVariants as failures
-use Rattle.body_core.specs.declared.reply.Reply.{Reply}
-use Rattle.body_core.specs.declared.reply.Reply.TheVariants as replies
-use Rattle.body_core.specs.declared.step.Need.TheVariants as needs
+use Rattle.apply_core.specs.declared.reply.Failure.TheVariants as failures
+use Rattle.apply_core.specs.declared.reply.Reply.{Reply}
+use Rattle.apply_core.specs.declared.reply.Reply.TheVariants as replies
+use Rattle.apply_core.specs.declared.need.Need.TheVariants as needs
 use Rattle.body_core.specs.Calls.{Call}
 use Rattle.body_core.specs.Phases.{IsSettled, step_answer}
 use Rattle.body_core.specs.Steps.{Place, at_read, at_create, at_append, at_seal, at_end, Starts, with_part, with_none, need_at, ending_at, sealed_at}

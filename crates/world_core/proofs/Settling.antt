@@ -1,10 +1,10 @@
 -- What an event leaves, where admission follows.
 use Rattle.std.proofs.Common.{◌≡◌, ℕ, true, false, List, [], ◌∷◌, ◌++◌, length, refl, sym, ◌∙◌, ap, subst, arith, take, drop, map, length-append}
 use Rattle.value_core.specs.Contents.{Contents}
-use Rattle.shelf_core.specs.declared.file.File.{File}
-use Rattle.shelf_core.specs.declared.hand.Stamp.{Stamp}
-use Rattle.shelf_core.specs.Device.{Assignment, AreServed}
-use Rattle.shelf_core.specs.Files.{HasFiles, Serves, files_of}
+use Rattle.device_core.specs.declared.file.File.{File}
+use Rattle.hand_core.specs.declared.hand.Stamp.{Stamp}
+use Rattle.hand_core.specs.Device.{Assignment, AreServed}
+use Rattle.device_core.specs.Files.{HasFiles, Serves, files_of}
 use Rattle.body_core.specs.Runs.{run_call, AreApart}
 use Rattle.board_core.specs.declared.event.TraceEvent.{TraceEvent}
 use Rattle.board_core.specs.declared.event.TraceEvent.TheVariants.{Start}

@@ -6,12 +6,12 @@ use Rattle.value_core.specs.declared.kind.Kind.{Kind}
 use Rattle.value_core.specs.Contents.{Contents}
 use Rattle.value_core.specs.Spelling.{Spells}
 use Rattle.value_core.proofs.Unique.{unique}
-use Rattle.shelf_core.specs.declared.file.File.{File}
-use Rattle.shelf_core.specs.declared.hand.Stamp.{Stamp}
-use Rattle.shelf_core.specs.Device.{Assignment, bytes_of}
-use Rattle.shelf_core.specs.Files.{HasFiles, files_of}
-use Rattle.shelf_core.proofs.Agreeing.{some_map}
-use Rattle.body_core.specs.History.{leads_to}
+use Rattle.device_core.specs.declared.file.File.{File}
+use Rattle.hand_core.specs.declared.hand.Stamp.{Stamp}
+use Rattle.hand_core.specs.Device.{Assignment, bytes_of}
+use Rattle.device_core.specs.Files.{HasFiles, files_of}
+use Rattle.device_core.proofs.Agreeing.{some_map}
+use Rattle.apply_core.specs.History.{leads_to}
 use Rattle.decl_core.specs.declared.object.Object.{Object}
 use Rattle.decl_core.specs.declared.object.Part.{Part}
 use Rattle.board_core.specs.Board.{Board}

@@ -6,21 +6,21 @@ use Rattle.std.proofs.lemmas.Bool.Decides.{eqb_tells}
 use Rattle.value_core.specs.declared.kind.Kind.{Kind}
 use Rattle.value_core.specs.Contents.{Contents}
 use Rattle.value_core.specs.Spelling.{Spells}
-use Rattle.shelf_core.specs.declared.file.File.{File}
-use Rattle.shelf_core.specs.declared.hand.Stamp.{Stamp}
-use Rattle.shelf_core.specs.Device.{Assignment, IsFree, bytes_of}
-use Rattle.shelf_core.specs.Files.{HasFiles, IsOpen, Serves}
+use Rattle.device_core.specs.declared.file.File.{File}
+use Rattle.hand_core.specs.declared.hand.Stamp.{Stamp}
+use Rattle.hand_core.specs.Device.{Assignment, IsFree, bytes_of}
+use Rattle.device_core.specs.Files.{HasFiles, IsOpen, Serves}
 use Rattle.body_core.specs.declared.phase.Phase.{Phase}
 use Rattle.body_core.specs.declared.phase.Phase.TheVariants.{Reading, Creating, Appending, Sealing, Ended}
-use Rattle.body_core.specs.declared.reply.Failure.TheVariants as failures
-use Rattle.body_core.specs.declared.reply.Reply.{Reply}
-use Rattle.body_core.specs.declared.reply.Reply.TheVariants.{Done, Refused, Failed}
+use Rattle.apply_core.specs.declared.reply.Failure.TheVariants as failures
+use Rattle.apply_core.specs.declared.reply.Reply.{Reply}
+use Rattle.apply_core.specs.declared.reply.Reply.TheVariants.{Done, Refused, Failed}
 use Rattle.body_core.specs.declared.run.Run.{Run}
 use Rattle.body_core.specs.Calls.{Call}
 use Rattle.body_core.specs.Phases.{ending_of, step_answer, FoundBy}
-use Rattle.body_core.specs.RunLaws.{PensStay, PensAreOpen}
+use Rattle.world_core.specs.RunLaws.{PensStay, PensAreOpen}
 use Rattle.body_core.specs.Runs.{run_call, run_ending, run_pen, run_place, run_sealed, PenHolds, SoFar, AreApart, ending_by_place}
-use Rattle.body_core.specs.declared.step.Need.TheVariants as needs
+use Rattle.apply_core.specs.declared.need.Need.TheVariants as needs
 use Rattle.body_core.specs.Steps.{Place, at_read, at_create, at_append, at_seal, at_end, need_at, ending_at, Follows, FailsWith, PinsServed, NewsServed}
 use Rattle.body_core.specs.Truths.{PinHolds, IsDamaged}
 use Rattle.board_core.specs.Lists.{Every, EachPair}

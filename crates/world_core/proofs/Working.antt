@@ -3,14 +3,14 @@ use Rattle.std.proofs.Common.{◌≡◌, ◌≢◌, ℕ, zero, suc, ◌+◌, ◌
 use Rattle.std.specs.Prelude.{slice_get, slice_set}
 use Rattle.std.proofs.lemmas.Bool.Decides.{eqb_tells}
 use Rattle.std.proofs.lemmas.List.{length-take-le}
-use Rattle.shelf_core.specs.declared.file.File.{File}
-use Rattle.shelf_core.specs.declared.file.State.{State}
-use Rattle.shelf_core.specs.declared.file.State.TheVariants as states
-use Rattle.shelf_core.specs.Files.{IsOpen, file_at, open_bytes, open_of}
+use Rattle.device_core.specs.declared.file.File.{File}
+use Rattle.device_core.specs.declared.file.State.{State}
+use Rattle.device_core.specs.declared.file.State.TheVariants as states
+use Rattle.device_core.specs.Files.{IsOpen, file_at, open_bytes, open_of}
 use Rattle.body_core.specs.declared.phase.Phase.{Phase}
 use Rattle.body_core.specs.declared.phase.Phase.TheVariants.{Reading, Creating, Appending, Sealing, Ended}
 use Rattle.body_core.specs.declared.run.Run.{Run}
-use Rattle.body_core.specs.declared.step.Need.TheVariants as needs
+use Rattle.apply_core.specs.declared.need.Need.TheVariants as needs
 use Rattle.body_core.specs.Calls.{Call}
 use Rattle.body_core.specs.Phases.{PenHoldsIn}
 use Rattle.body_core.specs.Runs.{PenHolds, run_place}

@@ -2,14 +2,14 @@
 use Rattle.std.specs.Prelude.{◌≡◌, ◌≢◌, ℕ, ◌+◌, ◌≤◌, ◌<◌, ◌⊎◌, ◌==◌, not, Bool, true, false, List, length, filter, slice_set, Some}
 use Rattle.std.specs.Global.{Vec}
 use Rattle.value_core.specs.Contents.{Contents}
-use Rattle.shelf_core.specs.declared.file.File.{File}
-use Rattle.body_core.specs.declared.reply.Failure.TheVariants as failures
-use Rattle.body_core.specs.declared.reply.Reply.{Reply}
-use Rattle.body_core.specs.declared.reply.Reply.TheVariants as replies
-use Rattle.body_core.specs.declared.step.Need.TheVariants as needs
+use Rattle.device_core.specs.declared.file.File.{File}
+use Rattle.apply_core.specs.declared.reply.Failure.TheVariants as failures
+use Rattle.apply_core.specs.declared.reply.Reply.{Reply}
+use Rattle.apply_core.specs.declared.reply.Reply.TheVariants as replies
+use Rattle.apply_core.specs.declared.need.Need.TheVariants as needs
 use Rattle.body_core.specs.Steps.{Place, Follows, FailsWith, need_at, ending_at, sealed_at, chunk}
 use Rattle.body_core.specs.Phases.{step_answer}
-use Rattle.body_core.specs.History.{leads_to}
+use Rattle.apply_core.specs.History.{leads_to}
 use Rattle.board_core.specs.Lists.{Among}
 use Rattle.board_core.specs.Calls.{AcceptedCall, RunningCall}
 use Rattle.board_core.specs.Board.{joined, dismissed, released, marked, ended, entry_of}

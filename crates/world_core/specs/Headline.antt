@@ -2,10 +2,10 @@
 use Rattle.std.specs.Prelude.{◌≡◌, ◌≢◌, ◌<◌, List, map}
 use Rattle.path_tree.specs.Satisfies.{SatisfiesAll}
 use Rattle.decl_core.specs.declared.object.Object.{Object}
-use Rattle.shelf_core.specs.Device.{Assignment}
-use Rattle.body_core.specs.declared.reply.Failure.TheVariants as failures
-use Rattle.body_core.specs.declared.reply.Reply.TheVariants as replies
-use Rattle.body_core.specs.History.{IsLegal, leads_to}
+use Rattle.hand_core.specs.Device.{Assignment}
+use Rattle.apply_core.specs.declared.reply.Failure.TheVariants as failures
+use Rattle.apply_core.specs.declared.reply.Reply.TheVariants as replies
+use Rattle.apply_core.specs.History.{IsLegal, leads_to}
 use Rattle.board_core.specs.Lists.{Every, EachPair}
 use Rattle.board_core.specs.Calls.{Noted}
 use Rattle.board_core.specs.Board.{paths_of, past_of, Rests}

@@ -1,9 +1,9 @@
 -- What holds of the tables of a world.
 use Rattle.std.specs.Prelude.{◌≡◌, ◌≤◌, ℕ, true, false, List, take, drop, map, length, vec_capacity}
 use Rattle.value_core.specs.Contents.{Contents}
-use Rattle.shelf_core.specs.declared.file.File.{File}
-use Rattle.shelf_core.specs.Device.{Assignment, AreServed}
-use Rattle.shelf_core.specs.Files.{HasFiles, IsOpen, Serves, files_of}
+use Rattle.device_core.specs.declared.file.File.{File}
+use Rattle.hand_core.specs.Device.{Assignment, AreServed}
+use Rattle.device_core.specs.Files.{HasFiles, IsOpen, Serves, files_of}
 use Rattle.body_core.specs.Runs.{run_call, run_place, run_sealed, PenHolds, SoFar, AreApart}
 use Rattle.body_core.specs.Steps.{PinsServed, NewsServed}
 use Rattle.board_core.specs.Lists.{Every, EachPair}

@@ -1,9 +1,9 @@
 -- Laws of lists of events.
 use Rattle.std.specs.Prelude.{◌≡◌, ◌≢◌, ℕ, ◌+◌, ◌≤◌, Bool, List, map}
 use Rattle.decl_core.specs.declared.object.Object.{Object}
-use Rattle.body_core.specs.declared.reply.Failure.TheVariants as failures
-use Rattle.body_core.specs.declared.reply.Reply.TheVariants as replies
-use Rattle.body_core.specs.declared.step.Need.{Need}
+use Rattle.apply_core.specs.declared.reply.Failure.TheVariants as failures
+use Rattle.apply_core.specs.declared.reply.Reply.TheVariants as replies
+use Rattle.apply_core.specs.declared.need.Need.{Need}
 use Rattle.body_core.specs.declared.step.StepAnswer.{StepAnswer}
 use Rattle.body_core.specs.Steps.{chunk}
 use Rattle.board_core.specs.Lists.{Every}

@@ -7,3 +7,4 @@ pub mod Plays
 pub mod Headline
 pub mod Kept
 pub mod Laws
+pub mod RunLaws

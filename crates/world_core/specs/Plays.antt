@@ -1,9 +1,9 @@
 -- Lists of events.
 use Rattle.std.specs.Prelude.{◌≡◌, ℕ, ◌⊎◌, false, List, [], ◌∷◌}
-use Rattle.body_core.specs.declared.reply.Reply.{Reply}
-use Rattle.body_core.specs.declared.step.Need.{Need}
+use Rattle.apply_core.specs.declared.reply.Reply.{Reply}
+use Rattle.apply_core.specs.declared.need.Need.{Need}
 use Rattle.body_core.specs.declared.step.StepAnswer.TheVariants as steps
-use Rattle.shelf_core.specs.declared.hand.HandFault.TheVariants as faults
+use Rattle.hand_core.specs.declared.hand.HandFault.TheVariants as faults
 use Rattle.world_core.specs.declared.event.Answer.{Answer}
 use Rattle.world_core.specs.declared.event.Answer.TheVariants.{Number, Stepped, Ended, Cancel, Dropped, Shown, Refused}
 use Rattle.world_core.specs.declared.event.EventAnswer.{EventAnswer}

@@ -3,8 +3,9 @@
 ghost use Rattle.std.specs.Prelude.{◌≡◌};
 ghost use Rattle.world_core.specs.Names.{refusal_name};
 
-use body_core::reply::Reply;
-use body_core::step::{Need, StepAnswer};
+use apply_core::need::Need;
+use apply_core::reply::Reply;
+use body_core::step::StepAnswer;
 use desk_core::answer::{Cancelled, SubmitFault};
 use value_core::datum::Datum;
 use value_core::value::Value;

@@ -7,6 +7,7 @@
 
 pub mod event;
 pub mod laws;
+pub mod pens;
 mod read;
 mod slot;
 mod stage;

@@ -3,12 +3,12 @@
 ghost use Rattle.std.specs.Prelude.{◌≡◌, IfOk, ℕ, length};
 ghost use Rattle.value_core.specs.Spelling.{Spells};
 ghost use Rattle.value_core.specs.Contents.{Contents};
-ghost use Rattle.shelf_core.specs.Device.{Assignment, bytes_of, IsWhole};
-ghost use Rattle.shelf_core.specs.Files.{HasFiles, Serves, files_of};
+ghost use Rattle.hand_core.specs.Device.{Assignment, bytes_of, IsWhole};
+ghost use Rattle.device_core.specs.Files.{HasFiles, Serves, files_of};
 ghost use Rattle.board_core.specs.Chain.{Shows};
 
-use shelf_core::hand::{Hand, Stamp};
-use shelf_core::memory::MemHand;
+use device_core::memory::MemHand;
+use hand_core::hand::{Hand, Stamp};
 use std::alloc::{AllocError, Global};
 use value_core::decode::{DecodeFault, decode};
 use value_core::kind::Kind;

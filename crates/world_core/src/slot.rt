@@ -1,7 +1,7 @@
 //! The run of a running call.
 
 ghost use Rattle.std.specs.Prelude.{◌≡◌, ◌≢◌, Some, None};
-ghost use Rattle.shelf_core.specs.Device.{Assignment};
+ghost use Rattle.hand_core.specs.Device.{Assignment};
 ghost use Rattle.body_core.specs.Runs.{run_call, run_ending, run_sealed, SoFar};
 ghost use Rattle.body_core.specs.Outcomes.{outcome_call, outcome_reply, outcome_news, outcome_pins};
 ghost use Rattle.body_core.specs.Truths.{IsTrueOf};
@@ -9,8 +9,8 @@ ghost use Rattle.body_core.specs.Truths.{IsTrueOf};
 use body_core::outcome::Outcome;
 use body_core::perform::perform;
 use body_core::run::Run;
-use shelf_core::fuse::FuseHand;
-use shelf_core::memory::MemHand;
+use device_core::fuse::FuseHand;
+use device_core::memory::MemHand;
 use std::alloc::Global;
 
 // A run, with the number of its call. A run has to be spent: one that is let go makes failing steps till it ends.

@@ -1,16 +1,16 @@
 //! The tables of a world, and what each event does to them.
 
 ghost use Rattle.std.specs.Prelude.{◌≡◌, ◌≢◌, ◌↔◌, IsTrue, ◌≤◌, ◌<◌, ◌⊎◌, ℕ, List, [], ◌∷◌, ◌++◌, length, map, IfSome, IfNone, IfOk, Some, None, true, false, vec_capacity, slice_get};
-ghost use Rattle.shelf_core.specs.declared.hand.Stamp.{Stamp};
-ghost use Rattle.shelf_core.specs.Device.{Assignment, IsFree};
-ghost use Rattle.shelf_core.specs.Files.{HasFiles, IsOpen, Serves, files_of};
-ghost use Rattle.body_core.specs.declared.reply.Failure.TheVariants as failures;
-ghost use Rattle.body_core.specs.declared.reply.Reply.TheVariants as replies;
-ghost use Rattle.body_core.specs.declared.step.Need.TheVariants as needs;
+ghost use Rattle.hand_core.specs.declared.hand.Stamp.{Stamp};
+ghost use Rattle.hand_core.specs.Device.{Assignment, IsFree};
+ghost use Rattle.device_core.specs.Files.{HasFiles, IsOpen, Serves, files_of};
+ghost use Rattle.apply_core.specs.declared.reply.Failure.TheVariants as failures;
+ghost use Rattle.apply_core.specs.declared.reply.Reply.TheVariants as replies;
+ghost use Rattle.apply_core.specs.declared.need.Need.TheVariants as needs;
 ghost use Rattle.body_core.specs.Runs.{run_call, run_ending, run_place, run_sealed, run_pen, PenHolds, SoFar};
 ghost use Rattle.body_core.specs.Steps.{Starts, Follows, FailsWith, PinsServed, NewsServed};
 ghost use Rattle.body_core.specs.Phases.{step_answer};
-ghost use Rattle.body_core.specs.History.{leads_to};
+ghost use Rattle.apply_core.specs.History.{leads_to};
 ghost use Rattle.board_core.specs.Lists.{Every};
 ghost use Rattle.board_core.specs.Calls.{RunningCall, WaitingCall};
 ghost use Rattle.board_core.specs.Board.{taken_at, Rests};
@@ -23,17 +23,18 @@ ghost use Rattle.world_core.specs.Answers.{Answers};
 ghost use Rattle.world_core.specs.Kept.{IsKept, IsStaged, HasNew, standing_of, scene_of};
 
 use crate::event::{Answer, EventAnswer, Refusal};
+use crate::pens::{pens_are_open, pens_stay};
 use crate::read::read_value;
 use crate::slot::Slot;
+use apply_core::need::Need;
 use board_core::event::TraceEvent;
 use board_core::laws::{chained_are_legal, truth_is_noted};
-use body_core::laws::{pens_are_open, pens_stay};
 use body_core::run::Run;
-use body_core::step::{Need, StepAnswer};
+use body_core::step::StepAnswer;
 use desk_core::answer::{Cancelled, Collected};
 use desk_core::desk::Desk;
-use shelf_core::fuse::FuseHand;
-use shelf_core::memory::MemHand;
+use device_core::fuse::FuseHand;
+use device_core::memory::MemHand;
 use std::alloc::{AllocError, Global};
 use std::mem;
 use value_core::datum::Datum;

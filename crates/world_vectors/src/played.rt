@@ -1,7 +1,7 @@
 //! Lists of events, played as a whole.
 
 use crate::make::accepted;
-use body_core::reply::{Failure, Reply};
+use apply_core::reply::{Failure, Reply};
 use value_core::datum::Datum;
 use world_core::event::Event;
 use world_core::world::World;

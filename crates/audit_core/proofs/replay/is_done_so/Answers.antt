@@ -1,6 +1,6 @@
 use Rattle.std.proofs.Common.{sym, ◌∙◌, subst}
 use Rattle.std.proofs.lemmas.Bool.{false≢true}
-use Rattle.body_core.specs.Calls.{HoldsReads}
+use Rattle.apply_core.specs.Fits.{HoldsReads}
 use Rattle.audit_core.specs.View.{told_view}
 use Rattle.audit_core.proofs.Replaying.{judged}
 use Rattle.audit_core.proofs.replay.is_done_so.Goals as goal

@@ -1,5 +1,5 @@
 use Rattle.std.proofs.Common.{◌-◌, ◌≤◌, length}
-use Rattle.shelf_core.specs.Device.{Assignment, Shows}
+use Rattle.hand_core.specs.Device.{Assignment, Shows}
 use Rattle.body_core.proofs.at_once.read_file.Given as goal
 
 abbrev pub invariant-loop-pin : goal.invariant-loop-pin

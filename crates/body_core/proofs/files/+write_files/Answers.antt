@@ -1,6 +1,6 @@
 use Rattle.std.proofs.Common.{rules, arith, ◌≡◌, ◌∷◌, suc, length, drop, refl, sym, ap, ◌∙◌, subst}
 use Rattle.std.proofs.lemmas.List.{length_push}
-use Rattle.shelf_core.specs.Device.{Holds}
+use Rattle.hand_core.specs.Device.{Holds}
 use Rattle.body_core.specs.Phases.{AreSealed}
 use Rattle.body_core.specs.Written.{parts_changed}
 use Rattle.body_core.proofs.Sealing.{sealed_more, next_dropped}

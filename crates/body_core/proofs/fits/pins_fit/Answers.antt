@@ -1,5 +1,5 @@
 use Rattle.std.proofs.Common.{length, refl, eq-eqb, arith}
-use Rattle.body_core.proofs.Bits.{no_bit_behind, all_below}
+use Rattle.apply_core.proofs.Bits.{no_bit_behind, all_below}
 use Rattle.body_core.proofs.fits.pins_fit.Goals as goal
 
 pub loop-part-init : goal.loop-part-init

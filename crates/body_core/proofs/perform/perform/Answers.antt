@@ -1,6 +1,6 @@
 use Rattle.std.proofs.Common.{rules, arith, ap, sym, subst, ◌∙◌, ◌+◌, inl, inr, Some}
 use Rattle.std.proofs.lemmas.Bool.{cases_lt}
-use Rattle.body_core.specs.declared.reply.Reply.{Reply}
+use Rattle.apply_core.specs.declared.reply.Reply.{Reply}
 use Rattle.body_core.specs.Steps.{IsPinOf, NewsServed}
 use Rattle.body_core.proofs.Serving.{running}
 use Rattle.body_core.proofs.Stepping.{some_same}

@@ -1,8 +1,8 @@
 use Rattle.std.proofs.Common.{◌≡◌, ◌⊎◌, ◌<◌, ◌≤◌, Some, None}
-use Rattle.shelf_core.specs.declared.hand.Stamp.{Stamp}
-use Rattle.shelf_core.specs.Device.{Assignment, Always, Failed as DeviceFailed}
-use Rattle.body_core.specs.declared.reply.Failure.TheVariants as failures
-use Rattle.body_core.specs.declared.reply.Reply.TheVariants as replies
+use Rattle.hand_core.specs.declared.hand.Stamp.{Stamp}
+use Rattle.hand_core.specs.Device.{Assignment, Always, Failed as DeviceFailed}
+use Rattle.apply_core.specs.declared.reply.Failure.TheVariants as failures
+use Rattle.apply_core.specs.declared.reply.Reply.TheVariants as replies
 use Rattle.body_core.specs.Runs.{run_call, run_ending, run_place, run_sealed, run_work, PenHolds, SoFar}
 use Rattle.body_core.specs.Steps.{Place, Leads, NewsServed, PinsServed}
 use Rattle.body_core.proofs.perform.perform.Given as goal

@@ -1,5 +1,5 @@
 use Rattle.std.proofs.Common.{◌∙◌, inl, arith, ap, length}
-use Rattle.shelf_core.specs.declared.hand.HandFault.TheVariants.{Memory}
+use Rattle.hand_core.specs.declared.hand.HandFault.TheVariants.{Memory}
 use Rattle.body_core.specs.Steps.{reads_last}
 use Rattle.body_core.specs.Tasks.{task_call}
 use Rattle.body_core.proofs.Fronts.{read_next, read_all, with_row_length}

@@ -1,5 +1,5 @@
 use Rattle.std.proofs.Common.{◌≡◌, subst, true}
-use Rattle.body_core.specs.Calls.{HoldsReads}
+use Rattle.apply_core.specs.Fits.{HoldsReads}
 use Rattle.body_vectors.proofs.calls.reply_in_place.Goals as goal
 
 pub apply_all-requires-clause-held : goal.apply_all-requires-clause-held

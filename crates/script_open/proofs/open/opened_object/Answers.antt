@@ -1,7 +1,7 @@
 use Rattle.std.proofs.Common.{sym, subst}
 use Rattle.std.specs.Map.{values_of}
 use Rattle.decl_core.specs.ObjectMap.{object_of, objects_of}
-use Rattle.exclude_core.proofs.Reports.{told_fault}
+use Rattle.check_core.proofs.Reports.{told_fault}
 use Rattle.script_open.specs.Opening.{IsTold, faulty, lacking}
 use Rattle.script_open.proofs.Judging.{opened_by}
 use Rattle.script_open.proofs.open.opened_object.Goals as goal

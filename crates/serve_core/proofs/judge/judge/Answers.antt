@@ -1,7 +1,7 @@
 use Rattle.std.proofs.Common.{sym, subst}
 use Rattle.std.specs.Map.{values_of}
 use Rattle.decl_core.specs.ObjectMap.{objects_of}
-use Rattle.exclude_core.proofs.Reports.{told_fault}
+use Rattle.check_core.proofs.Reports.{told_fault}
 use Rattle.serve_core.specs.Judging.{IsUnserved, faulty}
 use Rattle.serve_core.proofs.Sorting.{judged_source}
 use Rattle.serve_core.proofs.judge.judge.Goals as goal

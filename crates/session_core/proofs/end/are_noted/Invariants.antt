@@ -1,5 +1,5 @@
 use Rattle.std.proofs.Common.{length}
-use Rattle.session_core.specs.Written.{AreNoted}
+use Rattle.talk_core.specs.Written.{AreNoted}
 use Rattle.session_core.proofs.end.are_noted.Given as goal
 
 abbrev pub invariant-loop-receipt : goal.invariant-loop-receipt

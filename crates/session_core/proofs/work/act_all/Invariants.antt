@@ -1,4 +1,4 @@
-use Rattle.session_core.specs.Truth.{Keeps, AreTrue}
+use Rattle.talk_core.specs.Truth.{Keeps, AreTrue}
 use Rattle.session_core.proofs.work.act_all.Given as goal
 
 abbrev pub invariant-loop-action : goal.invariant-loop-action

@@ -1,4 +1,4 @@
-use Rattle.session_core.specs.Truth.{Keeps, AreTrue}
+use Rattle.talk_core.specs.Truth.{Keeps, AreTrue}
 use Rattle.session_core.proofs.work.take_turns.Given as goal
 
 abbrev pub invariant-loop : goal.invariant-loop

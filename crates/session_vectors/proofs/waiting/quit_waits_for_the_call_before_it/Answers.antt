@@ -1,6 +1,6 @@
 use denote.Param.Send.{sendable}
 use Rattle.std.proofs.Crossing.{crosses}
-use Rattle.shelf_core.proofs.memory.MemHand.TheSendSync as hand
+use Rattle.device_core.proofs.memory.MemHand.TheSendSync as hand
 use Rattle.session_core.proofs.Sending.{named_sync, named_field_sync}
 use Rattle.session_vectors.proofs.waiting.quit_waits_for_the_call_before_it.Goals as goal
 

@@ -1,6 +1,6 @@
 use Rattle.std.proofs.Common.{◌≡◌, ◌+◌, ◌<◌, [], ◌∷◌, ◌++◌, Some, length, take, sym, ap, subst, ◌∙◌, refl, arith, rules}
 use Rattle.std.specs.Prelude.{slice_get, map}
-use Rattle.shelf_core.specs.Device.{AreServed}
+use Rattle.hand_core.specs.Device.{AreServed}
 use Rattle.shelf_core.specs.Opened.{AreLoaded, ArePinned}
 use Rattle.std.proofs.lemmas.List.{take_more, take_all}
 use Rattle.std.proofs.lemmas.Option.{slice_get_read}

@@ -1,6 +1,6 @@
 use Rattle.std.proofs.Common.{ap, sym, ◌∙◌}
 use Rattle.std.specs.FinMap.{insert}
-use Rattle.shelf_core.specs.Papers.{part_key}
+use Rattle.hand_core.specs.Papers.{part_key}
 use Rattle.shelf_core.proofs.Saving.{stored_or_not, nothing_left}
 use Rattle.shelf_core.proofs.save.save_part.Goals as goal
 

@@ -3,9 +3,9 @@ use Rattle.std.specs.Prelude.{slice_get}
 use Rattle.std.proofs.lemmas.List.{take_more, take_all}
 use Rattle.std.proofs.lemmas.Option.{slice_get_read, slice_get-get_or}
 use Rattle.decl_core.specs.declared.object.Part.{Part}
-use Rattle.shelf_core.specs.declared.hand.Stamp.{Stamp}
-use Rattle.shelf_core.specs.Papers.{Papers}
-use Rattle.shelf_core.specs.Pins.{no_stamp}
+use Rattle.hand_core.specs.declared.hand.Stamp.{Stamp}
+use Rattle.hand_core.specs.Papers.{Papers}
+use Rattle.hand_core.specs.Pins.{no_stamp}
 use Rattle.shelf_core.specs.Saved.{AreFetched, with_parts}
 use Rattle.shelf_core.proofs.Saving.{start, next, since, leaves, shelf_since}
 use Rattle.shelf_core.proofs.save.save_parts.Goals as goal

@@ -1,6 +1,6 @@
 use Rattle.std.proofs.Common.{◌≡◌, List, ℕ, ap, ◌∙◌, refl, inl, subst}
 use Rattle.std.specs.FinMap.{insert}
-use Rattle.shelf_core.specs.Papers.{part_key}
+use Rattle.hand_core.specs.Papers.{part_key}
 use Rattle.shelf_core.specs.Saved.{StoreLeaves}
 use Rattle.shelf_core.proofs.save.store_part.Goals as goal
 

@@ -1,5 +1,5 @@
 use Rattle.std.proofs.Common.{Some, sym, ap, ◌∙◌}
-use Rattle.shelf_core.specs.Files.{files_of}
+use Rattle.device_core.specs.Files.{files_of}
 use Rattle.world_core.proofs.Showing.{one_value}
 use Rattle.world_core.proofs.read.read_value.Goals as goal
 

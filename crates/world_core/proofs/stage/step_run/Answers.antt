@@ -1,7 +1,7 @@
 use Rattle.std.proofs.Common.{sym, ◌∙◌, subst}
-use Rattle.shelf_core.specs.declared.memory.MemHand.{MemHand}
-use Rattle.shelf_core.specs.declared.hand.Stamp.{Stamp}
-use Rattle.shelf_core.specs.Files.{Serves, files_of}
+use Rattle.device_core.specs.declared.memory.MemHand.{MemHand}
+use Rattle.hand_core.specs.declared.hand.Stamp.{Stamp}
+use Rattle.device_core.specs.Files.{Serves, files_of}
 use Rattle.body_core.specs.Runs.{run_sealed}
 use Rattle.body_core.specs.Steps.{NewsServed}
 use Rattle.world_core.proofs.stage.step_run.Goals as goal

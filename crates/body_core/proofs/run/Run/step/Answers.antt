@@ -1,5 +1,5 @@
 use Rattle.std.proofs.Common.{◌≡◌, ◌⊎◌, inl, inr, Some, rules, ap, sym, subst, ◌∙◌}
-use Rattle.shelf_core.specs.Device.{IsFree}
+use Rattle.hand_core.specs.Device.{IsFree}
 use Rattle.body_core.specs.Phases.{ending_of, pen_in, PenHoldsIn}
 use Rattle.body_core.specs.Calling.{StepMakes}
 use Rattle.body_core.specs.Steps.{ReadsItsPin, place_in}

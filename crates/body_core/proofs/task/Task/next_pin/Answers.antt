@@ -1,6 +1,6 @@
 use Rattle.std.proofs.Common.{List, slice_get, sym, ◌∙◌, arith, ap, length}
 use Rattle.std.proofs.lemmas.Option.{slice_get-get_or}
-use Rattle.shelf_core.specs.declared.hand.Stamp.{Stamp}
+use Rattle.hand_core.specs.declared.hand.Stamp.{Stamp}
 use Rattle.body_core.proofs.Touching.{read}
 use Rattle.body_core.proofs.task.Task.next_pin.Goals as goal
 

@@ -12,7 +12,7 @@ use Rattle.board_core.specs.Lists.{Among}
 use Rattle.board_core.specs.Calls.{RunningCall, Noted, noted_of}
 use Rattle.board_core.specs.ReadPins.{read_pins}
 use Rattle.board_core.specs.Started.{Settles}
-use Rattle.body_core.specs.declared.reply.Reply.{Reply}
+use Rattle.apply_core.specs.declared.reply.Reply.{Reply}
 use Rattle.board_core.specs.Board.{Board, ended, entry_of, Admits}
 use Rattle.board_core.specs.Chain.{pins_after}
 use Rattle.board_core.specs.Free.{IsNeeded, Picks, left_behind}

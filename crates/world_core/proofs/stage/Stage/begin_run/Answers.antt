@@ -1,5 +1,5 @@
 use Rattle.std.proofs.Common.{◌≡◌, sym, ◌∙◌, ap, subst, length}
-use Rattle.shelf_core.specs.Files.{files_of}
+use Rattle.device_core.specs.Files.{files_of}
 use Rattle.body_core.specs.Runs.{run_call}
 use Rattle.board_core.specs.Calls.{RunningCall}
 use Rattle.board_core.specs.Board.{Board, taken_at}

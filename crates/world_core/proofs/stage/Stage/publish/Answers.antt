@@ -1,9 +1,9 @@
 use Rattle.std.proofs.Common.{◌≡◌, ◌+◌, ◌∙◌, List, length, Some, refl, sym, ap, subst, arith, map}
 use Rattle.std.proofs.lemmas.Option.{get_or_from_slice_get}
 use Rattle.body_core.specs.declared.outcome.Outcome.{Outcome}
-use Rattle.body_core.specs.declared.reply.Reply.{Reply}
+use Rattle.apply_core.specs.declared.reply.Reply.{Reply}
 use Rattle.body_core.specs.Runs.{run_call, run_ending, run_place, run_sealed, SoFar, ending_by_place, sealed_by_place}
-use Rattle.shelf_core.specs.Files.{files_of}
+use Rattle.device_core.specs.Files.{files_of}
 use Rattle.body_core.specs.Outcomes.{outcome_call, outcome_reply, outcome_news}
 use Rattle.body_core.specs.Steps.{sealed_at}
 use Rattle.body_core.specs.declared.new_pins.NewPin.{NewPin}

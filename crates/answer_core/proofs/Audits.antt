@@ -1,0 +1,40 @@
+-- What is said of the text of a trace is what an audit writes.
+use Rattle.std.proofs.Common.{◌≡◌, ◌⊎◌, inl, inr, ℕ, List, ◌++◌, sym, ap, subst, ◌∙◌, append_assoc}
+use Rattle.std.specs.Prelude.{codes}
+use Rattle.decl_core.specs.declared.object.Object.{Object}
+use Rattle.decl_core.specs.ObjectMap.{object_of}
+use Rattle.script_open.specs.Named.{NamesObject}
+use Rattle.script_open.specs.Opening.{IsReady, IsTold}
+use Rattle.audit_core.specs.Verdicts.{IsVerdict, IsLegalTrace}
+use Rattle.audit_core.specs.declared.verdict.Verdict.{Verdict}
+use Rattle.audit_core.specs.declared.verdict.Verdict.TheVariants as verdicts
+use Rattle.answer_core.specs.AuditRun.{audit_status, verdict_line, IsAudited, IsAuditRun, unnamed, lacking, audited}
+
+-- what was added in two parts was added
+pub joined : (old a b mid new : List ℕ) → mid ≡ old ++ a → new ≡ mid ++ b → new ≡ old ++ (a ++ b)
+joined old a b mid new first second = second ∙ ap (λ r. r ++ b) first ∙ append_assoc old a b
+
+-- no object is named
+pub unnamed_run : (source text written : List ℕ) (status : ℕ) → ((name : List ℕ) → NamesObject text name → ⊥) → status ≡ 1 → written ≡ codes "line 1 bad\n"
+    → IsAuditRun source text status written
+unnamed_run source text written status none one is =
+    subst (λ s. IsAuditRun source text s written) (sym one) (subst (IsAuditRun source text 1) (sym is) (unnamed none))
+
+-- there is nothing to audit it by
+pub lacking_run : (source text name line written : List ℕ) (status : ℕ) → NamesObject text name → IsTold source text line → status ≡ 1 → written ≡ line
+    → IsAuditRun source text status written
+lacking_run source text name line written status named told one is =
+    subst (λ s. IsAuditRun source text s written) (sym one) (subst (IsAuditRun source text 1) (sym is) (lacking named told))
+
+-- a legal trace is told as legal where no memory was wanted
+told_legal : (verdict : Verdict) (entries : ℕ) → (verdict ≡ verdicts.Memory → ⊥) → (verdict ≡ verdicts.Legal entries) ⊎ (verdict ≡ verdicts.Memory) → verdict ≡ verdicts.Legal entries
+told_legal verdict entries known (inl is) = is
+told_legal verdict entries known (inr want) = absurd (known want)
+
+-- there is a verdict
+pub audited_run : (source text written : List ℕ) (o : Object) (verdict : Verdict) (status : ℕ) → IsReady source text (object_of o) → IsVerdict (object_of o) text verdict
+    → ((entries : ℕ) → IsLegalTrace (object_of o) text entries → (verdict ≡ verdicts.Legal entries) ⊎ (verdict ≡ verdicts.Memory))
+    → (verdict ≡ verdicts.Memory → ⊥) → status ≡ audit_status verdict → written ≡ verdict_line verdict → IsAuditRun source text status written
+audited_run source text written o verdict status ready is exact known s w =
+    let told : IsAudited (object_of o) text verdict = record { is = is; legal = λ entries trace. told_legal verdict entries known (exact entries trace); known = known } in
+    subst (λ n. IsAuditRun source text n written) (sym s) (subst (IsAuditRun source text (audit_status verdict)) (sym w) (audited o verdict ready told))

@@ -1,0 +1,80 @@
+-- What the program ends with: its exit status, and what it tells where it has no answer.
+use Rattle.std.specs.Prelude.{◌≡◌, ◌==◌, ℕ, ⊤, if◌then◌else◌, List, Option, Some, None, Result, Ok, Err, codes}
+use Rattle.std.specs.IoError.{error_kind}
+use Rattle.std.specs.declared.io.Error.{Error as IoError}
+use Rattle.std.specs.declared.io.ErrorKind.{ErrorKind as IoKind}
+use Rattle.clap.specs.Values.{kind_of}
+use Rattle.clap.specs.declared.error.Error.{Error as UsageError}
+use Rattle.clap.specs.declared.error.kind.ErrorKind.TheVariants.{OutOfMemory}
+use Rattle.answer_core.specs.declared.failure.Failure.{Failure}
+use Rattle.answer_core.specs.declared.failure.Failure.TheVariants as failures
+use Rattle.line_core.specs.declared.machine.LinesFault.{LinesFault}
+use Rattle.line_core.specs.declared.machine.LinesFault.TheVariants as faults
+use Rattle.line_core.specs.declared.machine.LinesEnd.{LinesEnd}
+use Rattle.line_core.specs.declared.machine.LinesEnd.TheVariants as ends
+use Rattle.check_core.specs.declared.report.CheckFault.{CheckFault}
+use Rattle.check_core.specs.declared.report.CheckFault.TheVariants as check_faults
+use Rattle.check_core.specs.declared.report.CheckEnd.{CheckEnd}
+use Rattle.check_core.specs.declared.report.CheckEnd.TheVariants as check_ends
+use Rattle.script_core.specs.declared.script.ScriptEnd.{ScriptEnd}
+use Rattle.script_core.specs.declared.script.ScriptEnd.TheVariants as script_ends
+
+-- `paths`: 0 where each line was answered, 1 where one ended the run
+abbrev pub paths_status : LinesEnd → ℕ
+paths_status ends.Whole = 0
+paths_status (ends.Stopped line) = 1
+
+-- `check`: 0 where no object was refused, 1 where one was, and of a source that is no file of objects
+abbrev pub check_status : CheckEnd → ℕ
+check_status (check_ends.Counted objects refused) = if refused == 0 then 0 else 1
+check_status check_ends.Faulty = 1
+
+-- `run`, where there is an object to run on: 0 where each line was answered, 1 where a bad line ended the script
+abbrev pub script_status : ScriptEnd → ℕ
+script_status script_ends.Whole = 0
+script_status (script_ends.BadLine line) = 1
+
+-- a failure: 2 usage, 3 a read or write fault, 4 memory
+abbrev pub status_of : Failure → ℕ
+status_of (failures.Usage error) = 2
+status_of failures.ReadFault = 3
+status_of failures.WriteFault = 3
+status_of failures.Memory = 4
+
+-- the exit status of a run: the one that it gave, or that of its failure
+abbrev pub exit_status_of : Result ℕ Failure → ℕ
+exit_status_of (Ok status) = status
+exit_status_of (Err failure) = status_of failure
+
+-- what standard error gets; the text of a wrong command line is not known
+abbrev pub failure_text : Failure → Option (List ℕ)
+failure_text (failures.Usage error) = None
+failure_text failures.ReadFault = Some (codes "read fault\n")
+failure_text failures.WriteFault = Some (codes "write fault\n")
+failure_text failures.Memory = Some (codes "out of memory\n")
+
+-- a failure that a command may meet, whose command line was right
+abbrev pub IsFault : Failure → Type 0
+IsFault (failures.Usage error) = ⊥
+IsFault failures.ReadFault = ⊤
+IsFault failures.WriteFault = ⊤
+IsFault failures.Memory = ⊤
+
+-- a command line without a request is told as such, but for a want of memory
+abbrev pub IsUsage : UsageError → Failure → Type 0
+IsUsage error failure = (kind_of error ≡ OutOfMemory → failure ≡ failures.Memory) × ((kind_of error ≡ OutOfMemory → ⊥) → failure ≡ failures.Usage error)
+
+-- a reader that failed is told as such, but for a want of memory
+abbrev pub IsUnread : IoError → Failure → Type 0
+IsUnread error failure = (error_kind error ≡ IoKind.OutOfMemory → failure ≡ failures.Memory) × ((error_kind error ≡ IoKind.OutOfMemory → ⊥) → failure ≡ failures.ReadFault)
+
+-- a fault of the paths engine, as the program tells it
+abbrev pub paths_failure : LinesFault → Failure
+paths_failure faults.ReadFault = failures.ReadFault
+paths_failure faults.WriteFault = failures.WriteFault
+paths_failure faults.Memory = failures.Memory
+
+-- a fault of the engine of `check`, as the program tells it
+abbrev pub check_failure : CheckFault → Failure
+check_failure check_faults.WriteFault = failures.WriteFault
+check_failure check_faults.Memory = failures.Memory

@@ -1,0 +1,166 @@
+//! `pathserve audit` over any reader and writer: what it writes, and the exit status that it ends with.
+
+ghost use Rattle.std.specs.Prelude.{◌≡◌, ◌++◌, ℕ, List, OnOk, IfOk, IfErr, IfSome, IsErrOf, codes, decimal, take};
+ghost use Rattle.std.specs.Io.KnownBytes.{Appends, Keeps};
+ghost use Rattle.audit_core.specs.declared.verdict.Verdict.TheVariants as verdicts;
+ghost use Rattle.script_open.specs.Named.{NamesObject};
+ghost use Rattle.answer_core.specs.AuditRun.{audit_status, line_number, verdict_line, IsAuditRun};
+ghost use Rattle.answer_core.specs.Status.{IsFault};
+ghost use Rattle.answer_core.specs.declared.failure.Failure.TheVariants.{ReadFault, WriteFault, Memory};
+
+use crate::answer::{ACCEPTED, REFUSED};
+use crate::failure::Failure;
+use crate::source::read_whole;
+use audit_core::audit::audit;
+use audit_core::verdict::Verdict;
+use line_core::reply::{push_count, push_number};
+use line_core::write_whole;
+use script_open::head::named_object;
+use script_open::open::{Opened, open_script};
+use std::alloc::{AllocError, Global};
+use std::io::{Read, Write};
+
+// What an audit ends with: the exit status, and the line that is written.
+#[derive(Drop)]
+struct Said {
+    status: u8,
+    line: Vec<u8>,
+}
+
+// Adds what is said of the line of this number.
+fn push_fault_line(out: &mut Vec<u8>, line: u64, fault: &[u8]) -> Result<(), AllocError>
+    ensures { OnOk result (out.new.items ≡ out.old.items ++ (line_number line ++ fault.now)) }
+{
+    push_number(out, b"line ", line)?;
+    out.extend_from_slice(fault)?;
+    Ok(())
+}
+
+// Adds the line of a start that a path refuses.
+fn push_breach(out: &mut Vec<u8>, line: u64, path: usize) -> Result<(), AllocError>
+    ensures { OnOk result (out.new.items ≡ out.old.items ++ verdict_line (verdicts.BreaksPath line path)) }
+{
+    push_number(out, b"line ", line)?;
+    push_count(out, b" breaks path ", path as u64)?;
+    Ok(())
+}
+
+// Adds the line of a verdict. A want of memory has none.
+fn push_verdict(out: &mut Vec<u8>, verdict: Verdict) -> Result<(), AllocError>
+    ensures { OnOk result ((verdict ≡ verdicts.Memory → ⊥) × (out.new.items ≡ out.old.items ++ verdict_line verdict)) }
+{
+    match verdict {
+        Verdict::Legal { entries } => push_count(out, b"legal ", entries),
+        Verdict::BadLine(line) => push_fault_line(out, line, b" bad\n"),
+        Verdict::BreaksPath(line, path) => push_breach(out, line, path),
+        Verdict::WrongReply(line) => push_fault_line(out, line, b" wrong reply\n"),
+        Verdict::NotRunning(line) => push_fault_line(out, line, b" not running\n"),
+        Verdict::Memory => Err(AllocError),
+    }
+}
+
+fn status_of_verdict(verdict: Verdict) -> u8
+    ensures { result ≡ audit_status verdict }
+{
+    match verdict {
+        Verdict::Legal { .. } => ACCEPTED,
+        _ => REFUSED,
+    }
+}
+
+// What is said of a trace with this verdict.
+fn verdict_said(alloc: Global, verdict: Verdict) -> Result<Said, AllocError>
+    ensures known { IfOk result (λ said. verdict ≡ verdicts.Memory → ⊥) }
+    ensures status { IfOk result (λ said. said.status ≡ audit_status verdict) }
+    ensures line { IfOk result (λ said. said.line.items ≡ verdict_line verdict) }
+{
+    let mut line = Vec::new(alloc);
+    push_verdict(&mut line, verdict)?;
+    Ok(Said {
+        status: status_of_verdict(verdict),
+        line,
+    })
+}
+
+// What is said where there is nothing to audit a trace by.
+fn lacking_said(line: Vec<u8>) -> Said
+    ensures status { result.status ≡ 1 }
+    ensures line { result.line.items ≡ line.items }
+{
+    Said {
+        status: REFUSED,
+        line,
+    }
+}
+
+// What is said of a trace that names no object.
+fn unnamed_said(alloc: Global) -> Result<Said, AllocError>
+    ensures status { IfOk result (λ said. said.status ≡ 1) }
+    ensures line { IfOk result (λ said. said.line.items ≡ codes "line 1 bad\n") }
+{
+    let mut line = Vec::new(alloc);
+    line.extend_from_slice(b"line 1 bad\n")?;
+    Ok(lacking_said(line))
+}
+
+// What is said of a trace whose first line names an object.
+fn named_said(alloc: Global, source: &[u8], text: &[u8]) -> Result<Said, AllocError>
+    ensures { (name : List ℕ) → NamesObject text.now name → IfOk result (λ said. IsAuditRun source.now text.now said.status said.line.items) }
+{
+    match open_script(alloc, source, text)? {
+        Opened::Told(line) => Ok(lacking_said(line)),
+        Opened::Ready(accepted) => {
+            let verdict = audit(alloc, &accepted, text);
+            let said = verdict_said(alloc, verdict)?;
+            Ok(said)
+        }
+    }
+}
+
+// What is said of the text of a trace.
+fn audit_said(alloc: Global, source: &[u8], text: &[u8]) -> Result<Said, AllocError>
+    ensures { IfOk result (λ said. IsAuditRun source.now text.now said.status said.line.items) }
+{
+    match named_object(alloc, text)? {
+        None => {
+            let said = unnamed_said(alloc)?;
+            Ok(said)
+        }
+        Some(_name) => {
+            let said = named_said(alloc, source, text)?;
+            Ok(said)
+        }
+    }
+}
+
+/// `pathserve audit`: tells whether a trace is legal for the object of a source that its first line names, or its first fault,
+/// and gives the exit status: 0 where it is legal, 1 where it is not, and where there is no such object.
+///
+/// A failure is `ReadFault`, `WriteFault` or `Memory`. A `WriteFault` leaves a front of the line, the others leave nothing.
+pub fn audit_trace<R: Read + Drop, W: Write>(
+    alloc: Global,
+    source: &[u8],
+    reader: R,
+    writer: &mut W,
+) -> Result<u8, Failure>
+    ensures ended { IfOk result (λ status. IfSome (R.remaining reader) (λ text. (written : List ℕ)
+        × Appends (W.contents writer.old) (W.contents writer.new) written × IsAuditRun source.now text status written)) }
+    ensures fault { IfErr result IsFault }
+    ensures cut { IsErrOf result WriteFault → IfSome (R.remaining reader) (λ text. (status : ℕ) × (whole : List ℕ) × (count : ℕ)
+        × IsAuditRun source.now text status whole × Appends (W.contents writer.old) (W.contents writer.new) (take count whole)) }
+    ensures unread { IsErrOf result ReadFault → Keeps (W.contents writer.old) (W.contents writer.new) }
+    ensures memory { IsErrOf result Memory → Keeps (W.contents writer.old) (W.contents writer.new) }
+{
+    let text = match read_whole(alloc, reader) {
+        Ok(text) => text,
+        Err(error) => return Err(Failure::from(error)),
+    };
+    let said = match audit_said(alloc, source, &text) {
+        Ok(said) => said,
+        Err(_) => return Err(Failure::Memory),
+    };
+    match write_whole(writer, &said.line) {
+        Ok(()) => Ok(said.status),
+        Err(_) => Err(Failure::WriteFault),
+    }
+}

@@ -1,0 +1,132 @@
+//! Why the program has nothing to answer.
+
+ghost use Rattle.std.specs.Prelude.{◌≡◌};
+ghost use Rattle.answer_core.specs.Status.{exit_status_of};
+
+use check_core::report::CheckFault;
+use clap::Error;
+use clap::error::ErrorKind;
+use path_count::paths::PathsFault;
+use std::alloc::AllocError;
+use std::{fmt, io};
+
+/// Why the program has nothing to answer. As text it is what standard error gets.
+#[derive(Debug, Drop)]
+pub enum Failure {
+    /// The command line asks for no command, or for help.
+    Usage(Error),
+    /// Standard input or a file cannot be read, or standard input has no end.
+    ReadFault,
+    /// Standard output takes nothing more.
+    WriteFault,
+    /// Memory was refused.
+    Memory,
+}
+
+impl Failure {
+    ghost use Rattle.answer_core.specs.Status.{status_of};
+
+    /// The exit status: 2 usage, 3 a read or write fault, 4 memory.
+    pub fn status(&self) -> u8
+        ensures { result ≡ status_of self.now }
+    {
+        match self {
+            Failure::Usage(_) => 2,
+            Failure::ReadFault | Failure::WriteFault => 3,
+            Failure::Memory => 4,
+        }
+    }
+}
+
+/// The exit status of a run: the one that it gave, or that of its failure.
+pub fn exit_status(ended: &Result<u8, Failure>) -> u8
+    ensures { result ≡ exit_status_of ended.now }
+{
+    match ended {
+        Ok(status) => *status,
+        Err(failure) => failure.status(),
+    }
+}
+
+impl fmt::Display for Failure {
+    ghost use Rattle.answer_core.specs.Status.{failure_text};
+
+    ghost output = { failure_text };
+
+    fn fmt<W: fmt::Write>(&self, f: &mut fmt::Formatter<W>) -> fmt::Result {
+        match self {
+            Failure::Usage(error) => write!(f, "{error}"),
+            Failure::ReadFault => f.write_str("read fault\n"),
+            Failure::WriteFault => f.write_str("write fault\n"),
+            Failure::Memory => f.write_str("out of memory\n"),
+        }
+    }
+}
+
+impl From<AllocError> for Failure {
+    ghost use Rattle.std.specs.Prelude.{◌≡◌};
+    ghost use Rattle.answer_core.specs.declared.failure.Failure.TheVariants.{Memory};
+
+    ghost from_gives = { λ _ failure. failure ≡ Memory };
+
+    fn from(_: AllocError) -> Failure {
+        Failure::Memory
+    }
+}
+
+impl From<Error> for Failure {
+    ghost use Rattle.answer_core.specs.Status.{IsUsage};
+
+    ghost from_gives = { IsUsage };
+
+    fn from(error: Error) -> Failure {
+        if error.kind() == ErrorKind::OutOfMemory {
+            Failure::Memory
+        } else {
+            Failure::Usage(error)
+        }
+    }
+}
+
+impl From<io::Error> for Failure {
+    ghost use Rattle.answer_core.specs.Status.{IsUnread};
+
+    ghost from_gives = { IsUnread };
+
+    fn from(error: io::Error) -> Failure {
+        if error.kind() == io::ErrorKind::OutOfMemory {
+            Failure::Memory
+        } else {
+            Failure::ReadFault
+        }
+    }
+}
+
+impl From<PathsFault> for Failure {
+    ghost use Rattle.std.specs.Prelude.{◌≡◌};
+    ghost use Rattle.answer_core.specs.Status.{paths_failure};
+
+    ghost from_gives = { λ fault failure. failure ≡ paths_failure fault };
+
+    fn from(fault: PathsFault) -> Failure {
+        match fault {
+            PathsFault::ReadFault => Failure::ReadFault,
+            PathsFault::WriteFault => Failure::WriteFault,
+            PathsFault::Memory => Failure::Memory,
+        }
+    }
+}
+
+impl From<CheckFault> for Failure {
+    ghost use Rattle.std.specs.Prelude.{◌≡◌};
+    ghost use Rattle.answer_core.specs.Status.{check_failure};
+
+    ghost from_gives = { λ fault failure. failure ≡ check_failure fault };
+
+    fn from(fault: CheckFault) -> Failure {
+        match fault {
+            CheckFault::WriteFault => Failure::WriteFault,
+            CheckFault::Memory => Failure::Memory,
+        }
+    }
+}

@@ -1,0 +1,94 @@
+//! `pathserve run` over any reader and writer: what it writes, and the exit status that it ends with.
+
+ghost use Rattle.std.specs.Prelude.{◌≡◌, ◌++◌, ℕ, List, IfOk, IfErr, IfSome, take};
+ghost use Rattle.std.specs.Io.KnownBytes.{Appends};
+ghost use Rattle.script_core.specs.Run.{IsScript, IsFront};
+ghost use Rattle.script_core.specs.declared.script.ScriptEnd.{ScriptEnd as End};
+ghost use Rattle.answer_core.specs.Status.{script_status, IsFault};
+ghost use Rattle.answer_core.specs.ScriptRun.{IsScriptRun, IsScriptFront};
+
+use crate::answer::{ACCEPTED, REFUSED};
+use crate::explanation::explained_script;
+use crate::failure::Failure;
+use exclude_core::analyse::Accepted;
+use line_core::write_whole;
+use script_core::script::{ScriptEnd, run_script};
+use script_open::head::read_head;
+use script_open::open::{Opened, open_script};
+use std::alloc::Global;
+use std::io::{Read, Write};
+
+fn status_of_script(end: ScriptEnd) -> u8
+    ensures { result ≡ script_status end }
+{
+    match end {
+        ScriptEnd::Whole => ACCEPTED,
+        ScriptEnd::BadLine(_) => REFUSED,
+    }
+}
+
+// Runs a script whose first bytes have been read.
+fn run_on<R: Read, W: Write>(
+    alloc: Global,
+    accepted: Accepted,
+    head: &[u8],
+    reader: &mut R,
+    writer: &mut W,
+) -> Result<u8, Failure>
+    ensures ended { IfOk result (λ status. IfSome (R.remaining reader.old) (λ rest. (end : End) × (written : List ℕ)
+        × Appends (W.contents writer.old) (W.contents writer.new) written × IsScript accepted (head.now ++ rest) end written × (status ≡ script_status end))) }
+    ensures cut { IfErr result (λ failure. IsFault failure × IfSome (R.remaining reader.old) (λ rest. (written : List ℕ)
+        × Appends (W.contents writer.old) (W.contents writer.new) written × IsFront accepted (head.now ++ rest) written)) }
+{
+    let mut text = head.chain(reader);
+    match run_script(alloc, accepted, &mut text, writer) {
+        Ok(end) => Ok(status_of_script(end)),
+        Err(fault) => Err(Failure::from(fault)),
+    }
+}
+
+// Writes the line that says why there is nothing to run on.
+fn tell<W: Write>(line: &[u8], writer: &mut W) -> Result<u8, Failure>
+    ensures ended { IfOk result (λ status. Appends (W.contents writer.old) (W.contents writer.new) line.now × (status ≡ REFUSED)) }
+    ensures cut { IfErr result (λ failure. IsFault failure × ((count : ℕ) × Appends (W.contents writer.old) (W.contents writer.new) (take count line.now))) }
+{
+    match write_whole(writer, line) {
+        Ok(()) => Ok(REFUSED),
+        Err(fault) => Err(Failure::from(fault)),
+    }
+}
+
+/// `pathserve run`: runs a script on the object of a source that its first line names, and gives the exit status: 0 where
+/// each line was answered, 1 where there is nothing to run on, or a bad line ended the script.
+///
+/// Where the name of a file is given, `error` gets why its source, or the object, is refused; what is written to `writer`, and the
+/// exit status, are what they are without it.
+///
+/// A failure is `ReadFault`, `WriteFault` or `Memory`, and leaves a front of the answers. A `ReadFault` leaves those to all
+/// lines that had come whole, but nothing where it came before the first line was whole.
+pub fn answer_script<R: Read, W: Write, E: Write>(
+    alloc: Global,
+    source: &[u8],
+    reader: &mut R,
+    writer: &mut W,
+    explains: Option<&str>,
+    error: &mut E,
+) -> Result<u8, Failure>
+    ensures ended { IfOk result (λ status. IfSome (R.remaining reader.old) (λ text. (written : List ℕ)
+        × Appends (W.contents writer.old) (W.contents writer.new) written × IsScriptRun source.now text status written)) }
+    ensures cut { IfErr result (λ failure. IsFault failure × IfSome (R.remaining reader.old) (λ text. (written : List ℕ)
+        × Appends (W.contents writer.old) (W.contents writer.new) written × IsScriptFront source.now text written)) }
+{
+    let head = match read_head(alloc, reader) {
+        Ok(head) => head,
+        Err(fault) => return Err(Failure::from(fault)),
+    };
+    match open_script(alloc, source, &head) {
+        Ok(Opened::Ready(accepted)) => run_on(alloc, accepted, &head, reader, writer),
+        Ok(Opened::Told(line)) => {
+            let ended = tell(&line, writer);
+            explained_script(alloc, ended, explains, source, &head, error)
+        }
+        Err(_) => Err(Failure::Memory),
+    }
+}

@@ -1,5 +1,0 @@
-use Rattle.body_core.proofs.Histories.{leads_by_one}
-use Rattle.body_core.proofs.laws.leads_by_one.Goals as goal
-
-pub returns : goal.returns
-returns c = leads_by_one

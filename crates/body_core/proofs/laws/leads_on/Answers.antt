@@ -1,5 +1,0 @@
-use Rattle.body_core.proofs.Histories.{leads_on}
-use Rattle.body_core.proofs.laws.leads_on.Goals as goal
-
-pub returns : goal.returns
-returns c = leads_on

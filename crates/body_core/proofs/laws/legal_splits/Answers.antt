@@ -1,5 +1,0 @@
-use Rattle.body_core.proofs.Histories.{legal_splits}
-use Rattle.body_core.proofs.laws.legal_splits.Goals as goal
-
-pub returns : goal.returns
-returns c = legal_splits

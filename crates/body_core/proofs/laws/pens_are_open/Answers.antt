@@ -1,6 +1,0 @@
-use Rattle.shelf_core.specs.Files.{IsOpen}
-use Rattle.body_core.proofs.Pens.{pending_of}
-use Rattle.body_core.proofs.laws.pens_are_open.Goals as goal
-
-pub returns : goal.returns
-returns c = λ files run n at holds. pending_of (λ n b. IsOpen files n b) run n at holds

@@ -1,5 +1,0 @@
-use Rattle.body_core.proofs.Histories.{refused_changes_none}
-use Rattle.body_core.proofs.laws.refused_changes_none.Goals as goal
-
-pub returns : goal.returns
-returns c = refused_changes_none

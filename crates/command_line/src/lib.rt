@@ -1,0 +1,5 @@
+//! The command line of `pathserve`: what it asks for, and the help that it shows.
+#![tactic(auto)]
+
+mod help;
+pub mod request;

@@ -1,0 +1,5 @@
+pub mod Papers
+pub mod Agreeing
+pub mod Becoming
+pub mod Counting
+pub mod Slots

@@ -1,0 +1,4 @@
+pub mod Files
+pub mod MadeFiles
+pub mod MemShelf
+pub mod Wrapped

@@ -1,6 +1,0 @@
-use Rattle.std.specs.Map.{values_of}
-use Rattle.exclude_core.proofs.Reports.{Reported}
-use Rattle.exclude_core.proofs.report.report_objects.Given as goal
-
-abbrev pub invariant-loop-object : goal.invariant-loop-object
-invariant-loop-object l = Reported (values_of l.fn.all.entries) l.object-iterator l.refused l.text.items

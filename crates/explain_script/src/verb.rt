@@ -1,0 +1,85 @@
+//! The first words of the lines of scripts and of traces.
+
+use note_core::alike::are_alike;
+
+/// The word that a line of a script begins with.
+#[derive(Clone, Copy, PartialEq, Eq)]
+pub(crate) enum Verb {
+    Call,
+    Step,
+    Steps,
+    Finish,
+    Cancel,
+    Drop,
+    Show,
+    Trace,
+}
+
+impl Verb {
+    /// The word.
+    pub(crate) fn word(self) -> &'static [u8] {
+        match self {
+            Verb::Call => b"call",
+            Verb::Step => b"step",
+            Verb::Steps => b"steps",
+            Verb::Finish => b"finish",
+            Verb::Cancel => b"cancel",
+            Verb::Drop => b"drop",
+            Verb::Show => b"show",
+            Verb::Trace => b"trace",
+        }
+    }
+
+    /// The form of the line.
+    pub(crate) fn form(self) -> &'static str {
+        match self {
+            Verb::Call => "the line is `call sK OP ARG ..`, as in `call s1 put 7`",
+            Verb::Step => "the line is `step N ok` or `step N fail`, as in `step 1 ok`",
+            Verb::Steps => "the line is `steps N`, as in `steps 1`",
+            Verb::Finish => "the line is `finish N`, as in `finish 1`",
+            Verb::Cancel => "the line is `cancel N`, as in `cancel 1`",
+            Verb::Drop => "the line is `drop sK`, as in `drop s1`",
+            Verb::Show => "the line is `show`, and nothing else",
+            Verb::Trace => "the line is `trace`, and nothing else",
+        }
+    }
+}
+
+// The verb of this number, from 0.
+fn verb_number(number: usize) -> Verb {
+    match number {
+        0 => Verb::Call,
+        1 => Verb::Step,
+        2 => Verb::Steps,
+        3 => Verb::Finish,
+        4 => Verb::Cancel,
+        5 => Verb::Drop,
+        6 => Verb::Show,
+        _ => Verb::Trace,
+    }
+}
+
+// How many there are.
+const VERBS: usize = 8;
+
+/// The verb that this word is.
+pub(crate) fn verb_of(word: &[u8]) -> Option<Verb> {
+    for number in 0..VERBS {
+        let verb = verb_number(number);
+        if verb.word() == word {
+            return Some(verb);
+        }
+    }
+    None
+}
+
+/// The verb that this word is in another case, or that it differs from in one letter.
+pub(crate) fn verb_like(word: &[u8]) -> Option<Verb> {
+    for number in 0..VERBS {
+        let verb = verb_number(number);
+        if verb.word().eq_ignore_ascii_case(word) || are_alike(verb.word(), word) {
+            return Some(verb);
+        }
+    }
+    None
+}

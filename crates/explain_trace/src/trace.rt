@@ -1,0 +1,104 @@
+//! The first faulty line of a trace.
+
+use crate::bad::push_bad;
+use crate::breach::push_breach;
+use crate::reply::{push_not_running, push_wrong_reply};
+use crate::story::story_before;
+use audit_core::audit::audit;
+use audit_core::verdict::Verdict;
+use decl_core::object::Object;
+use exclude_core::analyse::Accepted;
+use explain_line::files::Files;
+use explain_line::lacking::{push_lacking, push_unnamed};
+use explain_line::line_words::words_at;
+use note_core::page::Page;
+use script_open::head::named_object;
+use script_open::open::{Opened, open_script};
+use std::alloc::{AllocError, Global};
+
+// The line of a verdict, if it tells one.
+fn line_of(verdict: Verdict) -> Option<u64> {
+    match verdict {
+        Verdict::BadLine(line) => Some(line),
+        Verdict::BreaksPath(line, _) => Some(line),
+        Verdict::WrongReply(line) => Some(line),
+        Verdict::NotRunning(line) => Some(line),
+        Verdict::Legal { .. } | Verdict::Memory => None,
+    }
+}
+
+// Adds why the line of this number has this fault.
+fn push_fault(
+    alloc: Global,
+    out: &mut Vec<u8>,
+    page: Page<'_>,
+    files: Files<'_>,
+    source: &[u8],
+    object: &Object,
+    verdict: Verdict,
+    number: u64,
+) -> Result<(), AllocError> {
+    let (story, line) = story_before(alloc, object, page.source, number)?;
+    let words = words_at(alloc, page.source, line.span)?;
+    match verdict {
+        Verdict::BreaksPath(_, path) => {
+            push_breach(
+                alloc, out, page, files, source, object, &story, &words, path,
+            )
+        }
+        Verdict::WrongReply(_) => push_wrong_reply(alloc, out, page, object, &story, &words),
+        Verdict::NotRunning(_) => push_not_running(out, page, object, &story, &words),
+        _ => push_bad(alloc, out, page, object, &story, &words, number),
+    }
+}
+
+// Adds what is wrong with a trace of this object.
+fn push_verdict(
+    alloc: Global,
+    out: &mut Vec<u8>,
+    page: Page<'_>,
+    files: Files<'_>,
+    source: &[u8],
+    accepted: &Accepted,
+) -> Result<(), AllocError> {
+    let verdict = audit(alloc, accepted, page.source);
+    match line_of(verdict) {
+        Some(number) => push_fault(
+            alloc,
+            out,
+            page,
+            files,
+            source,
+            accepted.object(),
+            verdict,
+            number,
+        ),
+        None => Ok(()),
+    }
+}
+
+/// What a person is told of the first faulty line of a trace, or of a first line that names no object of the source. It is
+/// empty where the trace is legal, and where the source, or the object, is refused: `explain` tells why.
+pub fn explain_trace(
+    alloc: Global,
+    files: Files<'_>,
+    source: &[u8],
+    text: &[u8],
+) -> Result<Vec<u8>, AllocError> {
+    let mut out = Vec::new(alloc);
+    let page = Page {
+        file: files.text.as_bytes(),
+        source: text,
+        tokens: &[],
+    };
+    match named_object(alloc, text)? {
+        None => push_unnamed(alloc, &mut out, page)?,
+        Some(name) => match open_script(alloc, source, text)? {
+            Opened::Ready(accepted) => {
+                push_verdict(alloc, &mut out, page, files, source, &accepted)?
+            }
+            Opened::Told(_) => push_lacking(alloc, &mut out, page, files, source, &name)?,
+        },
+    }
+    Ok(out)
+}

@@ -1,0 +1,2 @@
+pub mod PinRows
+pub mod Retiring

@@ -1,5 +1,0 @@
-use Rattle.shelf_core.proofs.Agreeing.{some_map}
-use Rattle.shelf_core.proofs.memory.MemHand.agrees_with_some.Goals as goal
-
-pub returns : goal.returns
-returns c = some_map c.args.self.now.files.items

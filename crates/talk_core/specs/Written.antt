@@ -1,0 +1,128 @@
+-- What a session has written.
+use Rattle.std.specs.Prelude.{⊤, ◌≡◌, ◌⊎◌, ℕ, List, [], ◌∷◌, ◌++◌, take, Option, Some, None, Bool, true, false}
+use Rattle.std.specs.List.{flat_map}
+use Rattle.std.specs.Io.KnownBytes.{Appends}
+use Rattle.apply_core.specs.declared.reply.Reply.{Reply}
+use Rattle.board_core.specs.Lists.{Every}
+use Rattle.slip_core.specs.Slips.{Told}
+use Rattle.session_text.specs.Requests.{Request}
+use Rattle.session_text.specs.Answers.{Said, opened, ended, told, said_text, MayAnswer}
+use Rattle.talk_core.specs.declared.note.Note.{Note}
+use Rattle.talk_core.specs.declared.output.Health.{Health}
+use Rattle.talk_core.specs.declared.output.Health.TheVariants.{Fine, NoMemory, Broken}
+use Rattle.talk_core.specs.declared.fault.SessionFault.{SessionFault}
+use Rattle.talk_core.specs.declared.fault.SessionFault.TheVariants as faults
+use Rattle.talk_core.specs.declared.fault.HearFault.{HearFault}
+use Rattle.talk_core.specs.declared.fault.HearFault.TheVariants as hears
+use Rattle.talk_core.specs.Notes.{note_at}
+
+-- the note of a line: its number and reply, where it is the last line of a receipt
+abbrev pub note_of : Said → List Note
+note_of (opened name) = []
+note_of (ended n reply) = note_at n reply ∷ []
+note_of (told line) = []
+
+abbrev pub notes_of : List Said → List Note
+notes_of said = flat_map note_of said
+
+-- lines one after another
+abbrev pub lines_text : List Said → List ℕ
+lines_text said = flat_map said_text said
+
+-- whole lines were sent, and others are held back; these are their notes
+abbrev pub IsWhole : Option (List ℕ) → Option (List ℕ) → List ℕ → List Note → Type 0
+IsWhole start now held notes =
+    (sent : List Said) × (kept : List Said) × (notes_of sent ++ notes_of kept ≡ notes) × Appends start now (lines_text sent) × (held ≡ lines_text kept)
+
+-- whole lines were sent, then a front of one more, and others were lost; these are their notes
+abbrev pub IsCut : Option (List ℕ) → Option (List ℕ) → List Note → Type 0
+IsCut start now notes =
+    (sent : List Said) × (last : Said) × (lost : List Said) × (count : ℕ) × (notes_of sent ++ notes_of (last ∷ lost) ≡ notes)
+    × Appends start now (lines_text sent ++ take count (said_text last))
+
+-- what was sent since the start, with the lines held back and these notes
+abbrev pub IsWritten : Option (List ℕ) → Option (List ℕ) → List ℕ → Health → List Note → Type 0
+IsWritten start now held Fine notes = IsWhole start now held notes
+IsWritten start now held NoMemory notes = IsWhole start now held notes
+IsWritten start now held Broken notes = IsCut start now notes
+
+-- these are whole lines, with these notes
+abbrev pub IsHeld : List ℕ → List Note → Type 0
+IsHeld held notes = (kept : List Said) × (notes_of kept ≡ notes) × (held ≡ lines_text kept)
+
+-- what adding a line to those held back does
+abbrev pub Adds : List ℕ → List ℕ → List Note → List Note → Said → Bool → Type 0
+Adds old new notes more line true = (new ≡ old ++ said_text line) × (more ≡ notes ++ note_of line)
+Adds old new notes more line false = (new ≡ old) × (more ≡ notes)
+
+-- what handing lines and their notes over does: all go, to where no line was, and the notes behind those that were there; or nothing goes
+abbrev pub HandsOver : List ℕ → List ℕ → List Note → List Note → List ℕ → List Note → List Note → Bool → Type 0
+HandsOver held left notes fewer to noted more true = (to ≡ held) × (left ≡ []) × (more ≡ noted ++ notes) × (fewer ≡ [])
+HandsOver held left notes fewer to noted more false = (to ≡ []) × (left ≡ held) × (more ≡ noted) × (fewer ≡ notes)
+
+-- what sending the lines held back does
+abbrev pub Sends : Option (List ℕ) → Option (List ℕ) → List ℕ → List ℕ → Bool → Type 0
+Sends old new held left true = Appends old new held × (left ≡ [])
+Sends old new held left false = (count : ℕ) × Appends old new (take count held)
+
+-- a note is of a receipt
+abbrev pub IsNoteOf : Told → Note → Type 0
+IsNoteOf r note = (r.call.number ≡ note.number) × (r.reply ≡ note.reply)
+
+-- a note is of one of these receipts
+abbrev pub IsNoted : List Told → Note → Type 0
+IsNoted [] note = ⊥
+IsNoted (r ∷ receipts) note = IsNoteOf r note ⊎ IsNoted receipts note
+
+abbrev pub AreNoted : List Told → List Note → Type 0
+AreNoted receipts notes = Every (IsNoted receipts) notes
+
+-- one of these receipts has this number and this reply
+abbrev pub IsTold : List Told → ℕ → Reply → Type 0
+IsTold [] n reply = ⊥
+IsTold (r ∷ receipts) n reply = ((r.call.number ≡ n) × (r.reply ≡ reply)) ⊎ IsTold receipts n reply
+
+-- a line is the table's for some action, or the last line of one of these receipts
+abbrev pub IsOfSession : List Told → Said → Type 0
+IsOfSession receipts line = ((q : Option Request) × MayAnswer q line) ⊎ ((n : ℕ) × (reply : Reply) × (line ≡ ended n reply) × IsTold receipts n reply)
+
+abbrev pub AreOfSession : List Told → List Said → Type 0
+AreOfSession receipts said = Every (IsOfSession receipts) said
+
+-- whole lines of the session were written
+abbrev pub WroteLines : Option (List ℕ) → Option (List ℕ) → List Told → Type 0
+WroteLines start now receipts = (said : List Said) × AreOfSession receipts said × Appends start now (lines_text said)
+
+-- and then a front of one more
+abbrev pub WroteFront : Option (List ℕ) → Option (List ℕ) → List Told → Type 0
+WroteFront start now receipts =
+    (said : List Said) × (last : Said) × (count : ℕ) × AreOfSession receipts said × IsOfSession receipts last
+    × Appends start now (lines_text said ++ take count (said_text last))
+
+-- what a session wrote, by its fault
+abbrev pub HasWritten : Option (List ℕ) → Option (List ℕ) → List Told → Option SessionFault → Type 0
+HasWritten start now receipts None = WroteLines start now receipts
+HasWritten start now receipts (Some faults.LineTooLong) = WroteLines start now receipts
+HasWritten start now receipts (Some faults.ReadFault) = WroteLines start now receipts
+HasWritten start now receipts (Some faults.WriteFault) = WroteFront start now receipts
+HasWritten start now receipts (Some faults.Memory) = WroteLines start now receipts
+HasWritten start now receipts (Some faults.LogMixed) = ⊤
+
+-- the fault that was met in reading, if any
+abbrev pub heard_fault : Option HearFault → Option SessionFault
+heard_fault None = None
+heard_fault (Some hears.LineTooLong) = Some faults.LineTooLong
+heard_fault (Some hears.ReadFault) = Some faults.ReadFault
+heard_fault (Some hears.Memory) = Some faults.Memory
+
+-- that, or else a want of memory
+abbrev pub or_memory : Option SessionFault → Option SessionFault
+or_memory None = Some faults.Memory
+or_memory (Some fault) = Some fault
+
+-- the fault that is told
+abbrev pub told_fault : Bool → Health → Option HearFault → Option SessionFault
+told_fault false health heard = Some faults.LogMixed
+told_fault true Broken heard = Some faults.WriteFault
+told_fault true NoMemory heard = or_memory (heard_fault heard)
+told_fault true Fine heard = heard_fault heard

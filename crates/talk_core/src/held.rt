@@ -1,0 +1,216 @@
+//! The lines of a session that are held back.
+
+ghost use Rattle.std.specs.Prelude.{◌≡◌, [], ℕ, List};
+ghost use Rattle.session_text.specs.Answers.{opened, ended, told};
+ghost use Rattle.talk_core.specs.declared.note.Note.{Note};
+ghost use Rattle.talk_core.specs.Written.{IsHeld, Adds, HandsOver};
+
+use crate::note::{Note, add_note};
+use crate::room::make_room_for;
+use apply_core::reply::Reply;
+use path_tree::name::Name;
+use session_text::line::{Line, push_ended, push_line, push_opened};
+use std::alloc::Global;
+use std::marker::Model;
+use std::mem;
+
+/// Room for the longest line that is written of a call, in bytes, twice over.
+const LINE_ROOM: usize = 2048;
+
+/// Lines that are held back, whole, and the notes of the last lines of calls among them.
+#[derive(Drop)]
+pub struct Held {
+    text: Vec<u8>,
+    notes: Vec<Note>,
+    line: Vec<u8>,
+    // memory for the reply of a note
+    spare: Option<Box<Reply>>,
+    alloc: Global,
+    // Whether a line was lost, for which there was no memory. No more are begun then.
+    lost: bool,
+}
+
+impl Model for Held {
+    ghost use Rattle.std.specs.Prelude.{ℕ, List};
+    ghost use Rattle.talk_core.specs.declared.note.Note.{Note};
+    ghost use Rattle.talk_core.specs.Written.{IsHeld};
+
+    ghost Value = { List ℕ × List Note };
+
+    ghost view = { λ h. (h.text.items, h.notes.items) };
+
+    ghost invariant = { λ h. IsHeld h.text.items h.notes.items };
+}
+
+// Holds a line back.
+fn add_line(held: &mut Vec<u8>, text: &mut Vec<u8>, line: Line) -> bool
+    ensures { (notes : List Note) → Adds held.old.items held.new.items notes notes (told line) result }
+{
+    text.clear();
+    if push_line(text, line).is_err() {
+        return false;
+    }
+    held.extend_from_slice(text.as_slice()).is_ok()
+}
+
+// Holds `opened NAME` back.
+fn add_opened(held: &mut Vec<u8>, text: &mut Vec<u8>, name: &Name) -> bool
+    ensures { (notes : List Note) → Adds held.old.items held.new.items notes notes (opened name.now) result }
+{
+    text.clear();
+    if push_opened(text, name).is_err() {
+        return false;
+    }
+    held.extend_from_slice(text.as_slice()).is_ok()
+}
+
+// Holds the last line of a call that has a receipt back, and notes it.
+fn add_ended(
+    held: &mut Vec<u8>,
+    text: &mut Vec<u8>,
+    notes: &mut Vec<Note>,
+    spare: &mut Option<Box<Reply>>,
+    number: u32,
+    reply: &Reply,
+) -> bool
+    ensures { Adds held.old.items held.new.items notes.old.items notes.new.items (ended number reply.now) result }
+{
+    text.clear();
+    if push_ended(text, number, reply).is_err() {
+        return false;
+    }
+    let before = held.len();
+    if held.extend_from_slice(text.as_slice()).is_err() {
+        return false;
+    }
+    if add_note(notes, spare, number, reply).is_err() {
+        held.truncate(before);
+        return false;
+    }
+    true
+}
+
+// Makes room for the reply of a note, where there is none. Without memory it answers false.
+fn make_spare(alloc: Global, spare: &mut Option<Box<Reply>>) -> bool {
+    if spare.is_some() {
+        return true;
+    }
+    let Ok(reply) = Box::new(alloc, Reply::Done(None)) else {
+        return false;
+    };
+    *spare = Some(reply);
+    true
+}
+
+// Hands lines and their notes over.
+fn hand_over(
+    text: &mut Vec<u8>,
+    notes: &mut Vec<Note>,
+    to: &mut Vec<u8>,
+    noted: &mut Vec<Note>,
+) -> bool
+    requires { to.old.items ≡ [] }
+    ensures { HandsOver text.old.items text.new.items notes.old.items notes.new.items to.new.items noted.old.items noted.new.items result }
+{
+    if noted.append(notes).is_err() {
+        return false;
+    }
+    mem::swap(text, to);
+    true
+}
+
+impl Held {
+    /// Nothing is held back yet.
+    pub fn new(alloc: Global) -> Held
+        ensures { result ≡ ([], []) }
+    {
+        Held {
+            text: Vec::new(alloc),
+            notes: Vec::new(alloc),
+            line: Vec::new(alloc),
+            spare: None,
+            alloc,
+            lost: false,
+        }
+    }
+
+    /// Makes room for the lines of one call and for its note. Without memory it answers false.
+    pub fn make_room(&mut self) -> bool
+        ensures { self.new ≡ self.old }
+    {
+        if self.text.reserve(LINE_ROOM).is_err() {
+            return false;
+        }
+        if self.line.reserve(LINE_ROOM).is_err() {
+            return false;
+        }
+        if !make_spare(self.alloc, &mut self.spare) {
+            return false;
+        }
+        make_room_for(&mut self.notes, 1)
+    }
+
+    /// How many notes there are.
+    pub fn count(&self) -> usize {
+        self.notes.len()
+    }
+
+    /// Whether no line was lost.
+    pub fn is_whole(&self) -> bool {
+        !self.lost
+    }
+
+    /// Holds a line back, unless a line before it was lost. It answers whether it did.
+    pub fn say(&mut self, line: Line) -> bool {
+        if self.lost {
+            return false;
+        }
+        if !add_line(&mut self.text, &mut self.line, line) {
+            self.lost = true;
+            return false;
+        }
+        true
+    }
+
+    /// The same for the last line of a call that has a receipt. It is noted.
+    pub fn say_ended(&mut self, number: u32, reply: &Reply) -> bool {
+        if self.lost {
+            return false;
+        }
+        if !add_ended(
+            &mut self.text,
+            &mut self.line,
+            &mut self.notes,
+            &mut self.spare,
+            number,
+            reply,
+        ) {
+            self.lost = true;
+            return false;
+        }
+        true
+    }
+
+    /// The same for `opened NAME`.
+    pub fn say_opened(&mut self, name: &Name) -> bool {
+        if self.lost {
+            return false;
+        }
+        if !add_opened(&mut self.text, &mut self.line, name) {
+            self.lost = true;
+            return false;
+        }
+        true
+    }
+
+    /// Hands all lines over to `to`, in which there is none, and adds their notes to `noted`. Without memory for the notes it answers
+    /// false, and hands nothing over.
+    pub fn hand_over(&mut self, to: &mut Vec<u8>, noted: &mut Vec<Note>) -> bool
+        requires { to.old.items ≡ [] }
+        ensures over { HandsOver self.old.0 self.new.0 self.old.1 self.new.1 to.new.items noted.old.items noted.new.items result }
+        ensures held { IsHeld self.old.0 self.old.1 }
+        ensures empty { to.old.items ≡ [] }
+    {
+        hand_over(&mut self.text, &mut self.notes, to, noted)
+    }
+}

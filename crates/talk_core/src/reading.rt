@@ -1,0 +1,104 @@
+//! The reading side of a session, as the first thread has it: in its hands, or lent to the second thread.
+
+use crate::bell::Bell;
+use crate::ear::{Ear, Heard};
+use crate::relay::Relay;
+use crossbeam_channel::{SendError, Sender};
+use session_text::session::Action;
+use std::alloc::Global;
+use std::io::Read;
+use std::sync::Wait;
+
+/// The reading side, where it is not lent.
+#[derive(Drop)]
+pub struct Reading<'a, I: Read + Drop> {
+    ear: Option<Ear<I>>,
+    // The object that is opened, by its place, and the session there.
+    opened: Option<(usize, u32)>,
+    to: Sender<Ear<I>>,
+    relay: &'a Relay<I>,
+    bell: &'a Bell,
+}
+
+impl<'a, I: Read + Drop> Reading<'a, I> {
+    /// It is in the first thread's hands.
+    pub fn new(
+        ear: Ear<I>,
+        to: Sender<Ear<I>>,
+        relay: &'a Relay<I>,
+        bell: &'a Bell,
+    ) -> Reading<'a, I> {
+        Reading {
+            ear: Some(ear),
+            opened: None,
+            to,
+            relay,
+            bell,
+        }
+    }
+
+    /// Whether the session is to end.
+    pub fn is_stopped(&self) -> bool {
+        self.bell.has_rung()
+    }
+
+    /// The object that is opened, by its place, and the session there.
+    pub fn opened(&self) -> Option<(usize, u32)> {
+        self.opened
+    }
+
+    /// An object was opened.
+    pub fn set_opened(&mut self, at: usize, session: u32) {
+        self.opened = Some((at, session));
+        if let Some(ear) = &mut self.ear {
+            ear.set_opened(at, session);
+        }
+    }
+
+    /// What is heard next, where it is not lent.
+    pub fn hear(&mut self, alloc: Global) -> Option<Heard> {
+        match &mut self.ear {
+            Some(ear) => Some(ear.hear(alloc)),
+            None => None,
+        }
+    }
+
+    /// Reads once, where it is not lent.
+    pub fn read(&mut self) {
+        if let Some(ear) = &mut self.ear {
+            ear.read();
+        }
+    }
+
+    /// Lends it to the second thread, where that runs. It answers whether the second thread has it.
+    pub fn lend<R: Wait>(&mut self, rt: &R) -> bool {
+        if !self.relay.is_there(rt) {
+            return false;
+        }
+        let Some(ear) = self.ear.take() else {
+            return true;
+        };
+        match self.to.send(rt, ear) {
+            Ok(()) => true,
+            Err(SendError::Disconnected(back)) | Err(SendError::OutOfMemory(back)) => {
+                self.ear = Some(back);
+                false
+            }
+        }
+    }
+
+    /// What the second thread handed over, in order.
+    pub fn taken<R: Wait>(&self, rt: &R, alloc: Global) -> Vec<Action> {
+        self.relay.taken(rt, alloc)
+    }
+
+    /// Waits until the second thread hands something over or gives the reading side back.
+    pub fn await_ear<R: Wait>(&mut self, rt: &R) {
+        self.ear = self.relay.await_ear(rt);
+    }
+
+    /// The first thread does nothing more.
+    pub fn over<R: Wait>(&self, rt: &R) {
+        self.relay.end(rt);
+    }
+}

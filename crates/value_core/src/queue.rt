@@ -1,0 +1,155 @@
+//! The elements of a queue, the oldest first: none is moved when one is added or taken.
+
+ghost use Rattle.std.specs.Prelude.{◌≡◌, ◌++◌, ◌∷◌, [], length, slice_get, IfOk, OnOk, OnErr, drop};
+ghost use Rattle.value_core.specs.Datum.{elem_of};
+ghost use Rattle.value_core.specs.Queue.{queue_sort, queue_data};
+
+use crate::datum::Datum;
+use crate::kind::Elem;
+use crate::text::Text;
+use std::alloc::{AllocError, Global};
+use std::collections::VecDeque;
+
+/// The elements of a queue.
+#[derive(Drop)]
+pub enum Queue {
+    Integers(VecDeque<u32>),
+    Texts(VecDeque<Text>),
+}
+
+impl Queue {
+    /// No elements of this sort. It takes no memory.
+    pub fn new(alloc: Global, sort: Elem) -> Queue
+        ensures sort { queue_sort result ≡ sort }
+        ensures data { queue_data result ≡ [] }
+    {
+        match sort {
+            Elem::Integer => Queue::Integers(VecDeque::new(alloc)),
+            Elem::Text => Queue::Texts(VecDeque::new(alloc)),
+        }
+    }
+
+    /// No elements of this sort, with room for so many.
+    pub fn with_capacity(alloc: Global, sort: Elem, room: usize) -> Result<Queue, AllocError>
+        ensures sort { IfOk result (λ line. queue_sort line ≡ sort) }
+        ensures data { IfOk result (λ line. queue_data line ≡ []) }
+    {
+        match sort {
+            Elem::Integer => Ok(Queue::Integers(VecDeque::with_capacity(alloc, room)?)),
+            Elem::Text => Ok(Queue::Texts(VecDeque::with_capacity(alloc, room)?)),
+        }
+    }
+
+    /// Which sort its elements are.
+    pub fn sort(&self) -> Elem
+        ensures { result ≡ queue_sort self.now }
+    {
+        match self {
+            Queue::Integers(_) => Elem::Integer,
+            Queue::Texts(_) => Elem::Text,
+        }
+    }
+
+    /// The number of elements.
+    pub fn len(&self) -> usize
+        ensures { result ≡ length (queue_data self.now) }
+    {
+        match self {
+            Queue::Integers(all) => all.len(),
+            Queue::Texts(all) => all.len(),
+        }
+    }
+
+    /// The element at a place, counted from 0 at the oldest.
+    pub fn get(&self, place: usize) -> Option<Datum>
+        ensures { result ≡ slice_get (queue_data self.now) place }
+    {
+        match self {
+            Queue::Integers(all) => all.get(place).copied().map(Datum::Integer),
+            Queue::Texts(all) => all.get(place).copied().map(Datum::Text),
+        }
+    }
+
+    /// Adds an element as the newest.
+    pub fn push(&mut self, datum: Datum) -> Result<(), AllocError>
+        requires { elem_of datum ≡ queue_sort self.old }
+        ensures sort { queue_sort self.new ≡ queue_sort self.old }
+        ensures ok { OnOk result (queue_data self.new ≡ queue_data self.old ++ datum ∷ []) }
+        ensures err { OnErr result (queue_data self.new ≡ queue_data self.old) }
+    {
+        match self {
+            Queue::Integers(all) => match datum {
+                Datum::Integer(number) => Ok(all.push_back(number)?),
+                Datum::Text(_) => unreachable!(),
+            },
+            Queue::Texts(all) => match datum {
+                Datum::Text(text) => Ok(all.push_back(text)?),
+                Datum::Integer(_) => unreachable!(),
+            },
+        }
+    }
+
+    /// Removes the oldest element, if there is one.
+    pub fn take(&mut self)
+        ensures sort { queue_sort self.new ≡ queue_sort self.old }
+        ensures data { queue_data self.new ≡ drop 1 (queue_data self.old) }
+    {
+        match self {
+            Queue::Integers(all) => {
+                let _number = all.pop_front();
+            }
+            Queue::Texts(all) => {
+                let _text = all.pop_front();
+            }
+        }
+    }
+
+    /// How many bytes spell the elements.
+    pub fn spelled_len(&self) -> usize {
+        match self {
+            Queue::Integers(all) => all.len().saturating_mul(4),
+            Queue::Texts(all) => {
+                let mut total = 0usize;
+                for text in all {
+                    total = total.saturating_add(text.spelled_len());
+                }
+                total
+            }
+        }
+    }
+
+    /// The same elements, in memory of their own.
+    pub fn copy(&self, alloc: Global) -> Result<Queue, AllocError>
+        ensures sort { IfOk result (λ copy. queue_sort copy ≡ queue_sort self.now) }
+        ensures data { IfOk result (λ copy. queue_data copy ≡ queue_data self.now) }
+    {
+        match self {
+            Queue::Integers(all) => Ok(Queue::Integers(copied(alloc, all)?)),
+            Queue::Texts(all) => Ok(Queue::Texts(copied(alloc, all)?)),
+        }
+    }
+
+    /// The elements, in order.
+    pub fn list(&self, alloc: Global) -> Result<Vec<Datum>, AllocError>
+        ensures { IfOk result (λ list. list.items ≡ queue_data self.now) }
+    {
+        let mut list = Vec::with_capacity(alloc, self.len())?;
+        for place in 0..self.len() {
+            if let Some(datum) = self.get(place) {
+                list.push(datum)?;
+            }
+        }
+        Ok(list)
+    }
+}
+
+// The same elements, made in one growth.
+fn copied<T: Copy>(alloc: Global, all: &VecDeque<T>) -> Result<VecDeque<T>, AllocError>
+    ensures { IfOk result (λ copy. copy.items ≡ all.now.items) }
+{
+    let (older, newer) = all.as_slices();
+    let mut copy = Vec::with_capacity(alloc, all.len())?;
+    copy.extend_from_slice(older)?;
+    copy.extend_from_slice(newer)?;
+    Ok(VecDeque::from(copy))
+}

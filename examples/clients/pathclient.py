@@ -1,0 +1,222 @@
+"""Calls operations of an object that `pathserve serve` serves.
+
+    from pathclient import Object, Refused
+    with Object(7000, "phone_book") as book:
+        book.enter("ada", "12 34")
+        try:
+            print(book.number_of("bob"))
+        except Refused as it:
+            print("refused:", it.word)
+
+An operation is called as a method. Integers and texts go in and come out as int and str; a procedure returns None. An
+Object is one session: its calls are done one after the other, also where several threads share it. Threads whose
+calls are to overlap take an Object each.
+
+A call waits until the paths of the object let it start, which may be never. `book.call("number_of", "ada", within=5)`
+has it cancelled where it still waits after 5 seconds. `call` is also for operations whose names a method here has.
+
+What can come in place of a reply is told by the exceptions below, which are all a CallError. Where a connection was
+lost, the next call makes a new one, which is a new session. No call is sent a second time: the server cannot tell a
+call that was sent again from a second one.
+"""
+import re
+import socket
+import threading
+import time
+
+NAME = re.compile(r"[A-Za-z][A-Za-z0-9_]{0,63}", re.ASCII)
+# The longest line that a server writes has some 600 bytes.
+LONGEST = 4096
+
+
+class CallError(Exception):
+    """There is no reply. The call has changed nothing, unless this is Lost."""
+
+    def __init__(self, word=""):
+        super().__init__(word)
+        self.word = word
+
+
+class Refused(CallError):
+    """The body said no; `word` is its word, as in `refuse('known')`, or `index`, `empty`, `full`, `missing` or
+    `range`."""
+
+
+class Failed(CallError):
+    """A fault stopped the call; `word` is `device`, `memory` or `damaged`."""
+
+
+class Cancelled(CallError):
+    """The call waited, and was cancelled: by somebody, by `within`, or by the end of the server."""
+
+
+class Rejected(CallError):
+    """The server did not take the call, or did not open the object; `word` says why: `UnknownOp`, `BadArgs`,
+    `NoObject` .."""
+
+
+class NoServer(CallError):
+    """No server answered here, so nothing was called."""
+
+
+class Lost(CallError):
+    """The connection broke before the call's last line came. Nobody knows whether the call was done, but for the
+    trace."""
+
+
+ENDS = {"refused": Refused, "failed": Failed, "cancelled": Cancelled}
+
+
+def written(value):
+    """An argument as the server reads it."""
+    if isinstance(value, int) and not isinstance(value, bool) and 0 <= value < 1 << 32:
+        return str(value)
+    if isinstance(value, str) and len(value) <= 255 and all(" " <= it <= "~" for it in value):
+        return "'" + value.replace("'", "''") + "'"
+    wanted = "an integer from 0 to 4294967295, or a text of at most 255 characters from ' ' to '~'"
+    raise ValueError(f"{value!r} is not {wanted}")
+
+
+def read(text):
+    """A value that the server wrote."""
+    return text[1:-1].replace("''", "'") if text.startswith("'") else int(text)
+
+
+def named(name):
+    """A name, as long as it is one."""
+    if not NAME.fullmatch(name):
+        raise ValueError(f"{name!r} is no name")
+    return name
+
+
+class Object:
+    """A session of an object."""
+
+    def __init__(self, port, name, host="127.0.0.1", wait=10.0):
+        """Opens the object `name` of the server at this port, which is tried for `wait` seconds before NoServer is
+        raised."""
+        self._place, self._name, self._wait = (host, port), named(name), wait
+        self._socket, self._rest, self._lock = None, b"", threading.Lock()
+        with self._lock:
+            self._connect()
+
+    # A connection, and its lines.
+
+    def _connect(self):
+        end = time.monotonic() + self._wait
+        while True:
+            try:
+                self._socket, self._rest = socket.create_connection(self._place, timeout=max(self._wait, 1)), b""
+                self._socket.setsockopt(socket.IPPROTO_TCP, socket.TCP_NODELAY, 1)
+                self._send(f"open {self._name}")
+                # A server that has taken all its connections leaves this one unanswered.
+                answer = self._line(max(end, time.monotonic() + 1))
+                if answer is None:
+                    raise Lost("no answer")
+                break
+            except (OSError, Lost) as error:
+                self._drop()
+                if time.monotonic() >= end:
+                    raise NoServer(f"no server answers at {self._place[0]}:{self._place[1]}") from error
+                time.sleep(0.1)
+        if not answer.startswith("opened "):
+            self._drop()
+            raise Rejected(answer.removeprefix("no "))
+
+    def _drop(self):
+        if self._socket is not None:
+            self._socket.close()
+            self._socket = None
+
+    def _send(self, line):
+        try:
+            self._socket.sendall(line.encode("ascii") + b"\n")
+        except OSError as error:
+            raise Lost("the server is gone") from error
+
+    def _line(self, end=None):
+        """The next line, or None where it has not come by this time. A line that was cut is none."""
+        while b"\n" not in self._rest:
+            left = None if end is None else end - time.monotonic()
+            if left is not None and left <= 0:
+                return None
+            try:
+                self._socket.settimeout(left)
+                piece = self._socket.recv(LONGEST)
+            except TimeoutError:
+                return None
+            except OSError as error:
+                raise Lost("the server is gone") from error
+            if not piece or len(self._rest) > LONGEST:
+                raise Lost("the server is gone")
+            self._rest += piece
+        line, _, self._rest = self._rest.partition(b"\n")
+        return line.decode("ascii", "replace")
+
+    def _ask(self, line):
+        """Sends a line and gives the next one."""
+        self._send(line)
+        return self._line()
+
+    # Calls.
+
+    def call(self, operation, *arguments, within=None):
+        """Calls an operation, and waits until the call has ended: for its reply, or for what is raised in place of
+        it."""
+        line = " ".join(["call", named(operation), *map(written, arguments)])
+        with self._lock:
+            if self._socket is None:
+                self._connect()
+            try:
+                return self._done(line, within)
+            except (Refused, Failed, Cancelled, Rejected):
+                raise
+            except BaseException:
+                # The connection is lost, or in the middle of a call, as where Ctrl-C was pressed.
+                self._drop()
+                raise
+
+    def _done(self, line, within):
+        end = None if within is None else time.monotonic() + within
+        answer = self._ask(line)
+        kind, number, *_ = answer.split(" ") + [""]
+        if kind != "accepted":
+            if answer == "no LineTooLong":
+                self._drop()
+            if kind != "no":
+                raise Lost(f"the server wrote {answer!r}")
+            raise Rejected(number)
+        last = self._line(end)
+        if last is None:
+            self._send(f"cancel {number}")
+            # The call may have begun, or ended, in the meantime: its last line comes in any case, before or after the
+            # other.
+            lines = [self._line(), self._line()]
+            last = next((it for it in lines if not it.startswith("cancel ")), "")
+        kind, told, *rest = last.split(" ", 2) + ["", ""]
+        if told != number or kind not in ("done", *ENDS):
+            raise Lost(f"the server wrote {last!r}")
+        if kind == "done":
+            return read(rest[0]) if rest[0] else None
+        raise ENDS[kind](rest[0])
+
+    def __getattr__(self, operation):
+        if not NAME.fullmatch(operation):
+            raise AttributeError(operation)
+        return lambda *arguments, **options: self.call(operation, *arguments, **options)
+
+    def close(self):
+        """Leaves the object. Where the server is gone, that is no fault."""
+        with self._lock:
+            if self._socket is not None:
+                try:
+                    self._ask("quit")
+                except Lost:
+                    pass
+                self._drop()
+
+    def __enter__(self):
+        return self
+
+    def __exit__(self, *_):
+        self.close()

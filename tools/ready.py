@@ -1,0 +1,247 @@
+"""Which program ./pathserve runs, what it was built from, and what the tools that build it have in common.
+
+Two programs may stand in out/: out/proved/pathserve, which tools/prove proved and built, and out/unproved/pathserve,
+which tools/make_ready built without the proof. Beside each stands pathserve.sources, with the digest of the sources
+that it was built from and its own. It is written last, so a program that is not whole, or is another one, is never run.
+The proved one comes first. out/proved.look and out/unproved.look hold what `tools/look` printed when that program was
+chosen: where it prints the same, ./pathserve runs that program and reads no source.
+"""
+import contextlib
+import errno
+import fcntl
+import hashlib
+import os
+import pathlib
+import shutil
+import signal
+import subprocess
+import sys
+import tempfile
+
+import repository
+
+TOP = repository.TOP
+OUT = TOP / "out"
+# Where folders of builds are made.
+ROOMS = pathlib.Path(os.environ.get("TMPDIR") or "/tmp")
+PROVED, UNPROVED = "proved", "unproved"
+PROGRAM = "pathserve"
+# The exit status where there is no program to run: none of the program's own.
+NO_PROGRAM = 70
+FULL = "No space left on device"
+
+
+class Stop(Exception):
+    """Why there is no program, in one line."""
+
+
+def say(text):
+    print(f"pathserve: {text}", file=sys.stderr, flush=True)
+
+
+def kit():
+    """The folder of the Rattle kit."""
+    found = shutil.which("rt")
+    if not found:
+        raise Stop("the Rattle kit with its command rt is not installed")
+    return pathlib.Path(os.path.realpath(found)).parent.parent
+
+
+def needed(folder, *names):
+    """Stops where the kit in this folder lacks one of these files."""
+    for name in names:
+        if not (folder / name).exists():
+            raise Stop(f"the Rattle kit in {folder} lacks {name}")
+
+
+def stands_on(lines):
+    """The crates of the program, each after those that it stands on."""
+    if PROGRAM not in lines:
+        raise Stop(f"crates.txt has no line for {PROGRAM}")
+    return [*repository.below(lines, PROGRAM), PROGRAM]
+
+
+def digest(top, of_kit):
+    """The sha256 of all that a proof of the program reads: the kit's name, HANDLES, and of each crate of the program
+    its line in crates.txt and its files."""
+    summed = hashlib.sha256()
+
+    def add(part):
+        summed.update(b"%d:" % len(part) + part)
+
+    add((of_kit / "KIT-ID").read_bytes())
+    add((top / "HANDLES").read_bytes())
+    lines = repository.crates(top)
+    for crate in stands_on(lines):
+        add(lines[crate].encode())
+        for file in (it for part in repository.PARTS for it in repository.files(top / "crates" / crate / part)):
+            add(os.fsencode(file.relative_to(top)))
+            add(file.read_bytes())
+    return summed.hexdigest()
+
+
+def copy_sources(to):
+    """Copies what the program is built from: the lines and the folders of its crates, but no wrong bodies, and not what
+    was built of them."""
+    to.mkdir(parents=True)
+    lines = repository.crates()
+    for crate in stands_on(lines):
+        for file in repository.files(TOP / "crates" / crate):
+            part = file.relative_to(TOP / "crates" / crate).parts[0]
+            if part != "out" and part != "must-fail" and not part.startswith("wrong-"):
+                copy = to / file.relative_to(TOP)
+                copy.parent.mkdir(parents=True, exist_ok=True)
+                shutil.copyfile(file, copy)
+    (to / "crates.txt").write_text("".join(f"{lines[it]}\n" for it in stands_on(lines)), encoding="utf-8")
+    shutil.copyfile(TOP / "HANDLES", to / "HANDLES")
+
+
+def sha256(file):
+    return hashlib.sha256(file.read_bytes()).hexdigest()
+
+
+def text_of(file):
+    try:
+        return file.read_text(encoding="utf-8")
+    except (OSError, ValueError):
+        return None
+
+
+def write(file, text):
+    """Writes a file so that it stands whole, or is as it was."""
+    new = file.with_name(f"{file.name}.{os.getpid()}.new")
+    try:
+        with open(new, "w", encoding="utf-8") as it:
+            it.write(text)
+            it.flush()
+            os.fsync(it.fileno())
+        os.replace(new, file)
+    finally:
+        new.unlink(missing_ok=True)
+
+
+def stands(kind, of_sources):
+    """Whether a whole program of this kind stands that was built from the sources of this digest."""
+    program = OUT / kind / PROGRAM
+    told = text_of(OUT / kind / f"{PROGRAM}.sources")
+    return told is not None and os.access(program, os.X_OK) and told == f"{of_sources}\n{sha256(program)}\n"
+
+
+def place(program, folder):
+    """Copies a program into a folder, where it stands whole or is as it was, and returns its digest."""
+    folder.mkdir(parents=True, exist_ok=True)
+    new = folder / f"{PROGRAM}.new"
+    try:
+        shutil.copyfile(program, new)
+        os.chmod(new, 0o755)
+        with open(new, "rb") as it:
+            os.fsync(it.fileno())
+        summed = sha256(new)
+        os.replace(new, folder / PROGRAM)
+    finally:
+        new.unlink(missing_ok=True)
+    return summed
+
+
+def put(kind, program, of_sources):
+    """Has this program stand as the one of its kind, built from the sources of this digest."""
+    summed = place(program, OUT / kind)
+    # Until this is written, what stands there of the one before names another program.
+    write(OUT / kind / f"{PROGRAM}.sources", f"{of_sources}\n{summed}\n")
+
+
+def look():
+    return subprocess.run([TOP / "tools" / "look"], stdout=subprocess.PIPE, text=True).stdout
+
+
+def choose():
+    """The kind of the program to run: the proved one, or else the other, where that was built from the sources as they
+    are; else None."""
+    before, of_sources = look(), digest(TOP, kit())
+    for kind in (PROVED, UNPROVED):
+        if stands(kind, of_sources):
+            # A start without it only takes longer.
+            with contextlib.suppress(OSError):
+                if before and look() == before:
+                    write(OUT / f"{kind}.look", before)
+            return kind
+    return None
+
+
+@contextlib.contextmanager
+def turn(kind):
+    """Waits while another call builds a program of this kind."""
+    OUT.mkdir(exist_ok=True)
+    with open(OUT / f"{kind}.lock", "w") as lock:
+        try:
+            fcntl.flock(lock, fcntl.LOCK_EX | fcntl.LOCK_NB)
+        except BlockingIOError:
+            say(f"waiting for another call that {'proves' if kind == PROVED else 'builds'} it")
+            fcntl.flock(lock, fcntl.LOCK_EX)
+        yield
+
+
+def is_left(folder):
+    """Whether no build uses this folder: each locks a file in its own."""
+    try:
+        with open(folder / "lock", "rb") as lock:
+            fcntl.flock(lock, fcntl.LOCK_EX | fcntl.LOCK_NB)
+        return True
+    except OSError:
+        return False
+
+
+@contextlib.contextmanager
+def room(kind):
+    """A new folder for a build, outside the repository, where no check of it looks. What killed builds left goes."""
+    mark = f"pathserve-{kind}-"
+    for left in filter(is_left, ROOMS.glob(f"{mark}*")):
+        shutil.rmtree(left, ignore_errors=True)
+    folder = pathlib.Path(tempfile.mkdtemp(prefix=mark, dir=ROOMS))
+    try:
+        with open(folder / "lock", "wb") as lock:
+            fcntl.flock(lock, fcntl.LOCK_EX)
+            yield folder
+    finally:
+        shutil.rmtree(folder, ignore_errors=True)
+
+
+def reason(status, said):
+    """Why a command failed: by its status and what it said, of which that is the first error, or else the last line."""
+    if FULL in said or "the disk is full" in said:
+        return "the disk is full"
+    if status == -signal.SIGKILL:
+        return "it was killed, most likely for memory"
+    lines = [it.strip() for it in said.splitlines() if it.strip()]
+    found = [it for it in lines if "error[" in it or "error:" in it or "not proved" in it]
+    return (found or lines[-1:] or [f"it ended with status {status}"])[0][:300]
+
+
+def keep_log(kind, said):
+    """Keeps all that the commands of a build said, and returns where; none where it can't be written."""
+    file = OUT / f"{kind}.log"
+    with contextlib.suppress(OSError):
+        write(file, said)
+        return f"; all that was said stands in {file}"
+    return ""
+
+
+def end(number, _):
+    raise SystemExit(128 + number)
+
+
+def ran(work):
+    """Does the work of a tool, and returns its exit status: where there is no program, one line says why."""
+    for it in (signal.SIGTERM, signal.SIGHUP):
+        signal.signal(it, end)
+    try:
+        work()
+        return 0
+    except KeyboardInterrupt:
+        return 128 + signal.SIGINT
+    except Stop as why:
+        say(why)
+    except OSError as error:
+        full = f"the disk is full: a build needs room in {ROOMS} and in {OUT}"
+        say(full if error.errno == errno.ENOSPC else error)
+    return NO_PROGRAM
