@@ -8,6 +8,6 @@ TOP = pathlib.Path(__file__).resolve().parent.parent
 def build(folder):
     """The preload library, built in a folder."""
     library = pathlib.Path(folder) / "librefuse.so"
-    words = ["cc", "-O2", "-shared", "-fPIC", "-o", str(library), str(TOP / "tools" / "refuse.c")]
+    words = ["cc", "-O2", "-shared", "-fPIC", "-o", str(library), str(TOP / "gate" / "refuse.c")]
     subprocess.run(words, check=True)
     return library

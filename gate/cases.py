@@ -4,7 +4,7 @@ import pathlib
 import re
 
 TOP = pathlib.Path(__file__).resolve().parent.parent
-# Cases of a server, which `tools/run_sessions` runs.
+# Cases of a server, which `gate/run_sessions` runs.
 SERVED = TOP / "cases" / "serve"
 ESCAPES = {"n": b"\n", "r": b"\r", "t": b"\t", "\\": b"\\", "^": b"^", "|": b"|", "#": b"#", "*": b"*"}
 PIECE = re.compile(r"(\d+)(\+?)\*")
