@@ -1,8 +1,8 @@
 use Rattle.std.proofs.Common.{arith}
 use Rattle.std.proofs.lemmas.List.{nil_from_length}
 use Rattle.std.proofs.lemmas.Bool.Decides.{nat_tests}
-use Rattle.judge_core.proofs.Sorting.{ready_all}
-use Rattle.judge_core.proofs.judge.judge_all.Goals as goal
+use Rattle.source_core.proofs.Sorting.{ready_all}
+use Rattle.source_core.proofs.judge.judge_all.Goals as goal
 
 pub returns-then-is_empty : goal.returns-then-is_empty
 returns-then-is_empty c =

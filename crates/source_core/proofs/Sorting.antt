@@ -6,10 +6,10 @@ use Rattle.decl_core.specs.ObjectForm.{ObjectForm}
 use Rattle.decl_core.specs.ObjectMap.{object_of, objects_of}
 use Rattle.check_core.specs.Report.{refused_line}
 use Rattle.decl_read.specs.Sources.{AreObjectsOf}
-use Rattle.judge_core.specs.Judging.{AreJudged, no_object, and_accepted, and_refused, refused}
-use Rattle.judge_core.specs.declared.judge.Judged.{Judged}
-use Rattle.judge_core.specs.declared.judge.Judged.TheVariants as judged
-use Rattle.judge_core.specs.View.{IsAdded, IsJudgedObjects, IsJudgedSource}
+use Rattle.source_core.specs.Judging.{AreJudged, no_object, and_accepted, and_refused, refused}
+use Rattle.source_core.specs.declared.judge.Judged.{Judged}
+use Rattle.source_core.specs.declared.judge.Judged.TheVariants as judged
+use Rattle.source_core.specs.View.{IsAdded, IsJudgedObjects, IsJudgedSource}
 
 -- Of all objects those before the rest are judged.
 pub record IsSorted (all rest ready : List Object) (text : List ℕ) : Type 0 where

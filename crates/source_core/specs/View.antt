@@ -5,9 +5,9 @@ use Rattle.decl_core.specs.ObjectForm.{ObjectForm}
 use Rattle.decl_core.specs.ObjectMap.{object_of, objects_of}
 use Rattle.exclude_core.specs.Exclusive.{IsExclusive}
 use Rattle.script_open.specs.View.{IsRefusedLine}
-use Rattle.judge_core.specs.Judging.{AreJudged, IsServed, IsUnserved}
-use Rattle.judge_core.specs.declared.judge.Judged.{Judged}
-use Rattle.judge_core.specs.declared.judge.Judged.TheVariants as judged
+use Rattle.source_core.specs.Judging.{AreJudged, IsServed, IsUnserved}
+use Rattle.source_core.specs.declared.judge.Judged.{Judged}
+use Rattle.source_core.specs.declared.judge.Judged.TheVariants as judged
 
 -- what a source is to a server
 abbrev pub IsJudgedSource : List ℕ → Judged → Type 0

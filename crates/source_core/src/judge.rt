@@ -3,8 +3,8 @@
 ghost use Rattle.std.specs.Prelude.{◌≡◌, IfOk, OnOk};
 ghost use Rattle.std.specs.Map.{values_of};
 ghost use Rattle.decl_core.specs.ObjectMap.{object_of, objects_of};
-ghost use Rattle.judge_core.specs.Judging.{AreJudged};
-ghost use Rattle.judge_core.specs.View.{IsAdded, IsJudgedObjects, IsJudgedSource};
+ghost use Rattle.source_core.specs.Judging.{AreJudged};
+ghost use Rattle.source_core.specs.View.{IsAdded, IsJudgedObjects, IsJudgedSource};
 
 use decl_core::object::Object;
 use decl_read::read::read_objects;

@@ -2,9 +2,9 @@ use Rattle.std.proofs.Common.{sym, subst}
 use Rattle.std.specs.Map.{values_of}
 use Rattle.decl_core.specs.ObjectMap.{objects_of}
 use Rattle.check_core.proofs.Reports.{told_fault}
-use Rattle.judge_core.specs.Judging.{IsUnserved, faulty}
-use Rattle.judge_core.proofs.Sorting.{judged_source}
-use Rattle.judge_core.proofs.judge.judge.Goals as goal
+use Rattle.source_core.specs.Judging.{IsUnserved, faulty}
+use Rattle.source_core.proofs.Sorting.{judged_source}
+use Rattle.source_core.proofs.judge.judge.Goals as goal
 
 pub returns-in_ok-judged-in-Ok : goal.returns-in_ok-judged-in-Ok
 returns-in_ok-judged-in-Ok c = judged_source c.args.source.now (objects_of (values_of c.in-Ok.all.entries)) c.in_ok-judged-in-Ok.judged c.in-Ok.ensures.found c.in_ok-judged-in-Ok.ensures

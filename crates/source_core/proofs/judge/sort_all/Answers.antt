@@ -1,8 +1,8 @@
 use Rattle.std.proofs.Common.{◌∙◌, subst}
 use Rattle.std.specs.Map.{values_of}
 use Rattle.std.proofs.lemmas.Map.Iter.{rest_more, rest_all}
-use Rattle.judge_core.proofs.Sorting.{IsSorted, sorted_none, sorted_more, sorted_all}
-use Rattle.judge_core.proofs.judge.sort_all.Goals as goal
+use Rattle.source_core.proofs.Sorting.{IsSorted, sorted_none, sorted_more, sorted_all}
+use Rattle.source_core.proofs.judge.sort_all.Goals as goal
 
 pub loop-object-init : goal.loop-object-init
 loop-object-init c = sorted_none _ _ _ _ (c.into_iter-object-iterator.ensures.into_iter_gives ∙ c.into_values-object-items.ensures.rest) c.new.ensures.items c.new-2.ensures.items

@@ -1,5 +1,5 @@
 use Rattle.std.proofs.Common.{inl, inr, refl, ap, ◌++◌, ◌∙◌}
-use Rattle.judge_core.proofs.judge.add.Goals as goal
+use Rattle.source_core.proofs.judge.add.Goals as goal
 
 pub returns-in-Ok : goal.returns-in-Ok
 returns-in-Ok c =
