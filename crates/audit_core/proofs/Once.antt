@@ -104,10 +104,10 @@ cuts {A} (a ∷ xs) (b ∷ ys) x y xt yt e =
     let head : a ≡ b = cc in
     let tail : xs ++ x ∷ xt ≡ ys ++ y ∷ yt = cc in
     one_more head (cuts xs ys x y xt yt tail) where
-  one_more : a ≡ b → Cuts xs ys x y → Cuts (a ∷ xs) (b ∷ ys) x y
-  one_more head (inl same) = let front : xs ≡ ys = same.0 in inl (cc, same.1)
-  one_more head (inr (inl more)) = let front : ys ≡ xs ++ x ∷ more.0 = more.1 in inr (inl (more.0, cc))
-  one_more head (inr (inr more)) = let front : xs ≡ ys ++ y ∷ more.0 = more.1 in inr (inr (more.0, cc))
+      one_more : a ≡ b → Cuts xs ys x y → Cuts (a ∷ xs) (b ∷ ys) x y
+      one_more head (inl same) = let front : xs ≡ ys = same.0 in inl (cc, same.1)
+      one_more head (inr (inl more)) = let front : ys ≡ xs ++ x ∷ more.0 = more.1 in inr (inl (more.0, cc))
+      one_more head (inr (inr more)) = let front : xs ≡ ys ++ y ∷ more.0 = more.1 in inr (inr (more.0, cc))
 
 -- no line before the first with a fault has one
 none_before : (o : ObjectForm) (bytes : List ℕ) (n m : ℕ) (f g : Fault) (a : IsFirstFault o bytes n f) (b : IsFirstFault o bytes m g) (more : List (List ℕ)) → b.before ≡ a.before ++ a.line ∷ more → ⊥
@@ -121,9 +121,10 @@ one_first o bytes n m f g a b = by (cuts a.before b.before a.line b.line a.after
   by : Cuts a.before b.before a.line b.line → (n ≡ m) × (f ≡ g)
   by (inl same) =
       let heard : a.heard ≡ b.heard = tell_once o nothing_heard a.before a.heard b.heard tt a.told (subst (λ ls. Tell o nothing_heard ls b.heard) (sym same.0) b.told) in
-      let other : IsFault o a.heard a.line g = subst (λ h. IsFault o h a.line g) (sym heard) (subst (λ l. IsFault o b.heard l g) (sym same.1) b.faulty) in
-      (a.counted ∙ ap (λ ls. length ls + 1) same.0 ∙ sym b.counted,
-       one_fault o a.heard a.line f g (tell_trace o nothing_heard a.before a.heard tt a.told) a.faulty other)
+      let other : IsFault o a.heard a.line g = subst (λ h. IsFault o h a.line g) (sym heard) (subst (λ l. IsFault o b.heard l g) (sym same.1) b.faulty) in (
+        a.counted ∙ ap (λ ls. length ls + 1) same.0 ∙ sym b.counted,
+        one_fault o a.heard a.line f g (tell_trace o nothing_heard a.before a.heard tt a.told) a.faulty other,
+      )
   by (inr (inl more)) = absurd (none_before o bytes n m f g a b more.0 more.1)
   by (inr (inr more)) = absurd (none_before o bytes m n g f b a more.0 more.1)
 
