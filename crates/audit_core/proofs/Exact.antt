@@ -38,7 +38,7 @@ part_once o heard name hex a b p q =
     unique p.bytes p.kind q.kind a b p.spells (subst (λ x. Spells x q.kind b) (sym bytes) q.spells)
 
 -- a line tells one thing
-tells_once : (o : ObjectForm) (heard : Heard) (line : List ℕ) (a b : Heard) → IsTrace (trace_of heard.past) → Tells o heard line a → Tells o heard line b → a ≡ b
+pub tells_once : (o : ObjectForm) (heard : Heard) (line : List ℕ) (a b : Heard) → IsTrace (trace_of heard.past) → Tells o heard line a → Tells o heard line b → a ≡ b
 tells_once o heard line a b trace (object_told {name = n} p is) (object_told {name = m} q its) = refl
 tells_once o heard line a b trace (object_told {name = n} p is) (part_told {name = m} {hex = h} q its) = let e = says_once line (an_object n) (a_part m h) p q in cc
 tells_once o heard line a b trace (object_told {name = n} p is) (start_told {number = k} {session = s} {name = m} {arguments = xs} q its) = let e = says_once line (an_object n) (a_start k s m xs) p q in cc
@@ -75,12 +75,12 @@ tells_trace o heard line after trace (part_told says is) = trace
 tells_trace o heard line after trace (start_told says is) = (is.fresh, trace)
 tells_trace o heard line after trace (end_told {call = c} says opened is same runs) = (running_among heard.past c runs, trace)
 
-tell_trace : (o : ObjectForm) (heard : Heard) (ls : List (List ℕ)) (after : Heard) → IsTrace (trace_of heard.past) → Tell o heard ls after → IsTrace (trace_of after.past)
+pub tell_trace : (o : ObjectForm) (heard : Heard) (ls : List (List ℕ)) (after : Heard) → IsTrace (trace_of heard.past) → Tell o heard ls after → IsTrace (trace_of after.past)
 tell_trace o heard [] after trace told = subst (λ h. IsTrace (trace_of h.past)) (sym told) trace
 tell_trace o heard (line ∷ ls) after trace told = tell_trace o told.0 ls after (tells_trace o heard line told.0 trace told.1) told.2
 
 -- the first lines tell the same, however the trace goes on
-tell_front : (o : ObjectForm) (heard : Heard) (before : List (List ℕ)) (line : List ℕ) (after : List (List ℕ)) (mid last : Heard) → IsTrace (trace_of heard.past) → Tell o heard before mid → Tell o heard (before ++ line ∷ after) last
+pub tell_front : (o : ObjectForm) (heard : Heard) (before : List (List ℕ)) (line : List ℕ) (after : List (List ℕ)) (mid last : Heard) → IsTrace (trace_of heard.past) → Tell o heard before mid → Tell o heard (before ++ line ∷ after) last
     → (next : Heard) × Tells o mid line next × Tell o next after last
 tell_front o heard [] line after mid last trace told whole = (whole.0, subst (λ h. Tells o h line whole.0) (sym told) whole.1, whole.2)
 tell_front o heard (l ∷ before) line after mid last trace told whole =
@@ -107,7 +107,7 @@ path_at [] t k p h at = cc
 path_at (q ∷ paths) t zero p h at = let e : q ≡ p = cc in subst (λ x. Satisfies x t) e h.0
 path_at (q ∷ paths) t (suc k) p h at = path_at paths t k p h.1 at
 
-tell_once : (o : ObjectForm) (heard : Heard) (ls : List (List ℕ)) (a b : Heard) → IsTrace (trace_of heard.past) → Tell o heard ls a → Tell o heard ls b → a ≡ b
+pub tell_once : (o : ObjectForm) (heard : Heard) (ls : List (List ℕ)) (a b : Heard) → IsTrace (trace_of heard.past) → Tell o heard ls a → Tell o heard ls b → a ≡ b
 tell_once o heard [] a b trace p q = p ∙ sym q
 tell_once o heard (line ∷ ls) a b trace p q =
     let same : p.0 ≡ q.0 = tells_once o heard line p.0 q.0 trace p.1 q.1 in
@@ -118,7 +118,7 @@ legal_split [] e parts h = (tt, h.0)
 legal_split (x ∷ history) e parts h = let later = legal_split history e (left_by x.reply x.body x.arguments parts) h.1 in ((h.0, later.0), later.1)
 
 -- behind the last part the opening contents stay, and the front of a legal history is legal
-opened_step : (o : ObjectForm) (heard : Heard) (line : List ℕ) (after : Heard) → IsOpened o heard → Tells o heard line after
+pub opened_step : (o : ObjectForm) (heard : Heard) (line : List ℕ) (after : Heard) → IsOpened o heard → Tells o heard line after
     → IsOpened o after × (IsLegal (history_of o after.past) after.opening → IsLegal (history_of o heard.past) heard.opening)
 opened_step o heard line after opened (object_told says is) = absurd (let e : true ≡ false = sym opened.named ∙ is.first in cc)
 opened_step o heard line after opened (part_told {name = n} says is) = absurd (omega (arith, opened.whole, slice_get_within o.parts (length heard.opening) (n, is.kind) is.next))
@@ -135,13 +135,13 @@ longer : (e : Happened) (past : List Happened) → past ≡ e ∷ past → ⊥
 longer e past same = omega (arith, ap length same)
 
 -- an end was told behind the last part
-end_opened : (o : ObjectForm) (heard : Heard) (line : List ℕ) (after : Heard) (c : Called) (r : Reply) → Tells o heard line after → after.past ≡ ended c r ∷ heard.past → IsOpened o heard
+pub end_opened : (o : ObjectForm) (heard : Heard) (line : List ℕ) (after : Heard) (c : Called) (r : Reply) → Tells o heard line after → after.past ≡ ended c r ∷ heard.past → IsOpened o heard
 end_opened o heard line after c r (object_told says is) same = absurd (longer (ended c r) heard.past same)
 end_opened o heard line after c r (part_told says is) same = absurd (longer (ended c r) heard.past same)
 end_opened o heard line after c r (start_told says is) same = is.opened
 end_opened o heard line after c r (end_told says opened is same' runs) same = opened
 
-stranger_told : (o : ObjectForm) (heard : Heard) (line : List ℕ) (after : Heard) → IsStranger o heard line → Tells o heard line after → ⊥
+pub stranger_told : (o : ObjectForm) (heard : Heard) (line : List ℕ) (after : Heard) → IsStranger o heard line → Tells o heard line after → ⊥
 stranger_told o heard line after s (object_told {name = m} q its) = let e = says_once line (an_end s.number s.reply) (an_object m) s.says q in cc
 stranger_told o heard line after s (part_told {name = m} {hex = h} q its) = let e = says_once line (an_end s.number s.reply) (a_part m h) s.says q in cc
 stranger_told o heard line after s (start_told {number = k} {session = z} {name = m} {arguments = xs} q its) = let e = says_once line (an_end s.number s.reply) (a_start k z m xs) s.says q in cc
@@ -165,13 +165,13 @@ wrong_told o heard line next last later trace w told rest legal =
     let here : IsLegal (history_of o after.past) after.opening = subst (λ h. IsLegal (history_of o h.past) h.opening) same (tell_legal o next later last behind.0 rest legal) in
     w.wrong (legal_split (history_of o heard.past) (record { body = body_at o w.call.operation; arguments = w.call.arguments; reply = w.reply }) heard.opening here).1
 
-fault_excluded : (o : ObjectForm) (heard : Heard) (line : List ℕ) (next last : Heard) (later : List (List ℕ)) (fault : Fault) → IsTrace (trace_of heard.past) → IsFault o heard line fault → Tells o heard line next → Tell o next later last → IsSound o last → ⊥
+pub fault_excluded : (o : ObjectForm) (heard : Heard) (line : List ℕ) (next last : Heard) (later : List (List ℕ)) (fault : Fault) → IsTrace (trace_of heard.past) → IsFault o heard line fault → Tells o heard line next → Tell o next later last → IsSound o last → ⊥
 fault_excluded o heard line next last later faults.Bad trace f told rest sound = f.untold next told
 fault_excluded o heard line next last later (faults.Breaks number) trace f told rest sound = breach_told o heard line number next trace f told (tell_satisfied o next later last rest sound.satisfied)
 fault_excluded o heard line next last later faults.Wrong trace f told rest sound = wrong_told o heard line next last later trace f told rest sound.legal
 fault_excluded o heard line next last later faults.Stranger trace f told rest sound = stranger_told o heard line next f told
 
-legal_no_fault : (o : ObjectForm) (bytes : List ℕ) (entries number : ℕ) (fault : Fault) → IsLegalTrace o bytes entries → IsFirstFault o bytes number fault → ⊥
+pub legal_no_fault : (o : ObjectForm) (bytes : List ℕ) (entries number : ℕ) (fault : Fault) → IsLegalTrace o bytes entries → IsFirstFault o bytes number fault → ⊥
 legal_no_fault o bytes entries number fault l f =
     let whole : Tell o nothing_heard (f.before ++ f.line ∷ f.after) l.heard = subst (λ ls. Tell o nothing_heard ls l.heard) f.cut l.told in
     let front = tell_front o nothing_heard f.before f.line f.after f.heard l.heard tt f.told whole in

@@ -9,6 +9,7 @@ pub mod PartsRead
 pub mod Following
 pub mod Renumbering
 pub mod Exact
+pub mod Once
 pub mod Replaying
 pub mod Written
 mod Reading

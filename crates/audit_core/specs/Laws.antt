@@ -1,5 +1,5 @@
 -- Laws of audits.
-use Rattle.std.specs.Prelude.{◌≡◌, ◌<◌, List, [], ◌∷◌, All, length, map, Some}
+use Rattle.std.specs.Prelude.{◌≡◌, ◌≢◌, ℕ, ◌<◌, List, [], ◌∷◌, All, length, map, Some}
 use Rattle.path_tree.specs.Known.{place_of}
 use Rattle.path_tree.specs.Trace.{IsFresh}
 use Rattle.path_tree.specs.Satisfies.{SatisfiesAll}
@@ -12,7 +12,9 @@ use Rattle.trace_core.specs.Laws.{HasNames, IsReply}
 use Rattle.trace_core.specs.Text.{operation_name, trace_text, told_of}
 use Rattle.audit_core.specs.Operations.{operation_names}
 use Rattle.audit_core.specs.Tells.{IsCallNumber, IsSession}
-use Rattle.audit_core.specs.Verdicts.{IsLegalTrace}
+use Rattle.audit_core.specs.declared.verdict.Verdict.{Verdict}
+use Rattle.audit_core.specs.declared.verdict.Verdict.TheVariants.{Memory}
+use Rattle.audit_core.specs.Verdicts.{IsLegalTrace, IsVerdict}
 
 -- a call within the limits, of an operation of the object that is the first of its name, with arguments that fit it
 pub record IsCallFor (o : ObjectForm) (c : Called) : Type 0 where
@@ -39,3 +41,8 @@ abbrev pub TextIsLegal : Type 0
 TextIsLegal = (o : ObjectForm) (opening : List Contents) (past : List Happened) → HasNames o → AreOpening o opening → AreCallsFor o past
     → SatisfiesAll o.paths (trace_of past) → IsLegal (history_of o past) opening
     → IsLegalTrace o (trace_text o opening (told_of past)) (length (history_of o past))
+
+-- of the same bytes no two verdicts hold, but where memory was refused
+abbrev pub OneVerdict : Type 0
+OneVerdict = (o : ObjectForm) (bytes : List ℕ) (first second : Verdict) → first ≢ Memory → second ≢ Memory
+    → IsVerdict o bytes first → IsVerdict o bytes second → first ≡ second

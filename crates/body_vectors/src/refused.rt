@@ -1,7 +1,7 @@
 //! Runs in which a growth of memory may be refused: each answers want of memory, nothing is lost, and it
 //! succeeds when it is made again.
 //!
-//! `tools/refuse_memory` runs each test whose name begins with `refused_` with the first, the second,
+//! `gate/refuse_memory` runs each test whose name begins with `refused_` with the first, the second,
 //! .. growth refused. With no growth refused they are happy paths.
 
 use crate::calls::{CELL, SEVEN, ZERO, operation, reply_in_place};

@@ -118,7 +118,7 @@ fn goes_round(
     opened(rt, alloc, cell, shelf, hand, SEVEN);
 }
 
-// What is published is saved and opened again. `tools/refuse_memory` runs this test with the first, the second, ..
+// What is published is saved and opened again. `gate/refuse_memory` runs this test with the first, the second, ..
 // growth of memory refused.
 #[test]
 fn refused_open_finish_and_save(rt: HostRuntime) {

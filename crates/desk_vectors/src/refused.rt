@@ -1,7 +1,7 @@
 //! Desks where a growth of memory is refused: a refused submission leaves the desk as it was, and no other call of a
 //! desk takes memory.
 //!
-//! `tools/refuse_memory` runs each test whose name begins with `refused_` with the first, the second, .. growth
+//! `gate/refuse_memory` runs each test whose name begins with `refused_` with the first, the second, .. growth
 //! refused, and each whose name begins with `starved_` with all growths refused between its two marks. With no growth
 //! refused they are happy paths.
 

@@ -47,7 +47,7 @@ fn cell(rt: &impl Abort, alloc: Global) -> Option<Object> {
     }
 }
 
-// `tools/refuse_memory` runs this test with the first, the second, .. growth of memory refused.
+// `gate/refuse_memory` runs this test with the first, the second, .. growth of memory refused.
 #[test]
 fn refused_analyse(rt: HostRuntime) {
     let cell = match cell(&rt, rt.alloc()) {

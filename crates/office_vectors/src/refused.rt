@@ -1,6 +1,6 @@
 //! Rooms and offices where a growth of memory is refused: a refused submission leaves the room as it was.
 //!
-//! `tools/refuse_memory` runs each test whose name begins with `refused_` with the first, the second, .. growth
+//! `gate/refuse_memory` runs each test whose name begins with `refused_` with the first, the second, .. growth
 //! refused. With no growth refused they are happy paths.
 
 use crate::make::{pins, room_of, stuck};

@@ -1,6 +1,7 @@
 //! The head of a script: what is read of it until its first line is whole.
 
 ghost use Rattle.std.specs.Prelude.{◌≡◌, ◌↔◌, ◌++◌, ◌≤◌, ℕ, List, IfOk, IfErr, IsTrue, MatchOption, length, vec_len};
+ghost use Rattle.std.specs.Result.{IsErrOf};
 ghost use Rattle.std.specs.Io.KnownBytes.{Consumes};
 ghost use Rattle.line_core.specs.Runs.{NoLineFeed};
 ghost use Rattle.line_core.specs.declared.machine.LinesFault.{LinesFault};
@@ -50,6 +51,12 @@ fn room_for_piece(alloc: Global) -> Result<Vec<u8>, AllocError>
 pub fn read_head<R: Read>(alloc: Global, reader: &mut R) -> Result<Vec<u8>, LinesFault>
     ensures taken { IfOk result (λ head. Consumes (R.remaining reader.old) (R.remaining reader.new) head.items) }
     ensures enough { IfOk result (λ head. IsHead head.items (R.remaining reader.new)) }
+    // It reads no further: what came before the last read has no line end, and is not too long.
+    ensures barely { IfOk result (λ head. (front : List ℕ) × (last : List ℕ) × (head.items ≡ front ++ last)
+        × NoLineFeed front × (length front ≤ 65536) × (length last ≤ 65536)) }
+    // It gives up on no head that is whole.
+    ensures unread { IsErrOf result LinesFault.ReadFault → (text : List ℕ) × Consumes (R.remaining reader.old) (R.remaining reader.new) text
+        × NoLineFeed text × (length text ≤ 65536) }
     ensures fault { IfErr result (λ fault. fault ≡ LinesFault.WriteFault → ⊥) }
 {
     let mut piece = room_for_piece(alloc)?;

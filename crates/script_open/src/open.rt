@@ -1,6 +1,7 @@
 //! What a script runs on.
 
 ghost use Rattle.std.specs.Prelude.{◌≡◌, ◌≢◌, ◌↔◌, ◌++◌, ℕ, List, All, Contains, IfOk, IsTrue, MatchOption};
+ghost use Rattle.std.specs.Result.{IsErr};
 ghost use Rattle.std.specs.Map.{values_of};
 ghost use Rattle.decl_core.specs.ObjectMap.{object_of, objects_of};
 ghost use Rattle.exclude_core.specs.Refusals.{IsWhy};
@@ -55,7 +56,8 @@ fn object_named(all: IndexMap<Name, Object>, name: &Name) -> Option<Object>
 
 // The fault of a source, apart from a want of memory.
 fn told_fault(fault: DeclFault) -> Result<DeclFault, AllocError>
-    ensures { IfOk result (λ told. (told ≡ fault) × (IsWantOfMemory fault → ⊥)) }
+    ensures told { IfOk result (λ told. (told ≡ fault) × (IsWantOfMemory fault → ⊥)) }
+    ensures memory { IsErr result → IsWantOfMemory fault }
 {
     match fault {
         DeclFault::Memory | DeclFault::Lex(LexFault::Memory) | DeclFault::Path(PathFault::Memory) =>

@@ -1,3 +1,1 @@
-pub mod Sorting
-pub mod Numbering
 pub mod Sending

@@ -1,7 +1,7 @@
 //! What sessions left, by objects.
 
 use crate::listen::{Came, Left};
-use crate::trouble::Trouble;
+use keep_core::trouble::Trouble;
 use line_core::reply::push_reply;
 use line_core::{LinesFault, write_whole};
 use office_core::seat::Seat;

@@ -1,10 +1,10 @@
 //! Connections, each of them served on threads of its own.
 
 use crate::gate::Door;
-use crate::trouble::fault_of;
 use ahead_core::ahead::Ends;
 use crossbeam_channel::Receiver;
 use hand_core::hand::Hand;
+use keep_core::trouble::fault_of;
 use line_core::LinesFault;
 use office_core::seat::Seat;
 use session_core::end::SessionEnd;

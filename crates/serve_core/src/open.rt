@@ -1,19 +1,12 @@
 //! The offices of accepted objects, whose parts are read from a folder.
 
-ghost use Rattle.std.specs.Prelude.{◌≡◌, length, IfOk};
-
-use decl_core::object::Object;
 use exclude_core::analyse::Accepted;
 use hand_core::hand::Hand;
-use hand_core::pins::Pins;
 use hand_core::shelf::Shelf;
+use keep_core::open::{NotOpened, Opened, open_one};
 use line_core::LinesFault;
-use office_core::office::Office;
-use office_core::room::Room;
-use path_tree::name::Name;
 use session_core::order::Named;
-use shelf_core::open::{OpenFault, open_parts};
-use std::alloc::{AllocError, Global};
+use std::alloc::Global;
 use value_core::value::Value;
 
 /// What is served: the offices of the objects, and the values with which the parts of each of them opened.
@@ -21,79 +14,6 @@ use value_core::value::Value;
 pub struct Served {
     pub offices: Vec<Named>,
     pub openings: Vec<Vec<Value>>,
-}
-
-/// Why the parts of an object were not opened.
-#[derive(Drop)]
-pub enum NotOpened {
-    /// What the folder has of a part is damaged, and the line that says so.
-    Damaged(Vec<u8>),
-    /// `ReadFault` where the folder failed; `Memory`.
-    Fault(LinesFault),
-}
-
-impl From<AllocError> for NotOpened {
-    ghost use Rattle.std.specs.Prelude.{◌≡◌};
-    ghost use Rattle.line_core.specs.declared.machine.LinesFault.TheVariants.{Memory};
-    ghost use Rattle.serve_core.specs.declared.open.NotOpened.TheVariants.{Fault};
-
-    ghost from_gives = { λ _ e. e ≡ Fault Memory };
-
-    fn from(_: AllocError) -> NotOpened {
-        NotOpened::Fault(LinesFault::Memory)
-    }
-}
-
-/// Adds `OBJECT.PART`, the part by its place.
-pub fn push_part(out: &mut Vec<u8>, object: &Object, part: usize) -> Result<(), AllocError> {
-    out.extend_from_slice(object.name.as_bytes())?;
-    out.extend_from_slice(b".")?;
-    if let Some(part) = object.parts.get(part) {
-        out.extend_from_slice(part.name.as_bytes())?;
-    }
-    Ok(())
-}
-
-/// Adds `part OBJECT.PART damaged`.
-pub fn push_damaged(out: &mut Vec<u8>, object: &Object, part: usize) -> Result<(), AllocError> {
-    out.extend_from_slice(b"part ")?;
-    push_part(out, object, part)?;
-    out.extend_from_slice(b" damaged\n")
-}
-
-// Opens the parts of an object.
-fn parts_of<S: Shelf, H: Hand>(
-    alloc: Global,
-    accepted: &Accepted,
-    shelf: &mut S,
-    hand: &mut H,
-) -> Result<(Pins, Vec<Value>), NotOpened>
-    ensures { IfOk result (λ opened. length opened.0 ≡ length accepted.now.parts.items) }
-{
-    match open_parts(alloc, accepted.object(), shelf, hand) {
-        Ok(opened) => Ok(opened),
-        Err(OpenFault::Damaged(part)) => {
-            let mut line = Vec::new(alloc);
-            push_damaged(&mut line, accepted.object(), part)?;
-            Err(NotOpened::Damaged(line))
-        }
-        Err(OpenFault::Device) => Err(NotOpened::Fault(LinesFault::ReadFault)),
-        Err(OpenFault::Memory) => Err(NotOpened::Fault(LinesFault::Memory)),
-    }
-}
-
-// Opens an object.
-fn open_one<S: Shelf, H: Hand>(
-    alloc: Global,
-    accepted: Accepted,
-    shelf: &mut S,
-    hand: &mut H,
-) -> Result<(Named, Vec<Value>), NotOpened> {
-    let name = accepted.object().name.copy(alloc)?;
-    let (pins, opening) = parts_of(alloc, &accepted, shelf, hand)?;
-    let room = Room::open(alloc, accepted, pins)?;
-    let office = Office::open(alloc, room)?;
-    Ok((Named { name, office }, opening))
 }
 
 /// Opens each object, in order.
@@ -108,8 +28,12 @@ pub fn open_all<S: Shelf, H: Hand>(
     let mut offices = Vec::new(alloc);
     let mut openings = Vec::new(alloc);
     for accepted in ready {
-        let (named, opening) = open_one(alloc, accepted, shelf, hand)?;
-        if offices.push(named).is_err() || openings.push(opening).is_err() {
+        let Opened {
+            name,
+            office,
+            opening,
+        } = open_one(alloc, accepted, shelf, hand)?;
+        if offices.push(Named { name, office }).is_err() || openings.push(opening).is_err() {
             return Err(NotOpened::Fault(LinesFault::Memory));
         }
     }

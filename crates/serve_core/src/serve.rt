@@ -2,25 +2,27 @@
 
 ghost use Rattle.std.specs.Prelude.{IfOk};
 ghost use Rattle.serve_core.specs.Handled.{IsHandled};
-ghost use Rattle.serve_core.specs.Troubles.{IsEndOf};
+ghost use Rattle.serve_core.specs.Ends.{IsEndOf};
 
-use crate::close::{Closing, Ending};
-use crate::folder::{move_left, remove_between};
 use crate::gate::Gate;
 use crate::gather::{Gathered, Gathering};
-use crate::judge::{Judged, judge};
 use crate::listen::serve_all;
-use crate::open::{NotOpened, Served, open_all};
-use crate::trouble::{Trouble, fault_of};
+use crate::open::{Served, open_all};
 use ahead_core::ahead::Ends;
 use device_core::dir::DirHand;
 use device_core::dir_shelf::{DirShelf, Kept};
 use device_core::numbers::Numbers;
 use exclude_core::analyse::Accepted;
+use folder_core::folder::{move_left, remove_between};
 use hand_core::hand::Hand;
 use hand_core::shelf::Shelf;
+use keep_core::close::{Closing, Ending};
+use keep_core::open::NotOpened;
+use keep_core::trouble::{Trouble, fault_of};
 use line_core::reply::push_count;
 use line_core::{LinesFault, write_whole};
+use session_core::order::Named;
+use source_core::judge::{Judged, judge};
 use std::alloc::{AllocError, Global};
 use std::io::{ErrorKind, Write};
 use std::os::unix::fs::FileExt;
@@ -95,10 +97,14 @@ fn close_all<S: Shelf + Drop, T: Shelf + Drop, H: Hand + Drop, W: Write, E: Writ
         let (Some(opening), Some(gathered)) = (openings.next(), rooms.next()) else {
             return;
         };
+        let Named { name, office } = named;
+        let Gathered { seats, receipts } = gathered;
         let ending = Ending {
-            named,
+            name,
+            office,
             opening,
-            gathered,
+            seats,
+            receipts,
         };
         closing.close_one(alloc, ending, writer, error);
     }

@@ -1,0 +1,101 @@
+//! The office of an accepted object, whose parts are read from a folder.
+
+ghost use Rattle.std.specs.Prelude.{◌≡◌, length, IfOk};
+
+use decl_core::object::Object;
+use exclude_core::analyse::Accepted;
+use hand_core::hand::Hand;
+use hand_core::pins::Pins;
+use hand_core::shelf::Shelf;
+use line_core::LinesFault;
+use office_core::office::Office;
+use office_core::room::Room;
+use path_tree::name::Name;
+use shelf_core::open::{OpenFault, open_parts};
+use std::alloc::{AllocError, Global};
+use value_core::value::Value;
+
+/// An object that is open: its name, its office, and the values with which its parts opened.
+#[derive(Drop)]
+pub struct Opened {
+    pub name: Name,
+    pub office: Office,
+    pub opening: Vec<Value>,
+}
+
+/// Why the parts of an object were not opened.
+#[derive(Drop)]
+pub enum NotOpened {
+    /// What the folder has of a part is damaged, and the line that says so.
+    Damaged(Vec<u8>),
+    /// `ReadFault` where the folder failed; `Memory`.
+    Fault(LinesFault),
+}
+
+impl From<AllocError> for NotOpened {
+    ghost use Rattle.std.specs.Prelude.{◌≡◌};
+    ghost use Rattle.line_core.specs.declared.machine.LinesFault.TheVariants.{Memory};
+    ghost use Rattle.keep_core.specs.declared.open.NotOpened.TheVariants.{Fault};
+
+    ghost from_gives = { λ _ e. e ≡ Fault Memory };
+
+    fn from(_: AllocError) -> NotOpened {
+        NotOpened::Fault(LinesFault::Memory)
+    }
+}
+
+/// Adds `OBJECT.PART`, the part by its place.
+pub fn push_part(out: &mut Vec<u8>, object: &Object, part: usize) -> Result<(), AllocError> {
+    out.extend_from_slice(object.name.as_bytes())?;
+    out.extend_from_slice(b".")?;
+    if let Some(part) = object.parts.get(part) {
+        out.extend_from_slice(part.name.as_bytes())?;
+    }
+    Ok(())
+}
+
+/// Adds `part OBJECT.PART damaged`.
+pub fn push_damaged(out: &mut Vec<u8>, object: &Object, part: usize) -> Result<(), AllocError> {
+    out.extend_from_slice(b"part ")?;
+    push_part(out, object, part)?;
+    out.extend_from_slice(b" damaged\n")
+}
+
+// Opens the parts of an object.
+fn parts_of<S: Shelf, H: Hand>(
+    alloc: Global,
+    accepted: &Accepted,
+    shelf: &mut S,
+    hand: &mut H,
+) -> Result<(Pins, Vec<Value>), NotOpened>
+    ensures { IfOk result (λ opened. length opened.0 ≡ length accepted.now.parts.items) }
+{
+    match open_parts(alloc, accepted.object(), shelf, hand) {
+        Ok(opened) => Ok(opened),
+        Err(OpenFault::Damaged(part)) => {
+            let mut line = Vec::new(alloc);
+            push_damaged(&mut line, accepted.object(), part)?;
+            Err(NotOpened::Damaged(line))
+        }
+        Err(OpenFault::Device) => Err(NotOpened::Fault(LinesFault::ReadFault)),
+        Err(OpenFault::Memory) => Err(NotOpened::Fault(LinesFault::Memory)),
+    }
+}
+
+/// Opens an object. Where a fault ends it, files that were sealed before it are left.
+pub fn open_one<S: Shelf, H: Hand>(
+    alloc: Global,
+    accepted: Accepted,
+    shelf: &mut S,
+    hand: &mut H,
+) -> Result<Opened, NotOpened> {
+    let name = accepted.object().name.copy(alloc)?;
+    let (pins, opening) = parts_of(alloc, &accepted, shelf, hand)?;
+    let room = Room::open(alloc, accepted, pins)?;
+    let office = Office::open(alloc, room)?;
+    Ok(Opened {
+        name,
+        office,
+        opening,
+    })
+}
