@@ -2,6 +2,7 @@
 import pathlib
 import random
 import re
+import signal
 import subprocess
 import threading
 
@@ -31,6 +32,13 @@ def free_port():
             if port not in used:
                 return port
     raise OSError("no port is free")
+
+
+def heed_signals():
+    """Heeds SIGINT and SIGHUP, and so do the processes that are started from now on: a job in the background, or below
+    nohup, is begun with one of them ignored."""
+    signal.signal(signal.SIGINT, signal.default_int_handler)
+    signal.signal(signal.SIGHUP, signal.SIG_DFL)
 
 
 def has_ended(process):
