@@ -1,3 +1,4 @@
+pub mod AtOnce
 pub mod Fronts
 pub mod Inside
 pub mod Judging
@@ -8,3 +9,4 @@ pub mod Serving
 pub mod Stepping
 pub mod Telling
 pub mod Writing
+pub mod WritingAll

@@ -7,6 +7,7 @@
 #![tactic(auto)]
 
 mod advance;
+pub mod at_once;
 pub mod beside;
 mod conclude;
 mod ending;
