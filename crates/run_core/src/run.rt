@@ -114,7 +114,8 @@ impl Run {
         ensures steps { Follows (run_call self.old) (run_place self.old) (run_place self.new) }
         // It makes the call that `next` names, and no other.
         ensures makes { RunMakes H.makes self.old (run_ending self.new) hand.old hand.new }
-        // The number of a file that it begins is that of no other file that is being written, and what was appended to those stays.
+        // The number of a file that it begins is that of no other file that is being written, and what was appended to
+        // those stays.
         ensures unused { (n : ℕ) → run_pen self.new ≡ Some n → (run_pen self.old ≡ Some n) ⊎ IsFree (H.agrees hand.new) (H.pending hand.old) n }
         ensures others { (n : ℕ) (b : List ℕ) → run_pen self.old ≢ Some n → H.pending hand.old n b → H.pending hand.new n b }
         // Of other files than its own none is begun.
