@@ -1,0 +1,5 @@
+pub mod Bits
+pub mod Changing
+pub mod Left
+pub mod Origins
+pub mod Renewals

@@ -1,0 +1,262 @@
+//! What a call writes of what its body changed.
+
+ghost use Rattle.std.specs.Prelude.{◌≡◌, ◌≢◌, ℕ, ◌+◌, ◌<◌, ◌≤◌, ◌++◌, ◌∷◌, [], List, IfOk, IfSome, OnOk, Option, Some, None, length, vec_capacity, slice_get, slice_set};
+ghost use Rattle.std.specs.Result.{IsOk};
+ghost use Rattle.std.specs.Arc.{arc_value};
+ghost use Rattle.decl_core.specs.Bodies.{body_of};
+ghost use Rattle.decl_core.specs.Touched.{Reads};
+ghost use Rattle.judge_core.specs.declared.judge.Change.{Change as AChange};
+ghost use Rattle.judge_core.specs.Written.{WritesInOrder, parts_changed};
+ghost use Rattle.page_core.specs.declared.plan.PageWrite.{PageWrite as AWrite};
+ghost use Rattle.page_core.specs.Cut.{IsPageSize, together};
+ghost use Rattle.page_core.specs.PartPins.{pin_at};
+ghost use Rattle.call_core.specs.Planned.{IsPlanned, IsPlannedChange, ArePlansFrom};
+ghost use Rattle.call_core.specs.Changed.{AreWithin, AreKnown};
+
+use crate::task::{Task, pages_of};
+use decl_core::id::MOST_PARTS;
+use hand_core::hand::Stamp;
+use judge_core::judge::Change;
+use page_core::cut::page_size;
+use page_core::file_bytes::FileBytes;
+use page_core::part_pins::PartPins;
+use page_core::plan::{PageWrite, plan_part};
+use std::alloc::{AllocError, Global};
+
+/// What a call writes of what its body changed, and the new page lists.
+#[derive(Drop)]
+pub struct PagePlan {
+    /// How many pages the new list of each part has, from 0 to 8: none where the part was not changed.
+    pub counts: [u8; MOST_PARTS],
+    /// The stamps of the new lists, one behind the other. Any stamp stands where a page is still to be written.
+    pub stamps: Vec<Stamp>,
+    /// The pages that are written, in order, each with its place among the stamps.
+    pub writes: Vec<PageWrite>,
+    /// The files of the old lists that are not in the new ones, in order.
+    pub gone: Vec<Stamp>,
+    /// The files that were sealed for the first of these pages, in order. There is room for one of each page.
+    pub sealed: Vec<Stamp>,
+    // the counts count the stamps
+    ghost counted: { together counts ≡ length stamps.items },
+    // each write has a place among the stamps
+    ghost placed: { (k : ℕ) (write : AWrite) → slice_get writes.items k ≡ Some write → write.place < length stamps.items },
+    // no more are sealed than are written
+    ghost few: { length sealed.items ≤ length writes.items },
+    // there is room for the file of each page
+    ghost room: { length writes.items ≤ vec_capacity sealed },
+}
+
+// The size of the pages into which some bytes are cut.
+fn cut_size(bytes: &[u8]) -> Option<usize>
+    ensures { IfSome result (λ size. IsPageSize (length bytes.now) size × (0 < length bytes.now)) }
+{
+    if bytes.is_empty() {
+        return None;
+    }
+    match page_size(bytes.len()) {
+        Some(size) => Some(size),
+        None => None,
+    }
+}
+
+// Adds the plan for a changed part, and tells how many pages it has.
+fn plan_change(
+    alloc: Global,
+    pins: &PartPins,
+    read: &[FileBytes],
+    change: &Change,
+    stamps: &mut Vec<Stamp>,
+    writes: &mut Vec<PageWrite>,
+    gone: &mut Vec<Stamp>,
+) -> Result<u8, AllocError>
+    requires pinned { pin_at pins.now change.now.part ≢ None }
+    requires read { change.now.part < length read.now }
+    ensures { IfOk result (λ count. IsPlannedChange pins.now read.now change.now count stamps.old.items stamps.new.items writes.old.items writes.new.items gone.old.items gone.new.items) }
+{
+    let after = change.bytes.as_slice();
+    let Some(size) = cut_size(after) else {
+        return Err(AllocError);
+    };
+    let old = pages_of(pins, change.part);
+    let before = read[change.part].as_slice();
+    let start = stamps.len();
+    match plan_part(alloc, size, old, before, after, stamps, writes, gone) {
+        Ok(()) => {}
+        Err(AllocError) => return Err(AllocError),
+    }
+    Ok((stamps.len() - start) as u8)
+}
+
+// Adds the plans for changed parts from this part on, and writes the counts of their pages.
+fn plan_from(
+    alloc: Global,
+    pins: &PartPins,
+    read: &[FileBytes],
+    part: usize,
+    changes: &[Change],
+    counts: &mut [u8],
+    stamps: &mut Vec<Stamp>,
+    writes: &mut Vec<PageWrite>,
+    gone: &mut Vec<Stamp>,
+) -> Result<(), AllocError>
+    requires within { AreWithin part (part + length counts.old) changes.now }
+    requires known { AreKnown pins.now (length read.now) changes.now }
+    requires none { together counts.old ≡ 0 }
+    requires few { part + length counts.old ≤ 16 }
+    ensures planned { OnOk result (ArePlansFrom pins.now read.now part changes.now counts.new stamps.old.items stamps.new.items writes.old.items writes.new.items gone.old.items gone.new.items) }
+    ensures many { length counts.new ≡ length counts.old }
+{
+    let Some((count, others)) = counts.split_first_mut() else {
+        return Ok(());
+    };
+    let Some((change, rest)) = changes.split_first() else {
+        return Ok(());
+    };
+    if change.part != part {
+        return plan_from(
+            alloc,
+            pins,
+            read,
+            part + 1,
+            changes,
+            others,
+            stamps,
+            writes,
+            gone,
+        );
+    }
+    match plan_change(alloc, pins, read, change, stamps, writes, gone) {
+        Ok(pages) => *count = pages,
+        Err(AllocError) => return Err(AllocError),
+    }
+    plan_from(
+        alloc,
+        pins,
+        read,
+        part + 1,
+        rest,
+        others,
+        stamps,
+        writes,
+        gone,
+    )
+}
+
+// The plan of no change. It takes no memory.
+fn no_plan(alloc: Global, pins: &PartPins, read: &[FileBytes]) -> PagePlan
+    ensures planned { IsPlanned pins.now read.now [] result.counts result.stamps.items result.writes.items result.gone.items }
+    ensures fresh { result.sealed.items ≡ [] }
+{
+    PagePlan {
+        counts: [0; MOST_PARTS],
+        stamps: Vec::new(alloc),
+        writes: Vec::new(alloc),
+        gone: Vec::new(alloc),
+        sealed: Vec::new(alloc),
+    }
+}
+
+/// What a call writes of these changes, where the bytes read of part p stand at place p. No device is asked. The
+/// error is that memory was refused; where nothing was changed none is taken.
+pub fn plan_pages(
+    alloc: Global,
+    task: &Task,
+    read: &[FileBytes],
+    changes: &[Change],
+) -> Result<PagePlan, AllocError>
+    requires rising { WritesInOrder (body_of (arc_value task.now.operation)).statements 0 (parts_changed changes.now) }
+    requires read { (p : ℕ) → Reads (body_of (arc_value task.now.operation)).statements p → p < length read.now }
+    ensures planned { IfOk result (λ plan. IsPlanned task.now.pins read.now changes.now plan.counts plan.stamps.items plan.writes.items plan.gone.items) }
+    ensures fresh { IfOk result (λ plan. plan.sealed.items ≡ []) }
+    ensures none { changes.now ≡ [] → IsOk result }
+{
+    if changes.is_empty() {
+        return Ok(no_plan(alloc, &task.pins, read));
+    }
+    let mut counts = [0; MOST_PARTS];
+    let mut stamps = Vec::new(alloc);
+    let mut writes = Vec::new(alloc);
+    let mut gone = Vec::new(alloc);
+    match plan_from(
+        alloc,
+        &task.pins,
+        read,
+        0,
+        changes,
+        &mut counts,
+        &mut stamps,
+        &mut writes,
+        &mut gone,
+    ) {
+        Ok(()) => {}
+        Err(AllocError) => return Err(AllocError),
+    }
+    let sealed = match Vec::with_capacity(alloc, writes.len()) {
+        Ok(sealed) => sealed,
+        Err(_) => return Err(AllocError),
+    };
+    Ok(PagePlan {
+        counts,
+        stamps,
+        writes,
+        gone,
+        sealed,
+    })
+}
+
+impl PagePlan {
+    /// The page that is written next.
+    pub fn next(&self) -> &PageWrite
+        requires { length self.now.sealed.items < length self.now.writes.items }
+        ensures { slice_get self.now.writes.items (length self.now.sealed.items) ≡ Some result.now }
+    {
+        &self.writes[self.sealed.len()]
+    }
+
+    /// The same plan, with the file that was sealed for the next page. It takes no memory.
+    pub fn with(self, stamp: Stamp) -> PagePlan
+        requires { length self.sealed.items < length self.writes.items }
+        ensures counts { result.counts ≡ self.counts }
+        ensures stamps { (write : AWrite) → slice_get self.writes.items (length self.sealed.items) ≡ Some write → result.stamps.items ≡ slice_set self.stamps.items write.place stamp }
+        ensures writes { result.writes.items ≡ self.writes.items }
+        ensures gone { result.gone.items ≡ self.gone.items }
+        ensures sealed { result.sealed.items ≡ self.sealed.items ++ stamp ∷ [] }
+    {
+        let place = self.next().place;
+        let PagePlan {
+            counts,
+            stamps,
+            writes,
+            gone,
+            sealed,
+        } = self;
+        let mut stamps = stamps;
+        put_at(&mut stamps, place, stamp);
+        PagePlan {
+            counts,
+            stamps,
+            writes,
+            gone,
+            sealed: with_one(sealed, stamp),
+        }
+    }
+}
+
+// Puts a stamp in its place.
+fn put_at(stamps: &mut Vec<Stamp>, place: usize, stamp: Stamp)
+    requires { place < length stamps.old.items }
+    ensures { stamps.new.items ≡ slice_set stamps.old.items place stamp }
+{
+    stamps[place] = stamp;
+}
+
+// These stamps, and one more behind them, for which there is room.
+fn with_one(sealed: Vec<Stamp>, stamp: Stamp) -> Vec<Stamp>
+    requires { length sealed.items < vec_capacity sealed }
+    ensures items { result.items ≡ sealed.items ++ stamp ∷ [] }
+    ensures room { vec_capacity result ≡ vec_capacity sealed }
+{
+    let mut sealed = sealed;
+    sealed.push_reserved(stamp);
+    sealed
+}

@@ -1,0 +1,5 @@
+pub mod Changes
+pub mod DecodedParts
+pub mod Judged
+pub mod Lengths
+pub mod Touching

@@ -1,0 +1,257 @@
+//! What becomes of a body on the bytes of its parts: they are decoded, the body is evaluated, and what it changed is
+//! spelled.
+
+ghost use Rattle.std.specs.Prelude.{◌≡◌, ◌==◌, ◌++◌, ◌∷◌, [], ◌<◌, ◌≤◌, ℕ, List, length, OnOk, IfOk, IsOkAnd};
+ghost use Rattle.std.specs.Option.{option_to_list};
+ghost use Rattle.std.specs.Result.{IsErrOf};
+ghost use Rattle.std.specs.Int.{bit_at};
+ghost use Rattle.value_core.specs.Contents.{Contents};
+ghost use Rattle.decl_core.specs.Bodies.{body_of};
+ghost use Rattle.decl_core.specs.Touched.{Reads, Writes};
+ghost use Rattle.apply_core.specs.Fits.{ArgumentsFit};
+
+use apply_core::act::Stop;
+use apply_core::evaluate::evaluate;
+use decl_core::footprint::{is_in, reads, writes};
+use decl_core::object::Operation;
+use page_core::file_bytes::FileBytes;
+use std::alloc::{AllocError, Global};
+use value_core::datum::Datum;
+use value_core::decode::{DecodeFault, decode};
+use value_core::encode::encode;
+use value_core::kind::{Elem, Kind};
+use value_core::text::Text;
+use value_core::value::Value;
+
+/// A part that the body changed, and the bytes that spell its new value.
+#[derive(Drop)]
+pub struct Change {
+    /// The part, by its number in the object, from 0 to 15.
+    pub part: usize,
+    /// The bytes of its new value.
+    pub bytes: FileBytes,
+}
+
+/// What became of a body.
+#[derive(Drop)]
+pub enum Verdict {
+    /// It was done: its reply, and the parts that it changed, numbers rising.
+    Done(Option<Datum>, Vec<Change>),
+    /// It was refused by this word.
+    Refused(Text),
+    /// The bytes of a part spell no value of its kind.
+    Damaged,
+    /// Memory was refused.
+    Memory,
+}
+
+ghost use Rattle.judge_core.specs.Given.{AreSpelled, IsDamaged, AreChanges};
+ghost use Rattle.judge_core.specs.Verdicts.{ReadAs, Judged, Rising, OnlyWrites, Settled, AreBits, ReadsNone, HasReads, IsPart, IsChangeOf, IsStep, MayLeave, verdict_of};
+
+// A value that takes no memory, in the place of a part that is not read.
+fn unread(alloc: Global) -> Result<Value, DecodeFault>
+    ensures { IsErrOf result DecodeFault.Damaged → ⊥ }
+{
+    let value = Value::opening(alloc, Kind::Queue(Elem::Integer))?;
+    Ok(value)
+}
+
+// The value that the bytes of a part spell, where the operation reads it.
+fn decode_part(
+    alloc: Global,
+    operation: &Operation,
+    reads: u16,
+    part: usize,
+    read: &[FileBytes],
+) -> Result<Value, DecodeFault>
+    requires part { part < length operation.now.kinds.items }
+    requires bits { AreBits reads (Reads (body_of operation.now).statements) }
+    requires read { HasReads operation.now read.now }
+    ensures found { IfOk result (IsPart operation.now read.now part) }
+    ensures damaged { IsErrOf result DecodeFault.Damaged → IsDamaged (ReadAs read.now) operation.now }
+{
+    if !is_in(part, reads) {
+        return unread(alloc);
+    }
+    match operation.kinds[part] {
+        Some(kind) => decode(alloc, kind, read[part].as_slice()),
+        None => unread(alloc),
+    }
+}
+
+// Adds the value of the next part.
+fn put(parts: &mut Vec<Value>, value: Value) -> Result<(), AllocError>
+    ensures { OnOk result (parts.new.items ≡ parts.old.items ++ value ∷ []) }
+{
+    parts.push(value)?;
+    Ok(())
+}
+
+// One value for each part of the object.
+fn decode_parts(
+    alloc: Global,
+    operation: &Operation,
+    reads: u16,
+    read: &[FileBytes],
+) -> Result<Vec<Value>, DecodeFault>
+    requires bits { AreBits reads (Reads (body_of operation.now).statements) }
+    requires read { HasReads operation.now read.now }
+    ensures spelled { IfOk result (λ parts. AreSpelled (ReadAs read.now) operation.now parts.items) }
+    ensures few { IfOk result (λ parts. length parts.items ≤ 16) }
+    ensures damaged { IsErrOf result DecodeFault.Damaged → IsDamaged (ReadAs read.now) operation.now }
+{
+    let count = operation.kinds.len();
+    let mut parts = Vec::with_capacity(alloc, count)?;
+    for part in 0..count {
+        let value = match decode_part(alloc, operation, reads, part, read) {
+            Ok(value) => value,
+            Err(fault) => return Err(fault),
+        };
+        put(&mut parts, value)?;
+    }
+    Ok(parts)
+}
+
+// The values of the parts, in order, where the operation reads some; else none, which takes no
+// memory. The first part whose bytes spell no value of its kind gives the fault.
+fn decode_all(
+    alloc: Global,
+    operation: &Operation,
+    read: &[FileBytes],
+) -> Result<Vec<Value>, DecodeFault>
+    requires read { HasReads operation.now read.now }
+    ensures spelled { IfOk result (λ parts. AreSpelled (ReadAs read.now) operation.now parts.items) }
+    ensures few { IfOk result (λ parts. length parts.items ≤ 16) }
+    ensures damaged { IsErrOf result DecodeFault.Damaged → IsDamaged (ReadAs read.now) operation.now }
+    ensures none { ReadsNone operation.now → IsOkAnd result (λ parts. parts.items ≡ []) }
+{
+    let reads = reads(operation);
+    if reads == 0 {
+        return Ok(Vec::new(alloc));
+    }
+    decode_parts(alloc, operation, reads, read)
+}
+
+// The change of a part, from its bytes before and its value after.
+fn change_of(
+    alloc: Global,
+    part: usize,
+    before: &FileBytes,
+    after: &Value,
+) -> Result<Option<Change>, AllocError>
+    ensures { IfOk result (IsChangeOf before.now part after.now) }
+{
+    let bytes = FileBytes::new(encode(alloc, after)?);
+    if bytes.as_slice() == before.as_slice() {
+        return Ok(None);
+    }
+    Ok(Some(Change { part, bytes }))
+}
+
+// The change of a part, where it is written.
+fn change_at(
+    alloc: Global,
+    operation: &Operation,
+    writes: u16,
+    part: usize,
+    read: &[FileBytes],
+    after: &[Value],
+) -> Result<Option<Change>, AllocError>
+    requires part { part < length after.now }
+    requires few { length after.now ≤ 16 }
+    requires bits { AreBits writes (Writes (body_of operation.now).statements) }
+    requires read { HasReads operation.now read.now }
+    ensures { IfOk result (IsStep (body_of operation.now).statements read.now after.now part) }
+{
+    if !is_in(part, writes) {
+        return Ok(None);
+    }
+    let change = change_of(alloc, part, &read[part], &after[part])?;
+    Ok(change)
+}
+
+// Adds a change, if there is one.
+fn add(changes: &mut Vec<Change>, change: Option<Change>) -> Result<(), AllocError>
+    ensures { OnOk result (changes.new.items ≡ changes.old.items ++ option_to_list change) }
+{
+    if let Some(change) = change {
+        changes.push(change)?;
+    }
+    Ok(())
+}
+
+// The changes of the parts, from their bytes before and their values after.
+fn changes_of(
+    alloc: Global,
+    operation: &Operation,
+    read: &[FileBytes],
+    after: &[Value],
+) -> Result<Vec<Change>, AllocError>
+    requires few { length after.now ≤ 16 }
+    requires read { HasReads operation.now read.now }
+    ensures changes { IfOk result (λ changes. (before : List Contents) → MayLeave operation.now read.now before after.now → AreChanges changes.items before after.now) }
+    ensures rising { IfOk result (λ changes. Rising (body_of operation.now).statements 0 changes.items) }
+    ensures few { IfOk result (λ changes. length changes.items ≤ length after.now) }
+    ensures none { after.now ≡ [] → IsOkAnd result (λ changes. changes.items ≡ []) }
+{
+    let writes = writes(operation);
+    let mut changes = Vec::new(alloc);
+    for part in 0..after.len() {
+        let change = change_at(alloc, operation, writes, part, read, after)?;
+        add(&mut changes, change)?;
+    }
+    Ok(changes)
+}
+
+// A body that stopped.
+fn stopped(stop: Stop) -> Verdict
+    ensures { result ≡ verdict_of stop }
+{
+    match stop {
+        Stop::Refused(word) => Verdict::Refused(word),
+        Stop::Memory => Verdict::Memory,
+    }
+}
+
+// What becomes of a body on the values of its parts, which these bytes spell.
+fn judge_parts(
+    alloc: Global,
+    operation: &Operation,
+    args: &[Datum],
+    read: &[FileBytes],
+    mut parts: Vec<Value>,
+) -> Verdict
+    requires fits { ArgumentsFit operation.now args.now }
+    requires read { HasReads operation.now read.now }
+    requires spelled { AreSpelled (ReadAs read.now) operation.now parts.items }
+    requires few { length parts.items ≤ 16 }
+    ensures judged { Judged operation.now args.now read.now result }
+    ensures writes { OnlyWrites operation.now result }
+    ensures settled { parts.items ≡ [] → Settled result }
+{
+    match evaluate(operation, args, &mut parts) {
+        Ok(reply) => match changes_of(alloc, operation, read, &parts) {
+            Ok(changes) => Verdict::Done(reply, changes),
+            Err(_) => Verdict::Memory,
+        },
+        Err(stop) => stopped(stop),
+    }
+}
+
+/// What becomes of a body on the bytes read of its parts. Those of part p stand at place p, where the operation
+/// reads it.
+pub fn judge(alloc: Global, operation: &Operation, args: &[Datum], read: &[FileBytes]) -> Verdict
+    requires fits { ArgumentsFit operation.now args.now }
+    requires read { (p : ℕ) → Reads (body_of operation.now).statements p → p < length read.now }
+    ensures judged { Judged operation.now args.now read.now result }
+    // It changes parts of its writes alone, at most 16, each once.
+    ensures writes { OnlyWrites operation.now result }
+    // A body that reads no part is done or refused at once.
+    ensures settled { ((p : ℕ) → Reads (body_of operation.now).statements p → ⊥) → Settled result }
+{
+    match decode_all(alloc, operation, read) {
+        Ok(parts) => judge_parts(alloc, operation, args, read, parts),
+        Err(DecodeFault::Damaged) => Verdict::Damaged,
+        Err(DecodeFault::Memory) => Verdict::Memory,
+    }
+}

@@ -1,0 +1,12 @@
+pub mod Cuts
+pub mod ListBytes
+pub mod PageRows
+pub mod PartRows
+pub mod PinRows
+pub mod Planning
+pub mod Reading
+pub mod Renewing
+pub mod RenewedParts
+pub mod Stamps
+pub mod Together
+pub mod Transfer

@@ -1,0 +1,123 @@
+//! Which pages of a changed part are written.
+
+ghost use Rattle.std.specs.Prelude.{◌≡◌, ◌≢◌, ◌↔◌, ℕ, ◌+◌, ◌<◌, ◌≤◌, ◌++◌, ◌∷◌, [], List, IsTrue, OnOk, length, min, take, drop};
+ghost use Rattle.hand_core.specs.declared.hand.Stamp.{Stamp as AStamp};
+ghost use Rattle.page_core.specs.declared.plan.PageWrite.{PageWrite as AWrite};
+ghost use Rattle.page_core.specs.Plans.{IsPlan};
+
+use crate::file_bytes::FileBytes;
+use hand_core::hand::Stamp;
+use std::alloc::{AllocError, Global};
+
+/// What stands in a list where a page is still to be written.
+const NO_STAMP: Stamp = Stamp { number: 0, len: 0 };
+
+/// A page that is written into a file of its own.
+#[derive(Drop)]
+pub struct PageWrite {
+    /// Its place in the new list.
+    pub place: usize,
+    /// Its bytes.
+    pub bytes: FileBytes,
+}
+
+// Adds a stamp.
+fn add(stamps: &mut Vec<Stamp>, stamp: &Stamp) -> Result<(), AllocError>
+    ensures { OnOk result (stamps.new.items ≡ stamps.old.items ++ stamp.now ∷ []) }
+{
+    stamps.push(*stamp)?;
+    Ok(())
+}
+
+// Adds a write.
+fn push(writes: &mut Vec<PageWrite>, place: usize, bytes: FileBytes) -> Result<(), AllocError>
+    ensures { OnOk result ((write : AWrite) × (write.place ≡ place) × (write.bytes ≡ bytes) × (writes.new.items ≡ writes.old.items ++ write ∷ [])) }
+{
+    match writes.push(PageWrite { place, bytes }) {
+        Ok(()) => Ok(()),
+        Err(_) => Err(AllocError),
+    }
+}
+
+// A page of the new bytes is written.
+fn write_page(
+    alloc: Global,
+    page: &[u8],
+    stamps: &mut Vec<Stamp>,
+    writes: &mut Vec<PageWrite>,
+) -> Result<(), AllocError>
+    ensures stamps { OnOk result ((stamp : AStamp) × (stamps.new.items ≡ stamps.old.items ++ stamp ∷ [])) }
+    ensures writes { OnOk result ((write : AWrite) × (write.place ≡ length stamps.old.items) × (write.bytes ≡ page.now) × (writes.new.items ≡ writes.old.items ++ write ∷ [])) }
+{
+    let bytes = FileBytes::new(page.to_vec(alloc)?);
+    push(writes, stamps.len(), bytes)?;
+    add(stamps, &NO_STAMP)
+}
+
+// Adds stamps.
+fn add_all(gone: &mut Vec<Stamp>, old: &[Stamp]) -> Result<(), AllocError>
+    ensures { OnOk result (gone.new.items ≡ gone.old.items ++ old.now) }
+{
+    gone.extend_from_slice(old)
+}
+
+// The first page of some bytes, and what stands behind it.
+fn first_page(size: usize, bytes: &[u8]) -> (&[u8], &[u8])
+    ensures whole { bytes.now ≡ result.0.now ++ result.1.now }
+    ensures len { length result.0.now ≡ min size (length bytes.now) }
+{
+    bytes.split_at(size.min(bytes.len()))
+}
+
+// So many first bytes, and what stands behind them: where there are fewer, all of them.
+fn old_page(len: usize, bytes: &[u8]) -> (&[u8], &[u8])
+    ensures page { result.0.now ≡ take len bytes.now }
+    ensures rest { result.1.now ≡ drop len bytes.now }
+{
+    bytes.split_at(len.min(bytes.len()))
+}
+
+// Whether both are the same bytes.
+fn is_same(first: &[u8], second: &[u8]) -> bool
+    ensures { IsTrue result ↔ (first.now ≡ second.now) }
+{
+    first == second
+}
+
+/// Adds the plan for a part, from its old pages, their bytes and its new bytes, in pages of `size` bytes: the stamps
+/// of the new list, what is written, and the stamps that go. Of the bytes before, each old page has as many as its
+/// stamp says, as far as they go. The error is that memory was refused.
+pub fn plan_part(
+    alloc: Global,
+    size: usize,
+    old: &[Stamp],
+    before: &[u8],
+    after: &[u8],
+    stamps: &mut Vec<Stamp>,
+    writes: &mut Vec<PageWrite>,
+    gone: &mut Vec<Stamp>,
+) -> Result<(), AllocError>
+    requires size { 0 < size }
+    ensures { OnOk result (IsPlan size old.now before.now after.now stamps.old.items stamps.new.items writes.old.items writes.new.items gone.old.items gone.new.items) }
+{
+    if after.is_empty() {
+        return add_all(gone, old);
+    }
+    let (page, rest) = first_page(size, after);
+    match old.split_first() {
+        None => {
+            write_page(alloc, page, stamps, writes)?;
+            plan_part(alloc, size, old, before, rest, stamps, writes, gone)
+        }
+        Some((stamp, others)) => {
+            let (was, later) = old_page(stamp.len, before);
+            if is_same(was, page) {
+                add(stamps, stamp)?;
+                return plan_part(alloc, size, others, later, rest, stamps, writes, gone);
+            }
+            add(gone, stamp)?;
+            write_page(alloc, page, stamps, writes)?;
+            plan_part(alloc, size, others, later, rest, stamps, writes, gone)
+        }
+    }
+}

@@ -1,0 +1,12 @@
+pub mod AtOnce
+pub mod Fronts
+pub mod Inside
+pub mod Judging
+pub mod Leading
+pub mod Pens
+pub mod SameRuns
+pub mod Serving
+pub mod Stepping
+pub mod Telling
+pub mod Writing
+pub mod WritingAll

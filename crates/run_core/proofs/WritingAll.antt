@@ -1,0 +1,40 @@
+-- What a call writes at once, and what it tells.
+use Rattle.std.proofs.Common.{◌≡◌, ℕ, suc, ◌<◌, List, [], ◌∷◌, length, Option, Some, refl, ◌∙◌, arith}
+use Rattle.std.specs.Prelude.{slice_get, slice_set}
+use Rattle.value_core.specs.declared.datum.Datum.{Datum}
+use Rattle.hand_core.specs.declared.hand.HandFault.{HandFault}
+use Rattle.hand_core.specs.declared.hand.HandFault.TheVariants.{Device, Memory}
+use Rattle.hand_core.specs.declared.hand.Stamp.{Stamp}
+use Rattle.hand_core.specs.Device.{Assignment}
+use Rattle.apply_core.specs.declared.reply.Reply.TheVariants as replies
+use Rattle.page_core.specs.declared.plan.PageWrite.{PageWrite}
+use Rattle.page_core.specs.Laws.{no_part as no_row}
+use Rattle.page_core.specs.PartPins.{PartPin}
+use Rattle.page_core.specs.Renewed.{with_sealed, ArePlaces}
+use Rattle.page_core.proofs.Renewing.{set_long}
+use Rattle.judge_core.specs.Given.{IsDone, AreChanges}
+use Rattle.call_core.specs.Calls.{Call}
+use Rattle.call_core.specs.Planned.{no_part}
+use Rattle.call_core.specs.Read.{AreRead}
+use Rattle.call_core.specs.Truths.{PinHolds, IsTrueAt}
+use Rattle.run_core.specs.Phases.{failure_of, IsRenewedBy}
+use Rattle.run_core.proofs.Writing.{all_left}
+
+pub all_places : (count : ℕ) (writes : List PageWrite) → ((k : ℕ) (write : PageWrite) → slice_get writes k ≡ Some write → write.place < count) → ArePlaces count writes
+all_places count [] each = tt
+all_places count (write ∷ writes) each = (each 0 write refl, all_places count writes (λ k w is. each (suc k) w is))
+
+pub sealed_long : (stamps : List Stamp) (writes : List PageWrite) (sealed : List Stamp) → length (with_sealed stamps writes sealed) ≡ length stamps
+sealed_long stamps [] sealed = refl
+sealed_long stamps (write ∷ writes) [] = refl
+sealed_long stamps (write ∷ writes) (stamp ∷ sealed) = sealed_long (slice_set stamps write.place stamp) writes sealed ∙ set_long stamps write.place stamp
+
+-- a call that changed nothing
+pub none_changed : (a : Assignment) (call : Call) (reply : Option Datum) (read : List (List ℕ)) → AreRead a call read → IsDone (PinHolds a call.pins) call.operation call.arguments reply (AreChanges [])
+    → IsTrueAt a call (replies.Done reply) [] × IsRenewedBy a call (replies.Done reply) [] [] []
+none_changed a call reply read known given = all_left a call reply read [] [] [] [] [] [] [] (record { parts = []; renewals = no_part; plans = no_row }) tt known given tt (omega arith) refl
+
+-- a failure for a fault is true
+pub fault_is_true : (a : Assignment) (call : Call) (fault : HandFault) (news : List PartPin) → IsTrueAt a call (replies.Failed (failure_of fault)) news
+fault_is_true a call Device news = tt
+fault_is_true a call Memory news = tt

@@ -1,0 +1,31 @@
+use Rattle.std.proofs.Common.{◌≡◌, List, ◌++◌, length, ap, sym, ◌∙◌, subst, arith}
+use Rattle.hand_core.specs.declared.hand.Stamp.{Stamp}
+use Rattle.page_core.specs.declared.plan.PageWrite.{PageWrite}
+use Rattle.page_core.specs.PartPins.{pins_by}
+use Rattle.page_core.specs.Renewed.{AreSealed, ArePlaces, with_sealed}
+use Rattle.run_core.proofs.WritingAll.{all_places, sealed_long}
+use Rattle.run_core.proofs.at_once.write_all.Goals as goal
+
+pub write_pages-sealed-requires : goal.write_pages-sealed-requires
+write_pages-sealed-requires g c = omega (arith, c.args.pages.room, ap length c.requires, ap length c.deref.ensures.value)
+
+pub put_sealed-requires : goal.put_sealed-requires
+put_sealed-requires g c =
+    subst (ArePlaces (length c.args.pages.stamps.items)) (sym c.deref-2.ensures.value) (all_places (length c.args.pages.stamps.items) c.args.pages.writes.items c.args.pages.placed)
+
+pub from_counts-news-requires : goal.from_counts-news-requires
+from_counts-news-requires g c = c.args.pages.counted ∙ sym (ap length c.put_sealed.ensures ∙ sealed_long c.args.pages.stamps.items c.deref-2.result.now c.deref-3.result.now)
+
+pub returns-clause-news : goal.returns-clause-news
+returns-clause-news g c =
+    c.from_counts-news.ensures ∙ ap (pins_by 0 c.args.pages.counts) (c.put_sealed.ensures ∙ (ap (λ (w : List PageWrite). with_sealed c.args.pages.stamps.items w c.deref-3.result.now) c.deref-2.ensures.value
+    ∙ ap (with_sealed c.args.pages.stamps.items c.args.pages.writes.items) c.deref-3.ensures.value))
+
+pub returns-clause-sealed : goal.returns-clause-sealed
+returns-clause-sealed g c = λ a is.
+    let more = c.write_pages-sealed.ensures.sealed.0 in
+    let sealed : c.write_pages-sealed.result.0.items ≡ more = c.write_pages-sealed.ensures.sealed.1 ∙ ap (λ (s : List Stamp). s ++ more) c.requires in
+    subst (AreSealed a c.args.pages.writes.items) (sym sealed) (subst (λ (w : List PageWrite). AreSealed a w more) c.deref.ensures.value (c.write_pages-sealed.ensures.sealed.2 a is))
+
+pub returns-clause-all : goal.returns-clause-all
+returns-clause-all g c = λ went. omega (arith, c.write_pages-sealed.ensures.all went, ap length c.requires, ap length c.deref.ensures.value)

@@ -1,0 +1,82 @@
+use Rattle.std.proofs.Common.{◌+◌, arith, sym, ◌∙◌, inl, inr, refl}
+use Rattle.hand_core.specs.declared.hand.HandFault.TheVariants.{Memory}
+use Rattle.call_core.specs.Tasks.{task_call}
+use Rattle.run_core.specs.Steps.{reads_on}
+use Rattle.run_core.proofs.Fronts.{reading_on, whole_part}
+use Rattle.run_core.proofs.Inside.{none_has}
+use Rattle.run_core.proofs.Serving.{no_files, only_device, memory_ends}
+use Rattle.run_core.proofs.Stepping.{failed_there, reads_first}
+use Rattle.run_core.proofs.read.read_step.Goals as goal
+
+pub returns-in-None-clause-steps : goal.returns-in-None-clause-steps
+returns-in-None-clause-steps g c = failed_there (task_call c.args.task.now) _ _ Memory c.new.result.items reads_first c.new.ensures.items c.failed.ensures.place
+
+pub returns-in-None-clause-written : goal.returns-in-None-clause-written
+returns-in-None-clause-written g c = no_files (g.H.Hand.serves c.args.hand.now) _ (c.failed.ensures.sealed ∙ c.new.ensures.items)
+
+pub returns-in-None-clause-news : goal.returns-in-None-clause-news
+returns-in-None-clause-news g c = λ p has. absurd (none_has _ p c.failed.ensures.news has)
+
+pub returns-in-Err-clause-steps : goal.returns-in-Err-clause-steps
+returns-in-Err-clause-steps g c = failed_there (task_call c.args.task.now) _ _ c.in-Err.fault c.new-in-Err.result.items reads_first c.new-in-Err.ensures.items c.failed-in-Err.ensures.place
+
+pub returns-in-Err-clause-written : goal.returns-in-Err-clause-written
+returns-in-Err-clause-written g c = no_files (g.H.Hand.serves c.read_page.new.hand) _ (c.failed-in-Err.ensures.sealed ∙ c.new-in-Err.ensures.items)
+
+pub returns-in-Err-clause-news : goal.returns-in-Err-clause-news
+returns-in-Err-clause-news g c = λ p has. absurd (none_has _ p c.failed-in-Err.ensures.news has)
+
+pub returns-in-Err-clause-in_order : goal.returns-in-Err-clause-in_order
+returns-in-Err-clause-in_order g c = λ works served is.
+    let there = c.in-Some.ensures.there in
+    c.in-Err.ensures.in_order works (served there.0 c.in-Some.found.0 there.1 there.2) (only_device c.in-Err.fault (sym c.failed-in-Err.ensures.ending ∙ is))
+
+pub returns-in-Err-clause-makes : goal.returns-in-Err-clause-makes
+returns-in-Err-clause-makes g c =
+    let there = c.in-Some.ensures.there in
+    elim c.in-Err.ensures.makes [
+      | inl none ↦ inl (memory_ends c.in-Err.fault _ none.0 c.failed-in-Err.ensures.ending, none.1)
+      | inr made ↦ inr (c.in-Some.found.0, (there.0, there.1, there.2), made)
+    ]
+
+pub returns-then-page-count-clause-found : goal.returns-then-page-count-clause-found
+returns-then-page-count-clause-found g c = λ a agrees is.
+    let there = c.in-Some.ensures.there in
+    let page = c.in-Ok.ensures.found in
+    record {
+      earlier = is.earlier;
+      places = is.places;
+      front = reading_on a (task_call c.args.task.now) c.args.r.part c.args.r.page (c.args.r.page + 1) c.in-Some.found.0 c.args.r.got.items c.read_page.new.got.items page.0 there.0 there.1 there.2 refl page.1 (page.2 a agrees) is.front;
+    }
+
+pub returns-then-page-count-clause-steps : goal.returns-then-page-count-clause-steps
+returns-then-page-count-clause-steps g c = let there = c.in-Some.ensures.there in reads_on there.0 there.1 (omega (arith, there.3))
+
+pub returns-then-page-count-clause-makes : goal.returns-then-page-count-clause-makes
+returns-then-page-count-clause-makes g c =
+    let there = c.in-Some.ensures.there in
+    elim c.in-Ok.ensures.makes [
+      | inl none ↦ absurd cc
+      | inr made ↦ inr (c.in-Some.found.0, (there.0, there.1, there.2), made)
+    ]
+
+pub returns-clause-found : goal.returns-clause-found
+returns-clause-found g c = λ a agrees is.
+    let there = c.in-Some.ensures.there in
+    let page = c.in-Ok.ensures.found in
+    c.next_part.ensures.found a is.earlier is.places
+    (whole_part a (task_call c.args.task.now) c.args.r.part there.0 c.args.r.page (c.args.r.page + 1) c.in-Some.found.0 c.args.r.got.items c.read_page.new.got.items page.0 there.1 refl (omega (arith, there.3)) page.1 there.2 (page.2 a agrees) (is.front there.0 there.1))
+
+pub returns-clause-steps : goal.returns-clause-steps
+returns-clause-steps g c = let there = c.in-Some.ensures.there in c.next_part.ensures.steps c.args.r.page there.0 there.1 (omega (arith, there.3, c.in-Some.ensures.below))
+
+pub returns-clause-written : goal.returns-clause-written
+returns-clause-written g c = no_files (g.H.Hand.serves c.read_page.new.hand) _ c.next_part.ensures.sealed
+
+pub returns-clause-makes : goal.returns-clause-makes
+returns-clause-makes g c =
+    let there = c.in-Some.ensures.there in
+    elim c.in-Ok.ensures.makes [
+      | inl none ↦ absurd cc
+      | inr made ↦ inr (c.in-Some.found.0, (there.0, there.1, there.2), made)
+    ]

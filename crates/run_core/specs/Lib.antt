@@ -1,0 +1,5 @@
+pub mod Calling
+pub mod Outcomes
+pub mod Phases
+pub mod Runs
+pub mod Steps

@@ -1,0 +1,121 @@
+//! How a run ends.
+
+ghost use Rattle.std.specs.Prelude.{◌≡◌, ◌≢◌, [], ℕ, List, Some, None};
+ghost use Rattle.hand_core.specs.Device.{Assignment};
+ghost use Rattle.call_core.specs.Calls.{Call};
+ghost use Rattle.call_core.specs.Truths.{IsTrueAt};
+ghost use Rattle.apply_core.specs.declared.reply.Reply.TheVariants as replies;
+ghost use Rattle.std.specs.Arc.{arc_value};
+ghost use Rattle.decl_core.specs.Bodies.{body_of};
+ghost use Rattle.decl_core.specs.Touched.{Writes};
+ghost use Rattle.call_core.specs.Tasks.{task_call};
+ghost use Rattle.page_core.specs.PartPins.{PartPin, pin_at, pins_by};
+ghost use Rattle.run_core.specs.Outcomes.{outcome_call, outcome_reply, outcome_sealed, outcome_news, outcome_gone};
+ghost use Rattle.run_core.specs.Phases.{ending_of, sealed_in, news_in, failure_of, HasNoPen, pen_in, work_in, FoundBy, IsNotDone};
+ghost use Rattle.run_core.specs.Steps.{place_in, at_end};
+
+use crate::outcome::Outcome;
+use crate::phase::{Leaving, Phase};
+use apply_core::reply::{Failure, Reply};
+use call_core::plan::PagePlan;
+use call_core::task::Task;
+use decl_core::id::MOST_PARTS;
+use hand_core::hand::{HandFault, Stamp};
+use page_core::part_pins::PartPins;
+use std::alloc::Global;
+
+// How a run ends for a fault.
+pub(crate) fn failure(fault: HandFault) -> Failure
+    ensures { result ≡ failure_of fault }
+{
+    match fault {
+        HandFault::Device => Failure::Device,
+        HandFault::Memory => Failure::Memory,
+    }
+}
+
+// What a run leaves that changed nothing, where it has sealed these files. It takes no memory.
+pub(crate) fn nothing(alloc: Global, sealed: Vec<Stamp>) -> Leaving
+    ensures news { result.news ≡ [] }
+    ensures gone { result.gone.items ≡ [] }
+    ensures sealed { result.sealed.items ≡ sealed.items }
+{
+    Leaving {
+        news: PartPins::from_counts([0; MOST_PARTS], Vec::new(alloc)),
+        gone: Vec::new(alloc),
+        sealed,
+    }
+}
+
+// What a run leaves whose plan is sealed. It takes no memory.
+pub(crate) fn renewed(pages: PagePlan) -> Leaving
+    ensures news { result.news ≡ pins_by 0 pages.counts pages.stamps.items }
+    ensures gone { result.gone.items ≡ pages.gone.items }
+    ensures sealed { result.sealed.items ≡ pages.sealed.items }
+{
+    let PagePlan {
+        counts,
+        stamps,
+        writes: _,
+        gone,
+        sealed,
+    } = pages;
+    Leaving {
+        news: PartPins::from_counts(counts, stamps),
+        gone,
+        sealed,
+    }
+}
+
+// A run that failed, and has sealed these files.
+pub(crate) fn failed(alloc: Global, fault: HandFault, sealed: Vec<Stamp>) -> Phase
+    ensures place { place_in result ≡ at_end (replies.Failed (failure_of fault)) sealed.items }
+    ensures ending { ending_of result ≡ Some (replies.Failed (failure_of fault)) }
+    ensures sealed { sealed_in result ≡ sealed.items }
+    ensures news { news_in result ≡ [] }
+    ensures pen { HasNoPen result }
+    ensures no_pen { pen_in result ≡ None }
+    ensures work { work_in result ≡ 0 }
+    ensures found { (a : Assignment) (call : Call) → FoundBy a call result }
+{
+    Phase::Ended(Reply::Failed(failure(fault)), nothing(alloc, sealed))
+}
+
+// A run that ended without a file.
+pub(crate) fn ended(alloc: Global, reply: Reply) -> Phase
+    ensures place { place_in result ≡ at_end reply [] }
+    ensures ending { ending_of result ≡ Some reply }
+    ensures sealed { sealed_in result ≡ [] }
+    ensures news { news_in result ≡ [] }
+    ensures pen { HasNoPen result }
+    ensures work { work_in result ≡ 0 }
+    ensures found { (a : Assignment) (call : Call) → ((news : List PartPin) → news ≡ [] → IsTrueAt a call reply news) → IsNotDone reply → FoundBy a call result }
+{
+    Phase::Ended(reply, nothing(alloc, Vec::new(alloc)))
+}
+
+// How a call ended.
+pub(crate) fn outcome_of(task: Task, reply: Reply, left: Leaving) -> Outcome
+    requires { (p : ℕ) → pin_at left.news p ≢ None → (Writes (body_of (arc_value task.operation)).statements p → ⊥) → ⊥ }
+    ensures call { outcome_call result ≡ task_call task }
+    ensures reply { outcome_reply result ≡ reply }
+    ensures sealed { outcome_sealed result ≡ left.sealed.items }
+    ensures news { outcome_news result ≡ left.news }
+    ensures gone { outcome_gone result ≡ left.gone.items }
+{
+    let Task {
+        number,
+        operation,
+        args,
+        pins,
+        reads: _,
+    } = task;
+    Outcome {
+        number,
+        operation,
+        args,
+        pins,
+        reply,
+        left,
+    }
+}
