@@ -1,0 +1,4 @@
+pub mod Lengths
+pub mod Opening
+pub mod Paging
+pub mod Saving

@@ -1,0 +1,4 @@
+pub mod Laws
+pub mod Opened
+pub mod Pages
+pub mod Saved

@@ -1,0 +1,12 @@
+//! The parts of an object, from a shelf to a hand and back, where a part is a list of pages.
+//!
+//! `open_parts` reads each part from its shelf, cuts its bytes into pages and writes each page into a file of a hand;
+//! `save_parts` stores the bytes of the pages that published pins name. `specs/Opened.antt` and `specs/Saved.antt` say
+//! what of that is done where a device fails. It is what `shelf_core` is for pins that are one stamp each, under the
+//! same names.
+#![tactic(auto)]
+
+pub mod laws;
+pub mod open;
+pub mod pages;
+pub mod save;
