@@ -1,0 +1,12 @@
+pub mod Published
+pub mod Law
+pub mod Lists
+pub mod Traces
+pub mod Sound
+pub mod Made
+pub mod Freed
+pub mod Admission
+pub mod BoardLaws
+pub mod Kept
+pub mod Picking
+pub mod Sending

@@ -1,0 +1,152 @@
+//! Entries of a history.
+
+ghost use Rattle.std.specs.Prelude.{◌≡◌, ◌↔◌, [], IsTrue, IfSome, IfNone};
+ghost use Rattle.std.specs.Arc.{arc_value};
+ghost use Rattle.run_core.specs.Outcomes.{if_done, outcome_pins};
+ghost use Rattle.page_board.specs.Calls.{noted_of};
+ghost use Rattle.page_board.specs.Outcomes.{IsEntryOf};
+
+use crate::call::Call;
+use crate::receipt::NotedOutcome;
+use crate::same::{is_none, same_args};
+use apply_core::reply::Reply;
+use decl_core::object::Operation;
+use decl_core::same::same_declaration;
+use page_core::part_pins::PartPins;
+use std::marker::Model;
+use std::sync::Arc;
+use value_core::datum::Datum;
+
+/// A call that has finished: how it ended, by which pins it read, and which page lists it published.
+#[derive(Drop)]
+pub struct Entry {
+    number: u32,
+    call: Arc<Call>,
+    reply: Reply,
+    pins: PartPins,
+    // of a call that was not done they are published by nobody, and not shown
+    news: PartPins,
+}
+
+impl Model for Entry {
+    ghost use Rattle.std.specs.Arc.{arc_value};
+    ghost use Rattle.page_board.specs.Calls.{Noted, noted_of};
+    ghost use Rattle.run_core.specs.Outcomes.{if_done};
+    ghost use Rattle.decl_core.specs.contracts.object.Operation as e;
+    ghost use Rattle.std.specs.Coded.{codes};
+
+    ghost Value = { Noted };
+
+    ghost coded = { Prim.hlevel (codes, e.the_row.coded) };
+
+    ghost view = { λ e. noted_of e.number (arc_value e.call) e.reply e.pins (if_done e.reply e.news) };
+}
+
+impl Entry {
+    /// The entry of a call that ended so: the pins of the parts that its operation reads, and the new pins of the parts
+    /// that it changed, which count where it was done. It takes no memory.
+    pub fn new(number: u32, call: Arc<Call>, reply: &Reply, pins: PartPins, news: PartPins) -> Entry
+        ensures { result ≡ noted_of number (arc_value call) reply.now pins (if_done reply.now news) }
+    {
+        Entry {
+            number,
+            call,
+            reply: *reply,
+            pins,
+            news,
+        }
+    }
+
+    /// Whether this is the entry that a receipt tells of: it tells of the call all that the outcome tells. It takes no
+    /// memory.
+    pub fn is_entry_of(&self, noted: &NotedOutcome) -> bool
+        ensures { IsTrue result ↔ IsEntryOf noted.now.session noted.now.outcome self.now }
+    {
+        if self.number != noted.number() {
+            return false;
+        }
+        if self.session() != noted.session {
+            return false;
+        }
+        if !same_declaration(self.operation(), noted.operation()) {
+            return false;
+        }
+        if !same_args(self.args(), noted.args()) {
+            return false;
+        }
+        if !self.reply.is_same(noted.reply()) {
+            return false;
+        }
+        if !self.has_news(noted) {
+            return false;
+        }
+        self.pins.is_same(noted.pins())
+    }
+
+    // Whether these are the new pins of an outcome.
+    fn has_news(&self, noted: &NotedOutcome) -> bool
+        ensures { IsTrue result ↔ (self.now.news ≡ outcome_pins noted.now.outcome) }
+    {
+        match (self.new_pins(), noted.new_pins()) {
+            (Some(news), Some(others)) => news.is_same(others),
+            (Some(news), None) => is_none(self.call.alloc(), news),
+            (None, Some(others)) => is_none(self.call.alloc(), others),
+            (None, None) => true,
+        }
+    }
+
+    /// The number of the call.
+    pub fn number(&self) -> u32
+        ensures { result ≡ self.now.number }
+    {
+        self.number
+    }
+
+    /// The session that made it.
+    pub fn session(&self) -> u32
+        ensures { result ≡ self.now.session }
+    {
+        self.call.session()
+    }
+
+    /// The operation that was called.
+    pub fn operation(&self) -> &Arc<Operation>
+        ensures { arc_value result.now ≡ self.now.operation }
+    {
+        self.call.operation()
+    }
+
+    /// The arguments, in order.
+    pub fn args(&self) -> &[Datum]
+        ensures { result.now ≡ self.now.arguments }
+    {
+        self.call.args()
+    }
+
+    /// What the call replied.
+    pub fn reply(&self) -> &Reply
+        ensures { result.now ≡ self.now.reply }
+    {
+        &self.reply
+    }
+
+    /// The pins by which the call read, one for each part that its operation reads, in the order of the parts.
+    pub fn pins(&self) -> &PartPins
+        ensures { result.now ≡ self.now.pins }
+    {
+        &self.pins
+    }
+
+    /// The new pins that were published, for the parts that the call changed, in the order of the parts. Only a call
+    /// that was done has some.
+    pub fn new_pins(&self) -> Option<&PartPins>
+        ensures some { IfSome result (λ pins. pins.now ≡ self.now.news) }
+        ensures none { IfNone result (self.now.news ≡ []) }
+    {
+        match self.reply {
+            Reply::Done(_) => Some(&self.news),
+            Reply::Refused(_) => None,
+            Reply::Failed(_) => None,
+        }
+    }
+}
