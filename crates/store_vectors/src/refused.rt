@@ -1,6 +1,6 @@
 //! Opening and saving where a growth of memory is refused.
 //!
-//! `tools/refuse_memory` runs the test with the first, the second, .. growth refused. With none refused it is a happy
+//! `gate/refuse_memory` runs the test with the first, the second, .. growth refused. With none refused it is a happy
 //! path.
 
 use crate::make::{are_pages, has, pair, queue_of};
