@@ -86,7 +86,9 @@ fn pages_that_change_are_written(rt: HostRuntime) {
         &mut hand,
     );
     let later = new_pages(&rt, alloc, &both);
-    assert!(rt; steps == 11 && later[1..4] == pages[1..4] && both.free() == [pages[0], pages[4]].as_slice());
+    assert!(rt;
+        steps == 11 && later[1..4] == pages[1..4] && both.free() == [pages[0], pages[4]].as_slice()
+    );
     let args = [Datum::Integer(1_023)];
     let (steps, get) = counted(
         alloc,
@@ -119,7 +121,9 @@ fn a_call_at_once_writes_the_same(rt: HostRuntime) {
     );
     let pages = new_pages(&rt, alloc, &both);
     assert!(rt;
-        pages[1..4] == old[1..4] && both.free() == [old[0], old[4]].as_slice() && both.sealed().len() == 2
+        pages[1..4] == old[1..4]
+            && both.free() == [old[0], old[4]].as_slice()
+            && both.sealed().len() == 2
     );
     let args = [Datum::Integer(0)];
     let get = run_at_once(
