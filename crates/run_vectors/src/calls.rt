@@ -9,7 +9,7 @@ use decl_read::read::read_objects;
 use device_core::memory::MemHand;
 use hand_core::hand::Stamp;
 use hand_core::whole::put;
-use page_core::cut::page_size;
+use page_core::cut::{MOST_PAGES, page_size};
 use page_core::part_pins::PartPins;
 use run_core::outcome::Outcome;
 use run_core::run::Run;
@@ -17,6 +17,9 @@ use std::alloc::Global;
 use std::process::Abort;
 use std::sync::Arc;
 use value_core::datum::Datum;
+
+// More steps than a call of these objects takes.
+const MOST_STEPS: usize = 100;
 
 /// The one object of a text.
 pub fn object(rt: &impl Abort, alloc: Global, text: &[u8]) -> Object {
@@ -43,7 +46,10 @@ pub fn paged(rt: &impl Abort, alloc: Global, hand: &mut MemHand, bytes: &[u8]) -
     let size = page_size(bytes.len()).expect(rt, "a page size");
     let mut stamps = Vec::new(alloc);
     let mut rest = bytes;
-    while !rest.is_empty() {
+    for _ in 0..MOST_PAGES {
+        if rest.is_empty() {
+            return stamps;
+        }
         let (page, behind) = rest.split_at(size.min(rest.len()));
         let stamp = put(hand, page).expect(rt, "a file");
         stamps.push(stamp).expect(rt, "memory");
@@ -83,10 +89,15 @@ pub fn ticket(
 }
 
 /// Steps until the run has ended, and counts them.
-pub fn counted(alloc: Global, ticket: Ticket, hand: &mut MemHand) -> (usize, Outcome) {
+pub fn counted(
+    rt: &impl Abort,
+    alloc: Global,
+    ticket: Ticket,
+    hand: &mut MemHand,
+) -> (usize, Outcome) {
     let mut run = Run::new(alloc, ticket);
     let mut steps = 0;
-    loop {
+    for _ in 0..MOST_STEPS {
         match run.outcome() {
             Ok(outcome) => return (steps, outcome),
             Err(back) => run = back,
@@ -96,4 +107,5 @@ pub fn counted(alloc: Global, ticket: Ticket, hand: &mut MemHand) -> (usize, Out
         }
         run.step(hand);
     }
+    panic!(rt; "no end after {MOST_STEPS} steps")
 }

@@ -63,6 +63,22 @@ fn new_pages(rt: &impl Abort, alloc: Global, outcome: &Outcome) -> Vec<Stamp> {
     pages.to_vec(alloc).expect(rt, "memory")
 }
 
+// Whether both lists have the same pages from one place on, up to another.
+fn are_same(first: &[Stamp], second: &[Stamp], from: usize, end: usize) -> bool {
+    match (first.get(from..end), second.get(from..end)) {
+        (Some(first), Some(second)) => first == second,
+        _ => false,
+    }
+}
+
+// Whether these are the first and the last of five pages.
+fn are_ends(freed: &[Stamp], pages: &[Stamp]) -> bool {
+    match (freed, pages) {
+        ([front, back], [first, _, _, _, last]) => *front == *first && *back == *last,
+        _ => false,
+    }
+}
+
 #[test]
 fn pages_that_change_are_written(rt: HostRuntime) {
     let alloc = rt.alloc();
@@ -71,26 +87,30 @@ fn pages_that_change_are_written(rt: HostRuntime) {
     let old = paged(&rt, alloc, &mut hand, &zeros(&rt, alloc));
     let args = [Datum::Integer(1_023), Datum::Integer(7)];
     let (steps, put) = counted(
+        &rt,
         alloc,
         ticket(&rt, alloc, &wide, "put", &args, &old),
         &mut hand,
     );
     let pages = new_pages(&rt, alloc, &put);
     assert!(rt;
-        steps == 8 && pages.len() == 5 && pages[..4] == old[..4] && put.free() == &old[4..]
+        steps == 8
+            && pages.len() == 5
+            && are_same(&pages, &old, 0, 4)
+            && old.get(4..) == Some(put.free())
     );
     let args = [Datum::Integer(3)];
     let (steps, both) = counted(
+        &rt,
         alloc,
         ticket(&rt, alloc, &wide, "both", &args, &pages),
         &mut hand,
     );
     let later = new_pages(&rt, alloc, &both);
-    assert!(rt;
-        steps == 11 && later[1..4] == pages[1..4] && both.free() == [pages[0], pages[4]].as_slice()
-    );
+    assert!(rt; steps == 11 && are_same(&later, &pages, 1, 4) && are_ends(both.free(), &pages));
     let args = [Datum::Integer(1_023)];
     let (steps, get) = counted(
+        &rt,
         alloc,
         ticket(&rt, alloc, &wide, "get", &args, &later),
         &mut hand,
@@ -100,6 +120,7 @@ fn pages_that_change_are_written(rt: HostRuntime) {
     );
     let args = [Datum::Integer(1_024)];
     let (steps, get) = counted(
+        &rt,
         alloc,
         ticket(&rt, alloc, &wide, "get", &args, &later),
         &mut hand,
@@ -121,9 +142,7 @@ fn a_call_at_once_writes_the_same(rt: HostRuntime) {
     );
     let pages = new_pages(&rt, alloc, &both);
     assert!(rt;
-        pages[1..4] == old[1..4]
-            && both.free() == [old[0], old[4]].as_slice()
-            && both.sealed().len() == 2
+        are_same(&pages, &old, 1, 4) && are_ends(both.free(), &old) && both.sealed().len() == 2
     );
     let args = [Datum::Integer(0)];
     let get = run_at_once(
@@ -141,6 +160,7 @@ fn pages_that_are_dropped_are_freed(rt: HostRuntime) {
     let mut hand = MemHand::new(alloc);
     let old = paged(&rt, alloc, &mut hand, &queue(&rt, alloc, Some(7)));
     let (steps, removed) = counted(
+        &rt,
         alloc,
         ticket(&rt, alloc, &buffer, "remove", &[], &old),
         &mut hand,
@@ -149,11 +169,12 @@ fn pages_that_are_dropped_are_freed(rt: HostRuntime) {
     assert!(rt;
         steps == 8
             && pages.len() == 4
-            && pages[1..] == old[1..4]
-            && removed.free() == [old[0], old[4]].as_slice()
+            && are_same(&pages, &old, 1, 4)
+            && are_ends(removed.free(), &old)
     );
     let old = paged(&rt, alloc, &mut hand, &queue(&rt, alloc, None));
     let (steps, removed) = counted(
+        &rt,
         alloc,
         ticket(&rt, alloc, &buffer, "remove", &[], &old),
         &mut hand,
