@@ -1,0 +1,7 @@
+//! Bodies of operations as device steps over page lists, over the public calls of `run_core`.
+#![tactic(auto)]
+
+#[cfg(test)]
+mod calls;
+#[cfg(test)]
+mod pages;
