@@ -151,27 +151,29 @@ def lookup(table, key):
     return table[key]
 
 
-class Array:
+class Row:
+    """What an array and a queue share: their elements, one after another."""
+
+    def bytes_of(self, value):
+        return head(self.format, value) + b"".join(bytes_of_datum(it) for it in value)
+
+    def shown(self, value):
+        return self.opens + " ".join(map(written, value)) + self.closes
+
+
+class Array(Row):
+    opens, closes = "[]"
+
     def __init__(self, length, elements):
         self.opening = [0 if elements == "integer" else ""] * length
         self.format, self.elements = (1 if elements == "integer" else 2), elements
 
-    def bytes_of(self, value):
-        return head(self.format, value) + b"".join(bytes_of_datum(it) for it in value)
 
-    def shown(self, value):
-        return "[" + " ".join(map(written, value)) + "]"
+class Queue(Row):
+    opens, closes = "<>"
 
-
-class Queue:
     def __init__(self, elements):
         self.opening, self.format = [], 3 if elements == "integer" else 4
-
-    def bytes_of(self, value):
-        return head(self.format, value) + b"".join(bytes_of_datum(it) for it in value)
-
-    def shown(self, value):
-        return "<" + " ".join(map(written, value)) + ">"
 
 
 class Table:
