@@ -1,5 +1,7 @@
 """The objects of drawn scripts: the text that the program reads, and beside it the same by hand, its paths as trees and its
 bodies as functions."""
+import pathlib
+
 from slow_world import (
     MOST,
     Any,
@@ -19,15 +21,28 @@ from slow_world import (
     whole,
 )
 
+EXAMPLES = pathlib.Path(__file__).resolve().parent.parent / "examples" / "objects"
+
 # What arguments are drawn from.
 INTEGERS = (0, 1, 2, 3, 7, 10, 99, 65535, 2147483648, MOST - 1, MOST)
 SMALL = (0, 1, 2, 3, 5)
-PLACES = (0, 0, 1, 1, 21, 22, 1023, 1024)
-FRONT = (0, 0, 0, 1, 1, 22)
+PLACES = (0, 0, 1, 1, 32, 33, 254, 255, 1023, 1024)
+FRONT = (0, 0, 0, 1, 1, 33)
 KEYS = ("", "a", "ab", "A", "it's")
-# An array of 22 texts of 185 bytes has 4,096 bytes, the most that one step moves.
-LONG = ("", "m" * 185, "m" * 185, "n" * 186)
-TEXTS = ("", "a", "it's", "''", " x ", "#", "~" * 184, "m" * 185, "n" * 186, "'" * 255)
+HELD = ("", "k00", "k00", "k16", "k31", "z")
+# An array of 33 texts, one of 251 bytes and 32 of 247, has 8,192 bytes, the most that pages of 1,024 hold.
+LONG = ("", "m" * 247, "m" * 247, "n" * 247, "m" * 251, "m" * 251, "n" * 252)
+# Sixteen texts of 255 bytes have 4,096 bytes, so that pages are alike.
+LIKE = ("", "'" * 255, "'" * 255, "'" * 255, "'" * 255, "m" * 247)
+TEXTS = ("", "a", "it's", "''", " x ", "#", "~" * 184, "m" * 247, "n" * 251, "m" * 252, "'" * 255)
+# Places of an array of integers, at the ends of pages. Where all are 0 again a page is as others are.
+EDGES = (0, 254, 255, 255, 511, 511, 1022, 1023, 1024)
+FEW = (0, 0, 1)
+
+
+def example(name):
+    """The text of an object of examples/objects."""
+    return (EXAMPLES / f"{name}.pp").read_text(encoding="ascii")
 
 
 def cell_bump(c, x):
@@ -60,7 +75,7 @@ def ledger_add(c, i, x):
 
 
 def ledger_fill(c, x, y):
-    c["page"] = [x] + [y] * 21
+    c["page"] = [x] + [y] * 32
 
 
 def ledger_move(c, i, j):
@@ -73,6 +88,46 @@ def ledger_idle(_, x):
     if x < 3:
         raise Refusal("small")
     return whole(x - 3)
+
+
+def wide_pick(c, i, j):
+    first_one = element(c["v"], i)
+    return element(c["v"], first_one if first_one else j)
+
+
+def wide_copy(c, i, j):
+    set_element(c["v"], i, element(c["v"], j))
+    set_element(c["v"], j, whole(element(c["v"], i) + 1))
+
+
+def wide_both(c, x, y):
+    set_element(c["v"], 0, x)
+    set_element(c["v"], 1023, y)
+
+
+def shelves_pour(c, x):
+    for _ in range(16):
+        append(c["line"], x)
+
+
+def shelves_drain(c):
+    for _ in range(16):
+        first(c["line"])
+        del c["line"][0]
+
+
+def shelves_fill(c, x):
+    c["held"].update({f"k{at:02}": x for at in range(32)})
+
+
+def shelves_drop(c, k):
+    lookup(c["held"], k)
+    del c["held"][k]
+
+
+def shelves_move(c, k):
+    c["held"][k] = first(c["line"])
+    del c["line"][0]
 
 
 def hall_come(c, x):
@@ -95,14 +150,7 @@ def hall_clear(c):
 OBJECTS = (
     Object(
         "cell",
-        """object cell;
-  path 1:([get], put, bump) end;
-  var v : array [1] of integer;
-  entry function get : integer; begin get := v[0] end;
-  entry procedure put(x : integer); begin v[0] := x end;
-  entry procedure bump(x : integer); begin v[0] := v[0] + x end;
-end;
-""",
+        example("cell"),
         [Bound(1, Any(Burst("get"), "put", "bump"))],
         {"v": Array(1, "integer")},
         {
@@ -113,15 +161,7 @@ end;
     ),
     Object(
         "buffer",
-        """object buffer;
-  const n = 5;
-  path n:(deposit; remove) end;
-  path 1:(deposit, remove) end;
-  var box : queue of integer;
-  entry procedure deposit(x : integer); begin append(box, x) end;
-  entry function remove : integer; begin remove := first(box); take(box) end;
-end;
-""",
+        example("buffer"),
         [Bound(5, Sequence("deposit", "remove")), Bound(1, Any("deposit", "remove"))],
         {"box": Queue("integer")},
         {
@@ -131,16 +171,7 @@ end;
     ),
     Object(
         "book",
-        """object book;
-  path 1:([find, size], write, wipe) end;
-  var t : table of text;
-  entry procedure write(k, x : text);
-  begin if has(t, k) then refuse('taken') else store(t, k, x) end;
-  entry function find(k : text) : text; begin find := lookup(t, k) end;
-  entry procedure wipe(k : text); begin erase(t, k) end;
-  entry function size : integer; begin size := count(t) end;
-end;
-""",
+        example("book"),
         [Bound(1, Any(Burst(Any("find", "size")), "write", "wipe"))],
         {"t": Table("text")},
         {
@@ -152,13 +183,7 @@ end;
     ),
     Object(
         "two",
-        """object two;
-  path 1:(a; b) end;
-  var v : array [1] of integer;
-  entry procedure a; begin v[0] := v[0] + 1 end;
-  entry procedure b; begin v[0] := v[0] + 1 end;
-end;
-""",
+        example("two"),
         [Bound(1, Sequence("a", "b"))],
         {"v": Array(1, "integer")},
         {"a": ((), ("v",), one_more), "b": ((), ("v",), one_more)},
@@ -171,7 +196,7 @@ end;
   path 4:(write; [read]) end;
   path 2:(idle, sum), add end;
   var tally : array [1024] of integer;
-      page : array [22] of text;
+      page : array [33] of text;
   entry procedure add(i, x : integer); begin tally[i] := tally[i] + x end;
   entry function sum(i, j : integer) : integer; begin sum := tally[i] + tally[j] end;
   entry procedure write(i : integer; x : text); begin page[i] := x end;
@@ -188,22 +213,90 @@ end;
   entry function idle(x : integer) : integer; begin if x < 3 then refuse('small') else idle := x - 3 end;
 end;
 """
-        % "".join(f"    page[{at}] := {'y' if at else 'x'};\n" for at in range(22)),
+        % "".join(f"    page[{at}] := {'y' if at else 'x'};\n" for at in range(33)),
         [
             Bound(1, Any("add", "move", Burst("sum"))),
             Bound(1, Any("write", "fill", "move", Burst("read"))),
             Bound(4, Sequence("write", Burst("read"))),
             Any(Bound(2, Any("idle", "sum")), "add"),
         ],
-        {"tally": Array(1024, "integer"), "page": Array(22, "text")},
+        {"tally": Array(1024, "integer"), "page": Array(33, "text")},
         {
             "add": ((PLACES, INTEGERS), ("tally",), ledger_add, 3),
             "sum": ((PLACES, PLACES), ("tally",), lambda c, i, j: whole(element(c["tally"], i) + element(c["tally"], j))),
             "write": ((PLACES, TEXTS), ("page",), lambda c, i, x: set_element(c["page"], i, x), 2),
-            "fill": ((LONG, LONG), ("page",), ledger_fill, 2),
+            "fill": ((LONG, LONG), ("page",), ledger_fill, 4),
             "move": ((FRONT, FRONT), ("tally", "page"), ledger_move, 3),
             "read": ((PLACES,), ("page",), lambda c, i: element(c["page"], i)),
             "idle": ((SMALL,), (), ledger_idle),
+        },
+    ),
+    Object(
+        "wide",
+        """object wide;
+  path 1:([get, pick], put, both, copy) end;
+  var v : array [1024] of integer;
+  entry function get(i : integer) : integer; begin get := v[i] end;
+  entry function pick(i, j : integer) : integer; begin if v[i] <> 0 then pick := v[v[i]] else pick := v[j] end;
+  entry procedure put(i, x : integer); begin v[i] := x end;
+  entry procedure both(x, y : integer); begin v[0] := x; v[1023] := y end;
+  entry procedure copy(i, j : integer); begin v[i] := v[j]; v[j] := v[i] + 1 end;
+end;
+""",
+        [Bound(1, Any(Burst(Any("get", "pick")), "put", "both", "copy"))],
+        {"v": Array(1024, "integer")},
+        {
+            "get": ((EDGES,), ("v",), lambda c, i: element(c["v"], i)),
+            "pick": ((EDGES, EDGES), ("v",), wide_pick, 2),
+            "put": ((EDGES, FEW), ("v",), lambda c, i, x: set_element(c["v"], i, x), 3),
+            "both": ((FEW, FEW), ("v",), wide_both, 2),
+            "copy": ((EDGES, EDGES), ("v",), wide_copy, 3),
+        },
+    ),
+    Object(
+        "shelves",
+        """object shelves;
+  path 1:(pour, drain, move, [oldest, all]) end;
+  path 1:(fill, hold, drop, move, [find, all]) end;
+  var line : queue of text;
+      held : table of text;
+  entry procedure pour(x : text);
+  begin
+%s  end;
+  entry procedure drain;
+  begin
+%s  end;
+  entry function oldest : text; begin oldest := first(line) end;
+  entry procedure fill(x : text);
+  begin
+%s  end;
+  entry procedure hold(k, x : text); begin store(held, k, x) end;
+  entry procedure drop(k : text); begin erase(held, k) end;
+  entry procedure move(k : text); begin store(held, k, first(line)); take(line) end;
+  entry function find(k : text) : text; begin find := lookup(held, k) end;
+  entry function all : integer; begin all := count(line) + count(held) end;
+end;
+"""
+        % (
+            "    append(line, x);\n" * 16,
+            "    take(line);\n" * 16,
+            "".join(f"    store(held, 'k{at:02}', x);\n" for at in range(32)),
+        ),
+        [
+            Bound(1, Any("pour", "drain", "move", Burst(Any("oldest", "all")))),
+            Bound(1, Any("fill", "hold", "drop", "move", Burst(Any("find", "all")))),
+        ],
+        {"line": Queue("text"), "held": Table("text")},
+        {
+            "pour": ((LIKE,), ("line",), shelves_pour, 5),
+            "drain": ((), ("line",), shelves_drain),
+            "oldest": ((), ("line",), lambda c: first(c["line"])),
+            "fill": ((LONG,), ("held",), shelves_fill, 2),
+            "hold": ((HELD, TEXTS), ("held",), lambda c, k, x: c["held"].update({k: x}), 2),
+            "drop": ((HELD,), ("held",), shelves_drop),
+            "move": ((HELD,), ("line", "held"), shelves_move),
+            "find": ((HELD,), ("held",), lambda c, k: lookup(c["held"], k)),
+            "all": ((), ("line", "held"), lambda c: len(c["line"]) + len(c["held"])),
         },
     ),
     Object(

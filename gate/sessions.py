@@ -25,7 +25,7 @@ FORMS = {
     "server is told to stop": re.compile(r"(server) is told to stop"),
     "port is taken": re.compile(r"(port) is taken"),
     "folder is removed": re.compile(r"(folder) is removed"),
-    "file holds": re.compile(r"(file) (?P<text>\S+ holds [0-9a-f]*)"),
+    "file holds": re.compile(r"(file) (?P<text>\S+ holds [0-9a-f|*]*)"),
 }
 # Steps whose texts are in the notation: what is not is refused before the case runs.
 READ = ("sends", "presses", "hears", "hears among")
@@ -93,6 +93,8 @@ def steps_of(lines):
         form, who, text = step
         if form in READ:
             read_text([text], "")
+        if form == "file holds":
+            content(text.rpartition(" ")[2])
         last = found[-1] if found else None
         if last and form in JOINED and (last.form, last.who) == (form, who):
             last.texts.append(text)
@@ -107,7 +109,7 @@ def content(words):
         return None
     if words.startswith("'") and words.endswith("'") and len(words) > 1:
         return words[1:-1].encode("ascii")
-    return bytes.fromhex(words)
+    return bytes.fromhex(read_text([words + "\\"]).bytes.decode("ascii"))
 
 
 class StoryReader(Reader):

@@ -3,7 +3,9 @@ finishes alone. It counts starts and ends over the whole trace, and works on who
 import copy
 
 MOST = 4294967295
-CHUNK = 4096
+# How long the pages of a part may be, and how many of them it may have.
+SIZES = [1024 << it for it in range(9)]
+PAGES = 8
 
 
 # What a path says, by counts of starts and ends over a whole trace. An event is ("start", OP) or ("end", OP).
@@ -199,6 +201,22 @@ def written(datum):
     return str(datum) if isinstance(datum, int) else "'" + datum.replace("'", "''") + "'"
 
 
+class Watched(list):
+    """An array that notes each place at which an element is taken or put."""
+
+    def __init__(self, elements):
+        super().__init__(elements)
+        self.places = []
+
+    def __getitem__(self, at):
+        self.places.append(at)
+        return super().__getitem__(at)
+
+    def __setitem__(self, at, value):
+        self.places.append(at)
+        super().__setitem__(at, value)
+
+
 class Operation:
     """An operation: what its arguments are drawn from, the parts that its text names, what its body does to contents, and
     how often it is drawn beside others."""
@@ -228,6 +246,15 @@ class Object:
             return ("refused", str(refusal)), contents
         return ("done", reply), after
 
+    def places(self, op, arguments, contents):
+        """Of each array of integers the places of the elements that the body of an operation comes to on contents."""
+        watched = {name: Watched(contents[name]) for name, kind in self.parts.items() if is_watched(kind)}
+        try:
+            self.operations[op].does({**copy.deepcopy(contents), **watched}, *arguments)
+        except Refusal:
+            pass
+        return {name: it.places for name, it in watched.items()}
+
     def admits(self, trace):
         return all(it.holds(trace) for it in self.paths)
 
@@ -239,9 +266,29 @@ class Disagreement(Exception):
     """The world and the sequential object differ: a fault of this tool, or of what it is made by."""
 
 
-def pieces(count):
-    """How many steps move so many bytes."""
-    return -(-count // CHUNK)
+def pages_of(spelling):
+    """The pages of the bytes of a part: of the least size of which so few hold them."""
+    size = next(it for it in SIZES if PAGES * it >= len(spelling))
+    return [spelling[at : at + size] for at in range(0, len(spelling), size)]
+
+
+def is_watched(kind):
+    """Whether of a part of this kind a page is read where a body comes to it: of an array of integers."""
+    return isinstance(kind, Array) and kind.elements == "integer"
+
+
+def reads_of(pages, places):
+    """How many of the pages of a part are read: of an array of integers the first one, and each one in which an element is
+    taken or put at one of these places; else all of them."""
+    if places is None:
+        return len(pages)
+    # Four bytes stand before the elements, and each has four.
+    return len({0} | {(4 + 4 * at) // len(pages[0]) for at in places})
+
+
+def written_pages(before, after):
+    """The pages that are not what stood at their place before, or have no such place."""
+    return [page for at, page in enumerate(after) if before[at : at + 1] != [page]]
 
 
 class Run:
@@ -250,12 +297,15 @@ class Run:
     def __init__(self, made, op, arguments, pins):
         self.ending, after = made.applied(op, arguments, pins)
         self.changed = {name: after[name] for name in made.parts if after[name] != pins[name]}
+        read = {name: pages_of(kind.bytes_of(pins[name])) for name, kind in made.parts.items()}
+        places = made.places(op, arguments, pins)
         self.needs = []
-        for name, kind in made.parts.items():
+        for name in made.parts:
             if name in made.operations[op].names:
-                self.needs += ["read"] * pieces(len(kind.bytes_of(pins[name])))
+                self.needs += ["read"] * reads_of(read[name], places.get(name))
         for name, value in self.changed.items():
-            self.needs += ["create", *["append"] * pieces(len(made.parts[name].bytes_of(value))), "seal"]
+            for _ in written_pages(read[name], pages_of(made.parts[name].bytes_of(value))):
+                self.needs += ["create", "append", "seal"]
 
     def step(self, works):
         """What the step asked of its device."""

@@ -1,8 +1,9 @@
 //! Files in a folder, of which the next one is ready.
 
-ghost use Rattle.std.specs.Prelude.{◌≡◌, ◌<◌, ◌≤◌, IfOk, IsTrue, length};
+ghost use Rattle.std.specs.Prelude.{◌≡◌, ◌<◌, ◌≤◌, IfOk};
 ghost use Rattle.hand_core.specs.Device.{FaultCause};
 
+use crate::reads::Reads;
 use crate::sealed::{MOST_BYTES, Sealed};
 use device_core::dir::DirHand;
 use hand_core::hand::{Hand, HandFault, Pen, Stamp};
@@ -16,9 +17,6 @@ use std::sync::Arc;
 // The most bytes that a path has beyond its folder: a slash, 20 digits and the ending.
 const NAME_BYTES: usize = 25;
 
-// The most bytes of the last read that are kept.
-const MOST_KEPT: usize = MOST_BYTES;
-
 /// What is done once, after the last call of a hand.
 pub trait Ends: Drop {
     /// Ends the work.
@@ -29,7 +27,8 @@ pub trait Ends: Drop {
 ///
 /// - After a `retire` an empty file is made, if none is ready: the next `create` gives it, where it still lies in the folder. Where none can be
 ///   made, or it lies there no more, `create` makes one, and fails as a `DirHand` does. A failure ahead is none of a call.
-/// - A read of the same stamp, place and length as the last one, of at most 4,096 bytes, is answered from memory: a sealed file does not change.
+/// - The last 8 reads of at most 4,096 bytes are kept (`Reads`), and a read of the same stamp, place and length as one of them is answered from memory, until
+///   the hand retires the file: a sealed file does not change.
 /// - A file of at most 4,096 bytes that it seals is shared with the other hands of its folder (`Sealed`), and a read of one that is shared is answered from
 ///   there, until one of them retires it.
 /// - `end` removes the file that is ready.
@@ -44,9 +43,8 @@ pub struct AheadHand<R: Files + AllocGlobal> {
     path: String,
     // Its number.
     ready: Option<u64>,
-    // The bytes of the last read, and where they stand.
-    kept: Vec<u8>,
-    kept_of: Option<(Stamp, usize)>,
+    // What was read last.
+    reads: Reads,
     // The bytes of the file that was created last, as long as they are few, and its number.
     written: Vec<u8>,
     written_of: Option<u64>,
@@ -82,7 +80,7 @@ impl<R: Files + AllocGlobal + Drop> AheadHand<R> {
         let alloc = rt.alloc();
         let path = String::with_capacity(alloc, folder.len().saturating_add(NAME_BYTES))?;
         let folder = String::from_str(alloc, folder)?;
-        let kept = Vec::with_capacity(alloc, MOST_KEPT)?;
+        let reads = Reads::new(alloc)?;
         let written = Vec::with_capacity(alloc, MOST_BYTES)?;
         Ok(AheadHand {
             rt,
@@ -90,8 +88,7 @@ impl<R: Files + AllocGlobal + Drop> AheadHand<R> {
             folder,
             path,
             ready: None,
-            kept,
-            kept_of: None,
+            reads,
             written,
             written_of: None,
             sealed,
@@ -145,30 +142,6 @@ where
                 self.inner.discard(Pen { number });
                 None
             }
-        }
-    }
-
-    // Whether these bytes are those of the last read.
-    fn is_kept(&self, stamp: &Stamp, at: usize, len: usize) -> bool
-        ensures { IsTrue result → len ≡ length self.now.kept.items }
-    {
-        match &self.kept_of {
-            Some((kept, place)) => kept == stamp && *place == at && self.kept.len() == len,
-            None => false,
-        }
-    }
-
-    // Keeps the bytes of a read, if they are few.
-    fn keep(&mut self, stamp: &Stamp, at: usize, bytes: &[u8])
-        ensures { self.new.failures ≡ self.old.failures }
-    {
-        self.kept_of = None;
-        if bytes.len() > MOST_KEPT {
-            return;
-        }
-        self.kept.clear();
-        if self.kept.extend_from_slice(bytes).is_ok() {
-            self.kept_of = Some((*stamp, at));
         }
     }
 
@@ -273,17 +246,16 @@ where
     }
 
     fn read(&mut self, stamp: &Stamp, at: usize, into: &mut [u8]) -> Result<(), HandFault> {
-        if self.is_kept(stamp, at, into.len()) {
-            into.copy_from_slice(&self.kept);
+        if self.reads.give(stamp, at, into) {
             return Ok(());
         }
         if self.sealed.read(stamp, at, into) {
-            self.keep(stamp, at, into);
+            self.reads.keep(stamp, at, into);
             return Ok(());
         }
         match self.inner.read(stamp, at, into) {
             Ok(()) => {
-                self.keep(stamp, at, into);
+                self.reads.keep(stamp, at, into);
                 Ok(())
             }
             Err(fault) => Err(count(&mut self.failures, fault)),
@@ -291,7 +263,7 @@ where
     }
 
     fn retire(&mut self, stamp: &Stamp) -> Result<(), HandFault> {
-        self.kept_of = None;
+        self.reads.forget(stamp.number);
         self.sealed.forget(stamp.number);
         let answer = match self.inner.retire(stamp) {
             Ok(()) => Ok(()),

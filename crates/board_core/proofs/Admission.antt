@@ -8,10 +8,10 @@ use Rattle.board_core.specs.Lists.{Among}
 use Rattle.board_core.specs.Calls.{AcceptedCall, WaitingCall, RunningCall, Noted}
 use Rattle.board_core.specs.Board.{Board, joined, dismissed, released, marked, taken_at, ended, started, Rests, Admits, rests, starts}
 use Rattle.board_core.specs.Chain.{pins_after}
-use Rattle.board_core.specs.Free.{IsNeeded, Picks, no_more, needed, again, one_more}
+use Rattle.board_core.specs.Free.{IsNeeded, Picks}
 use Rattle.board_core.specs.Started.{HasStarted, Settles, is_number_in, run_of}
 use Rattle.board_core.specs.Laws.{AdmissionStarts}
-use Rattle.board_core.proofs.Freed.{admission_needs}
+use Rattle.board_core.proofs.Freed.{admission_needs, picks_same}
 use Rattle.board_core.proofs.Lists.{Every-all, all_pass}
 
 pub rests_after : (b after : Board) → Admits b after → Rests after
@@ -59,12 +59,6 @@ start_keeps b w number (inr reads) = inr (reads.0, among_more b.running _ reads.
 pub admission_keeps : (b after : Board) (number : ℕ) → Admits b after → IsNeeded b.pins b.running number → IsNeeded after.pins after.running number
 admission_keeps b after number (rests r) h = h
 admission_keeps b after number (starts w next more) h = admission_keeps (started b w) after number more (start_keeps b w number h)
-
-pub picks_same : (P Q : ℕ → Type 0) (to : (n : ℕ) → P n → Q n) (from : (n : ℕ) → Q n → P n) (picked stamps all : List Stamp) → Picks P picked stamps all → Picks Q picked stamps all
-picks_same P Q to from picked [] all no_more = no_more
-picks_same P Q to from picked (s ∷ rest) all (needed _ is more) = needed s (to s.number is) (picks_same P Q to from picked rest all more)
-picks_same P Q to from picked (s ∷ rest) all (again _ is more) = again s is (picks_same P Q to from picked rest all more)
-picks_same P Q to from picked (s ∷ rest) all (one_more _ none new more) = one_more s (λ h. none (from s.number h)) new (picks_same P Q to from (picked ++ s ∷ []) rest all more)
 
 -- the same files are picked after admission
 pub picks_admitted : (b after : Board) (stamps all : List Stamp) → Admits b after → Picks (IsNeeded b.pins b.running) [] stamps all → Picks (IsNeeded after.pins after.running) [] stamps all

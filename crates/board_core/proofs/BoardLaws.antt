@@ -13,17 +13,16 @@ use Rattle.decl_core.specs.Touched.{Reads}
 use Rattle.decl_core.specs.declared.object.Operation.{Operation}
 use Rattle.decl_core.specs.declared.object.Param.{Param}
 use Rattle.decl_core.proofs.Footprints.{writes_are_reads}
-use Rattle.hand_core.specs.declared.hand.Stamp.{Stamp}
 use Rattle.hand_core.specs.Device.{Assignment}
-use Rattle.body_core.specs.declared.new_pins.NewPin.{NewPin}
+use Rattle.page_core.specs.PartPins.{PartPin}
 use Rattle.apply_core.specs.declared.reply.Failure.TheVariants as failures
 use Rattle.apply_core.specs.declared.reply.Reply.{Reply}
 use Rattle.apply_core.specs.declared.reply.Reply.TheVariants.{Done, Refused, Failed}
 use Rattle.apply_core.specs.Fits.{IsNamed}
-use Rattle.body_core.specs.Calls.{call_of}
-use Rattle.body_core.specs.Outcomes.{new_if_done}
-use Rattle.body_core.specs.Truths.{IsTrueOf, IsTrueAt, AreSpelled, AreLeft, PinHolds}
-use Rattle.board_core.proofs.Kept.{kept_at}
+use Rattle.judge_core.specs.Given.{AreSpelled}
+use Rattle.call_core.specs.Calls.{call_of}
+use Rattle.call_core.specs.Truths.{IsTrueOf, IsTrueAt, AreLeft, PinHolds}
+use Rattle.run_core.specs.Outcomes.{if_done}
 use Rattle.board_core.specs.Free.{IsNeeded}
 use Rattle.board_core.specs.Sound.{IsPinned}
 use Rattle.board_core.specs.Laws.{RunningNeverConflict, PinsStay, PickedAreFree, TruthIsNoted}
@@ -62,11 +61,11 @@ same_body a b same =
       statements = (ap (λ (f : OperationForm). f.statements) same) i;
     }
 
-module _ (a : Assignment) (arguments : List Datum) (pins : List Stamp) (m n : ℕ) (f g : Operation) (same : operation_of f ≡ operation_of g) where
+module _ (a : Assignment) (arguments : List Datum) (pins : List PartPin) (m n : ℕ) (f g : Operation) (same : operation_of f ≡ operation_of g) where
   spelled_same : (parts : List Contents) → AreSpelled (PinHolds a pins) f parts → AreSpelled (PinHolds a pins) g parts
   spelled_same parts h p kind is = h p kind (same_named g f (sym same) p kind is)
 
-  true_same : (reply : Reply) (news : List NewPin) → IsTrueAt a (call_of m f arguments pins) reply news → IsTrueAt a (call_of n g arguments pins) reply (new_if_done reply news)
+  true_same : (reply : Reply) (news : List PartPin) → IsTrueAt a (call_of m f arguments pins) reply news → IsTrueAt a (call_of n g arguments pins) reply (if_done reply news)
   true_same (Done reply) news h = record {
     parts = h.parts;
     spelled = spelled_same h.parts h.spelled;
@@ -85,14 +84,11 @@ module _ (a : Assignment) (arguments : List Datum) (pins : List Stamp) (m n : �
   true_same (Failed failures.Device) news h = tt
   true_same (Failed failures.Memory) news h = tt
 
-  truth_same : (reply : Reply) (news : List NewPin) → IsTrueOf a (call_of m f arguments pins) reply news → IsTrueOf a (call_of n g arguments pins) reply (new_if_done reply news)
+  truth_same : (reply : Reply) (news : List PartPin) → IsTrueOf a (call_of m f arguments pins) reply news → IsTrueOf a (call_of n g arguments pins) reply (if_done reply news)
   truth_same reply news h whole = true_same reply news (h (λ p kind pin is there. whole p kind pin (same_named f g same p kind is) there))
 
 pub truth_is_noted : TruthIsNoted
-truth_is_noted a call r reply news of h = record {
-  pins = r.pins;
-  same = λ p reads. sym (kept_at r.call.operation r.pins p reads);
-  holds = subst (λ args. IsTrueOf a (call_of r.number r.call.operation args r.pins) reply (new_if_done reply news)) (sym of.arguments)
-      (subst (λ pins. IsTrueOf a (call_of r.number r.call.operation call.arguments pins) reply (new_if_done reply news)) (sym of.pins)
-      (truth_same a call.arguments call.pins call.number r.number call.operation r.call.operation (sym of.operation) reply news h));
-}
+truth_is_noted a call r reply news of =
+    λ h. subst (λ args. IsTrueOf a (call_of r.number r.call.operation args r.pins) reply (if_done reply news)) (sym of.arguments)
+    (subst (λ pins. IsTrueOf a (call_of r.number r.call.operation call.arguments pins) reply (if_done reply news)) (sym of.pins)
+    (truth_same a call.arguments call.pins call.number r.number call.operation r.call.operation (sym of.operation) reply news h))

@@ -8,4 +8,5 @@ pub mod Freed
 pub mod Admission
 pub mod BoardLaws
 pub mod Kept
+pub mod Picking
 pub mod Sending

@@ -17,21 +17,19 @@ use Rattle.decl_core.specs.Touched.{Writes, ConflictAt}
 use Rattle.exclude_core.specs.Exclusive.{IsExclusive, AreSeparated}
 use Rattle.exclude_core.proofs.NeverMeet.{separated_never_meet}
 use Rattle.hand_core.specs.declared.hand.Stamp.{Stamp}
-use Rattle.body_core.specs.declared.new_pins.NewPin.{NewPin}
+use Rattle.page_core.specs.PartPins.{PartPin, pin_at}
 use Rattle.apply_core.specs.declared.reply.Reply.{Reply}
-use Rattle.body_core.specs.Outcomes.{new_if_done}
-use Rattle.body_core.specs.Phases.{HasPart}
-use Rattle.body_core.specs.Truths.{pin_for}
+use Rattle.run_core.specs.Outcomes.{if_done}
 use Rattle.board_core.specs.declared.event.TraceEvent.{TraceEvent}
 use Rattle.board_core.specs.declared.event.TraceEvent.TheVariants.{Start, End}
 use Rattle.board_core.specs.Lists.{Every, EachPair, Among}
 use Rattle.board_core.specs.Calls.{AcceptedCall, WaitingCall, RunningCall, Noted}
-use Rattle.board_core.specs.Board.{most_sessions, opened, Board, call_at, paths_of, past_of, joined, dismissed, released, taken_at, marked, started, ended, entry_of, published, IsNext}
+use Rattle.board_core.specs.Board.{most_sessions, opened, Board, call_at, paths_of, past_of, joined, dismissed, released, taken_at, marked, started, ended, entry_of, published, read_pins, IsNext}
 use Rattle.board_core.specs.Chain.{IsChained, Follows, news_of}
-use Rattle.board_core.specs.Sound.{IsSound, IsCounted, IsPinned, IsMadeOf, IsWaitingIn, IsRunningIn, event_number, as_path, IsOpen, IsNoted, IsTold, ends_of}
+use Rattle.board_core.specs.Sound.{IsSound, IsCounted, IsPinned, HasItsPins, IsMadeOf, IsWaitingIn, IsRunningIn, event_number, as_path, IsOpen, IsNoted, IsTold, ends_of}
 use Rattle.board_core.proofs.Kept.{kept_at}
 use Rattle.board_core.proofs.Lists.{Every-snoc, Every-map, Every-both, Every-filter, Every-among, Every-at, filter_passes, every_from, EachPair-snoc, EachPair-filter, among_filter, among_snoc, among_at, filter_le, filter_less, eqb_same, Every-set, EachPair-set}
-use Rattle.board_core.proofs.Published.{done_twice, length-published, published_elsewhere, has_part}
+use Rattle.board_core.proofs.Published.{done_twice, length-published, published_elsewhere, has_pin}
 use Rattle.board_core.proofs.Traces.{call_at-more, call_at-new, numbered-more, path_trace-more, path_trace-snoc, start_event, end_event, fresh_runs, among_without, end_satisfies_all, satisfies_at}
 
 true_not : (b : Bool) → not b ≡ true → b ≡ true → ⊥
@@ -193,7 +191,7 @@ told_joined b call h free = record {
 }
 
 -- the history of a running call that ends
-told_ended : (b : Board) (r : RunningCall) (reply : Reply) (news : List NewPin) → IsSound b → Among r b.running → IsTold (ended b (entry_of r reply news))
+told_ended : (b : Board) (r : RunningCall) (reply : Reply) (news : List PartPin) → IsSound b → Among r b.running → IsTold (ended b (entry_of r reply news))
 unfolding ended
 told_ended b r reply news h runs =
     let e = entry_of r reply news in
@@ -355,7 +353,7 @@ unfolding started
 sound-started b w h next =
     let c = h.counted in
     let at : IsWaitingIn b w = Every-among (IsWaitingIn b) b.waiting w c.waits next.waits in
-    let one : RunningCall = record { number = w.number; call = w.call; pins = b.pins; taken = false } in
+    let one : RunningCall = record { number = w.number; call = w.call; pins = read_pins w.call.operation b.pins; taken = false } in
     let past : past_of (started b w) ≡ Began (as_path w.number w.call) ∷ past_of b =
     path_trace-snoc b.calls b.trace (Start w.number) ∙ ap (λ e. e ∷ past_of b) (start_event b.calls w.number w.call at.call) in
     let less : length (filter (λ (x : WaitingCall). not (x.number == w.number)) b.waiting) < length b.waiting = filter_less (λ (x : WaitingCall). not (x.number == w.number)) b.waiting w next.waits (ap not (eqb_same w.number)) in
@@ -387,9 +385,9 @@ sound-started b w h next =
         exclusive = h.pinned.exclusive;
         each = h.pinned.each;
         opening_each = h.pinned.opening_each;
-        long = Every-snoc _ b.running one h.pinned.long h.pinned.each;
+        long = Every-snoc _ b.running one h.pinned.long (record { pins = b.pins; each = h.pinned.each; kept = refl });
         lefts = h.pinned.lefts;
-        pinned = Every-snoc (IsPinned b.pins) b.running one h.pinned.pinned (λ p reads. refl);
+        pinned = Every-snoc (IsPinned b.pins) b.running one h.pinned.pinned (λ p reads. sym (kept_at w.call.operation b.pins p reads));
         chained = h.pinned.chained;
         entries = h.pinned.entries;
       };
@@ -397,22 +395,22 @@ sound-started b w h next =
     }
 
 -- the entries go on
-chained-snoc : (from : List Stamp) (es : List Noted) (last : List Stamp) (e : Noted) → IsChained from es last → Follows last e → IsChained from (es ++ e ∷ []) (published last (news_of e))
+chained-snoc : (from : List (List Stamp)) (es : List Noted) (last : List (List Stamp)) (e : Noted) → IsChained from es last → Follows last e → IsChained from (es ++ e ∷ []) (published last (news_of e))
 chained-snoc from [] last e chain follows = (subst (λ pins. Follows pins e) chain follows, ap (λ pins. published pins (news_of e)) chain)
 chained-snoc from (x ∷ xs) last e chain follows = (chain.0, chained-snoc (published from (news_of x)) xs last e chain.1 follows)
 
 -- what is published is no pin of what another running call reads
-still_pinned : (b : Board) (h : IsSound b) (r : RunningCall) → Among r b.running → (news : List NewPin) → ((p : ℕ) → HasPart news p → Writes (body_of r.call.operation).statements p)
+still_pinned : (b : Board) (h : IsSound b) (r : RunningCall) → Among r b.running → (news : List PartPin) → ((p : ℕ) → pin_at news p ≢ None → Writes (body_of r.call.operation).statements p)
     → (s : RunningCall) → Among s b.running → s.number ≢ r.number → IsPinned b.pins s → IsPinned (published b.pins news) s
-still_pinned b h r runs news writes s too differ pinned p reads = by_new (pin_for news p) refl
+still_pinned b h r runs news writes s too differ pinned p reads = by_new (pin_at news p) refl
   where
-    by_new : (new : Option Stamp) → pin_for news p ≡ new → slice_get (published b.pins news) p ≡ slice_get s.pins p
+    by_new : (new : Option (List Stamp)) → pin_at news p ≡ new → slice_get (published b.pins news) p ≡ pin_at s.pins p
     by_new None is = published_elsewhere b.pins news p is ∙ pinned p reads
-    by_new (Some stamp) is = absurd (never_conflict b h s r too runs differ p (inr (writes p (has_part news p stamp is), inl reads)))
+    by_new (Some pages) is = absurd (never_conflict b h s r too runs differ p (inr (writes p (has_pin news p pages is), inl reads)))
 
 -- a running call ends
-pub sound-ended : (b : Board) (r : RunningCall) (reply : Reply) (news : List NewPin) → IsSound b → Among r b.running
-    → ((p : ℕ) → HasPart (new_if_done reply news) p → Writes (body_of r.call.operation).statements p) → IsSound (ended b (entry_of r reply news))
+pub sound-ended : (b : Board) (r : RunningCall) (reply : Reply) (news : List PartPin) → IsSound b → Among r b.running
+    → ((p : ℕ) → pin_at (if_done reply news) p ≢ None → Writes (body_of r.call.operation).statements p) → IsSound (ended b (entry_of r reply news))
 unfolding ended
 sound-ended b r reply news h runs writes =
     let c = h.counted in
@@ -422,7 +420,7 @@ sound-ended b r reply news h runs writes =
     path_trace-snoc b.calls b.trace (End r.number reply) ∙ ap (λ x. x ∷ past_of b) (end_event b.calls r.number r.call reply at.call) in
     let fewer = filter_le (λ (x : RunningCall). not (x.number == r.number)) b.running in
     let made = made_at b r.number r.call c at.call in
-    let twice : new_if_done reply (new_if_done reply news) ≡ new_if_done reply news = done_twice reply news in
+    let twice : if_done reply (if_done reply news) ≡ if_done reply news = done_twice reply news in
     let kept : Every (λ (s : RunningCall). not (s.number == r.number) ≡ true) (filter (λ (x : RunningCall). not (x.number == r.number)) b.running) = filter_passes (λ (x : RunningCall). not (x.number == r.number)) b.running in
     record {
       counted = record {
@@ -443,22 +441,22 @@ sound-ended b r reply news h runs writes =
       };
       pinned = record {
         exclusive = h.pinned.exclusive;
-        each = length-published b.pins (new_if_done reply (new_if_done reply news)) ∙ h.pinned.each;
+        each = length-published b.pins (if_done reply (if_done reply news)) ∙ h.pinned.each;
         opening_each = h.pinned.opening_each;
         long = Every-filter _ _ b.running h.pinned.long;
         lefts = h.pinned.lefts;
-        pinned = every_from (IsPinned (published b.pins (new_if_done reply (new_if_done reply news)))) (filter (λ (x : RunningCall). not (x.number == r.number)) b.running)
+        pinned = every_from (IsPinned (published b.pins (if_done reply (if_done reply news)))) (filter (λ (x : RunningCall). not (x.number == r.number)) b.running)
             (λ s left. subst (λ ns. IsPinned (published b.pins ns) s) (sym twice)
-            (still_pinned b h r runs (new_if_done reply news) writes s (among_filter _ b.running s left) (other_number s.number r.number (Every-among _ _ s kept left)) (Every-among (IsPinned b.pins) b.running s h.pinned.pinned (among_filter _ b.running s left))));
+            (still_pinned b h r runs (if_done reply news) writes s (among_filter _ b.running s left) (other_number s.number r.number (Every-among _ _ s kept left)) (Every-among (IsPinned b.pins) b.running s h.pinned.pinned (among_filter _ b.running s left))));
         chained = chained-snoc b.opening b.history b.pins e h.pinned.chained
-            (record { reads = λ p reads. kept_at r.call.operation r.pins p reads ∙ sym (Every-among (IsPinned b.pins) b.running r h.pinned.pinned runs p reads); writes = λ p part. writes p (subst (λ ns. HasPart ns p) twice part) });
+            (record { reads = λ p reads. sym (Every-among (IsPinned b.pins) b.running r h.pinned.pinned runs p reads); writes = λ p part. writes p (subst (λ ns. pin_at ns p ≢ None) twice part) });
         entries = Every-snoc _ b.history e h.pinned.entries made.parts;
       };
       told = told_ended b r reply news h runs;
     }
 
 -- a board without calls
-pub sound-opened : (object : Object) (pins : List Stamp) → IsExclusive (object_of object) → length pins ≡ length object.parts.items → SatisfiesAll (object_of object).paths [] → IsSound (opened object pins)
+pub sound-opened : (object : Object) (pins : List (List Stamp)) → IsExclusive (object_of object) → length pins ≡ length object.parts.items → SatisfiesAll (object_of object).paths [] → IsSound (opened object pins)
 sound-opened object pins exclusive each satisfied =
     record {
       counted = record {
@@ -520,7 +518,7 @@ sound-taken b k r h is =
         exclusive = h.pinned.exclusive;
         each = h.pinned.each;
         opening_each = h.pinned.opening_each;
-        long = Every-set (λ (x : RunningCall). length x.pins ≡ length b.object.parts.items) b.running k y h.pinned.long (Every-at (λ (x : RunningCall). length x.pins ≡ length b.object.parts.items) b.running k r h.pinned.long is);
+        long = Every-set (HasItsPins (length b.object.parts.items)) b.running k y h.pinned.long (let x : HasItsPins (length b.object.parts.items) r = Every-at (HasItsPins (length b.object.parts.items)) b.running k r h.pinned.long is in record { pins = x.pins; each = x.each; kept = x.kept });
         lefts = h.pinned.lefts;
         pinned = Every-set (IsPinned b.pins) b.running k y h.pinned.pinned (Every-at (IsPinned b.pins) b.running k r h.pinned.pinned is);
         chained = h.pinned.chained;

@@ -9,7 +9,7 @@ use Rattle.path_tree.specs.Trace.{Event, IsFresh, IsAmong, running_calls, withou
 use Rattle.path_tree.specs.Trace.{Call as PathCall}
 use Rattle.path_tree.specs.Satisfies.{Satisfies, SatisfiesAll}
 use Rattle.path_tree.proofs.CountLaws.{end_satisfies}
-use Rattle.body_core.proofs.Stepping.{some_same}
+use Rattle.page_core.proofs.ListBytes.{some_same}
 use Rattle.apply_core.specs.declared.reply.Reply.{Reply}
 use Rattle.board_core.specs.declared.event.TraceEvent.{TraceEvent}
 use Rattle.board_core.specs.declared.event.TraceEvent.TheVariants.{Start, End}

@@ -6,22 +6,23 @@ use Rattle.path_tree.specs.Satisfies.{MayStart}
 use Rattle.std.specs.Arc.{arc_value}
 use Rattle.decl_core.specs.declared.object.Object.{Object}
 use Rattle.decl_core.specs.declared.object.Operation.{Operation}
+use Rattle.decl_core.specs.Bodies.{body_of}
+use Rattle.decl_core.specs.Footprint.{reads_of}
 use Rattle.decl_core.specs.ObjectMap.{object_of}
 use Rattle.hand_core.specs.declared.hand.Stamp.{Stamp}
-use Rattle.body_core.specs.declared.new_pins.NewPin.{NewPin}
 use Rattle.apply_core.specs.declared.reply.Reply.{Reply}
-use Rattle.body_core.specs.Outcomes.{new_if_done}
+use Rattle.page_core.specs.PartPins.{PartPin, pins_in}
+use Rattle.run_core.specs.Outcomes.{if_done}
 use Rattle.board_core.specs.declared.event.TraceEvent.{TraceEvent}
 use Rattle.board_core.specs.declared.event.TraceEvent.TheVariants.{Start, End}
 use Rattle.board_core.specs.Calls.{AcceptedCall, WaitingCall, RunningCall, Noted, noted_of}
 use Rattle.board_core.specs.Lists.{Among}
-use Rattle.board_core.specs.ReadPins.{read_pins}
 
 -- sessions have the numbers from 1 to this one
 abbrev pub most_sessions : ℕ
 most_sessions = 1024
 
--- The object, the accepted calls in the order of their numbers from 1, what happened in order, its finished calls in order, the calls that wait and those that run, of each session whether it left, and the pins of the parts: at the beginning, and the published ones.
+-- The object, the accepted calls in the order of their numbers from 1, what happened in order, its finished calls in order, the calls that wait and those that run, of each session whether it left, and the pins of the parts, each a page list: at the beginning, and the published ones.
 pub record Board : Type 0 where
   pub object : Object
   pub calls : List AcceptedCall
@@ -30,8 +31,8 @@ pub record Board : Type 0 where
   pub waiting : List WaitingCall
   pub running : List RunningCall
   pub left : List Bool
-  pub opening : List Stamp
-  pub pins : List Stamp
+  pub opening : List (List Stamp)
+  pub pins : List (List Stamp)
 
 -- the call of this number
 abbrev pub call_at : List AcceptedCall → ℕ → Option AcceptedCall
@@ -69,7 +70,7 @@ abbrev pub bodies : Object → List Operation
 bodies o = map (λ a. arc_value a) o.operations.items
 
 -- a board without calls
-abbrev pub opened : Object → List Stamp → Board
+abbrev pub opened : Object → List (List Stamp) → Board
 opened object pins = record { object = object; calls = []; trace = []; history = []; waiting = []; running = []; left = replicate most_sessions false; opening = pins; pins = pins }
 
 -- a call joins those that wait, with the next number
@@ -92,22 +93,26 @@ taken_at b k r = record b { running = slice_set b.running k (record r { taken = 
 unfoldable pub marked : Board → ℕ → Board
 marked b session = record b { left = slice_set b.left (session - 1) true }
 
--- a waiting call starts, with the published pins
+-- of pins, one for each part, those of the parts that an operation reads
+abbrev pub read_pins : Operation → List (List Stamp) → List PartPin
+read_pins operation pins = pins_in (reads_of (body_of operation)) 0 pins
+
+-- a waiting call starts, with the published pins of the parts that it reads
 unfoldable pub started : Board → WaitingCall → Board
 started b w = record b {
   trace = b.trace ++ Start w.number ∷ [];
   waiting = filter (λ x. not (x.number == w.number)) b.waiting;
-  running = b.running ++ (record { number = w.number; call = w.call; pins = b.pins; taken = false }) ∷ [];
+  running = b.running ++ (record { number = w.number; call = w.call; pins = read_pins w.call.operation b.pins; taken = false }) ∷ [];
 }
 
 -- the pins with new ones in place of those of their parts
-abbrev pub published : List Stamp → List NewPin → List Stamp
+abbrev pub published : List (List Stamp) → List PartPin → List (List Stamp)
 published pins [] = pins
-published pins (new ∷ news) = slice_set (published pins news) new.part new.stamp
+published pins (new ∷ news) = slice_set (published pins news) new.part new.pages
 
--- the entry of a running call that ended so: of its pins, it keeps those of the parts that its operation reads
-abbrev pub entry_of : RunningCall → Reply → List NewPin → Noted
-entry_of r reply news = noted_of r.number r.call reply (read_pins r.call.operation r.pins) (new_if_done reply news)
+-- the entry of a running call that ended so
+abbrev pub entry_of : RunningCall → Reply → List PartPin → Noted
+entry_of r reply news = noted_of r.number r.call reply r.pins (if_done reply news)
 
 -- a running call ends: its end stands in the trace and its entry in the history, and what it staged is published, if it was done
 unfoldable pub ended : Board → Noted → Board
@@ -115,7 +120,7 @@ ended b e = record b {
   trace = b.trace ++ End e.number e.reply ∷ [];
   history = b.history ++ e ∷ [];
   running = filter (λ r. not (r.number == e.number)) b.running;
-  pins = published b.pins (new_if_done e.reply e.news);
+  pins = published b.pins (if_done e.reply e.news);
 }
 
 -- of the calls that wait and may start this is the one with the least number

@@ -2,10 +2,8 @@
 use Rattle.std.specs.Prelude.{ℕ, Bool, List}
 use Rattle.value_core.specs.declared.datum.Datum.{Datum}
 use Rattle.decl_core.specs.declared.object.Operation.{Operation}
-use Rattle.hand_core.specs.declared.hand.Stamp.{Stamp}
 use Rattle.apply_core.specs.declared.reply.Reply.{Reply}
-use Rattle.body_core.specs.declared.new_pins.NewPin.{NewPin}
-use Rattle.board_core.specs.declared.part_pin.PartPin.{PartPin}
+use Rattle.page_core.specs.PartPins.{PartPin}
 
 -- an accepted call: its session, its operation, also by its place in the object, and its arguments
 pub record AcceptedCall : Type 0 where
@@ -19,11 +17,11 @@ pub record WaitingCall : Type 0 where
   pub number : ℕ
   pub call : AcceptedCall
 
--- a call that runs: the pins that were published at its start, and whether its ticket was taken
+-- a call that runs: of the pins that were published at its start those of the parts that its operation reads, and whether its ticket was taken
 pub record RunningCall : Type 0 where
   pub number : ℕ
   pub call : AcceptedCall
-  pub pins : List Stamp
+  pub pins : List PartPin
   pub taken : Bool
 
 -- an entry of the history: a call that has finished, with its reply, the pins of the parts that its operation reads, and the pins that it published
@@ -34,8 +32,8 @@ pub record Noted : Type 0 where
   pub arguments : List Datum
   pub reply : Reply
   pub pins : List PartPin
-  pub news : List NewPin
+  pub news : List PartPin
 
 -- the entry of a call
-abbrev pub noted_of : ℕ → AcceptedCall → Reply → List PartPin → List NewPin → Noted
+abbrev pub noted_of : ℕ → AcceptedCall → Reply → List PartPin → List PartPin → Noted
 noted_of n call reply pins news = record { number = n; session = call.session; operation = call.operation; arguments = call.arguments; reply = reply; pins = pins; news = news }

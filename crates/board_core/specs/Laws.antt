@@ -4,17 +4,17 @@ use Rattle.decl_core.specs.Bodies.{body_of}
 use Rattle.decl_core.specs.Touched.{Reads, Writes, Conflict}
 use Rattle.hand_core.specs.declared.hand.Stamp.{Stamp}
 use Rattle.hand_core.specs.Device.{Assignment}
-use Rattle.body_core.specs.declared.new_pins.NewPin.{NewPin}
+use Rattle.page_core.specs.PartPins.{PartPin, pin_at}
 use Rattle.apply_core.specs.declared.reply.Reply.{Reply}
-use Rattle.body_core.specs.Calls.{Call}
-use Rattle.body_core.specs.Truths.{IsTrueOf}
+use Rattle.call_core.specs.Calls.{Call}
+use Rattle.call_core.specs.Truths.{IsTrueOf}
 use Rattle.board_core.specs.Lists.{Every, Among}
 use Rattle.board_core.specs.Calls.{WaitingCall, RunningCall}
 use Rattle.board_core.specs.Board.{Board, Rests, Admits, entry_of}
 use Rattle.board_core.specs.Started.{HasStarted}
 use Rattle.board_core.specs.Outcomes.{IsOf}
 use Rattle.board_core.specs.Chain.{IsTrueEntry}
-use Rattle.board_core.specs.Free.{IsNeeded, Picks}
+use Rattle.board_core.specs.Free.{IsIn, IsNeeded, Picks}
 use Rattle.board_core.specs.Sound.{IsSound}
 
 -- Two calls that run at once have operations that do not conflict.
@@ -24,15 +24,15 @@ RunningNeverConflict = (b : Board) → IsSound b → (r s : RunningCall) → Amo
 -- The published pin of each part that a running call reads or writes is the one that it took.
 abbrev pub PinsStay : Type 0
 PinsStay = (b : Board) → IsSound b → (r : RunningCall) → Among r b.running → (p : ℕ) →
-    (Reads (body_of r.call.operation).statements p → slice_get b.pins p ≡ slice_get r.pins p) × (Writes (body_of r.call.operation).statements p → slice_get b.pins p ≡ slice_get r.pins p)
+    (Reads (body_of r.call.operation).statements p → slice_get b.pins p ≡ pin_at r.pins p) × (Writes (body_of r.call.operation).statements p → slice_get b.pins p ≡ pin_at r.pins p)
 
 -- No file that is picked is needed.
 abbrev pub PickedAreFree : Type 0
-PickedAreFree = (pins stamps all : List Stamp) (running : List RunningCall) → Picks (IsNeeded pins running) [] stamps all → Every (λ s. IsNeeded pins running s.number → ⊥) all
+PickedAreFree = (pins : List (List Stamp)) (stamps all : List Stamp) (running : List RunningCall) → Picks (IsNeeded pins running) [] stamps all → Every (λ s. IsNeeded pins running s.number → ⊥) all
 
 -- An outcome is true only if the entry made of it is.
 abbrev pub TruthIsNoted : Type 0
-TruthIsNoted = (a : Assignment) (call : Call) (r : RunningCall) (reply : Reply) (news : List NewPin) → IsOf call r → IsTrueOf a call reply news → IsTrueEntry a (entry_of r reply news)
+TruthIsNoted = (a : Assignment) (call : Call) (r : RunningCall) (reply : Reply) (news : List PartPin) → IsOf call r → IsTrueOf a call reply news → IsTrueEntry a (entry_of r reply news)
 
 -- Admission starts calls that waited, and changes nothing else.
 abbrev pub AdmissionStarts : Type 0
@@ -41,3 +41,11 @@ AdmissionStarts = (b after : Board) → Admits b after → (ones : List WaitingC
 -- After admission no waiting call may start.
 abbrev pub AdmissionRests : Type 0
 AdmissionRests = (b after : Board) → Admits b after → Rests after
+
+-- What is needed on a sound board is published: what a running call reads is the pin that is published.
+abbrev pub NeededIsPublished : Type 0
+NeededIsPublished = (b : Board) → IsSound b → (number : ℕ) → IsNeeded b.pins b.running number → IsIn number b.pins
+
+-- On a sound board those that are picked as not published are picked as not needed.
+abbrev pub PublishedArePicked : Type 0
+PublishedArePicked = (b : Board) → IsSound b → (stamps all : List Stamp) → Picks (λ number. IsIn number b.pins) [] stamps all → Picks (IsNeeded b.pins b.running) [] stamps all

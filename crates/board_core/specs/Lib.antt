@@ -1,7 +1,5 @@
 pub mod Lists
 pub mod Calls
-pub mod ReadPins
-pub mod Rooms
 pub mod Board
 pub mod Started
 pub mod Chain

@@ -1,11 +1,10 @@
 -- Which running call an outcome is of, and which entry is made of it.
 use Rattle.std.specs.Prelude.{◌≡◌, ℕ}
 use Rattle.decl_core.specs.ObjectMap.{operation_of}
-use Rattle.body_core.specs.declared.outcome.Outcome.{Outcome}
-use Rattle.body_core.specs.Calls.{Call}
-use Rattle.body_core.specs.Outcomes.{outcome_call, outcome_reply, outcome_pins}
+use Rattle.call_core.specs.Calls.{Call}
+use Rattle.run_core.specs.declared.outcome.Outcome.{Outcome}
+use Rattle.run_core.specs.Outcomes.{outcome_call, outcome_reply, outcome_pins}
 use Rattle.board_core.specs.Calls.{RunningCall, Noted}
-use Rattle.board_core.specs.ReadPins.{read_pins}
 
 -- an outcome, by its call, comes from this running call
 pub record IsOf (c : Call) (r : RunningCall) : Type 0 where
@@ -14,12 +13,12 @@ pub record IsOf (c : Call) (r : RunningCall) : Type 0 where
   pub arguments : r.call.arguments ≡ c.arguments
   pub pins : r.pins ≡ c.pins
 
--- An entry is that of this outcome of a call of this session: it tells of the call all that the outcome tells, and of its pins those of the parts that its operation reads.
+-- An entry is that of this outcome of a call of this session: it tells of the call all that the outcome tells.
 pub record IsEntryOf (from : ℕ) (o : Outcome) (e : Noted) : Type 0 where
   pub number : e.number ≡ (outcome_call o).number
   pub session : e.session ≡ from
   pub operation : operation_of e.operation ≡ operation_of (outcome_call o).operation
   pub arguments : e.arguments ≡ (outcome_call o).arguments
   pub reply : e.reply ≡ outcome_reply o
-  pub pins : e.pins ≡ read_pins e.operation (outcome_call o).pins
+  pub pins : e.pins ≡ (outcome_call o).pins
   pub news : e.news ≡ outcome_pins o

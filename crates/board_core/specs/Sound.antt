@@ -13,13 +13,14 @@ use Rattle.decl_core.specs.ObjectMap.{operation_of}
 use Rattle.decl_core.specs.Touched.{Reads}
 use Rattle.exclude_core.specs.Exclusive.{IsExclusive}
 use Rattle.hand_core.specs.declared.hand.Stamp.{Stamp}
+use Rattle.page_core.specs.PartPins.{pin_at}
 use Rattle.apply_core.specs.Fits.{ArgumentsFit}
 use Rattle.apply_core.specs.declared.reply.Reply.{Reply}
 use Rattle.board_core.specs.declared.event.TraceEvent.{TraceEvent}
 use Rattle.board_core.specs.declared.event.TraceEvent.TheVariants.{Start, End}
 use Rattle.board_core.specs.Lists.{Every, EachPair, Among}
 use Rattle.board_core.specs.Calls.{AcceptedCall, WaitingCall, RunningCall, Noted}
-use Rattle.board_core.specs.Board.{Board, call_at, paths_of, past_of, most_sessions}
+use Rattle.board_core.specs.Board.{Board, call_at, paths_of, past_of, most_sessions, read_pins}
 use Rattle.board_core.specs.Chain.{IsChained, AreOf}
 
 -- the kinds of an object's parts
@@ -71,15 +72,21 @@ pub record IsCounted (b : Board) : Type 0 where
   pub apart : EachPair (λ x y. x.number ≢ y.number) b.running
 
 -- the published pin of each part that a running call reads is the one that it took
-abbrev pub IsPinned : List Stamp → RunningCall → Type 0
-IsPinned pins r = (p : ℕ) → Reads (body_of r.call.operation).statements p → slice_get pins p ≡ slice_get r.pins p
+abbrev pub IsPinned : List (List Stamp) → RunningCall → Type 0
+IsPinned pins r = (p : ℕ) → Reads (body_of r.call.operation).statements p → slice_get pins p ≡ pin_at r.pins p
+
+-- of pins, one for each of so many parts, a running call has those of the parts that its operation reads
+pub record HasItsPins (parts : ℕ) (r : RunningCall) : Type 0 where
+  pub pins : List (List Stamp)
+  pub each : length pins ≡ parts
+  pub kept : r.pins ≡ read_pins r.call.operation pins
 
 -- the pins of a board, and its history
 pub record IsPinnedBoard (b : Board) : Type 0 where
   pub exclusive : IsExclusive (object_of b.object)
   pub each : length b.pins ≡ length b.object.parts.items
   pub opening_each : length b.opening ≡ length b.object.parts.items
-  pub long : Every (λ r. length r.pins ≡ length b.object.parts.items) b.running
+  pub long : Every (HasItsPins (length b.object.parts.items)) b.running
   pub lefts : length b.left ≡ most_sessions
   pub pinned : Every (IsPinned b.pins) b.running
   pub chained : IsChained b.opening b.history b.pins

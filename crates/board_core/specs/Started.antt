@@ -4,11 +4,11 @@ use Rattle.std.specs.List.{list_any}
 use Rattle.hand_core.specs.declared.hand.Stamp.{Stamp}
 use Rattle.board_core.specs.declared.event.TraceEvent.TheVariants.{Start}
 use Rattle.board_core.specs.Calls.{WaitingCall, RunningCall}
-use Rattle.board_core.specs.Board.{Board, Admits}
+use Rattle.board_core.specs.Board.{Board, Admits, read_pins}
 
--- a call that waited runs, by these pins
-abbrev pub run_of : List Stamp → WaitingCall → RunningCall
-run_of pins w = record { number = w.number; call = w.call; pins = pins; taken = false }
+-- a call that waited runs, by those of these pins whose parts it reads
+abbrev pub run_of : List (List Stamp) → WaitingCall → RunningCall
+run_of pins w = record { number = w.number; call = w.call; pins = read_pins w.call.operation pins; taken = false }
 
 -- this number is that of one of these calls
 abbrev pub is_number_in : List WaitingCall → ℕ → Bool

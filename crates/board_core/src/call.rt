@@ -5,6 +5,7 @@ ghost use Rattle.std.specs.Arc.{arc_value};
 
 use decl_core::object::Operation;
 use path_tree::node::OpId;
+use std::alloc::Global;
 use std::marker::Model;
 use std::sync::Arc;
 use value_core::datum::Datum;
@@ -70,5 +71,10 @@ impl Call {
         ensures { result.now ≡ self.now.arguments }
     {
         &self.args
+    }
+
+    // Where its memory is from.
+    pub(crate) fn alloc(&self) -> Global {
+        *self.args.allocator()
     }
 }

@@ -1,7 +1,7 @@
 //! Laws of boards and of entries, over the definitions alone.
 
 ghost use Rattle.board_core.specs.Chain.{ChainedAreLegal};
-ghost use Rattle.board_core.specs.Laws.{RunningNeverConflict, PinsStay, PickedAreFree, TruthIsNoted, AdmissionStarts, AdmissionRests};
+ghost use Rattle.board_core.specs.Laws.{RunningNeverConflict, PinsStay, PickedAreFree, TruthIsNoted, AdmissionStarts, AdmissionRests, NeededIsPublished, PublishedArePicked};
 
 /// Chained entries of which each is true are a legal history, and it leads to what the last pins spell.
 pub fn chained_are_legal()
@@ -18,7 +18,7 @@ pub fn pins_stay()
     ensures { PinsStay }
 {}
 
-/// No file that a receipt frees is published, or read by a running call.
+/// No file that a receipt frees is a page of a published pin, or of one that a running call reads.
 pub fn picked_are_free()
     ensures { PickedAreFree }
 {}
@@ -36,4 +36,14 @@ pub fn admission_starts()
 /// After admission no waiting call may start.
 pub fn admission_rests()
     ensures { AdmissionRests }
+{}
+
+/// A file that is needed on a sound board is a page of a published pin.
+pub fn needed_is_published()
+    ensures { NeededIsPublished }
+{}
+
+/// Stamps that are picked as not published are picked as not needed, on a sound board.
+pub fn published_are_picked()
+    ensures { PublishedArePicked }
 {}

@@ -1,18 +1,18 @@
 //! What a finish gives.
 
-ghost use Rattle.std.specs.Prelude.{◌≡◌};
+ghost use Rattle.std.specs.Prelude.{◌≡◌, [], IfSome, IfNone};
 ghost use Rattle.std.specs.Arc.{arc_value};
-ghost use Rattle.body_core.specs.Outcomes.{outcome_call, outcome_reply, outcome_pins};
+ghost use Rattle.run_core.specs.Outcomes.{outcome_call, outcome_reply, outcome_pins};
 
 use apply_core::reply::Reply;
-use body_core::outcome::{NewPin, Outcome};
 use decl_core::object::Operation;
 use hand_core::hand::Stamp;
-use hand_core::pins::Pins;
+use page_core::part_pins::PartPins;
+use run_core::outcome::Outcome;
 use std::sync::Arc;
 use value_core::datum::Datum;
 
-/// The entry of a call that finished: its session, and the very outcome that was handed in.
+/// The entry of a call that finished: its session, and the outcome that was handed in.
 #[derive(Drop)]
 pub struct NotedOutcome {
     /// The session that made the call.
@@ -50,16 +50,18 @@ impl NotedOutcome {
         self.outcome.reply()
     }
 
-    /// The pins that were published at the call's start, one for each part of the object.
-    pub fn pins(&self) -> &Pins
+    /// The pins that were published at the call's start, one for each part that its operation reads.
+    pub fn pins(&self) -> &PartPins
         ensures { result.now ≡ (outcome_call self.now.outcome).pins }
     {
         self.outcome.pins()
     }
 
-    /// The new pins that were published, for the parts that the call changed, in the order of the parts.
-    pub fn new_pins(&self) -> &[NewPin]
-        ensures { result.now ≡ outcome_pins self.now.outcome }
+    /// The new pins that were published, for the parts that the call changed, in the order of the parts. Only a call
+    /// that was done has some.
+    pub fn new_pins(&self) -> Option<&PartPins>
+        ensures some { IfSome result (λ pins. pins.now ≡ outcome_pins self.now.outcome) }
+        ensures none { IfNone result (outcome_pins self.now.outcome ≡ []) }
     {
         self.outcome.new_pins()
     }
@@ -72,7 +74,7 @@ pub struct Receipt {
     pub place: usize,
     /// The entry.
     pub noted: NotedOutcome,
-    /// The files that nobody needs any more, each once, in the order of the parts: those that the outcome
-    /// replaced, or those that its run sealed where the call failed. They may be retired.
+    /// The files that nobody needs any more, each once, in the order in which the outcome tells them: those that it
+    /// replaced or dropped, or those that its run sealed where the call failed. They may be retired.
     pub free: Vec<Stamp>,
 }

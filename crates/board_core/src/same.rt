@@ -1,9 +1,10 @@
 //! Whether two of a kind are the same.
 
-ghost use Rattle.std.specs.Prelude.{◌≡◌, ◌↔◌, IsTrue};
+ghost use Rattle.std.specs.Prelude.{◌≡◌, ◌↔◌, [], IsTrue};
 
-use body_core::outcome::NewPin;
-use hand_core::hand::Stamp;
+use decl_core::id::MOST_PARTS;
+use page_core::part_pins::PartPins;
+use std::alloc::Global;
 use value_core::datum::Datum;
 
 /// Whether two rows of data are the same.
@@ -17,38 +18,9 @@ pub fn same_args(a: &[Datum], b: &[Datum]) -> bool
     }
 }
 
-// Whether two stamps are the same.
-fn same_stamp(a: &Stamp, b: &Stamp) -> bool
-    ensures { IsTrue result ↔ (a.now ≡ b.now) }
+// Whether there are no pins. It takes no memory.
+pub(crate) fn is_none(alloc: Global, pins: &PartPins) -> bool
+    ensures { IsTrue result ↔ (pins.now ≡ []) }
 {
-    *a == *b
-}
-
-/// Whether two rows of pins are the same.
-pub fn same_stamps(a: &[Stamp], b: &[Stamp]) -> bool
-    ensures { IsTrue result ↔ (a.now ≡ b.now) }
-{
-    match (a, b) {
-        ([], []) => true,
-        ([x, xs @ ..], [y, ys @ ..]) => same_stamp(x, y) && same_stamps(xs, ys),
-        _ => false,
-    }
-}
-
-// Whether two new pins are the same.
-fn same_new(a: &NewPin, b: &NewPin) -> bool
-    ensures { IsTrue result ↔ (a.now ≡ b.now) }
-{
-    *a == *b
-}
-
-// Whether two rows of new pins are the same.
-pub(crate) fn same_news(a: &[NewPin], b: &[NewPin]) -> bool
-    ensures { IsTrue result ↔ (a.now ≡ b.now) }
-{
-    match (a, b) {
-        ([], []) => true,
-        ([x, xs @ ..], [y, ys @ ..]) => same_new(x, y) && same_news(xs, ys),
-        _ => false,
-    }
+    pins.is_same(&PartPins::from_counts([0; MOST_PARTS], Vec::new(alloc)))
 }

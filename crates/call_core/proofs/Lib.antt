@@ -3,3 +3,4 @@ pub mod Changing
 pub mod Left
 pub mod Origins
 pub mod Renewals
+pub mod Sizes

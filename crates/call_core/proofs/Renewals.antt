@@ -6,7 +6,7 @@ use Rattle.std.proofs.lemmas.List.{append-nil, length-map}
 use Rattle.hand_core.specs.declared.hand.Stamp.{Stamp}
 use Rattle.page_core.specs.declared.plan.PageWrite.{PageWrite}
 use Rattle.page_core.specs.Bytes.{AreCutBy, split_by}
-use Rattle.page_core.specs.Cut.{IsPageSize, AreCutLengths, together, lengths}
+use Rattle.page_core.specs.Cut.{IsPageSize, AreCutLengths, AreFull, together, lengths}
 use Rattle.page_core.specs.Plans.{IsPlan}
 use Rattle.page_core.specs.Laws.{PartRenewal, ArePlanned, no_part, one_part}
 use Rattle.page_core.specs.PartPins.{PartPin, pin_at}
@@ -16,7 +16,7 @@ use Rattle.page_core.proofs.ListBytes.{some_same}
 use Rattle.page_core.proofs.Renewing.{plan_many, plan_places}
 use Rattle.judge_core.specs.declared.judge.Change.{Change}
 use Rattle.call_core.specs.Changed.{AreWithin}
-use Rattle.call_core.specs.Planned.{AreRenewals, IsPlanned, IsPlannedChange, ArePlansFrom}
+use Rattle.call_core.specs.Planned.{IsRenewalOf, AreRenewals, IsPlanned, IsPlannedChange, ArePlansFrom, AreShort}
 use Rattle.call_core.specs.Planned.{no_part as no_change, same, renewed}
 
 -- the pages of a cut are some, and at most 8
@@ -131,7 +131,7 @@ module _ (pins : List PartPin) (read : List (List ℕ)) where
       → ArePlansFrom pins read from (change ∷ changes) (count ∷ counts) stamps stamps2 writes writes2 gone gone2
   one_from from change changes count counts stamps stamps1 stamps2 writes writes1 writes2 gone gone1 gone2 at c p = record {
     parts = part ∷ p.parts;
-    renewals = renewed change part changes p.parts counts count at (record { pinned = c.pinned; there = c.there; after = refl; size = c.size; least = c.least; some = c.some }) c.counted p.renewals;
+    renewals = renewed change part changes p.parts counts count at (record { pinned = c.pinned; there = c.there; after = refl; size = c.size; least = c.least; cut = c.plan.cut; some = c.some }) c.counted p.renewals;
     more_stamps = c.plan.more_stamps ++ p.more_stamps;
     more_writes = c.plan.more_writes ++ p.more_writes;
     more_gone = c.plan.more_gone ++ p.more_gone;
@@ -194,3 +194,26 @@ each_place parts stamps writes gone plan = get_place (length stamps) writes (pla
 -- the counts of a plan count its stamps
 pub counts_are : (pins : List PartPin) (read : List (List ℕ)) (changes : List Change) (counts : List ℕ) (stamps : List Stamp) (writes : List PageWrite) (gone : List Stamp) → IsPlanned pins read changes counts stamps writes gone → together counts ≡ length stamps
 counts_are pins read changes counts stamps writes gone p = renewed_many pins read 0 changes p.parts counts p.renewals ∙ sym (planned_many 0 p.parts stamps writes gone p.plans)
+
+-- the pages of a cut have some bytes
+full_some : (size : ℕ) (pages : List (List ℕ)) → AreFull size (map length pages) → 0 < length pages → 0 < together (map length pages)
+full_some size [] full some = some
+full_some size (page ∷ []) full some = omega (arith, full.0.0)
+full_some size (page ∷ next ∷ more) full some = omega (arith, full_some size (next ∷ more) full.1 (omega arith))
+
+-- a changed part has at most 8 pages
+renewal_few : (pins : List PartPin) (read : List (List ℕ)) (change : Change) (part : PartRenewal) → IsRenewalOf pins read change part → length part.pages ≤ 8
+renewal_few pins read change part is =
+    let count : length change.bytes ≡ together (map length part.pages) = ap length (sym (is.cut.whole ∙ is.after)) ∙ sym (together_concat part.pages) in
+    let lens : AreCutLengths (map length part.pages) = record { some = full_some is.size part.pages is.cut.full is.some; size = is.size; least = subst (λ n. IsPageSize n is.size) count is.least; full = is.cut.full } in
+    omega (arith, few (map length part.pages) lens, length-map part.pages length)
+
+front_short : (count : ℕ) (counts : List ℕ) → count ≤ 8 → AreShort counts → AreShort (count ∷ counts)
+front_short count counts low behind zero n is = subst (λ m. m ≤ 8) (some_same is) low
+front_short count counts low behind (suc k) n is = behind k n is
+
+pub renewals_short : (pins : List PartPin) (read : List (List ℕ)) (from : ℕ) (changes : List Change) (parts : List PartRenewal) (counts : List ℕ) → AreRenewals pins read from changes parts counts → AreShort counts
+renewals_short pins read from changes parts counts no_change = λ k n is. absurd cc
+renewals_short pins read from changes parts counts (same changes1 parts1 rest r) = front_short 0 rest (omega arith) (renewals_short pins read (from + 1) changes parts rest r)
+renewals_short pins read from changes parts counts (renewed change part changes1 parts1 rest count at is counted r) =
+    front_short count rest (omega (arith, counted, renewal_few pins read change part is)) (renewals_short pins read (from + 1) changes1 parts1 rest r)

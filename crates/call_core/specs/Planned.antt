@@ -1,7 +1,8 @@
 -- What a call writes of what its body changed.
-use Rattle.std.specs.Prelude.{◌≡◌, ℕ, ◌+◌, ◌<◌, List, [], ◌∷◌, ◌++◌, length, Some, slice_get}
+use Rattle.std.specs.Prelude.{◌≡◌, ℕ, ◌+◌, ◌<◌, ◌≤◌, List, [], ◌∷◌, ◌++◌, length, Some, slice_get}
 use Rattle.hand_core.specs.declared.hand.Stamp.{Stamp}
 use Rattle.page_core.specs.declared.plan.PageWrite.{PageWrite}
+use Rattle.page_core.specs.Bytes.{AreCutBy}
 use Rattle.page_core.specs.Cut.{IsPageSize}
 use Rattle.page_core.specs.Plans.{IsPlan}
 use Rattle.page_core.specs.Laws.{PartRenewal, ArePlanned}
@@ -16,6 +17,7 @@ pub record IsRenewalOf (pins : List PartPin) (read : List (List ℕ)) (change : 
   pub after : part.after ≡ change.bytes
   pub size : ℕ
   pub least : IsPageSize (length change.bytes) size
+  pub cut : AreCutBy size part.after part.pages
   pub some : 0 < length part.pages
 
 -- in order, from this part on: each changed part is renewed, and there is a count of pages for each part, which is 0 where it was not changed
@@ -63,3 +65,11 @@ pub record AreNewPins (pins : List PartPin) (read : List (List ℕ)) (changes : 
   pub planned : IsPlanned pins read changes counts stamps writes gone
   pub all : length sealed ≡ length writes
   pub news_are : news ≡ pins_by 0 counts (with_sealed stamps writes sealed)
+
+-- counts of pages: each part has at most 8
+abbrev pub AreShort : List ℕ → Type 0
+AreShort counts = (k count : ℕ) → slice_get counts k ≡ Some count → count ≤ 8
+
+-- each part that has a pin has from 1 to 8 pages
+abbrev pub AreSized : List PartPin → Type 0
+AreSized pins = (p : ℕ) (pages : List Stamp) → pin_at pins p ≡ Some pages → (0 < length pages) × (length pages ≤ 8)

@@ -3,6 +3,7 @@ use Rattle.std.specs.Prelude.{◌≡◌, ◌≢◌, ℕ, List, [], Option, Some,
 use Rattle.value_core.specs.declared.kind.Kind.{Kind}
 use Rattle.value_core.specs.Contents.{Contents, kind_of}
 use Rattle.value_core.specs.Spelling.{Spells}
+use Rattle.value_core.specs.Laws.{AreBytes}
 use Rattle.hand_core.specs.declared.hand.Stamp.{Stamp}
 use Rattle.hand_core.specs.Device.{Assignment}
 use Rattle.apply_core.specs.declared.reply.Failure.TheVariants as failures
@@ -34,9 +35,16 @@ IsTrueAt a call (Failed failures.Damaged) news = IsDamaged (PinHolds a call.pins
 IsTrueAt a call (Failed failures.Device) news = Unit {0}
 IsTrueAt a call (Failed failures.Memory) news = Unit {0}
 
+-- a page list is whole, and what stands under it are bytes: an assignment maps to lists of numbers
+pub record IsPinWhole (a : Assignment) (pages : List Stamp) : Type 0 where
+  pub whole : AreWhole a pages
+  pub bytes : List ℕ
+  pub there : list_bytes a pages ≡ Some bytes
+  pub are : AreBytes bytes
+
 -- each pin of a part that the operation reads is whole
 abbrev pub PinsAreWhole : Assignment → Call → Type 0
-PinsAreWhole a call = (p : ℕ) (kind : Kind) (pages : List Stamp) → IsNamed call.operation p kind → pin_at call.pins p ≡ Some pages → AreWhole a pages
+PinsAreWhole a call = (p : ℕ) (kind : Kind) (pages : List Stamp) → IsNamed call.operation p kind → pin_at call.pins p ≡ Some pages → IsPinWhole a pages
 
 -- An outcome is true of an assignment where, if the pins of its reads are whole, what it replies is what the body gives on the contents that they spell, and its new pins hold what the body changed.
 abbrev pub IsTrueOf : Assignment → Call → Reply → List PartPin → Type 0

@@ -10,7 +10,7 @@ ghost use Rattle.judge_core.specs.Written.{WritesInOrder, parts_changed};
 ghost use Rattle.page_core.specs.declared.plan.PageWrite.{PageWrite as AWrite};
 ghost use Rattle.page_core.specs.Cut.{IsPageSize, together};
 ghost use Rattle.page_core.specs.PartPins.{pin_at};
-ghost use Rattle.call_core.specs.Planned.{IsPlanned, IsPlannedChange, ArePlansFrom};
+ghost use Rattle.call_core.specs.Planned.{IsPlanned, IsPlannedChange, ArePlansFrom, AreShort};
 ghost use Rattle.call_core.specs.Changed.{AreWithin, AreKnown};
 
 use crate::task::{Task, pages_of};
@@ -36,14 +36,20 @@ pub struct PagePlan {
     pub gone: Vec<Stamp>,
     /// The files that were sealed for the first of these pages, in order. There is room for one of each page.
     pub sealed: Vec<Stamp>,
+    /// Memory for the stamps of the new lists once more, empty.
+    pub entry: Vec<Stamp>,
     // the counts count the stamps
     ghost counted: { together counts ≡ length stamps.items },
+    // each part has at most 8 pages
+    ghost short: { AreShort counts },
     // each write has a place among the stamps
     ghost placed: { (k : ℕ) (write : AWrite) → slice_get writes.items k ≡ Some write → write.place < length stamps.items },
     // no more are sealed than are written
     ghost few: { length sealed.items ≤ length writes.items },
     // there is room for the file of each page
     ghost room: { length writes.items ≤ vec_capacity sealed },
+    // there is room for each stamp once more
+    ghost twice: { (entry.items ≡ []) × (length stamps.items ≤ vec_capacity entry) },
 }
 
 // The size of the pages into which some bytes are cut.
@@ -153,6 +159,7 @@ fn no_plan(alloc: Global, pins: &PartPins, read: &[FileBytes]) -> PagePlan
         writes: Vec::new(alloc),
         gone: Vec::new(alloc),
         sealed: Vec::new(alloc),
+        entry: Vec::new(alloc),
     }
 }
 
@@ -195,12 +202,17 @@ pub fn plan_pages(
         Ok(sealed) => sealed,
         Err(_) => return Err(AllocError),
     };
+    let entry = match Vec::with_capacity(alloc, stamps.len()) {
+        Ok(entry) => entry,
+        Err(_) => return Err(AllocError),
+    };
     Ok(PagePlan {
         counts,
         stamps,
         writes,
         gone,
         sealed,
+        entry,
     })
 }
 
@@ -229,6 +241,7 @@ impl PagePlan {
             writes,
             gone,
             sealed,
+            entry,
         } = self;
         let mut stamps = stamps;
         put_at(&mut stamps, place, stamp);
@@ -238,6 +251,7 @@ impl PagePlan {
             writes,
             gone,
             sealed: with_one(sealed, stamp),
+            entry,
         }
     }
 }

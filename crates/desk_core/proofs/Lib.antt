@@ -5,4 +5,4 @@ pub mod Marking
 pub mod Places
 pub mod Telling
 pub mod Sending
-pub mod Queueing
+pub mod Publishing

@@ -11,6 +11,7 @@ use Rattle.board_core.proofs.Lists.{Every-map, Every-snoc}
 use Rattle.board_core.specs.Board.{Board}
 use Rattle.board_core.specs.Sound.{IsSound, IsNoted}
 use Rattle.board_core.proofs.Sound.{call_number}
+use Rattle.queue_core.proofs.Fronts.{get_set}
 use Rattle.desk_core.specs.Kept.{IsPlaceOf, ArePlaces}
 
 -- an item of a longer list
@@ -19,14 +20,6 @@ get_more [] y zero x is = inr (refl, ap (λ o. unwrap_or o y) is)
 get_more [] y (suc k) x is = absurd cc
 get_more (z ∷ xs) y zero x is = inl is
 get_more (z ∷ xs) y (suc k) x is = elim (get_more xs y k x is) [ inl h ↦ inl h | inr h ↦ inr (omega (arith, h.0), h.1) ]
-
--- an item of a list in which one was set
-pub get_set : {X : Type 0} (xs : List X) (j : ℕ) (y : X) (k : ℕ) (x : X) → slice_get (slice_set xs j y) k ≡ Some x → ((k ≡ j) × (y ≡ x)) ⊎ ((k ≢ j) × (slice_get xs k ≡ Some x))
-get_set [] j y k x is = absurd cc
-get_set (z ∷ xs) zero y zero x is = inl (refl, ap (λ o. unwrap_or o y) is)
-get_set (z ∷ xs) zero y (suc k) x is = inr (λ same. absurd (omega (arith, same)), is)
-get_set (z ∷ xs) (suc j) y zero x is = inr (λ same. absurd (omega (arith, same)), is)
-get_set (z ∷ xs) (suc j) y (suc k) x is = elim (get_set xs j y k x is) [ inl h ↦ inl (omega (arith, h.0), h.1) | inr h ↦ inr (λ same. h.0 (omega (arith, same)), h.1) ]
 
 get_front : {X : Type 0} (xs ys : List X) (k : ℕ) (x : X) → slice_get xs k ≡ Some x → slice_get (xs ++ ys) k ≡ Some x
 get_front [] ys k x is = absurd cc

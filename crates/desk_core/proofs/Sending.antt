@@ -1,31 +1,9 @@
 -- A desk may be handed to another thread and shared between threads.
 use denote.Param.Send.{IsSend, IsSync, sendable}
 use Rattle.std.proofs.Crossing.{crosses}
-use Rattle.board_core.proofs.Sending.{operation_send, operation_sync, accepted_send, accepted_sync, call_send, call_sync, entry_send, entry_sync}
-use Rattle.desk_core.specs.contracts.open_call.Waiting as waiting
-use Rattle.desk_core.specs.contracts.open_call.Running as running
-use Rattle.desk_core.specs.contracts.queue.Queue as queue
+use Rattle.board_core.proofs.Sending.{accepted_send, accepted_sync, call_send, call_sync, entry_send, entry_sync}
+use Rattle.queue_core.proofs.Sending.{queue_send, queue_sync, running_send, running_sync}
 use Rattle.desk_core.specs.contracts.desk.Desk as desk
-
-ruleset calls = (sendable, crosses, operation_send, operation_sync, call_send, call_sync)
-
-waiting_send : IsSend waiting.the_row
-waiting_send = search calls depth 40 fits 20000
-
-waiting_sync : IsSync waiting.the_row
-waiting_sync = search calls depth 40 fits 20000
-
-queue_send : IsSend queue.the_row
-queue_send = search (sendable, crosses, waiting_send) depth 40 fits 20000
-
-queue_sync : IsSync queue.the_row
-queue_sync = search (sendable, crosses, waiting_sync) depth 40 fits 20000
-
-running_send : IsSend running.the_row
-running_send = search calls depth 40 fits 20000
-
-running_sync : IsSync running.the_row
-running_sync = search calls depth 40 fits 20000
 
 pub desk_send : IsSend desk.the_row
 desk_send = search (sendable, crosses, accepted_send, call_send, call_sync, entry_send, queue_send, running_send) depth 40 fits 20000

@@ -1,38 +1,35 @@
 -- Which call is next.
-use Rattle.std.proofs.Common.{add-one, ◌≡◌, ◌≢◌, ℕ, zero, suc, ◌+◌, ◌<◌, ◌≤◌, ◌⊎◌, inl, inr, true, List, [], ◌∷◌, ◌++◌, length, Option, Some, None, refl, sym, ◌∙◌, ap, subst, arith, take, drop, map, get_or}
+use Rattle.std.proofs.Common.{add-one, ◌≡◌, ◌≢◌, ℕ, zero, suc, ◌+◌, ◌<◌, ◌≤◌, ◌⊎◌, inl, inr, Bool, true, false, List, [], ◌∷◌, ◌++◌, length, Option, Some, None, refl, sym, ◌∙◌, ap, subst, arith, take, drop, map}
 use Rattle.std.specs.Prelude.{slice_get, unwrap_or, IfSome, IfNone, not, ◌==◌}
+use Rattle.std.specs.Int.{bit_at}
 use Rattle.std.specs.List.{filter}
 use Rattle.std.proofs.lemmas.Bool.Decides.{eqb_tells}
-use Rattle.std.proofs.lemmas.List.{take_more}
 use Rattle.std.proofs.lemmas.Option.{slice_get_within}
 use Rattle.std.specs.declared.sync.Arc.{Arc}
+use Rattle.value_core.proofs.Encoding.{none_within}
 use Rattle.decl_core.specs.declared.object.Operation.{Operation}
 use Rattle.decl_core.specs.ObjectMap.{object_of}
 use Rattle.decl_core.specs.ObjectMap.{operations_of}
 use Rattle.board_core.specs.Lists.{Every, EachPair, Among}
 use Rattle.board_core.specs.Calls.{WaitingCall, RunningCall}
-use Rattle.board_core.specs.Board.{Board, paths_of, past_of, IsNext, Rests, started}
-use Rattle.desk_core.specs.Kept.{CanStart, IsFirst}
-use Rattle.board_core.specs.Sound.{IsSound, IsMadeOf, IsWaitingIn, IsRunningIn, kinds_of}
+use Rattle.board_core.specs.Board.{Board, paths_of, past_of, IsNext, Rests, started, read_pins}
+use Rattle.queue_core.specs.Starts.{CanStart, IsFirst}
+use Rattle.board_core.specs.Sound.{IsSound, IsMadeOf, IsWaitingIn, IsRunningIn, IsPinned, HasItsPins, kinds_of}
 use Rattle.decl_core.specs.declared.object.Part.{Part}
 use Rattle.decl_core.specs.Bodies.{body_of}
-use Rattle.decl_core.specs.Touched.{Writes}
+use Rattle.decl_core.specs.Footprint.{reads_of}
+use Rattle.decl_core.specs.Touched.{Reads, Writes}
 use Rattle.decl_core.specs.Typed.{IsHeld}
 use Rattle.decl_core.proofs.Footprints.{writes_are_reads}
+use Rattle.decl_core.proofs.Touched.{reads_bits}
+use Rattle.hand_core.specs.declared.hand.Stamp.{Stamp}
+use Rattle.page_core.specs.PartPins.{PartPin, pin_at, pins_in, put_if}
 use Rattle.apply_core.proofs.HeldReads.{reads_held}
-use Rattle.body_core.specs.Calls.{HasPins}
-use Rattle.board_core.proofs.Lists.{Every-snoc, Every-map, Every-at, Every-among, among_at, filter_one, filter_less, eqb_same}
+use Rattle.call_core.specs.Calls.{HasPins}
+use Rattle.board_core.proofs.Kept.{kept_at}
+use Rattle.board_core.proofs.Lists.{Every-map, Every-at, Every-among, among_at, filter_one, filter_less, eqb_same}
 use Rattle.board_core.proofs.Sound.{made_at}
-
--- the first so many, and one more
-pub Every-more : {X : Type 0} (P : X → Type 0) (xs : List X) (k : ℕ) (x : X) → Every P (take k xs) → slice_get xs k ≡ Some x → P x → Every P (take (k + 1) xs)
-Every-more P xs k x all is here =
-    subst (Every P) (sym (take_more xs k x (slice_get_within xs k x is))) (Every-snoc P (take k xs) (get_or xs k x) all (subst P (same xs k x is) here))
-  where
-    same : {X : Type 0} (xs : List X) (k : ℕ) (x : X) → slice_get xs k ≡ Some x → x ≡ get_or xs k x
-    same [] k x is = absurd cc
-    same (y ∷ xs) zero x is = sym (ap (λ o. unwrap_or o x) is)
-    same (y ∷ xs) (suc k) x is = same xs k x is
+use Rattle.board_core.proofs.Traces.{true_false}
 
 -- each one stands before this place, or has no smaller number than the one there
 split_at : (xs : List WaitingCall) (k : ℕ) (w x : WaitingCall) → EachPair (λ x y. x.number < y.number) xs → slice_get xs k ≡ Some w → Among x xs → Among x (take k xs) ⊎ (w.number ≤ x.number)
@@ -151,16 +148,6 @@ length-kinds : (parts : List Part) → length (map (λ (p : Part). p.kind) parts
 length-kinds [] = refl
 length-kinds (p ∷ parts) = omega (arith, length-kinds parts)
 
--- what a running call writes is a part
-pub writes_within : (b : Board) (r : RunningCall) (p : ℕ) → IsSound b → Among r b.running → Writes (body_of r.call.operation).statements p → p < length b.pins
-writes_within b r p h runs writes =
-    let at : IsRunningIn b r = Every-among (IsRunningIn b) b.running r h.counted.runs runs in
-    let made : IsMadeOf b.object r.call = made_at b r.number r.call h.counted at.call in
-    let reads = writes_are_reads (body_of r.call.operation) p writes in
-    let held : IsHeld r.call.operation.kinds.items p = reads_held r.call.operation p reads in
-    let there = made.parts p held.kind (record { named = reads; held = held.held }) in
-    omega (arith, slice_get_within (kinds_of b.object) p held.kind there, length-kinds b.object.parts.items, h.pinned.each)
-
 -- what a call that runs has its operation
 pub running_within : (b : Board) (r : RunningCall) → IsSound b → Among r b.running → r.call.op < length b.object.operations.items
 running_within b r h runs =
@@ -168,12 +155,54 @@ running_within b r h runs =
     let made : IsMadeOf b.object r.call = made_at b r.number r.call h.counted at.call in
     omega (arith, slice_get_within (object_of b.object).operations r.call.op _ made.operation, length-operations b.object.operations.items)
 
--- a running call has a pin for each part that it reads
-pub has_pins : (b : Board) (k : ℕ) (r : RunningCall) → IsSound b → slice_get b.running k ≡ Some r → HasPins r.call.operation r.pins
-has_pins b k r h is p reads =
-    let at : IsRunningIn b r = Every-at (IsRunningIn b) b.running k r h.counted.runs is in
+-- a pin of each part that a running call reads is published
+published_at : (b : Board) (r : RunningCall) (p : ℕ) → IsSound b → Among r b.running → Reads (body_of r.call.operation).statements p → p < length b.pins
+published_at b r p h runs reads =
+    let at : IsRunningIn b r = Every-among (IsRunningIn b) b.running r h.counted.runs runs in
     let made : IsMadeOf b.object r.call = made_at b r.number r.call h.counted at.call in
     let held : IsHeld r.call.operation.kinds.items p = reads_held r.call.operation p reads in
     let there = made.parts p held.kind (record { named = reads; held = held.held }) in
-    let long = Every-at (λ (x : RunningCall). length x.pins ≡ length b.object.parts.items) b.running k r h.pinned.long is in
-    omega (arith, slice_get_within (kinds_of b.object) p held.kind there, length-kinds b.object.parts.items, long)
+    omega (arith, slice_get_within (kinds_of b.object) p held.kind there, length-kinds b.object.parts.items, h.pinned.each)
+
+-- what a running call writes is a part
+pub writes_within : (b : Board) (r : RunningCall) (p : ℕ) → IsSound b → Among r b.running → Writes (body_of r.call.operation).statements p → p < length b.pins
+writes_within b r p h runs writes = published_at b r p h runs (writes_are_reads (body_of r.call.operation) p writes)
+
+is_some : {X : Type 0} (xs : List X) (k : ℕ) (o : Option X) → k < length xs → slice_get xs k ≡ o → o ≢ None
+is_some xs k None less is = absurd (none_within xs k less is)
+is_some xs k (Some x) less is = λ same. absurd (let h : Some x ≡ None = same in cc)
+
+-- a running call has a pin for each part that it reads
+pub has_pins : (b : Board) (k : ℕ) (r : RunningCall) → IsSound b → slice_get b.running k ≡ Some r → HasPins r.call.operation r.pins
+has_pins b k r h is p reads =
+    let pinned : IsPinned b.pins r = Every-at (IsPinned b.pins) b.running k r h.pinned.pinned is in
+    is_some b.pins p (pin_at r.pins p) (published_at b r p h (among_at b.running k r is) reads) (pinned p reads)
+
+one_same : (b : Bool) (p : ℕ) (x y : List Stamp) (xs ys : List PartPin) → (b ≡ true → x ≡ y) → xs ≡ ys → put_if b (record { part = p; pages = x }) xs ≡ put_if b (record { part = p; pages = y }) ys
+one_same true p x y xs ys first rest = let same : x ≡ y = first refl in λ i. record { part = p; pages = same i } ∷ rest i
+one_same false p x y xs ys first rest = rest
+
+-- pins that are the same for the parts in a set
+same_in : (parts p : ℕ) (xs ys : List (List Stamp)) → length xs ≡ length ys → ((k q : ℕ) → q ≡ p + k → bit_at parts q ≡ 1 → slice_get xs k ≡ slice_get ys k) → pins_in parts p xs ≡ pins_in parts p ys
+same_in parts p [] [] many each = refl
+same_in parts p [] (y ∷ ys) many each = absurd (omega (arith, many))
+same_in parts p (x ∷ xs) [] many each = absurd (omega (arith, many))
+same_in parts p (x ∷ xs) (y ∷ ys) many each =
+    one_same (bit_at parts p == 1) p x y (pins_in parts (p + 1) xs) (pins_in parts (p + 1) ys)
+    (λ set. ap (λ o. unwrap_or o x) (each 0 p (omega arith) (one_bit (bit_at parts p) set)))
+    (same_in parts (p + 1) xs ys (omega (arith, many)) (λ k q is set. each (suc k) q (omega (arith, is)) set))
+  where
+    one_bit : (n : ℕ) → (n == 1) ≡ true → n ≡ 1
+    one_bit n h = elim (eqb_tells n 1) [ inl e ↦ e.1 | inr e ↦ absurd (true_false (n == 1) h e.0) ]
+
+-- the published pins of the parts that a running call reads are those of its start
+pub read_again : (b : Board) (k : ℕ) (r : RunningCall) → IsSound b → slice_get b.running k ≡ Some r → read_pins r.call.operation b.pins ≡ r.pins
+read_again b k r h is =
+    let pinned : IsPinned b.pins r = Every-at (IsPinned b.pins) b.running k r h.pinned.pinned is in
+    let its : HasItsPins (length b.object.parts.items) r = Every-at (HasItsPins (length b.object.parts.items)) b.running k r h.pinned.long is in
+    let operation = r.call.operation in
+    let named : (p : ℕ) → bit_at (reads_of (body_of operation)) p ≡ 1 → Reads (body_of operation).statements p = λ p set. (reads_bits (body_of operation).statements (reads_of (body_of operation)) refl p).0 set in
+    same_in (reads_of (body_of operation)) 0 b.pins its.pins (h.pinned.each ∙ sym its.each) (λ k q at set.
+    let here : q ≡ k = omega (arith, at) in
+    subst (λ p. slice_get b.pins p ≡ slice_get its.pins p) here (pinned q (named q set) ∙ ap (λ pins. pin_at pins q) its.kept ∙ kept_at operation its.pins q (named q set)))
+    ∙ sym its.kept

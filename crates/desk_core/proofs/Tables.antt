@@ -7,12 +7,12 @@ use Rattle.board_core.specs.declared.event.TraceEvent.{TraceEvent}
 use Rattle.board_core.specs.declared.event.TraceEvent.TheVariants.{Start, End}
 use Rattle.board_core.specs.Calls.{AcceptedCall, WaitingCall, RunningCall, Noted}
 use Rattle.hand_core.specs.declared.hand.Stamp.{Stamp}
-use Rattle.body_core.specs.Outcomes.{new_if_done}
-use Rattle.board_core.specs.Board.{Board, most_sessions, opened, joined, dismissed, released, taken_at, marked, started, ended, published}
+use Rattle.run_core.specs.Outcomes.{if_done}
+use Rattle.board_core.specs.Board.{Board, most_sessions, opened, joined, dismissed, released, taken_at, marked, started, ended, published, read_pins}
 
 pub started_is : (b : Board) (w : WaitingCall) (trace : List TraceEvent) (waiting : List WaitingCall) (running : List RunningCall)
     → trace ≡ b.trace ++ Start w.number ∷ [] → waiting ≡ filter (λ x. not (x.number == w.number)) b.waiting
-    → running ≡ b.running ++ (record { number = w.number; call = w.call; pins = b.pins; taken = false }) ∷ []
+    → running ≡ b.running ++ (record { number = w.number; call = w.call; pins = read_pins w.call.operation b.pins; taken = false }) ∷ []
     → let made : Board = record b { trace = trace; waiting = waiting; running = running } in made ≡ started b w
 unfolding started
 started_is b w trace waiting running e1 e2 e3 = rw (e1, e2, e3) refl
@@ -28,13 +28,13 @@ pub dismissed_is : (b : Board) (n : ℕ) (waiting : List WaitingCall) → waitin
 unfolding dismissed
 dismissed_is b n waiting e = rw e refl
 
-pub ended_is : (b : Board) (e : Noted) (trace : List TraceEvent) (history : List Noted) (running : List RunningCall) (pins : List Stamp)
-    → trace ≡ b.trace ++ End e.number e.reply ∷ [] → history ≡ b.history ++ e ∷ [] → running ≡ filter (λ r. not (r.number == e.number)) b.running → pins ≡ published b.pins (new_if_done e.reply e.news)
+pub ended_is : (b : Board) (e : Noted) (trace : List TraceEvent) (history : List Noted) (running : List RunningCall) (pins : List (List Stamp))
+    → trace ≡ b.trace ++ End e.number e.reply ∷ [] → history ≡ b.history ++ e ∷ [] → running ≡ filter (λ r. not (r.number == e.number)) b.running → pins ≡ published b.pins (if_done e.reply e.news)
     → let made : Board = record b { trace = trace; history = history; running = running; pins = pins } in made ≡ ended b e
 unfolding ended
 ended_is b e trace history running pins e1 e2 e3 e4 = rw (e1, e2, e3, e4) refl
 
-pub opened_is : {calls : List AcceptedCall} {trace : List TraceEvent} {history : List Noted} {waiting : List WaitingCall} {running : List RunningCall} {left : List Bool} (object : Object) (pins : List Stamp)
+pub opened_is : {calls : List AcceptedCall} {trace : List TraceEvent} {history : List Noted} {waiting : List WaitingCall} {running : List RunningCall} {left : List Bool} (object : Object) (pins : List (List Stamp))
     → calls ≡ [] → trace ≡ [] → history ≡ [] → waiting ≡ [] → running ≡ [] → left ≡ replicate most_sessions false
     → let made : Board = record { object = object; calls = calls; trace = trace; history = history; waiting = waiting; running = running; left = left; opening = pins; pins = pins } in made ≡ opened object pins
 opened_is object pins e1 e2 e3 e4 e5 e6 = rw (e1, e2, e3, e4, e5, e6) refl

@@ -6,11 +6,11 @@ use Rattle.value_core.specs.declared.datum.Datum.{Datum}
 use Rattle.decl_core.specs.declared.object.Object.{Object}
 use Rattle.decl_core.specs.declared.object.Operation.{Operation}
 use Rattle.apply_core.specs.Fits.{ArgumentsFit}
-use Rattle.body_core.specs.Calls.{call_of}
-use Rattle.body_core.specs.Outcomes.{outcome_call, outcome_reply, outcome_news}
-use Rattle.body_core.specs.declared.outcome.Outcome.{Outcome}
+use Rattle.call_core.specs.Calls.{call_of}
+use Rattle.run_core.specs.Outcomes.{outcome_call, outcome_reply, outcome_news, outcome_free, IsFresh, TellsSame}
+use Rattle.run_core.specs.declared.outcome.Outcome.{Outcome}
 use Rattle.board_core.specs.declared.receipt.Receipt.{Receipt}
-use Rattle.body_core.specs.Tickets.{ticket_call}
+use Rattle.call_core.specs.Tickets.{ticket_call}
 use Rattle.desk_core.specs.declared.answer.SubmitFault.{SubmitFault}
 use Rattle.desk_core.specs.declared.answer.SubmitFault.TheVariants.{Gone, UnknownOp, BadArgs, SessionBusy, Full, HistoryFull, Memory}
 use Rattle.desk_core.specs.declared.answer.Cancelled.{Cancelled}
@@ -22,7 +22,7 @@ use Rattle.board_core.specs.Lists.{Every, Among}
 use Rattle.board_core.specs.Calls.{AcceptedCall, RunningCall}
 use Rattle.board_core.specs.Board.{Board, bodies, call_at, dismissed, taken_at, ended, entry_of}
 use Rattle.board_core.specs.Chain.{pins_after}
-use Rattle.board_core.specs.Free.{IsNeeded, Picks, left_behind}
+use Rattle.board_core.specs.Free.{IsNeeded, Picks}
 use Rattle.board_core.specs.Outcomes.{IsOf}
 use Rattle.board_core.specs.Started.{Settles}
 
@@ -118,7 +118,7 @@ Collects b n collects.Unknown after = NoneIsLeft b n × (waits_in b n ≡ false)
 abbrev pub receipt_by : Finished → Outcome → Receipt
 receipt_by f o = record { place = f.place; noted = record { session = f.session; outcome = o }; free = f.free }
 
--- An outcome is that of a running call: the call has ended, its entry is the last of the history, the receipt holds the outcome and its session, and frees what it left behind and nobody needs.
+-- An outcome is that of a running call: the call has ended, its entry is the last of the history, the receipt holds what the outcome tells and its session, and frees what the call left to nobody and nobody needs.
 pub record Finishes (b : Board) (o : Outcome) (receipt : Receipt) (after : Board) : Type 0 where
   pub call : RunningCall
   pub runs : Among call b.running
@@ -128,5 +128,9 @@ pub record Finishes (b : Board) (o : Outcome) (receipt : Receipt) (after : Board
   pub pins : after.pins ≡ pins_after b.pins (entry_of call (outcome_reply o) (outcome_news o))
   pub place : receipt.place ≡ length after.history
   pub session : receipt.noted.session ≡ call.call.session
-  pub outcome : receipt.noted.outcome ≡ o
-  pub free : Picks (IsNeeded after.pins after.running) [] (left_behind b.pins (outcome_reply o) (outcome_news o)) receipt.free.items
+  pub outcome : TellsSame o receipt.noted.outcome
+  pub free : Picks (IsNeeded after.pins after.running) [] (outcome_free o) receipt.free.items
+
+-- An outcome that is not taken: it was handed in before, or it is that of no running call.
+abbrev pub IsStranger : Board → Outcome → Type 0
+IsStranger b o = (IsFresh o → ⊥) ⊎ Every (λ r. IsOf (outcome_call o) r → ⊥) b.running

@@ -1,14 +1,11 @@
 -- The tables of a desk.
-use Rattle.std.specs.Prelude.{◌≡◌, ◌≢◌, ℕ, zero, suc, ◌+◌, ◌*◌, ◌≤◌, ◌<◌, Bool, true, List, length, map, take, slice_get, slice_index, Option, Some, None, vec_capacity}
+use Rattle.std.specs.Prelude.{◌≡◌, ◌≢◌, ℕ, zero, suc, ◌+◌, ◌*◌, ◌≤◌, ◌<◌, List, length, map, slice_get, Option, Some, None, vec_capacity}
 use Rattle.std.specs.Arc.{arc_value}
-use Rattle.path_tree.specs.Path.{Path}
-use Rattle.path_tree.specs.Trace.{Event}
-use Rattle.path_tree.specs.Satisfies.{MayStart}
 use Rattle.path_count.specs.Stands.{StandsFor}
 use Rattle.board_core.specs.declared.event.TraceEvent.{TraceEvent}
 use Rattle.board_core.specs.declared.event.TraceEvent.TheVariants.{Start, End}
 use Rattle.board_core.specs.Lists.{Every}
-use Rattle.board_core.specs.Calls.{WaitingCall, Noted}
+use Rattle.board_core.specs.Calls.{Noted}
 use Rattle.board_core.specs.Board.{Board, paths_of, past_of}
 use Rattle.board_core.specs.Sound.{IsSound}
 use Rattle.desk_core.specs.declared.marks.Mark.{Mark}
@@ -70,26 +67,3 @@ pub record IsKept (d : Inside) : Type 0 where
   pub sound : IsSound (board_of d)
   pub stands : StandsFor d.counters (length d.accepted.operations.items) (paths_of (board_of d)) (past_of (board_of d))
   pub room : HasRoom d
-
--- an operation below n may start
-abbrev pub OpCanStart : ℕ → List Path → List Event → ℕ → Type 0
-OpCanStart n paths t op = (op < n) × MayStart paths op t
-
--- a waiting call is of one that may
-abbrev pub CanStart : ℕ → List Path → List Event → WaitingCall → Type 0
-CanStart n paths t w = OpCanStart n paths t w.call.op
-
--- the operations that are marked as refused may not start
-abbrev pub AreRefused : ℕ → List Path → List Event → List Bool → Type 0
-AreRefused n paths t refused = (op : ℕ) → slice_get refused op ≡ Some true → OpCanStart n paths t op → ⊥
-
--- no operation but this one has a count and may start
-abbrev pub OthersRest : ℕ → List Path → List Event → List ℕ → ℕ → Type 0
-OthersRest n paths t counts last = (op : ℕ) → slice_index counts op ≢ 0 → op ≢ last → OpCanStart n paths t op → ⊥
-
--- the call at this place is the first that can start
-pub record IsFirst (n : ℕ) (paths : List Path) (t : List Event) (waiting : List WaitingCall) (k : ℕ) : Type 0 where
-  pub call : WaitingCall
-  pub there : slice_get waiting k ≡ Some call
-  pub can : CanStart n paths t call
-  pub earlier : Every (λ w. CanStart n paths t w → ⊥) (take k waiting)

@@ -1,5 +1,4 @@
-pub mod Open
 pub mod Kept
-pub mod Queue
+pub mod Publishing
 pub mod Answers
 pub mod Told

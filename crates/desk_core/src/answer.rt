@@ -4,9 +4,9 @@ ghost use Rattle.std.specs.Prelude.{◌≡◌};
 ghost use Rattle.desk_core.specs.Answers.{receipt_by};
 
 use board_core::receipt::{NotedOutcome, Receipt};
-use body_core::outcome::Outcome;
-use body_core::ticket::Ticket;
+use call_core::ticket::Ticket;
 use hand_core::hand::Stamp;
+use run_core::outcome::Outcome;
 use thiserror::Error;
 
 /// Why a call is refused. The first that applies is told.
@@ -77,7 +77,7 @@ impl Finished {
     }
 }
 
-/// An outcome of no call that runs here, handed back.
+/// An outcome of no call that runs here, or one that was handed in before, handed back.
 #[derive(Drop)]
 pub struct Stranger(pub Outcome);
 

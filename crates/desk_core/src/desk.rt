@@ -1,28 +1,25 @@
 //! A desk: its tables, in which no waiting call may start.
 
-ghost use Rattle.std.specs.Prelude.{◌≡◌, ℕ, ◌+◌, ◌<◌, ◌≤◌, ◌⊎◌, ◌↔◌, length, IfOk, IfErr, OnOk, IfSome, IfNone, IsTrue, Some, None, slice_get};
+ghost use Rattle.std.specs.Prelude.{◌≡◌, ◌+◌, ◌<◌, ◌≤◌, ◌⊎◌, ◌↔◌, length, IfOk, IfErr, OnOk, IfSome, IfNone, IsTrue, Some, None, slice_get};
 ghost use Rattle.std.specs.Arc.{arc_value};
-ghost use Rattle.body_core.specs.Outcomes.{outcome_call};
-ghost use Rattle.board_core.specs.Lists.{Every};
 ghost use Rattle.board_core.specs.Calls.{AcceptedCall};
 ghost use Rattle.board_core.specs.Board.{opened, joined, released, marked, call_at, Rests};
 ghost use Rattle.board_core.specs.Started.{Settles};
 ghost use Rattle.board_core.specs.Sound.{IsSound};
-ghost use Rattle.board_core.specs.Outcomes.{IsOf};
 ghost use Rattle.decl_core.specs.ObjectMap.{object_of};
 ghost use Rattle.trace_core.specs.Text.{trace_text as text_of};
 ghost use Rattle.desk_core.specs.Told.{lines_told};
-ghost use Rattle.desk_core.specs.Answers.{IsTaken, IsRefused, Cancels, Collects, Finishes, receipt_by, waits_in, runs_in};
+ghost use Rattle.desk_core.specs.Answers.{IsTaken, IsRefused, Cancels, Collects, Finishes, IsStranger, receipt_by, waits_in, runs_in};
 
 use crate::answer::{Cancelled, Collected, Finished, Stranger, SubmitFault};
-use crate::roster::{Ended, MOST_SESSIONS, Roster};
+use crate::roster::{MOST_SESSIONS, Roster};
 use board_core::call::Call;
 use board_core::entry::Entry;
 use board_core::event::TraceEvent;
 use board_core::receipt::Receipt;
-use body_core::outcome::Outcome;
 use exclude_core::analyse::Accepted;
-use hand_core::pins::Pins;
+use page_core::pins::Pins;
+use run_core::outcome::Outcome;
 use std::alloc::{AllocError, Global};
 use std::marker::Model;
 use std::sync::Arc;
@@ -163,30 +160,36 @@ impl Desk {
     /// and its entry is the history's last. The error hands back each other outcome, and nothing is changed.
     ///
     /// A running call is the outcome's if its number, its operation, by its whole declaration, its arguments
-    /// and its pins are.
+    /// and its pins are. An outcome that was handed in before is taken no more.
     pub fn finish(&mut self, outcome: Outcome) -> Result<Receipt, Stranger>
         ensures board { IfOk result (λ receipt. Finishes self.old outcome receipt self.new) }
-        ensures stranger { IfErr result (λ s. (s.0 ≡ outcome) × (self.new ≡ self.old) × Every (λ r. IsOf (outcome_call outcome) r → ⊥) self.old.running) }
+        ensures stranger { IfErr result (λ s. (s.0 ≡ outcome) × (self.new ≡ self.old) × IsStranger self.old outcome) }
     {
-        match self.finish_in_place(&outcome) {
+        let mut outcome = outcome;
+        match self.finish_in_place(&mut outcome) {
             Some(finished) => Ok(finished.receipt(outcome)),
             None => Err(Stranger(outcome)),
         }
     }
 
-    /// The same of an outcome that stays where it lies, since to hand one in and out moves a kilobyte each time. It answers what a receipt has
-    /// beside it, or `None` where no running call has it, and nothing is changed.
-    pub fn finish_in_place(&mut self, outcome: &Outcome) -> Option<Finished>
-        ensures board { IfSome result (λ f. Finishes self.old outcome.now (receipt_by f outcome.now) self.new) }
-        ensures stranger { IfNone result ((self.new ≡ self.old) × Every (λ r. IsOf (outcome_call outcome.now) r → ⊥) self.old.running) }
+    /// The same of an outcome that stays where it lies, since to hand one in and out moves a kilobyte each time. What its
+    /// entry and its receipt keep is taken out of it; what it tells of its call stays. It answers what a receipt has
+    /// beside it, or `None` where it is a stranger, and nothing is changed.
+    pub fn finish_in_place(&mut self, outcome: &mut Outcome) -> Option<Finished>
+        ensures board { IfSome result (λ f. Finishes self.old outcome.old (receipt_by f outcome.new) self.new) }
+        ensures stranger { IfNone result ((self.new ≡ self.old) × (outcome.new ≡ outcome.old) × IsStranger self.old outcome.old) }
     {
-        let Some(place) = self.roster.place_of_call(outcome) else {
+        let Some(place) = self.roster.place_to_end(outcome) else {
             return None;
         };
-        let ended = self.roster.end(place, outcome.reply(), outcome.new_pins(), outcome.sealed());
+        let news = outcome.take_entry();
+        let session = self
+            .roster
+            .end(place, outcome.reply(), outcome.new_pins(), news);
         self.roster.admit();
+        let mut free = outcome.take_free();
+        self.roster.pick(&mut free);
         let place = self.roster.history().len();
-        let Ended { session, free } = ended;
         Some(Finished {
             place,
             session,

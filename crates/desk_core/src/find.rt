@@ -1,21 +1,20 @@
 //! What is looked up of a desk.
 
-ghost use Rattle.std.specs.Prelude.{◌≡◌, ◌≢◌, ◌↔◌, ℕ, ◌+◌, ◌<◌, IsTrue, IfSome, IfNone, Some, false, slice_get, take, length, ◌==◌};
+ghost use Rattle.std.specs.Prelude.{◌≡◌, ◌↔◌, ◌⊎◌, ◌<◌, IsTrue, IfSome, IfNone, Some, false, slice_get, ◌==◌};
 ghost use Rattle.std.specs.List.{list_any};
 ghost use Rattle.decl_core.specs.declared.object.Operation.{Operation as AnOperation};
-ghost use Rattle.decl_core.specs.ObjectMap.{operation_of};
-ghost use Rattle.body_core.specs.Outcomes.{outcome_call};
-ghost use Rattle.board_core.specs.Lists.{Every, Among};
-ghost use Rattle.board_core.specs.Calls.{WaitingCall, RunningCall};
+ghost use Rattle.run_core.specs.Outcomes.{outcome_call, IsFresh};
+ghost use Rattle.board_core.specs.Lists.{Every};
+ghost use Rattle.board_core.specs.Calls.{RunningCall};
 ghost use Rattle.board_core.specs.Board.{bodies};
 ghost use Rattle.board_core.specs.Outcomes.{IsOf};
 ghost use Rattle.desk_core.specs.Answers.{HasName, IsNamedAt};
 
-use crate::open_call::{Running, Waiting};
-use board_core::same::{same_args, same_stamps};
-use body_core::outcome::Outcome;
+use board_core::same::same_args;
 use decl_core::object::{Object, Operation};
 use decl_core::same::same_declaration;
+use queue_core::open_call::{Running, Waiting};
+use run_core::outcome::Outcome;
 
 // Whether an operation has this name.
 fn has_name(operation: &Operation, name: &[u8]) -> bool
@@ -72,11 +71,11 @@ fn is_of(outcome: &Outcome, running: &Running) -> bool
     running.number() == outcome.number()
         && same_declaration(running.call().operation(), outcome.operation())
         && same_args(running.call().args(), outcome.args())
-        && same_stamps(running.pins().as_slice(), outcome.pins().as_slice())
+        && running.pins().is_same(outcome.pins())
 }
 
 // The place of the running call from which an outcome comes.
-pub(crate) fn place_of_call(running: &[Running], outcome: &Outcome) -> Option<usize>
+fn place_of_call(running: &[Running], outcome: &Outcome) -> Option<usize>
     ensures some { IfSome result (λ k. (r : RunningCall) × (slice_get running.now k ≡ Some r) × IsOf (outcome_call outcome.now) r) }
     ensures none { IfNone result (Every (λ r. IsOf (outcome_call outcome.now) r → ⊥) running.now) }
 {
@@ -86,6 +85,17 @@ pub(crate) fn place_of_call(running: &[Running], outcome: &Outcome) -> Option<us
         }
     }
     None
+}
+
+// The place of the running call that ends with an outcome, where that was not handed in before.
+pub(crate) fn place_to_end(running: &[Running], outcome: &Outcome) -> Option<usize>
+    ensures some { IfSome result (λ k. IsFresh outcome.now × ((r : RunningCall) × (slice_get running.now k ≡ Some r) × IsOf (outcome_call outcome.now) r)) }
+    ensures none { IfNone result ((IsFresh outcome.now → ⊥) ⊎ Every (λ r. IsOf (outcome_call outcome.now) r → ⊥) running.now) }
+{
+    if !outcome.is_fresh() {
+        return None;
+    }
+    place_of_call(running, outcome)
 }
 
 // Whether a running call is of this number, and its ticket was not taken.

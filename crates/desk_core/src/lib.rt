@@ -9,9 +9,6 @@
 pub mod answer;
 pub mod desk;
 mod find;
-mod free;
 mod marks;
-mod open_call;
-mod queue;
 mod roster;
 mod text;

@@ -1,54 +1,51 @@
 //! The tables of a desk.
 
-ghost use Rattle.std.specs.Prelude.{◌≡◌, ℕ, ◌+◌, ◌*◌, ◌<◌, ◌≤◌, [], ◌∷◌, ◌++◌, List, length, IfOk, IfErr, OnOk, OnErr, IfSome, IfNone, Some, None, true, false, IsTrue, ◌↔◌, slice_get, slice_set, map, take, drop, filter, not, ◌==◌, vec_capacity};
+ghost use Rattle.std.specs.Prelude.{◌≡◌, ◌≢◌, ℕ, ◌+◌, ◌*◌, ◌<◌, ◌≤◌, [], ◌∷◌, ◌++◌, length, IfOk, IfErr, OnOk, OnErr, IfSome, IfNone, Some, None, true, false, IsTrue, ◌↔◌, slice_get, slice_set, take, drop, not, ◌==◌, vec_capacity};
 ghost use Rattle.std.specs.Arc.{arc_value};
-ghost use Rattle.path_tree.specs.Path.{Path};
-ghost use Rattle.path_tree.specs.Trace.{Event};
 ghost use Rattle.path_count.specs.Stands.{StandsFor};
 ghost use Rattle.decl_core.specs.declared.object.Operation.{Operation};
 ghost use Rattle.decl_core.specs.ObjectMap.{object_of};
 ghost use Rattle.apply_core.specs.Fits.{ArgumentsFit};
-ghost use Rattle.body_core.specs.Calls.{HasPins, call_of};
-ghost use Rattle.body_core.specs.Tickets.{ticket_call};
+ghost use Rattle.call_core.specs.Calls.{HasPins, call_of};
+ghost use Rattle.call_core.specs.Planned.{AreSized};
+ghost use Rattle.call_core.specs.Tickets.{ticket_call};
 ghost use Rattle.board_core.specs.Lists.{Every};
-ghost use Rattle.board_core.specs.Calls.{AcceptedCall, WaitingCall, RunningCall, noted_of};
+ghost use Rattle.board_core.specs.Calls.{WaitingCall, RunningCall};
 ghost use Rattle.decl_core.specs.Bodies.{body_of};
 ghost use Rattle.decl_core.specs.Touched.{Writes};
-ghost use Rattle.body_core.specs.Outcomes.{new_if_done, left_if_failed};
-ghost use Rattle.body_core.specs.Phases.{HasPart};
-ghost use Rattle.board_core.specs.Board.{Board, bodies, call_at, opened, joined, dismissed, released, taken_at, marked, started, ended, entry_of, published as with_new, IsNext, Rests, Admits};
-ghost use Rattle.body_core.specs.Outcomes.{outcome_call};
-ghost use Rattle.desk_core.specs.Answers.{IsGone, is_busy, waits_in, runs_in, ended_in, IsLeft, NoneIsLeft, IsTaken, IsRefused};
-ghost use Rattle.board_core.specs.Free.{IsNeeded, Picks, left_behind};
-ghost use Rattle.desk_core.specs.Kept.{IsFirst, CanStart, OpCanStart, AreRefused};
+ghost use Rattle.page_core.specs.PartPins.{pin_at};
+ghost use Rattle.run_core.specs.Outcomes.{outcome_call, if_done, IsFresh};
+ghost use Rattle.board_core.specs.Board.{Board, bodies, call_at, opened, joined, dismissed, released, taken_at, marked, started, ended, entry_of, published, read_pins, IsNext, Rests, Admits};
+ghost use Rattle.desk_core.specs.Answers.{IsGone, is_busy, waits_in, runs_in, ended_in, IsLeft, NoneIsLeft, IsTaken, IsRefused, IsStranger};
+ghost use Rattle.board_core.specs.Free.{IsNeeded, Picks};
 ghost use Rattle.board_core.specs.Outcomes.{IsOf};
-ghost use Rattle.board_core.specs.ReadPins.{read_pins};
+ghost use Rattle.desk_core.specs.Publishing.{ArePageLists, with_pin};
 ghost use Rattle.trace_core.specs.Text.{trace_text as text_of};
 ghost use Rattle.desk_core.specs.Told.{lines_told};
-ghost use Rattle.body_core.specs.Written.{WritesInOrder, parts_of};
-ghost use Rattle.body_core.specs.declared.new_pins.NewPin.{NewPin as ANewPin};
 ghost use Rattle.board_core.specs.Sound.{IsSound};
 
 use crate::answer::SubmitFault;
-use crate::find::{place_of, place_of_call, place_of_left, runs, runs_for, waits, waits_for};
-use crate::free::freed;
+use crate::find::{place_of, place_of_left, place_to_end, runs, runs_for, waits, waits_for};
 use crate::marks::{Mark, event_of, note, note_end, note_start};
-use crate::open_call::{Left, Running, Waiting};
-use crate::queue::Queue;
 use crate::text::{call_of, push_marks};
 use apply_core::fits::arguments_fit;
 use apply_core::reply::Reply;
 use board_core::call::Call;
 use board_core::entry::Entry;
 use board_core::event::TraceEvent;
-use body_core::outcome::{NewPin, Outcome};
-use body_core::ticket::Ticket;
+use board_core::pick::pick;
+use call_core::ticket::Ticket;
 use decl_core::object::Object;
 use exclude_core::analyse::Accepted;
 use hand_core::hand::Stamp;
-use hand_core::pins::Pins;
+use page_core::page_list::PageList;
+use page_core::part_pins::PartPins;
+use page_core::pins::Pins;
 use path_count::counters::{Counters, compile};
 use path_tree::node::OpId;
+use queue_core::open_call::{Running, Waiting};
+use queue_core::queue::Queue;
+use run_core::outcome::Outcome;
 use std::alloc::{AllocError, Global};
 use std::marker::Model;
 use std::sync::Arc;
@@ -99,13 +96,6 @@ impl Model for Roster {
     ghost invariant = { IsKept };
 }
 
-// What is handed out of a call that has ended: its session, and the files that nobody needs any more.
-#[derive(Drop)]
-pub(crate) struct Ended {
-    pub(crate) session: u32,
-    pub(crate) free: Vec<Stamp>,
-}
-
 // Whether arguments fit the operation at this place.
 fn fits(object: &Object, place: usize, args: &[Datum]) -> bool
     requires { place < length object.now.operations.items }
@@ -134,8 +124,9 @@ fn asked_at(waiting: &[Waiting], place: usize) -> (u32, OpId)
 fn start_at(waiting: &mut Queue, running: &mut Vec<Running>, place: usize, pins: &Pins)
     requires there { place < length waiting.old }
     requires room { length running.old.items < vec_capacity running.old }
+    requires few { length pins.now ≤ 16 }
     ensures waiting { waiting.new ≡ take place waiting.old ++ drop (place + 1) waiting.old }
-    ensures running { (w : WaitingCall) → slice_get waiting.old place ≡ Some w → running.new.items ≡ running.old.items ++ (record { number = w.number; call = w.call; pins = pins.now; taken = false }) ∷ [] }
+    ensures running { (w : WaitingCall) → slice_get waiting.old place ≡ Some w → running.new.items ≡ running.old.items ++ (record { number = w.number; call = w.call; pins = read_pins w.call.operation pins.now; taken = false }) ∷ [] }
     ensures running_room { vec_capacity running.new ≡ vec_capacity running.old }
 {
     let asked = waiting.take(place);
@@ -150,6 +141,7 @@ fn asked_of(
     session: u32,
     place: usize,
     args: &[Datum],
+    pins: &Pins,
 ) -> Result<Waiting, AllocError>
     requires place { place < length object.now.operations.items }
     requires fits { (operation : Operation) → slice_get (bodies object.now) place ≡ Some operation → ArgumentsFit operation args.now }
@@ -157,7 +149,7 @@ fn asked_of(
     ensures call { IfOk result (λ w. (operation : Operation) → slice_get (bodies object.now) place ≡ Some operation → w ≡ record { number = number; call = record { session = session; op = place; operation = operation; arguments = args.now } }) }
 {
     let operation = &object.operations[place];
-    Waiting::new(alloc, number, session, place as OpId, operation, args)
+    Waiting::new(alloc, number, session, place as OpId, operation, args, pins)
 }
 
 // Makes room for all that one call more and the calls which wait or run will add.
@@ -193,68 +185,54 @@ fn make_room(
     Ok(())
 }
 
-// The ticket of the running call at this place.
-fn ticket_at(running: &mut Vec<Running>, place: usize) -> Option<Ticket>
+// The ticket of the running call at this place, where these are the published pins.
+fn ticket_at(running: &mut Vec<Running>, place: usize, pins: &Pins) -> Option<Ticket>
     requires place { place < length running.old.items }
-    requires pins { (r : RunningCall) → slice_get running.old.items place ≡ Some r → HasPins r.call.operation r.pins }
+    requires few { length pins.now ≤ 16 }
+    requires pins { (r : RunningCall) → slice_get running.old.items place ≡ Some r → (read_pins r.call.operation pins.now ≡ r.pins) × HasPins r.call.operation r.pins }
     ensures some { IfSome result (λ t. (r : RunningCall) → slice_get running.old.items place ≡ Some r → (r.taken ≡ false) × (ticket_call t ≡ call_of r.number r.call.operation r.call.arguments r.pins)) }
     ensures none { IfNone result ((r : RunningCall) → slice_get running.old.items place ≡ Some r → r.taken ≡ true) }
     ensures items { (r : RunningCall) → slice_get running.old.items place ≡ Some r → running.new.items ≡ slice_set running.old.items place (record r { taken = true }) }
     ensures room { vec_capacity running.new ≡ vec_capacity running.old }
 {
-    running[place].ticket()
+    running[place].ticket(pins)
 }
 
-// The pins with new ones in place of those of their parts.
-fn published(pins: &Pins, news: &[NewPin]) -> Pins
-    requires { (p : ℕ) → HasPart news.now p → p < length pins.now }
-    ensures { result ≡ with_new pins.now news.now }
+// Puts the new pin of a part in the place of its old one, where it has one.
+fn put_pin(pins: &mut Pins, part: usize, news: &PartPins)
+    requires part { part < length pins.old }
+    requires sized { ArePageLists (length pins.old) news.now }
+    ensures { pins.new ≡ with_pin pins.old part (pin_at news.now part) }
 {
-    match news.split_first() {
-        None => *pins,
-        Some((new, rest)) => published(pins, rest).with(new.part, new.stamp),
+    match news.pages(part) {
+        Some(pages) => pins.set(part, PageList::of(pages)),
+        None => {}
     }
 }
 
-// Publishes new pins, and gives the files that nobody needs any more. Where there are none, the pins are not written.
-fn publish(
-    pins: &mut Pins,
-    free: Vec<Stamp>,
-    reply: &Reply,
-    news: &[NewPin],
-    sealed: &[NewPin],
-    running: &[Running],
-) -> Vec<Stamp>
-    requires parts { (p : ℕ) → HasPart news.now p → p < length pins.old }
-    requires empty { free.items ≡ [] }
-    requires room { 16 ≤ vec_capacity free }
-    requires few { (length pins.old ≤ 16) × (length sealed.now ≤ 16) }
-    ensures pins { pins.new ≡ with_new pins.old news.now }
-    ensures free { (all : List ANewPin) → (news.now ≡ new_if_done reply.now all) → (sealed.now ≡ left_if_failed reply.now all) → Picks (IsNeeded pins.new running.now) [] (left_behind pins.old reply.now all) result.items }
+// Puts new pins in the places of those of their parts. Where there are none, the pins are not written.
+fn put_pins(pins: &mut Pins, news: &PartPins)
+    requires { ArePageLists (length pins.old) news.now }
+    ensures { pins.new ≡ published pins.old news.now }
 {
-    if news.is_empty() {
-        return freed(
-            free,
-            reply,
-            pins.as_slice(),
-            news,
-            sealed,
-            pins.as_slice(),
-            running,
-        );
+    if news.len() == 0 {
+        return;
     }
-    let after = published(pins, news);
-    let free = freed(
-        free,
-        reply,
-        pins.as_slice(),
-        news,
-        sealed,
-        after.as_slice(),
-        running,
-    );
-    *pins = after;
-    free
+    for part in 0..pins.len() {
+        put_pin(pins, part, news);
+    }
+}
+
+// Publishes new pins, where there are some.
+fn publish(pins: &mut Pins, news: Option<&PartPins>)
+    requires { IfSome news (λ n. ArePageLists (length pins.old) n.now) }
+    ensures some { IfSome news.entry (λ n. pins.new ≡ published pins.old n.now) }
+    ensures none { IfNone news.entry (pins.new ≡ pins.old) }
+{
+    match news {
+        Some(news) => put_pins(pins, news),
+        None => {}
+    }
 }
 
 // The number, the session and the operation of the running call at this place.
@@ -266,14 +244,12 @@ fn running_at(running: &[Running], place: usize) -> (u32, u32, OpId)
     (asked.number(), asked.session(), asked.call().op())
 }
 
-// Takes out the running call at this place, which has ended.
-fn end_at(running: &mut Vec<Running>, place: usize, reply: &Reply, news: &[NewPin]) -> Left
-    requires place { place < length running.old.items }
-    requires call { (r : RunningCall) → slice_get running.old.items place ≡ Some r → (length r.pins ≤ 16) × WritesInOrder (body_of r.call.operation).statements 0 (parts_of news.now) }
+// The entry of the running call at this place, which has ended and is taken out.
+fn end_at(running: &mut Vec<Running>, place: usize, reply: &Reply, news: PartPins) -> Entry
+    requires { place < length running.old.items }
     ensures running { running.new.items ≡ take place running.old.items ++ drop (place + 1) running.old.items }
     ensures room { vec_capacity running.new ≡ vec_capacity running.old }
-    ensures kept { (r : RunningCall) → slice_get running.old.items place ≡ Some r → result.kept ≡ noted_of r.number r.call reply.now (read_pins r.call.operation r.pins) news.now }
-    ensures free { (result.free.items ≡ []) × (16 ≤ vec_capacity result.free) }
+    ensures kept { (r : RunningCall) → slice_get running.old.items place ≡ Some r → result ≡ entry_of r reply.now news }
 {
     let asked = running.remove(place);
     asked.end(reply, news)
@@ -360,6 +336,7 @@ impl Roster {
             session,
             place,
             args,
+            &self.pins,
         )?;
         let call = asked.share()?;
         let shared = asked.share()?;
@@ -399,30 +376,37 @@ impl Roster {
         self.left[session as usize - 1] = true;
     }
 
-    // Ends the running call at this place: with these new pins, and these files that its run sealed where it
-    // failed.
+    // Ends the running call at this place, publishes new pins, where there are some, and tells its session. Its entry
+    // keeps the second row of these.
     pub(crate) fn end(
         &mut self,
         place: usize,
         reply: &Reply,
-        news: &[NewPin],
-        sealed: &[NewPin],
-    ) -> Ended
-        requires there { (r : RunningCall) × (slice_get self.old.running place ≡ Some r) × WritesInOrder (body_of r.call.operation).statements 0 (parts_of news.now) × ((p : ℕ) → HasPart news.now p → Writes (body_of r.call.operation).statements p) }
-        requires news { news.now ≡ new_if_done reply.now news.now }
-        requires few { (length news.now ≤ 16) × (length sealed.now ≤ 16) }
-        ensures board { (r : RunningCall) → slice_get self.old.running place ≡ Some r → self.new ≡ ended self.old (entry_of r reply.now news.now) }
-        ensures session { (r : RunningCall) → slice_get self.old.running place ≡ Some r → result.session ≡ r.call.session }
-        ensures free { (all : List ANewPin) → (news.now ≡ new_if_done reply.now all) → (sealed.now ≡ left_if_failed reply.now all) → Picks (IsNeeded self.new.pins self.new.running) [] (left_behind self.old.pins reply.now all) result.free.items }
+        news: Option<&PartPins>,
+        kept: PartPins,
+    ) -> u32
+        requires there { (r : RunningCall) × (slice_get self.old.running place ≡ Some r) × ((p : ℕ) → pin_at (if_done reply.now kept) p ≢ None → Writes (body_of r.call.operation).statements p) }
+        requires some { IfSome news (λ n. n.now ≡ if_done reply.now kept) }
+        requires none { IfNone news (if_done reply.now kept ≡ []) }
+        requires sized { AreSized (if_done reply.now kept) }
+        ensures board { (r : RunningCall) → slice_get self.old.running place ≡ Some r → self.new ≡ ended self.old (entry_of r reply.now kept) }
+        ensures session { (r : RunningCall) → slice_get self.old.running place ≡ Some r → result ≡ r.call.session }
     {
         let (number, session, op) = running_at(&self.running, place);
-        let Left { kept, free } = end_at(&mut self.running, place, reply, news);
+        let entry = end_at(&mut self.running, place, reply, kept);
         self.counters.finish(op);
         note_end(&mut self.marks, self.history.len());
-        note(&mut self.history, kept);
+        note(&mut self.history, entry);
         self.places[number as usize - 1] = self.history.len();
-        let free = publish(&mut self.pins, free, reply, news, sealed, &self.running);
-        Ended { session, free }
+        publish(&mut self.pins, news);
+        session
+    }
+
+    // Takes out the files that somebody needs, and of each file all stamps but the first.
+    pub(crate) fn pick(&self, free: &mut Vec<Stamp>)
+        ensures { Picks (IsNeeded self.now.pins self.now.running) [] free.old.items free.new.items }
+    {
+        pick(free, &self.pins);
     }
 
     // The object.
@@ -478,12 +462,12 @@ impl Roster {
         Ok(place)
     }
 
-    // The place of the running call from which an outcome comes.
-    pub(crate) fn place_of_call(&self, outcome: &Outcome) -> Option<usize>
-        ensures some { IfSome result (λ k. (r : RunningCall) × (slice_get self.now.running k ≡ Some r) × IsOf (outcome_call outcome.now) r) }
-        ensures none { IfNone result (Every (λ r. IsOf (outcome_call outcome.now) r → ⊥) self.now.running) }
+    // The place of the running call that ends with an outcome, where that was not handed in before.
+    pub(crate) fn place_to_end(&self, outcome: &Outcome) -> Option<usize>
+        ensures some { IfSome result (λ k. IsFresh outcome.now × ((r : RunningCall) × (slice_get self.now.running k ≡ Some r) × IsOf (outcome_call outcome.now) r)) }
+        ensures none { IfNone result (IsStranger self.now outcome.now) }
     {
-        place_of_call(&self.running, outcome)
+        place_to_end(&self.running, outcome)
     }
 
     // Whether a call of this number waits.
@@ -581,7 +565,7 @@ impl Roster {
         ensures none { IfNone result ((r : RunningCall) → slice_get self.old.running place ≡ Some r → r.taken ≡ true) }
         ensures board { (r : RunningCall) → slice_get self.old.running place ≡ Some r → self.new ≡ taken_at self.old place r }
     {
-        ticket_at(&mut self.running, place)
+        ticket_at(&mut self.running, place, &self.pins)
     }
 
     // Whether a call of this number has finished.

@@ -7,9 +7,11 @@ use desk_core::desk::Desk;
 use device_core::memory::MemHand;
 use device_core::once::OnceHand;
 use hand_core::hand::{Hand, Stamp};
-use hand_core::pins::Pins;
+use page_core::page_list::PageList;
+use page_core::pins::Pins;
 use std::alloc::Global;
 use std::process::Abort;
+use store_core::pages::put_cut;
 use value_core::datum::Datum;
 
 /// An object with two parts, of which one operation has both.
@@ -30,14 +32,24 @@ const FAILED: Reply = Reply::Failed(Failure::Device);
 
 const DAMAGED: Reply = Reply::Failed(Failure::Damaged);
 
-// Whether the files of these numbers stand here, in this order.
-fn are_files(stamps: &[Stamp], want: &[u64]) -> bool {
+/// Whether the files of these numbers stand here, in this order.
+pub fn are_files(stamps: &[Stamp], want: &[u64]) -> bool {
     for (stamp, number) in stamps.iter().zip(want) {
         if stamp.number != *number {
             return false;
         }
     }
     stamps.len() == want.len()
+}
+
+// Whether the pages of each part stand in the files of these numbers.
+fn are_pages(pins: &Pins, want: &[&[u64]]) -> bool {
+    for (list, pages) in pins.as_slice().iter().zip(want) {
+        if !are_files(list.stamps(), pages) {
+            return false;
+        }
+    }
+    pins.len() == want.len()
 }
 
 // Whether a call with the argument 1 replies so, frees the files of these numbers, and leaves the published pins of
@@ -49,13 +61,13 @@ fn comes_to<H: Hand>(
     op: &str,
     want: Reply,
     free: &[u64],
-    pins: &[u64],
+    pins: &[&[u64]],
 ) -> bool {
     match receipt_of(alloc, desk, hand, op, &[Datum::Integer(1)]) {
         Some(receipt) => {
             *receipt.noted.reply() == want
                 && are_files(&receipt.free, free)
-                && are_files(desk.pins().as_slice(), pins)
+                && are_pages(&desk.pins(), pins)
         }
         None => false,
     }
@@ -69,35 +81,87 @@ fn a_failed_call_frees_what_it_sealed(rt: HostRuntime) {
     let pins = pinned(&rt, &mut hand, &[ZERO, ZERO]);
     let mut desk = desk_of(&rt, alloc, PAIR, pins);
     assert!(rt;
-        comes_to(alloc, &mut desk, &mut hand, "both", FAILED, &[3], &[1, 2])
-            && comes_to(alloc, &mut desk, &mut hand, "both", DONE, &[1, 2], &[4, 5])
+        comes_to(
+            alloc,
+            &mut desk,
+            &mut hand,
+            "both",
+            FAILED,
+            &[3],
+            &[&[1], &[2]]
+        ) && comes_to(
+            alloc,
+            &mut desk,
+            &mut hand,
+            "both",
+            DONE,
+            &[1, 2],
+            &[&[4], &[5]]
+        )
     );
 }
 
+/// The same with parts of five pages.
+const WIDE_PAIR: Bytes = b"object pair;
+  path 1:([see], left, both) end;
+  path 1:(right, both) end;
+  var a : array [1024] of integer; b : array [1024] of integer;
+  entry function see : integer; begin see := a[0] end;
+  entry procedure left(x : integer); begin a[0] := x end;
+  entry procedure right(x : integer); begin b[1023] := x; b[0] := x end;
+  entry procedure both(x : integer); begin a[0] := x; b[1] := x end;
+end;
+";
+
+// A call, the files that it frees, and the files of both parts then.
+type Row = (&'static str, &'static [u64], [&'static [u64]; 2]);
+
 // Whether a file that both parts have is freed when the second one has it no more, or at once where one call replaces both.
-fn is_freed_once(rt: &impl Abort, alloc: Global, ops: &[(&str, &[u64], &[u64])]) -> bool {
-    let mut hand = MemHand::new(alloc);
-    let first = pinned(rt, &mut hand, &[ZERO]).get(0).expect(rt, "a file");
-    let mut desk = desk_of(rt, alloc, PAIR, Pins::new(&[first, first]));
-    for (op, free, pins) in ops {
-        if !comes_to(alloc, &mut desk, &mut hand, op, DONE, free, pins) {
+fn are_freed_once(alloc: Global, desk: &mut Desk, hand: &mut MemHand, rows: &[Row]) -> bool {
+    for (op, free, pins) in rows {
+        if !comes_to(alloc, desk, hand, op, DONE, free, pins) {
             return false;
         }
     }
     true
 }
 
+// The same of two parts that have one list of pages, of these bytes.
+fn is_freed_once(rt: &impl Abort, alloc: Global, text: Bytes, bytes: &[u8], rows: &[Row]) -> bool {
+    assert!(rt; 0 < bytes.len() && bytes.len() <= 5_000);
+    let mut hand = MemHand::new(alloc);
+    let list: PageList = put_cut(alloc, &mut hand, bytes).expect(rt, "files");
+    let mut desk = desk_of(rt, alloc, text, Pins::new(&[list, list]));
+    are_freed_once(alloc, &mut desk, &mut hand, rows)
+}
+
 #[test]
 fn a_file_of_two_parts_is_freed_once(rt: HostRuntime) {
-    let alloc = rt.alloc();
+    let apart: [Row; 2] = [("right", &[], [&[1], &[2]]), ("left", &[1], [&[3], &[2]])];
+    let at_once: [Row; 1] = [("both", &[1], [&[2], &[3]])];
     assert!(rt;
-        is_freed_once(
-            &rt,
-            alloc,
-            &[("right", &[], &[1, 2]), ("left", &[1], &[3, 2])]
-        )
+        is_freed_once(&rt, rt.alloc(), PAIR, ZERO, &apart)
+            && is_freed_once(&rt, rt.alloc(), PAIR, ZERO, &at_once)
     );
-    assert!(rt; is_freed_once(&rt, alloc, &[("both", &[1], &[2, 3])]));
+}
+
+#[test]
+fn a_page_of_two_parts_is_freed_once(rt: HostRuntime) {
+    let mut bytes = Vec::new(rt.alloc());
+    bytes
+        .extend_from_slice(b"\x01\x01\x04\x00")
+        .expect(&rt, "memory");
+    bytes.resize(4_100, 0).expect(&rt, "memory");
+    let apart: [Row; 3] = [
+        ("left", &[], [&[6, 2, 3, 4, 5], &[1, 2, 3, 4, 5]]),
+        ("right", &[1], [&[6, 2, 3, 4, 5], &[7, 2, 3, 4, 8]]),
+        ("both", &[7], [&[6, 2, 3, 4, 5], &[9, 2, 3, 4, 8]]),
+    ];
+    let at_once: [Row; 1] = [("both", &[1], [&[6, 2, 3, 4, 5], &[7, 2, 3, 4, 5]])];
+    assert!(rt;
+        is_freed_once(&rt, rt.alloc(), WIDE_PAIR, &bytes, &apart)
+            && is_freed_once(&rt, rt.alloc(), WIDE_PAIR, &bytes, &at_once)
+    );
 }
 
 // Whether a call over a part of these bytes fails, and leaves its pin.
@@ -105,8 +169,8 @@ fn is_damaged(rt: &impl Abort, alloc: Global, bytes: Bytes) -> bool {
     let mut hand = MemHand::new(alloc);
     let pins = pinned(rt, &mut hand, &[bytes]);
     let mut desk = desk_of(rt, alloc, CELL, pins);
-    comes_to(alloc, &mut desk, &mut hand, "put", DAMAGED, &[], &[1])
-        && comes_to(alloc, &mut desk, &mut hand, "bump", DAMAGED, &[], &[1])
+    comes_to(alloc, &mut desk, &mut hand, "put", DAMAGED, &[], &[&[1]])
+        && comes_to(alloc, &mut desk, &mut hand, "bump", DAMAGED, &[], &[&[1]])
 }
 
 #[test]

@@ -4,6 +4,8 @@
 #[cfg(test)]
 mod desks;
 #[cfg(test)]
+mod devices;
+#[cfg(test)]
 mod make;
 #[cfg(test)]
 mod parts;

@@ -1,16 +1,17 @@
 //! Objects, files and desks, as the tests make them.
 
 use board_core::receipt::Receipt;
-use body_core::outcome::Outcome;
-use body_core::perform::perform;
-use body_core::run::Run;
 use decl_read::read::read_objects;
 use desk_core::answer::Collected;
 use desk_core::desk::Desk;
 use exclude_core::analyse::{Accepted, analyse};
 use hand_core::hand::{Hand, Stamp};
-use hand_core::pins::Pins;
 use hand_core::whole::put;
+use page_core::page_list::PageList;
+use page_core::pins::Pins;
+use run_core::outcome::Outcome;
+use run_core::perform::perform;
+use run_core::run::Run;
 use std::alloc::Global;
 use std::process::Abort;
 use value_core::datum::Datum;
@@ -46,12 +47,12 @@ pub fn accepted(rt: &impl Abort, alloc: Global, text: &[u8]) -> Accepted {
 
 /// A file for each part, with these bytes.
 pub fn pinned<H: Hand>(rt: &impl Abort, hand: &mut H, files: &[&[u8]]) -> Pins {
-    let mut stamps = [Stamp { number: 0, len: 0 }; 16];
-    assert!(rt; files.len() <= stamps.len());
+    let mut lists = [PageList::of(&[Stamp { number: 0, len: 0 }]); 16];
+    assert!(rt; files.len() <= lists.len());
     for (place, bytes) in files.iter().enumerate() {
-        stamps[place] = put(hand, bytes).expect(rt, "a file");
+        lists[place] = PageList::of(&[put(hand, bytes).expect(rt, "a file")]);
     }
-    Pins::new(&stamps[..files.len()])
+    Pins::new(&lists[..files.len()])
 }
 
 /// The desk of the one object of a text, with these pins.
@@ -108,8 +109,10 @@ fn mix(sum: u64, more: u64) -> u64 {
 /// A number that tells how much happened on a desk, its pins, and which of its first 40 calls wait and run.
 pub fn look(desk: &Desk) -> u64 {
     let mut sum = mix(desk.trace().len() as u64, desk.history().len() as u64);
-    for stamp in desk.pins().as_slice() {
-        sum = mix(sum, stamp.number);
+    for list in desk.pins().as_slice() {
+        for page in list.stamps() {
+            sum = mix(sum, page.number);
+        }
     }
     for number in 0..41 {
         let open = u64::from(desk.waits(number)) + 2 * u64::from(desk.runs(number));

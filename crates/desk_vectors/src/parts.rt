@@ -10,13 +10,13 @@ use device_core::mem_shelf::MemShelf;
 use device_core::memory::MemHand;
 use device_core::once::OnceHand;
 use hand_core::hand::{Hand, HandFault};
-use hand_core::pins::Pins;
 use hand_core::shelf::Shelf;
-use hand_core::whole::fetch;
-use shelf_core::open::{OpenFault, open_parts};
-use shelf_core::save::{SaveFault, save_parts};
+use page_core::pins::Pins;
 use std::alloc::Global;
 use std::process::Abort;
+use store_core::open::{OpenFault, open_parts};
+use store_core::pages::fetch_pages;
+use store_core::save::{SaveFault, save_parts};
 use value_core::datum::Datum;
 
 // Opens the parts of an object, where there is memory at the first or at the second try, and asserts that the file of
@@ -45,11 +45,11 @@ fn opened(
 // try.
 fn first_is(rt: &impl Abort, alloc: Global, hand: &mut MemHand, pins: &Pins, want: Bytes) {
     let pin = pins.get(0).expect(rt, "a pin");
-    let bytes = match fetch(alloc, hand, &pin) {
+    let bytes = match fetch_pages(alloc, hand, pin.stamps()) {
         Ok(bytes) => bytes,
         Err(fault) => {
             assert!(rt; fault == HandFault::Memory);
-            fetch(alloc, hand, &pin).expect(rt, "memory")
+            fetch_pages(alloc, hand, pin.stamps()).expect(rt, "memory")
         }
     };
     assert!(rt; bytes.as_slice() == want);

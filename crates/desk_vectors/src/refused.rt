@@ -5,16 +5,21 @@
 //! refused, and each whose name begins with `starved_` with all growths refused between its two marks. With no growth
 //! refused they are happy paths.
 
+use crate::desks::are_files;
 use crate::make::{CELL, ZERO, look, outcome_of};
 use apply_core::reply::{Failure, Reply};
-use body_core::outcome::Outcome;
 use decl_read::read::read_objects;
 use desk_core::answer::{Cancelled, SubmitFault};
 use desk_core::desk::Desk;
 use device_core::memory::MemHand;
+use device_core::once::OnceHand;
 use exclude_core::analyse::{Accepted, analyse};
-use hand_core::pins::Pins;
+use hand_core::hand::Hand;
+use hand_core::retire::retire_all;
 use hand_core::whole::put;
+use page_core::page_list::PageList;
+use page_core::pins::Pins;
+use run_core::outcome::Outcome;
 use std::alloc::Global;
 use std::process::Abort;
 use value_core::datum::Datum;
@@ -56,7 +61,7 @@ pub fn pins_twice(rt: &impl Abort, hand: &mut MemHand) -> Pins {
         Ok(stamp) => stamp,
         Err(_) => put(hand, ZERO).expect(rt, "memory"),
     };
-    Pins::new(&[stamp])
+    Pins::new(&[PageList::of(&[stamp])])
 }
 
 // Whether a session's `put 7` gets a number at the first or at the second try, and a refusal changes nothing.
@@ -149,4 +154,23 @@ fn starved_desk_goes_on(rt: HostRuntime) {
     let goes_on = goes_on(rt.alloc(), &mut desk, &mut hand, first);
     grow(&rt, rt.alloc(), MARK + 1);
     assert!(rt; goes_on && desk.trace().len() == 5);
+}
+
+// Files are retired, and a hand is taken out of the one round it, without memory.
+#[test]
+fn starved_files_are_given_back(rt: HostRuntime) {
+    let alloc = rt.alloc();
+    let mut files = MemHand::new(alloc);
+    let mut stamps = Vec::new(alloc);
+    for _ in 0..3 {
+        let stamp = put(&mut files, ZERO).expect(&rt, "a file");
+        stamps.push(stamp).expect(&rt, "memory");
+    }
+    let mut hand = OnceHand::new(files, 2);
+    grow(&rt, alloc, MARK);
+    let _starved = is_starved(alloc);
+    let left = retire_all(&mut hand, stamps);
+    let files = hand.into_inner();
+    grow(&rt, alloc, MARK + 1);
+    assert!(rt; are_files(&left, &[2]) && files.failures() == 0);
 }

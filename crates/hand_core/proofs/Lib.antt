@@ -1,2 +1,1 @@
-pub mod PinRows
 pub mod Retiring

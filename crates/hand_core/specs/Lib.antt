@@ -2,5 +2,4 @@ pub mod Device
 pub mod Faults
 pub mod Made
 pub mod Papers
-pub mod Pins
 pub mod Retired

@@ -1,4 +1,4 @@
-//! What a device is: hands that write files, shelves that keep bytes under names, and pins.
+//! What a device is: hands that write files, and shelves that keep bytes under names.
 //!
 //! A `Hand` writes files once, under numbers that it gives itself, and reads them; a `Shelf` keeps bytes
 //! under names. `specs/Device.antt` says what is assumed of them: what was written is what is read. `specs/Made.antt`
@@ -6,7 +6,6 @@
 #![tactic(auto)]
 
 pub mod hand;
-pub mod pins;
 pub mod retire;
 pub mod shelf;
 pub mod whole;

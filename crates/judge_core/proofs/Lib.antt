@@ -1,5 +1,9 @@
 pub mod Changes
 pub mod DecodedParts
-pub mod Judged
-pub mod Lengths
 pub mod Touching
+pub mod Completing
+pub mod Deciding
+pub mod Stopping
+pub mod Wholes
+pub mod Growing
+pub mod Alike

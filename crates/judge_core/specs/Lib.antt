@@ -1,4 +1,8 @@
 pub mod Given
-pub mod Laws
 pub mod Verdicts
 pub mod Written
+pub mod Reads
+pub mod Wholes
+pub mod Judged
+pub mod Grown
+pub mod Planned

@@ -1,7 +1,6 @@
--- What becomes of a body on the bytes read of its parts.
-use Rattle.std.specs.Prelude.{◌≡◌, ◌≢◌, ℕ, ◌<◌, ◌≤◌, ◌⊎◌, ◌↔◌, List, [], Option, Some, None, slice_get, length}
+-- The bytes read of the parts of a body, and what became of each part.
+use Rattle.std.specs.Prelude.{◌≡◌, ◌≢◌, ℕ, ◌<◌, ◌⊎◌, ◌↔◌, List, Option, Some, None, slice_get, length}
 use Rattle.std.specs.Int.{bit_at}
-use Rattle.value_core.specs.declared.datum.Datum.{Datum}
 use Rattle.value_core.specs.declared.kind.Kind.{Kind}
 use Rattle.value_core.specs.Contents.{Contents, kind_of}
 use Rattle.value_core.specs.Spelling.{Spells}
@@ -9,43 +8,18 @@ use Rattle.decl_core.specs.declared.object.Operation.{Operation}
 use Rattle.decl_core.specs.Bodies.{body_of}
 use Rattle.decl_core.specs.Form.{Statements}
 use Rattle.decl_core.specs.Touched.{Reads, Writes}
-use Rattle.apply_core.specs.declared.act.Stop.{Stop}
-use Rattle.apply_core.specs.declared.act.Stop.TheVariants as stops
 use Rattle.judge_core.specs.declared.judge.Change.{Change}
-use Rattle.judge_core.specs.declared.judge.Verdict.{Verdict}
-use Rattle.judge_core.specs.declared.judge.Verdict.TheVariants.{Done, Refused, Damaged, Memory}
 use Rattle.apply_core.specs.Fits.{IsNamed}
-use Rattle.judge_core.specs.Given.{AreSpelled, IsDone, IsRefused, IsDamaged, AreChanges}
+use Rattle.judge_core.specs.Given.{AreSpelled}
 use Rattle.judge_core.specs.Written.{WritesInOrder, parts_changed}
 
 -- the bytes read of part p stand at place p
 abbrev pub ReadAs : List (List ℕ) → ℕ → List ℕ → Type 0
 ReadAs read p bytes = slice_get read p ≡ Some bytes
 
--- what the body gives on the contents that these bytes spell; want of memory says nothing
-abbrev pub Judged : Operation → List Datum → List (List ℕ) → Verdict → Type 0
-Judged operation arguments read (Done reply changes) = IsDone (ReadAs read) operation arguments reply (AreChanges changes.items)
-Judged operation arguments read (Refused word) = IsRefused (ReadAs read) operation arguments word
-Judged operation arguments read Damaged = IsDamaged (ReadAs read) operation
-Judged operation arguments read Memory = Unit {0}
-
 -- the changed parts are of the writes, and their numbers rise from this one on
 abbrev pub Rising : Statements → ℕ → List Change → Type 0
 Rising statements from changes = WritesInOrder statements from (parts_changed changes)
-
--- only parts of its writes are changed, each once, in order
-abbrev pub OnlyWrites : Operation → Verdict → Type 0
-OnlyWrites operation (Done reply changes) = Rising (body_of operation).statements 0 changes.items × (length changes.items ≤ 16)
-OnlyWrites operation (Refused word) = Unit {0}
-OnlyWrites operation Damaged = Unit {0}
-OnlyWrites operation Memory = Unit {0}
-
--- it is done and changed no part, or it is refused
-abbrev pub Settled : Verdict → Type 0
-Settled (Done reply changes) = changes.items ≡ []
-Settled (Refused word) = Unit {0}
-Settled Damaged = ⊥
-Settled Memory = ⊥
 
 -- these bits are these parts
 abbrev pub AreBits : ℕ → (ℕ → Type 0) → Type 0
@@ -86,8 +60,3 @@ pub record MayLeave (operation : Operation) (read : List (List ℕ)) (before aft
   pub spelled : AreSpelled (ReadAs read) operation before
   pub many : length after ≡ length before
   pub stay : (p : ℕ) → (Writes (body_of operation).statements p → ⊥) → slice_get after p ≡ slice_get before p
-
--- what becomes of a body that stopped
-abbrev pub verdict_of : Stop → Verdict
-verdict_of (stops.Refused word) = Refused word
-verdict_of stops.Memory = Memory

@@ -1,20 +1,28 @@
-//! What becomes of a body on the bytes of its parts: they are decoded, the body is evaluated, and what it changed is
-//! spelled.
+//! What becomes of a body on what was read of its parts: that is decoded, the body is evaluated over what is known, and
+//! what it changed is spelled.
 
 ghost use Rattle.std.specs.Prelude.{◌≡◌, ◌==◌, ◌++◌, ◌∷◌, [], ◌<◌, ◌≤◌, ℕ, List, length, OnOk, IfOk, IsOkAnd};
 ghost use Rattle.std.specs.Option.{option_to_list};
 ghost use Rattle.std.specs.Result.{IsErrOf};
-ghost use Rattle.std.specs.Int.{bit_at};
-ghost use Rattle.value_core.specs.Contents.{Contents};
+ghost use Rattle.value_core.specs.Contents.{Contents, IsContents};
 ghost use Rattle.decl_core.specs.Bodies.{body_of};
+ghost use Rattle.decl_core.specs.Meaning.{part_at};
 ghost use Rattle.decl_core.specs.Touched.{Reads, Writes};
+ghost use Rattle.piece_core.specs.Pages.{page_of as in_page};
 ghost use Rattle.apply_core.specs.Fits.{ArgumentsFit};
+ghost use Rattle.known_core.specs.Wanted.{AreMasksFor};
+ghost use Rattle.known_core.specs.declared.act.Stop.TheVariants as stops;
+ghost use Rattle.judge_core.specs.Given.{AreSpelled, IsDamaged, AreChanges};
+ghost use Rattle.judge_core.specs.Verdicts.{ReadAs, Rising, AreBits, ReadsNone, HasReads, IsPart, IsChangeOf, IsStep, MayLeave};
 
-use apply_core::act::Stop;
-use apply_core::evaluate::evaluate;
 use decl_core::footprint::{is_in, reads, writes};
+use decl_core::id::PartId;
 use decl_core::object::Operation;
+use known_core::act::Stop;
+use known_core::evaluate::evaluate;
+use known_core::pages::Pages;
 use page_core::file_bytes::FileBytes;
+use piece_core::page::page_of;
 use std::alloc::{AllocError, Global};
 use value_core::datum::Datum;
 use value_core::decode::{DecodeFault, decode};
@@ -35,18 +43,22 @@ pub struct Change {
 /// What became of a body.
 #[derive(Drop)]
 pub enum Verdict {
-    /// It was done: its reply, and the parts that it changed, numbers rising.
+    /// It was done: its reply, and the parts that it changed, numbers rising. In the new bytes of an array of integers
+    /// a page that is not known is as it was in those that were read.
     Done(Option<Datum>, Vec<Change>),
     /// It was refused by this word.
     Refused(Text),
+    /// It comes to a page that is not known: of this part, this page. Both count from 0.
+    Needs(usize, usize),
     /// The bytes of a part spell no value of its kind.
     Damaged,
     /// Memory was refused.
     Memory,
 }
 
-ghost use Rattle.judge_core.specs.Given.{AreSpelled, IsDamaged, AreChanges};
-ghost use Rattle.judge_core.specs.Verdicts.{ReadAs, Judged, Rising, OnlyWrites, Settled, AreBits, ReadsNone, HasReads, IsPart, IsChangeOf, IsStep, MayLeave, verdict_of};
+ghost use Rattle.judge_core.specs.Reads.{AreKnown};
+ghost use Rattle.judge_core.specs.Judged.{JudgedOn, IsNextOf, OnlyWrites, Settled, StoppedAs};
+ghost use Rattle.judge_core.specs.declared.judge.Verdict.TheVariants as verdicts;
 
 // A value that takes no memory, in the place of a part that is not read.
 fn unread(alloc: Global) -> Result<Value, DecodeFault>
@@ -203,12 +215,24 @@ fn changes_of(
     Ok(changes)
 }
 
-// A body that stopped.
-fn stopped(stop: Stop) -> Verdict
-    ensures { result ≡ verdict_of stop }
+// The page that is needed.
+fn needed(parts: &[Value], part: PartId, index: u32) -> Verdict
+    requires there { part < length parts.now }
+    ensures page { result ≡ verdicts.Needs part (in_page index) }
+    ensures contents { IsContents (part_at parts.now part) }
+{
+    let _kind = parts[part.place() as usize].kind();
+    Verdict::Needs(part.place() as usize, page_of(index))
+}
+
+// What becomes of a body that stopped, and left these parts.
+fn stopped(stop: Stop, parts: &[Value]) -> Verdict
+    requires there { (p i : ℕ) → stop ≡ stops.Needs p i → p < length parts.now }
+    ensures { StoppedAs parts.now stop result }
 {
     match stop {
         Stop::Refused(word) => Verdict::Refused(word),
+        Stop::Needs(part, index) => needed(parts, part, index),
         Stop::Memory => Verdict::Memory,
     }
 }
@@ -218,39 +242,52 @@ fn judge_parts(
     alloc: Global,
     operation: &Operation,
     args: &[Datum],
+    known: &Pages,
     read: &[FileBytes],
     mut parts: Vec<Value>,
 ) -> Verdict
     requires fits { ArgumentsFit operation.now args.now }
     requires read { HasReads operation.now read.now }
+    requires masks { AreMasksFor operation.now known.now }
     requires spelled { AreSpelled (ReadAs read.now) operation.now parts.items }
     requires few { length parts.items ≤ 16 }
-    ensures judged { Judged operation.now args.now read.now result }
+    ensures judged { (whole : List (List ℕ)) → AreKnown known.now operation.now read.now (ReadAs whole) → JudgedOn known.now operation.now args.now read.now whole result }
+    ensures next { IsNextOf known.now operation.now result }
     ensures writes { OnlyWrites operation.now result }
     ensures settled { parts.items ≡ [] → Settled result }
 {
-    match evaluate(operation, args, &mut parts) {
+    match evaluate(operation, args, &mut parts, known) {
         Ok(reply) => match changes_of(alloc, operation, read, &parts) {
             Ok(changes) => Verdict::Done(reply, changes),
             Err(_) => Verdict::Memory,
         },
-        Err(stop) => stopped(stop),
+        Err(stop) => stopped(stop, &parts),
     }
 }
 
-/// What becomes of a body on the bytes read of its parts. Those of part p stand at place p, where the operation
-/// reads it.
-pub fn judge(alloc: Global, operation: &Operation, args: &[Datum], read: &[FileBytes]) -> Verdict
+/// What becomes of a body on what was read of its parts. The bytes of part p stand at place p, where the operation reads
+/// it; in the place of a page that is not known stand any.
+pub fn judge(
+    alloc: Global,
+    operation: &Operation,
+    args: &[Datum],
+    known: &Pages,
+    read: &[FileBytes],
+) -> Verdict
     requires fits { ArgumentsFit operation.now args.now }
-    requires read { (p : ℕ) → Reads (body_of operation.now).statements p → p < length read.now }
-    ensures judged { Judged operation.now args.now read.now result }
+    requires read { HasReads operation.now read.now }
+    requires masks { AreMasksFor operation.now known.now }
+    // Whatever the whole bytes are of which these were read, it tells of the contents that they spell.
+    ensures judged { (whole : List (List ℕ)) → AreKnown known.now operation.now read.now (ReadAs whole) → JudgedOn known.now operation.now args.now read.now whole result }
+    // A page that it needs is there and not known.
+    ensures next { IsNextOf known.now operation.now result }
     // It changes parts of its writes alone, at most 16, each once.
     ensures writes { OnlyWrites operation.now result }
     // A body that reads no part is done or refused at once.
-    ensures settled { ((p : ℕ) → Reads (body_of operation.now).statements p → ⊥) → Settled result }
+    ensures settled { ReadsNone operation.now → Settled result }
 {
     match decode_all(alloc, operation, read) {
-        Ok(parts) => judge_parts(alloc, operation, args, read, parts),
+        Ok(parts) => judge_parts(alloc, operation, args, known, read, parts),
         Err(DecodeFault::Damaged) => Verdict::Damaged,
         Err(DecodeFault::Memory) => Verdict::Memory,
     }

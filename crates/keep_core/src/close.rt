@@ -14,21 +14,21 @@ use crate::open::{push_damaged, push_part};
 use crate::trouble::Trouble;
 use decl_core::object::Object;
 use desk_core::desk::Desk;
-use hand_core::hand::{Hand, HandFault};
+use hand_core::hand::{Hand, HandFault, Stamp};
 use hand_core::shelf::Shelf;
 use line_core::reply::{push_count, push_number, push_reply};
 use line_core::{LinesFault, write_whole};
 use office_core::office::Office;
 use office_core::seat::Seat;
 use path_tree::name::Name;
-use shelf_core::save::{SaveFault, save_part, save_parts};
 use slip_core::slip::Slip;
 use std::alloc::{AllocError, Global};
 use std::io::Write;
+use store_core::save::{SaveFault, save_part, save_parts};
 use value_core::value::Value;
 
-// The most bytes of a line at the end: two names, a number and words.
-const LINE_BYTES: usize = 256;
+// The most bytes of a line at the end: two names, the numbers of eight files and words.
+const LINE_BYTES: usize = 512;
 
 /// What closes objects: the shelves of their parts and of their traces, a hand on their values, and what was met.
 #[derive(Drop)]
@@ -149,16 +149,16 @@ fn tell_damaged<W: Write>(
     tell(writer, line.as_slice(), made)
 }
 
-// Says on standard error which file holds the value of a part that is not saved: `OBJECT.PART not saved: N.val`.
+// Says on standard error which files hold the value of a part that is not saved, page by page: `OBJECT.PART not saved: N.val ..`.
 fn tell_unsaved<E: Write>(
     line: &mut Vec<u8>,
     object: &Object,
     part: usize,
-    number: u64,
+    pages: &[Stamp],
     error: &mut E,
 ) {
     line.clear();
-    if push_unsaved(line, object, part, number).is_ok() {
+    if push_unsaved(line, object, part, pages).is_ok() {
         let _ = write_whole(error, line.as_slice());
     }
 }
@@ -167,11 +167,15 @@ fn push_unsaved(
     line: &mut Vec<u8>,
     object: &Object,
     part: usize,
-    number: u64,
+    pages: &[Stamp],
 ) -> Result<(), AllocError> {
     push_part(line, object, part)?;
-    push_number(line, b" not saved: ", number)?;
-    line.extend_from_slice(b".val\n")
+    line.extend_from_slice(b" not saved:")?;
+    for page in pages {
+        push_number(line, b" ", page.number)?;
+        line.extend_from_slice(b".val")?;
+    }
+    line.extend_from_slice(b"\n")
 }
 
 // Says on standard error that the trace of an object is not written: `OBJECT.trace not written`.
@@ -235,7 +239,7 @@ impl<S: Shelf + Drop, T: Shelf + Drop, H: Hand + Drop> Closing<S, T, H> {
         (&mut self.parts, &mut self.hand)
     }
 
-    // Saves each part from this one on that can be saved by itself, and says which file holds the value of each other one. It answers
+    // Saves each part from this one on that can be saved by itself, and says which files hold the value of each other one. It answers
     // whether all of them are saved.
     fn save_each<W: Write, E: Write>(
         &mut self,
@@ -276,7 +280,7 @@ impl<S: Shelf + Drop, T: Shelf + Drop, H: Hand + Drop> Closing<S, T, H> {
                 SaveFault::Device(_) => self.trouble.note(LinesFault::WriteFault),
                 SaveFault::Memory => self.trouble.note(LinesFault::Memory),
             }
-            tell_unsaved(&mut self.line, object, number, pin.number, error);
+            tell_unsaved(&mut self.line, object, number, pin.stamps(), error);
         }
         all
     }

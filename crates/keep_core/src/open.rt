@@ -5,14 +5,14 @@ ghost use Rattle.std.specs.Prelude.{◌≡◌, length, IfOk};
 use decl_core::object::Object;
 use exclude_core::analyse::Accepted;
 use hand_core::hand::Hand;
-use hand_core::pins::Pins;
 use hand_core::shelf::Shelf;
 use line_core::LinesFault;
 use office_core::office::Office;
 use office_core::room::Room;
+use page_core::pins::Pins;
 use path_tree::name::Name;
-use shelf_core::open::{OpenFault, open_parts};
 use std::alloc::{AllocError, Global};
+use store_core::open::{OpenFault, open_parts};
 use value_core::value::Value;
 
 /// An object that is open: its name, its office, and the values with which its parts opened.

@@ -2,12 +2,11 @@
 use Rattle.std.proofs.Common.{false, ◌≡◌, ◌∙◌, ap, sym, subst, refl, ℕ, suc, ◌+◌, ◌-◌, arith, List, [], ◌∷◌, Some}
 use Rattle.std.specs.Prelude.{slice_get}
 use Rattle.std.proofs.lemmas.Option.{same_Some}
-use Rattle.hand_core.specs.declared.hand.Stamp.{Stamp}
 use Rattle.hand_core.specs.Device.{Assignment}
-use Rattle.body_core.specs.declared.new_pins.NewPin.{NewPin}
+use Rattle.page_core.specs.PartPins.{PartPin}
 use Rattle.apply_core.specs.declared.reply.Reply.{Reply}
 use Rattle.apply_core.specs.declared.reply.Reply.TheVariants as replies
-use Rattle.body_core.specs.Outcomes.{outcome_reply, outcome_news, new_if_done}
+use Rattle.run_core.specs.Outcomes.{outcome_reply, outcome_news, if_done}
 use Rattle.board_core.specs.declared.receipt.Receipt.{Receipt}
 use Rattle.board_core.specs.Lists.{Every}
 use Rattle.board_core.specs.Calls.{Noted, RunningCall}
@@ -22,11 +21,11 @@ use Rattle.office_core.specs.Closing.{Stands}
 use Rattle.office_core.specs.Receipts.{IsTrueReceipt, ReceiptsAreLegal, SlipsAreLegal}
 
 -- the call of an entry, as it ran by these pins
-abbrev as_ran : Noted → List Stamp → RunningCall
+abbrev as_ran : Noted → List PartPin → RunningCall
 as_ran e pins = record { number = e.number; call = record { session = e.session; op = 0; operation = e.operation; arguments = e.arguments }; pins = pins; taken = false }
 
 -- what is kept of the new pins is kept again
-again : (reply : Reply) (news : List NewPin) → new_if_done reply (new_if_done reply news) ≡ new_if_done reply news
+again : (reply : Reply) (news : List PartPin) → if_done reply (if_done reply news) ≡ if_done reply news
 again (replies.Done value) news = refl
 again (replies.Refused word) news = refl
 again (replies.Failed failure) news = refl

@@ -1,11 +1,9 @@
 -- Seats, and what a `complete` answers.
 use Rattle.std.specs.Prelude.{◌≡◌, ℕ, ◌+◌, ◌≤◌, ◌<◌, length, Result, Ok, Err}
-use Rattle.body_core.specs.declared.outcome.Outcome.{Outcome}
-use Rattle.body_core.specs.Outcomes.{outcome_call}
+use Rattle.run_core.specs.declared.outcome.Outcome.{Outcome}
+use Rattle.run_core.specs.Outcomes.{TellsSame}
 use Rattle.board_core.specs.declared.receipt.Receipt.{Receipt}
-use Rattle.board_core.specs.Lists.{Every}
-use Rattle.board_core.specs.Outcomes.{IsOf}
-use Rattle.desk_core.specs.Answers.{Finishes, receipt_by}
+use Rattle.desk_core.specs.Answers.{Finishes, IsStranger, receipt_by}
 use Rattle.desk_core.specs.declared.answer.Finished.{Finished}
 use Rattle.office_core.specs.declared.seat.Seat.{Seat}
 use Rattle.office_core.specs.declared.seat.NotTaken.{NotTaken}
@@ -26,17 +24,17 @@ pub record Advances (old : Seat) (place : ℕ) (new : Seat) : Type 0 where
   pub seen : new.seen ≡ place
   pub count : new.count ≡ old.count + 1
 
--- What a `complete` tells of an outcome and of the seat: a receipt that holds this outcome, at a place past all that the seat had seen; or the outcome back, and the seat as it was.
+-- What a `complete` tells of an outcome and of the seat: a receipt whose outcome tells the same, at a place past all that the seat had seen; or the outcome back, and the seat as it was.
 abbrev pub Receives : Seat → Outcome → Result Receipt CompleteFault → Seat → Type 0
-Receives old o (Ok r) new = (r.noted.outcome ≡ o) × (old.seen < r.place) × Advances old r.place new
+Receives old o (Ok r) new = TellsSame o r.noted.outcome × (old.seen < r.place) × Advances old r.place new
 Receives old o (Err (Front seen found back)) new = (seen ≡ old.seen) × (found ≤ seen) × (back ≡ o) × (new ≡ old)
 Receives old o (Err (Stranger back)) new = (back ≡ o) × (new ≡ old)
 
--- The same of an outcome that stays where it lies.
-abbrev pub ReceivesInPlace : Seat → Result Finished NotTaken → Seat → Type 0
-ReceivesInPlace old (Ok f) new = (old.seen < f.place) × Advances old f.place new
-ReceivesInPlace old (Err (missed seen found)) new = (seen ≡ old.seen) × (found ≤ seen) × (new ≡ old)
-ReceivesInPlace old (Err unknown) new = new ≡ old
+-- The same of an outcome that stays where it lies: it then tells the same, or is as it was.
+abbrev pub ReceivesInPlace : Seat → Outcome → Result Finished NotTaken → Outcome → Seat → Type 0
+ReceivesInPlace old o (Ok f) after new = TellsSame o after × (old.seen < f.place) × Advances old f.place new
+ReceivesInPlace old o (Err (missed seen found)) after new = (seen ≡ old.seen) × (found ≤ seen) × (after ≡ o) × (new ≡ old)
+ReceivesInPlace old o (Err unknown) after new = (after ≡ o) × (new ≡ old)
 
 -- why it was not taken, with the outcome
 abbrev pub fault_with : NotTaken → Outcome → CompleteFault
@@ -51,10 +49,10 @@ IsAhead r seat = seat.seen < length r.board.history + 1
 abbrev pub Completes : RoomState → Seat → Outcome → Result Receipt CompleteFault → RoomState → Type 0
 Completes old seat o (Ok r) new = IsAhead old seat × Finishes old.board o r new.board × (new.given ≡ old.given)
 Completes old seat o (Err (Front seen found back)) new = (found ≡ length old.board.history + 1) × (found ≤ seat.seen) × (new ≡ old)
-Completes old seat o (Err (Stranger back)) new = IsAhead old seat × Every (λ r. IsOf (outcome_call o) r → ⊥) old.board.running × (new ≡ old)
+Completes old seat o (Err (Stranger back)) new = IsAhead old seat × IsStranger old.board o × (new ≡ old)
 
 -- The same of an outcome that stays where it lies.
-abbrev pub CompletesInPlace : RoomState → Seat → Outcome → Result Finished NotTaken → RoomState → Type 0
-CompletesInPlace old seat o (Ok f) new = IsAhead old seat × Finishes old.board o (receipt_by f o) new.board × (new.given ≡ old.given)
-CompletesInPlace old seat o (Err (missed seen found)) new = (found ≡ length old.board.history + 1) × (found ≤ seat.seen) × (new ≡ old)
-CompletesInPlace old seat o (Err unknown) new = IsAhead old seat × Every (λ r. IsOf (outcome_call o) r → ⊥) old.board.running × (new ≡ old)
+abbrev pub CompletesInPlace : RoomState → Seat → Outcome → Result Finished NotTaken → Outcome → RoomState → Type 0
+CompletesInPlace old seat o (Ok f) after new = IsAhead old seat × Finishes old.board o (receipt_by f after) new.board × (new.given ≡ old.given)
+CompletesInPlace old seat o (Err (missed seen found)) after new = (found ≡ length old.board.history + 1) × (found ≤ seat.seen) × (new ≡ old)
+CompletesInPlace old seat o (Err unknown) after new = IsAhead old seat × IsStranger old.board o × (new ≡ old)

@@ -12,9 +12,9 @@ use crate::room::{CloseRefused, Closed, Room, SeatsFull, with_outcome};
 use crate::seat::{CompleteFault, NotTaken, Seat, Started, Submitted, Tried};
 use board_core::event::TraceEvent;
 use board_core::receipt::Receipt;
-use body_core::outcome::Outcome;
 use desk_core::answer::{Cancelled, Finished, SubmitFault};
 use desk_core::desk::Desk;
+use run_core::outcome::Outcome;
 use slip_core::slip::Slip;
 use std::alloc::{AllocError, Global};
 use std::hint::spin_loop;
@@ -338,7 +338,8 @@ impl Office {
     ) -> Result<Receipt, CompleteFault>
         ensures seat { Receives seat.old outcome result seat.new }
     {
-        match self.complete_in_place(rt, seat, &outcome) {
+        let mut outcome = outcome;
+        match self.complete_in_place(rt, seat, &mut outcome) {
             Ok(finished) => Ok(finished.receipt(outcome)),
             Err(why) => Err(with_outcome(why, outcome)),
         }
@@ -349,14 +350,15 @@ impl Office {
         &self,
         rt: &R,
         seat: &mut Seat,
-        outcome: &Outcome,
+        outcome: &mut Outcome,
     ) -> Result<Finished, NotTaken>
-        ensures seat { ReceivesInPlace seat.old result seat.new }
+        ensures seat { ReceivesInPlace seat.old outcome.old result outcome.new seat.new }
     {
+        let number = outcome.number();
         let mut room = self.enter(rt);
         let before = room.desk().trace().len();
         let answer = room.complete_in_place(seat, outcome);
-        let ended = answer.is_ok() && room.note_end(outcome.number());
+        let ended = answer.is_ok() && room.note_end(number);
         // What happened first is the end of this call, where it was taken. Mostly no call starts by it.
         let beds = if room.desk().trace().len() > before.saturating_add(1) {
             started(&mut room, before.saturating_add(1))

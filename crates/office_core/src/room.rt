@@ -16,11 +16,11 @@ use crate::find::{first_mismatch, first_mismatched_slip, is_of};
 use crate::seat::{CompleteFault, NotTaken, Seat, Submitted, Tried};
 use crate::seats::are_seats;
 use board_core::receipt::Receipt;
-use body_core::outcome::Outcome;
 use desk_core::answer::{Cancelled, Collected, Finished, SubmitFault};
 use desk_core::desk::Desk;
 use exclude_core::analyse::Accepted;
-use hand_core::pins::Pins;
+use page_core::pins::Pins;
+use run_core::outcome::Outcome;
 use slip_core::slip::Slip;
 use std::alloc::{AllocError, Global};
 use std::marker::Model;
@@ -231,12 +231,14 @@ impl Room {
     /// its entry, and counts one receipt more. It takes no memory.
     ///
     /// The errors, in this order, hand the outcome back and change nothing: the place that it would get is not past
-    /// the greatest that the seat has seen (`Front`), or no running call has it (`Stranger`).
+    /// the greatest that the seat has seen (`Front`), or no running call has it, or it was handed in before
+    /// (`Stranger`).
     pub fn complete(&mut self, seat: &mut Seat, outcome: Outcome) -> Result<Receipt, CompleteFault>
         ensures seat { Receives seat.old outcome result seat.new }
         ensures room { Completes self.old seat.old outcome result self.new }
     {
-        match self.complete_in_place(seat, &outcome) {
+        let mut outcome = outcome;
+        match self.complete_in_place(seat, &mut outcome) {
             Ok(finished) => Ok(finished.receipt(outcome)),
             Err(why) => Err(with_outcome(why, outcome)),
         }
@@ -246,10 +248,10 @@ impl Room {
     pub fn complete_in_place(
         &mut self,
         seat: &mut Seat,
-        outcome: &Outcome,
+        outcome: &mut Outcome,
     ) -> Result<Finished, NotTaken>
-        ensures seat { ReceivesInPlace seat.old result seat.new }
-        ensures room { CompletesInPlace self.old seat.old outcome.now result self.new }
+        ensures seat { ReceivesInPlace seat.old outcome.old result outcome.new seat.new }
+        ensures room { CompletesInPlace self.old seat.old outcome.old result outcome.new self.new }
     {
         let found = self.desk.history().len() + 1;
         let seen = seat.seen;

@@ -3,8 +3,8 @@
 ghost use Rattle.std.specs.Prelude.{◌≡◌, ◌≤◌};
 
 use board_core::call::Call;
-use body_core::outcome::Outcome;
-use body_core::ticket::Ticket;
+use call_core::ticket::Ticket;
+use run_core::outcome::Outcome;
 use std::sync::Arc;
 
 /// A session that was given out: the greatest place of the history that it has seen, and how many receipts it had.
@@ -68,7 +68,7 @@ pub enum Tried {
 pub enum NotTaken {
     /// The place that the outcome would get is not past the greatest that the seat has seen.
     Front { seen: usize, found: usize },
-    /// No running call has this outcome.
+    /// No running call has this outcome, or it was handed in before.
     Stranger,
 }
 
@@ -81,6 +81,6 @@ pub enum CompleteFault {
         found: usize,
         outcome: Outcome,
     },
-    /// No running call has this outcome.
+    /// No running call has this outcome, or it was handed in before.
     Stranger(Outcome),
 }

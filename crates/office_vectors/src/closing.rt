@@ -1,16 +1,17 @@
 //! When a room and an office are closed.
 
-use crate::make::{finish, room, stuck, turn};
+use crate::make::{finish, page, room, stuck, turn};
 use apply_core::reply::Reply;
-use board_core::receipt::Receipt;
-use board_core::same::same_stamps;
-use body_core::perform::perform;
-use body_core::run::Run;
+use board_core::entry::Entry;
+use board_core::receipt::{NotedOutcome, Receipt};
 use device_core::memory::MemHand;
-use hand_core::pins::Pins;
+use hand_core::hand::Stamp;
 use office_core::office::Office;
 use office_core::room::{CloseFault, CloseRefused, Closed, Room};
 use office_core::seat::{Seat, Started};
+use page_core::pins::Pins;
+use run_core::perform::perform;
+use run_core::run::Run;
 use slip_core::room::SlipRoom;
 use slip_core::slip::Slip;
 use std::alloc::Global;
@@ -39,6 +40,14 @@ fn refused(
     }
 }
 
+// The file of the one page by which the call of an entry read.
+fn page_read(entry: &Entry) -> Option<Stamp> {
+    match entry.pins().pages(0) {
+        Some([stamp]) => Some(*stamp),
+        _ => None,
+    }
+}
+
 // Whether this is the closed desk of a cell that had these pins, with one entry that read by them.
 fn is_closed(answer: Result<Closed, CloseRefused>, pins: Pins) -> bool {
     let Ok(closed) = answer else {
@@ -48,13 +57,10 @@ fn is_closed(answer: Result<Closed, CloseRefused>, pins: Pins) -> bool {
     let [entry] = desk.history() else {
         return false;
     };
-    let [pin] = entry.pins() else {
-        return false;
-    };
     let is_cell = desk.accepted().object().name.is_spelled_by(b"cell");
-    is_cell
-        && same_stamps(desk.opening_pins().as_slice(), pins.as_slice())
-        && pins.as_slice().first() == Some(&pin.stamp)
+    let opening = desk.opening_pins();
+    let file = page(&pins);
+    is_cell && file.is_some() && page(&opening) == file && page_read(entry) == file
 }
 
 // A receipt of a `put 8` at place 1 of another room.
@@ -72,11 +78,15 @@ fn one(rt: &impl Abort, alloc: Global, receipt: Receipt) -> Vec<Receipt> {
 }
 
 // The slip of a receipt of a `put` of this value.
-fn slip(rt: &impl Abort, alloc: Global, receipt: &Receipt, value: u32) -> Vec<Slip> {
+fn slip(rt: &impl Abort, alloc: Global, receipt: Receipt, value: u32) -> Vec<Slip> {
     let mut room = SlipRoom::new(alloc);
-    assert!(rt; room.slip(receipt).is_none());
     room.make(&[Datum::Integer(value)]).expect(rt, "memory");
-    let slip = room.slip(receipt).expect(rt, "a slip");
+    let Receipt {
+        place,
+        noted: NotedOutcome { session, outcome },
+        free: _,
+    } = receipt;
+    let slip = room.slip(place, session, outcome).expect(rt, "a slip");
     assert!(rt; slip.place() == 1 && slip.number() == 1 && slip.reply() == Reply::Done(None));
     let mut all = Vec::new(alloc);
     all.push(slip).expect(rt, "memory");
@@ -159,8 +169,8 @@ fn an_office_closes_with_its_seat_and_its_slip(rt: HostRuntime) {
     let office = Office::open(alloc, room).expect(&rt, "memory");
     let mut seat = office.seat(&rt).expect(&rt, "a seat");
     let own = put(&rt, alloc, &office, &mut seat, &mut hand, 7).expect(&rt, "a receipt");
-    let foreign = slip(&rt, alloc, &foreign(&rt, alloc), 8);
-    let own = slip(&rt, alloc, &own, 7);
+    let foreign = slip(&rt, alloc, foreign(&rt, alloc), 8);
+    let own = slip(&rt, alloc, own, 7);
     let why = CloseFault::SeatMissing;
     let (room, mut seats) = refused(&rt, office.close_by_slips(Vec::new(alloc), &[]), why, 1);
     seats.push(seat).expect(&rt, "memory");

@@ -1,16 +1,17 @@
 //! Objects, files, rooms and whole calls, as the tests make them.
 
 use board_core::receipt::Receipt;
-use body_core::perform::perform;
-use body_core::run::Run;
 use decl_read::read::read_objects;
 use exclude_core::analyse::{Accepted, analyse};
-use hand_core::hand::Hand;
-use hand_core::pins::Pins;
+use hand_core::hand::{Hand, Stamp};
 use hand_core::whole::put;
 use office_core::office::Office;
 use office_core::room::Room;
 use office_core::seat::{Seat, Started, Submitted, Tried};
+use page_core::page_list::PageList;
+use page_core::pins::Pins;
+use run_core::perform::perform;
+use run_core::run::Run;
 use std::alloc::Global;
 use std::process::Abort;
 use std::sync::Wait;
@@ -40,7 +41,16 @@ pub fn cell(alloc: Global) -> Option<Accepted> {
 /// The pins of a cell that is `[0]`, where there is memory for its file.
 pub fn pins<H: Hand>(hand: &mut H) -> Option<Pins> {
     let stamp = put(hand, ZERO).ok()?;
-    Some(Pins::new(&[stamp]))
+    Some(Pins::new(&[PageList::of(&[stamp])]))
+}
+
+/// The file of the one page of the one part of a cell.
+pub fn page(pins: &Pins) -> Option<Stamp> {
+    let list = pins.get(0)?;
+    match list.stamps() {
+        [stamp] => Some(*stamp),
+        _ => None,
+    }
 }
 
 /// A room with a cell under these pins, where there is memory for it.

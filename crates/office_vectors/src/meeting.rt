@@ -1,12 +1,11 @@
 //! Two bodies that run at once.
 
-use crate::make::{finish, pins, room, stuck};
-use board_core::same::same_stamps;
-use body_core::perform::perform;
-use body_core::run::Run;
+use crate::make::{finish, page, pins, room, stuck};
 use device_core::memory::MemHand;
 use office_core::office::Office;
 use office_core::seat::Started;
+use run_core::perform::perform;
+use run_core::run::Run;
 use std::alloc::Global;
 use std::sync::Wait;
 use std::sync::atomic::{AtomicU64, Ordering};
@@ -78,7 +77,8 @@ fn two_gets_meet(rt: HostRuntime) {
     let mut two = MemHand::new(alloc);
     let room = room(&rt, alloc, &mut one);
     let same = pins(&mut two).expect(&rt, "memory");
-    assert!(rt; same_stamps(same.as_slice(), room.desk().pins().as_slice()));
+    let there = room.desk().pins();
+    assert!(rt; page(&same).is_some() && page(&same) == page(&there));
     let office = Office::open(alloc, room).expect(&rt, "memory");
     let word = AtomicU64::new(0);
     let (first, second) = thread::join(

@@ -4,14 +4,14 @@
 //! refused. With no growth refused they are happy paths.
 
 use crate::make::{pins, room_of, stuck};
-use body_core::perform::perform;
-use body_core::run::Run;
 use desk_core::answer::SubmitFault;
 use device_core::memory::MemHand;
-use hand_core::pins::Pins;
 use office_core::office::Office;
 use office_core::room::Room;
 use office_core::seat::{Seat, Submitted, Tried};
+use page_core::pins::Pins;
+use run_core::perform::perform;
+use run_core::run::Run;
 use std::alloc::Global;
 use std::process::Abort;
 use std::sync::Wait;

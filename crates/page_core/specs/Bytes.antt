@@ -42,3 +42,7 @@ split_by (len ∷ lens) bytes = take len bytes ∷ split_by lens (drop len bytes
 pub record AreCutBy (size : ℕ) (bytes : List ℕ) (pages : List (List ℕ)) : Type 0 where
   pub whole : concat pages ≡ bytes
   pub full : AreFull size (map length pages)
+
+-- bytes, written over by others from the first one on; they stay as many
+abbrev pub written_over : List ℕ → List ℕ → List ℕ
+written_over bytes news = take (length bytes) (news ++ drop (length news) bytes)

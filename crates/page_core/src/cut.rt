@@ -33,8 +33,8 @@ pub fn page_size(count: usize) -> Option<usize>
     first_for(count, &SIZES)
 }
 
-// How many bytes these files have together, where a `usize` can tell.
-fn total(stamps: &[Stamp]) -> Option<usize>
+/// How many bytes these files have together, where a `usize` can tell, else `None`.
+pub fn total(stamps: &[Stamp]) -> Option<usize>
     ensures some { IfSome result (λ count. count ≡ together (lengths stamps.now)) }
     ensures none { IfNone result (2 ^ 64 ≤ together (lengths stamps.now)) }
 {
@@ -57,8 +57,8 @@ fn is_length(size: usize, len: usize, more: &[Stamp]) -> bool
     }
 }
 
-// Whether all pages have this size but the last.
-fn are_full(size: usize, stamps: &[Stamp]) -> bool
+/// Whether all these files have this length but the last, which has one byte at least and no more than this.
+pub fn are_full(size: usize, stamps: &[Stamp]) -> bool
     ensures { IsTrue result ↔ AreFull size (lengths stamps.now) }
 {
     match stamps.split_first() {

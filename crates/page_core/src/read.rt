@@ -3,7 +3,7 @@
 ghost use Rattle.std.specs.Prelude.{◌≡◌, ◌⊎◌, ℕ, ◌+◌, ◌<◌, ◌≤◌, ◌++◌, List, Some, Result, OnOk, IfErr, length, take, drop};
 ghost use Rattle.std.specs.Result.{IsErr, IsErrOf};
 ghost use Rattle.hand_core.specs.declared.hand.Stamp.{Stamp as AStamp};
-ghost use Rattle.hand_core.specs.Device.{Assignment, FaultCause, Shows};
+ghost use Rattle.hand_core.specs.Device.{Assignment, FaultCause, Shows, Always, AreServed};
 ghost use Rattle.hand_core.specs.Made.{reads, IsDeviceErr};
 ghost use Rattle.page_core.specs.Bytes.{list_bytes, AreWhole, IsPage};
 
@@ -74,6 +74,10 @@ pub fn read_list<H: Hand>(hand: &mut H, pages: &[Stamp], got: &mut Vec<u8>) -> R
     ensures kept { (a : Assignment) → H.agrees hand.new a → H.agrees hand.old a }
     // What was read are the bytes of the list, and it is whole.
     ensures found { OnOk result ((bytes : List ℕ) × (got.new.items ≡ got.old.items ++ bytes) × ((a : Assignment) → H.agrees hand.new a → (list_bytes a pages.now ≡ Some bytes) × AreWhole a pages.now)) }
+    // What could be read can be read, and a device that is in order and can read the list does not fail.
+    ensures serves { (s : AStamp) → H.serves hand.old s → H.serves hand.new s }
+    ensures works { Always (H.works_for hand.old) → Always (H.works_for hand.new) }
+    ensures in_order { Always (H.works_for hand.old) → AreServed (H.serves hand.old) pages.now → IsDeviceErr result → ⊥ }
     ensures rises { H.failed hand.old < H.failed hand.new → IsDeviceErr result }
     ensures counted { H.failed hand.old ≤ H.failed hand.new }
     ensures cause { IfErr result (λ e. FaultCause (H.failed hand.old) (H.failed hand.new) e) }

@@ -1,16 +1,15 @@
--- What was read of a part, page by page, and what was read of the parts so far.
-use Rattle.std.proofs.Common.{◌≡◌, ℕ, zero, suc, ◌+◌, ◌-◌, ◌<◌, ◌≤◌, inl, inr, List, [], ◌∷◌, ◌++◌, length, take, replicate, Option, Some, None, slice_get, refl, sym, ap, ◌∙◌, subst, arith, append_assoc, length-append}
-use Rattle.std.proofs.lemmas.List.{take_all, append-nil, length-replicate}
-use Rattle.std.proofs.lemmas.Bool.{cases_lt}
-use Rattle.decl_core.specs.Bodies.{body_of}
-use Rattle.decl_core.specs.Touched.{Reads}
+-- What was read of a part, page by page.
+use Rattle.std.proofs.Common.{◌≡◌, ℕ, zero, suc, ◌+◌, ◌≤◌, List, [], ◌∷◌, ◌++◌, length, take, Option, Some, None, slice_get, refl, sym, ap, ◌∙◌, subst, arith, append_assoc}
+use Rattle.std.proofs.lemmas.List.{take_all, append-nil}
 use Rattle.hand_core.specs.Device.{Assignment, IsWhole, bytes_of}
 use Rattle.hand_core.specs.declared.hand.Stamp.{Stamp}
 use Rattle.page_core.specs.Bytes.{one_behind, list_bytes, AreWhole, IsPage}
 use Rattle.page_core.specs.PartPins.{pin_at}
 use Rattle.page_core.proofs.ListBytes.{some_same}
 use Rattle.call_core.specs.Calls.{Call}
-use Rattle.call_core.specs.Read.{PinIsRead, AreRead, EarlierAreRead}
+use Rattle.call_core.specs.Read.{PinIsRead}
+use Rattle.seen_core.specs.Seen.{IsPaged, IsPartRead}
+use Rattle.seen_core.specs.Seen.{IsFront as IsFirst}
 use Rattle.run_core.specs.Phases.{IsFront}
 
 -- some bytes in front of a list whose bytes are there
@@ -56,61 +55,25 @@ whole_part a call part pages k next page got new bytes pin more all grown at is 
     let last : IsFront a pages next new = front_on a pages k next page got new bytes more grown at is front in
     (pages, pin, ap (list_bytes a) (sym (take_all next pages all)) ∙ last.0, subst (AreWhole a) (take_all next pages all) last.1)
 
--- one empty row more
-pad_count : (rows : List (List ℕ)) (n : ℕ) → (rows ++ [] ∷ []) ++ replicate n [] ≡ rows ++ replicate (suc n) []
-pad_count [] n = refl
-pad_count (row ∷ rows) n = ap (λ (t : List (List ℕ)). row ∷ t) (pad_count rows n)
+-- after the last page that is read at first they are what was read of the part
+pub part_is_read : (a : Assignment) (call : Call) (part : ℕ) (pages : List Stamp) (k next : ℕ) (page : Stamp) (got new bytes : List ℕ) → pin_at call.pins part ≡ Some pages → next ≡ k + 1 → ((IsFirst call part k → ⊥) → length pages ≤ next) → new ≡ got ++ bytes → slice_get pages k ≡ Some page → IsPage a page bytes
+    → IsFront a pages k got → IsPartRead a call part k new
+part_is_read a call part pages k next page got new bytes pin more all grown at is front = record {
+  first = λ first pages1 stamp pin1 at1.
+      let none : [] ≡ got = some_same (subst (λ n. list_bytes a (take n pages) ≡ Some got) first.1 front.0) in
+      let same : pages ≡ pages1 = some_same (sym pin ∙ pin1) in
+      let stamps : page ≡ stamp = some_same (sym at ∙ ap (slice_get pages) first.1 ∙ ap (λ (l : List Stamp). slice_get l 0) same ∙ at1) in
+      subst (IsPage a stamp) (ap (λ (g : List ℕ). g ++ bytes) none ∙ sym grown) (subst (λ s. IsPage a s bytes) stamps is);
+  whole = λ later. whole_part a call part pages k next page got new bytes pin more (all later) grown at is front;
+}
 
-pub pad_more : (rows after : List (List ℕ)) (row : List ℕ) (place : ℕ) → after ≡ rows ++ row ∷ [] → row ≡ [] → length rows < place → after ++ replicate (place - length after) [] ≡ rows ++ replicate (place - length rows) []
-pad_more rows after row place is none low =
-    let m = place - (length rows + 1) in
-    let with : after ≡ rows ++ [] ∷ [] = is ∙ ap (λ (r : List ℕ). rows ++ r ∷ []) none in
-    let fewer : place - length after ≡ m = omega (arith, ap length with, length-append rows ([] ∷ [])) in
-    let one : suc m ≡ place - length rows = omega (arith, low) in
-    ap (λ (t : List (List ℕ)). t ++ replicate (place - length after) []) with ∙ ap (λ k. (rows ++ [] ∷ []) ++ replicate k []) fewer ∙ pad_count rows m ∙ ap (λ k. rows ++ replicate k []) one
+-- the first page of a part that is read page by page
+pub first_is_read : (a : Assignment) (call : Call) (part : ℕ) (pages : List Stamp) (page : Stamp) (got new bytes : List ℕ) → IsPaged call part → pin_at call.pins part ≡ Some pages → got ≡ [] → new ≡ got ++ bytes → slice_get pages 0 ≡ Some page → IsPage a page bytes → IsPartRead a call part 0 new
+first_is_read a call part pages page got new bytes paged pin none grown at is = part_is_read a call part pages 0 1 page got new bytes pin refl (λ later. absurd (later (paged, refl))) grown at is (front_none a pages got none)
 
-get_earlier : (rows more : List (List ℕ)) (p : ℕ) (row : List ℕ) → slice_get rows p ≡ Some row → slice_get (rows ++ more) p ≡ Some row
-get_earlier [] more p row is = absurd cc
-get_earlier (r ∷ rows) more zero row is = is
-get_earlier (r ∷ rows) more (suc p) row is = get_earlier rows more p row is
-
-get_last : (rows : List (List ℕ)) (row : List ℕ) → slice_get (rows ++ row ∷ []) (length rows) ≡ Some row
-get_last [] row = refl
-get_last (r ∷ rows) row = get_last rows row
-
--- with empty rows behind it, a row has so many places
-padded : (rows : List (List ℕ)) (place : ℕ) → length rows ≤ place → length (rows ++ replicate (place - length rows) []) ≡ place
-padded rows place low = omega (arith, low, length-append rows (replicate (place - length rows) []), length-replicate {A = List ℕ} (place - length rows) [])
-
--- what was put at its place
-abbrev pub with_row : List (List ℕ) → ℕ → List ℕ → List (List ℕ)
-with_row rows place row = (rows ++ replicate (place - length rows) []) ++ row ∷ []
-
-pub with_row_length : (rows : List (List ℕ)) (place : ℕ) (row : List ℕ) → length rows ≤ place → length (with_row rows place row) ≡ place + 1
-with_row_length rows place row low = omega (arith, length-append (rows ++ replicate (place - length rows) []) (row ∷ []), padded rows place low)
-
--- once a part is read, it is read as well as those before it
-pub read_more : (a : Assignment) (call : Call) (part : ℕ) (read : List (List ℕ)) (got : List ℕ) → EarlierAreRead a call part read → length read ≤ part → PinIsRead a call.pins part got
-    → (p : ℕ) → Reads (body_of call.operation).statements p → p < part + 1 → (bytes : List ℕ) × (slice_get (with_row read part got) p ≡ Some bytes) × PinIsRead a call.pins p bytes
-read_more a call part read got earlier low holds p reads before = elim (cases_lt p part) [
-  | inl lt ↦
-      let known = earlier p reads lt in
-      (known.0, get_earlier (read ++ replicate (part - length read) []) (got ∷ []) p known.0 (get_earlier read (replicate (part - length read) []) p known.0 known.1), known.2)
-  | inr ge ↦
-      let same : part ≡ p = omega (arith, ge, before) in
-      subst (λ q. (bytes : List ℕ) × (slice_get (with_row read part got) q ≡ Some bytes) × PinIsRead a call.pins q bytes) same
-      (got, ap (λ k. slice_get (with_row read part got) k) (sym (padded read part low)) ∙ get_last (read ++ replicate (part - length read) []) got, holds)
-]
-
--- the next part is the first one that is read behind this one
-pub read_next : (a : Assignment) (call : Call) (part next : ℕ) (read after : List (List ℕ)) (got : List ℕ) → after ≡ with_row read part got → EarlierAreRead a call part read → length read ≤ part → PinIsRead a call.pins part got
-    → ((q : ℕ) → Reads (body_of call.operation).statements q → part + 1 ≤ q → q < next → ⊥) → EarlierAreRead a call next after
-read_next a call part next read after got is earlier low holds none p reads before = elim (cases_lt p (part + 1)) [
-  | inl lt ↦ subst (λ (rows : List (List ℕ)). (bytes : List ℕ) × (slice_get rows p ≡ Some bytes) × PinIsRead a call.pins p bytes) (sym is) (read_more a call part read got earlier low holds p reads lt)
-  | inr ge ↦ absurd (none p reads ge before)
-]
-
--- no part is read behind this one
-pub read_all : (a : Assignment) (call : Call) (part : ℕ) (read after : List (List ℕ)) (got : List ℕ) → after ≡ with_row read part got → EarlierAreRead a call part read → length read ≤ part → PinIsRead a call.pins part got
-    → ((q : ℕ) → Reads (body_of call.operation).statements q → part + 1 ≤ q → ⊥) → AreRead a call after
-read_all a call part read after got is earlier low holds none p reads = read_next a call part (p + 1) read after got is earlier low holds (λ q r ge lt. none q r ge) p reads (omega arith)
+-- all pages of a part that is not, or of one that has none
+pub list_is_read : (a : Assignment) (call : Call) (part : ℕ) (pages : List Stamp) (got new bytes : List ℕ) → pin_at call.pins part ≡ Some pages → got ≡ [] → new ≡ got ++ bytes → (IsPaged call part → slice_get pages 0 ≡ None) → (list_bytes a pages ≡ Some bytes) × AreWhole a pages → IsPartRead a call part 0 new
+list_is_read a call part pages got new bytes pin none grown empty told = record {
+  first = λ first pages1 stamp pin1 at1. absurd (let e : None ≡ Some stamp = sym (empty first.0) ∙ ap (λ (l : List Stamp). slice_get l 0) (some_same (sym pin ∙ pin1)) ∙ at1 in cc);
+  whole = λ later. (pages, pin, told.0 ∙ ap (λ b. Some b) (sym (grown ∙ ap (λ (g : List ℕ). g ++ bytes) none)), told.1);
+}

@@ -2,7 +2,7 @@
 use Rattle.std.proofs.Common.{◌≡◌, Some, List, sym, ap, ◌∙◌, subst}
 use Rattle.hand_core.specs.declared.hand.Stamp.{Stamp}
 use Rattle.run_core.specs.declared.phase.Phase.{Phase}
-use Rattle.run_core.specs.declared.phase.Phase.TheVariants.{Reading, Creating, Appending, Sealing, Ended}
+use Rattle.run_core.specs.declared.phase.Phase.TheVariants.{Reading, Paging, Creating, Appending, Sealing, Ended}
 use Rattle.apply_core.specs.declared.reply.Reply.{Reply}
 use Rattle.run_core.specs.declared.run.Run.{Run}
 use Rattle.call_core.specs.Calls.{Call}
@@ -13,6 +13,7 @@ use Rattle.page_core.proofs.ListBytes.{some_same}
 
 ended_in : (phase : Phase) (reply : Reply) → ending_of phase ≡ Some reply → place_in phase ≡ at_end reply (sealed_in phase)
 ended_in (Reading r) reply is = absurd cc
+ended_in (Paging m) reply is = absurd cc
 ended_in (Creating plan) reply is = absurd cc
 ended_in (Appending plan pen) reply is = absurd cc
 ended_in (Sealing plan pen) reply is = absurd cc

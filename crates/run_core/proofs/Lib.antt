@@ -1,8 +1,8 @@
 pub mod AtOnce
 pub mod Fronts
 pub mod Inside
-pub mod Judging
 pub mod Leading
+pub mod Paging
 pub mod Pens
 pub mod SameRuns
 pub mod Serving

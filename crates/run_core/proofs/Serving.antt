@@ -1,5 +1,5 @@
 -- A run reads the pins of its call, and what can be read of its files.
-use Rattle.std.proofs.Common.{◌≡◌, ℕ, ◌+◌, List, [], ◌∷◌, ◌++◌, Option, Some, None, refl, sym, ap, subst}
+use Rattle.std.proofs.Common.{◌≡◌, ℕ, ◌+◌, List, [], ◌∷◌, ◌++◌, Option, Some, None, refl, sym, subst}
 use Rattle.std.specs.Prelude.{Result, Err}
 use Rattle.decl_core.specs.Bodies.{body_of}
 use Rattle.decl_core.specs.Touched.{Reads}
@@ -12,33 +12,32 @@ use Rattle.apply_core.specs.declared.reply.Reply.TheVariants as replies
 use Rattle.call_core.specs.Calls.{Call, IsNext}
 use Rattle.run_core.specs.declared.phase.Phase.{Phase}
 use Rattle.run_core.specs.Phases.{failure_of}
-use Rattle.run_core.specs.Steps.{Place, at_read, at_create, at_append, at_seal, at_end, place_in, ReadIsServed, ReadsItsPart, PinsServed, AreServed, Starts, with_part, with_none, IsJudged, changed, not_changed, Follows, reads_on, reads_next, reads_last, creates, appends, seals_on, seals_last, fails, stays}
+use Rattle.run_core.specs.Steps.{Place, at_read, at_page, at_create, at_append, at_seal, at_end, place_in, ReadIsServed, ReadsItsPart, PinsServed, AreServed, Starts, with_part, with_none, IsJudged, changed, not_changed, wants, Follows, reads_on, reads_next, reads_last, misses, pages_on, creates, appends, seals_on, seals_last, fails, stays}
 
-next_part : (call : Call) (from part q : ℕ) (n m : ℕ) → IsNext call from part → at_read part n ≡ at_read q m → (Reads (body_of call.operation).statements q → ⊥) → ⊥
-next_part call from part q n m is same none =
-    let parts : part ≡ q = cc in
-    none (subst (Reads (body_of call.operation).statements) parts is.read)
+next_part : (call : Call) (from part q : ℕ) → IsNext call from part → part ≡ q → (Reads (body_of call.operation).statements q → ⊥) → ⊥
+next_part call from part q is same none = none (subst (Reads (body_of call.operation).statements) same is.read)
 
-judged_reads : (call : Call) (place : Place) → IsJudged call place → ReadsItsPart call place
-judged_reads call place (changed some) part page is none = absurd cc
-judged_reads call place not_changed part page is none = absurd cc
+judged_reads : (call : Call) (known : List ℕ) (place : Place) → IsJudged call known place → ReadsItsPart call place
+judged_reads call known place (changed some) part is none = is
+judged_reads call known place not_changed part is none = is
+judged_reads call known place (wants next) part is none = none (subst (Reads (body_of call.operation).statements) is next.wanted.named.named)
 
 pub starts_reads : (call : Call) (place : Place) → Starts call place → ReadsItsPart call place
-starts_reads call place (with_part {part = p} next) part page is none = next_part call 0 p part 0 page next is none
-starts_reads call place (with_none nothing settled) part page is none = absurd cc
+starts_reads call place (with_part {part = p} next) part is none = next_part call 0 p part next is none
+starts_reads call place (with_none nothing settled) part is none = is
 
 follows_reads : (call : Call) (before after : Place) → Follows call before after → ReadsItsPart call before → ReadsItsPart call after
-follows_reads call before after (reads_on {part = p} {page = k} pages pin short) was part page is none =
-    let parts : p ≡ part = cc in
-    was part k (ap (λ (q : ℕ). at_read q k) parts) none
-follows_reads call before after (reads_next {part = p} {q = q} pages pin all next) was part page is none = next_part call (p + 1) q part 0 page next is none
-follows_reads call before after (reads_last pages pin all nothing judged) was part page is none = judged_reads call after judged part page is none
-follows_reads call before after creates was part page is none = absurd cc
-follows_reads call before after appends was part page is none = absurd cc
-follows_reads call before after (seals_on new low) was part page is none = absurd cc
-follows_reads call before after (seals_last new all) was part page is none = absurd cc
-follows_reads call before after (fails fault busy) was part page is none = absurd cc
-follows_reads call before after stays was part page is none = absurd cc
+follows_reads call before after (reads_on pages pin short front) was part is none = was part is none
+follows_reads call before after (reads_next {part = p} {q = q} last next) was part is none = next_part call (p + 1) q part next is none
+follows_reads call before after (reads_last known last nothing few judged) was part is none = judged_reads call known after judged part is none
+follows_reads call before after (misses front) was part is none = is
+follows_reads call before after (pages_on more one falls judged) was part is none = judged_reads call more after judged part is none
+follows_reads call before after creates was part is none = is
+follows_reads call before after appends was part is none = is
+follows_reads call before after (seals_on new low) was part is none = is
+follows_reads call before after (seals_last new all) was part is none = is
+follows_reads call before after (fails fault busy) was part is none = is
+follows_reads call before after stays was part is none = is
 
 pub step_reads : (call : Call) (old now next new : Phase) → now ≡ old → new ≡ next → Follows call (place_in now) (place_in next) → ReadsItsPart call (place_in old) → ReadsItsPart call (place_in new)
 step_reads call old now next new before after follows was =
@@ -46,7 +45,8 @@ step_reads call old now next new before after follows was =
 
 -- where the pins of a call can be read, so can the page that it reads
 pub read_is_served : (serves : Stamp → Type 0) (call : Call) (place : Place) {X : Type 0} → ReadsItsPart call place → PinsServed serves call → (ReadIsServed serves call place → X → ⊥) → X → ⊥
-read_is_served serves call (at_read part page) its served rest x = its part page refl (λ reads. rest (served part page reads) x)
+read_is_served serves call (at_read part page) its served rest x = its part refl (λ reads. rest (served part page reads) x)
+read_is_served serves call (at_page known part page) its served rest x = its part refl (λ reads. rest (served part page reads) x)
 read_is_served serves call (at_create writes sealed) its served rest x = rest tt x
 read_is_served serves call (at_append writes sealed) its served rest x = rest tt x
 read_is_served serves call (at_seal writes sealed) its served rest x = rest tt x

@@ -21,6 +21,7 @@ use Rattle.page_core.specs.Laws.{no_part as no_row}
 use Rattle.call_core.specs.Planned.{IsPlanned, AreRenewals, no_part, same, renewed}
 use Rattle.call_core.specs.Read.{AreRead}
 use Rattle.call_core.specs.Truths.{PinHolds, AreLeft, IsTrueAt}
+use Rattle.seen_core.specs.Laws.{IsPlanOf}
 use Rattle.call_core.proofs.Left.{new_pins_are_left, changed_are_read}
 use Rattle.run_core.specs.Phases.{IsSealedSoFar, IsWritten, IsRenewedBy}
 
@@ -108,15 +109,14 @@ all_written a call reply pages news sealed gone all news_are sealed_are gone_are
     (subst (AreSealed a pages.writes.items) (sym sealed_are) is.sealed) (omega (arith, all, ap length sealed_are)) lists
 
 -- nothing is sealed of a plan yet
-pub written_first : (a : Assignment) (call : Call) (reply : Option Datum) (read : List (List ℕ)) (changes : List Change) (pages : PagePlan) → IsPlanned call.pins read changes pages.counts pages.stamps.items pages.writes.items pages.gone.items → pages.sealed.items ≡ []
-    → WritesInOrder (body_of call.operation).statements 0 (parts_changed changes) → AreRead a call read → IsDone (PinHolds a call.pins) call.operation call.arguments reply (AreChanges changes) → IsWritten a call reply pages
-written_first a call reply read changes pages planned none order known given = record {
-  read = read;
-  changes = changes;
-  known = known;
-  order = order;
-  given = given;
-  planned = record { first = pages.stamps.items; planned = planned; stamps = sym (unsealed pages.stamps.items pages.writes.items) ∙ ap (with_sealed pages.stamps.items pages.writes.items) (sym none) };
+pub written_first : (a : Assignment) (call : Call) (reply : Option Datum) (pages : PagePlan) → IsPlanOf a call reply pages.counts pages.stamps.items pages.writes.items pages.gone.items → pages.sealed.items ≡ [] → IsWritten a call reply pages
+written_first a call reply pages plan none = record {
+  read = plan.read;
+  changes = plan.changes;
+  known = plan.known;
+  order = plan.order;
+  given = plan.given;
+  planned = record { first = pages.stamps.items; planned = plan.planned; stamps = sym (unsealed pages.stamps.items pages.writes.items) ∙ ap (with_sealed pages.stamps.items pages.writes.items) (sym none) };
   sealed = subst (AreSealed a pages.writes.items) (sym none) tt;
 } where
   unsealed : (stamps : List Stamp) (writes : List PageWrite) → with_sealed stamps writes [] ≡ stamps

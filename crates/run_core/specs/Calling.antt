@@ -8,7 +8,7 @@ use Rattle.hand_core.specs.Made.{Made, creates, appends, seals, discards, reads}
 use Rattle.page_core.specs.PartPins.{pin_at}
 use Rattle.call_core.specs.Calls.{Call}
 use Rattle.run_core.specs.declared.phase.Phase.{Phase}
-use Rattle.run_core.specs.declared.phase.Phase.TheVariants.{Reading, Creating, Appending, Sealing, Ended}
+use Rattle.run_core.specs.declared.phase.Phase.TheVariants.{Reading, Paging, Creating, Appending, Sealing, Ended}
 use Rattle.apply_core.specs.declared.reply.Failure.TheVariants as failures
 use Rattle.apply_core.specs.declared.reply.Reply.{Reply}
 use Rattle.apply_core.specs.declared.reply.Reply.TheVariants as replies
@@ -37,6 +37,7 @@ MakesSeal makes pen old new = (answer : Result Stamp (Pen × HandFault)) × Make
 -- What a step did to a hand: it made the call that is next in this phase, of the file of that phase. A run that has ended made none.
 abbrev pub StepMakes : {H : Type 0} → (H → Made → H → Type 0) → Call → Phase → Option Reply → H → H → Type 0
 StepMakes makes call (Reading r) ending old new = MakesRead makes call r.part r.page ending old new
+StepMakes makes call (Paging m) ending old new = MakesRead makes call m.part m.page ending old new
 StepMakes makes call (Creating plan) ending old new = MakesCreate makes old new
 StepMakes makes call (Appending plan pen) ending old new = MakesAppend makes pen.number old new
 StepMakes makes call (Sealing plan pen) ending old new = MakesSeal makes pen old new

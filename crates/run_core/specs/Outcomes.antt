@@ -1,5 +1,5 @@
 -- What an outcome tells.
-use Rattle.std.specs.Prelude.{List, []}
+use Rattle.std.specs.Prelude.{◌≡◌, List, []}
 use Rattle.std.specs.Arc.{arc_value}
 use Rattle.hand_core.specs.declared.hand.Stamp.{Stamp}
 use Rattle.apply_core.specs.declared.reply.Reply.{Reply}
@@ -16,15 +16,15 @@ outcome_reply o = o.reply
 
 -- the files that the run sealed, in order
 abbrev pub outcome_sealed : Outcome → List Stamp
-outcome_sealed o = o.left.sealed.items
+outcome_sealed o = o.sealed.items
 
 -- the page lists that the run made
 abbrev pub outcome_news : Outcome → List PartPin
-outcome_news o = o.left.news
+outcome_news o = o.news
 
 -- the files of the old lists that are not in those
 abbrev pub outcome_gone : Outcome → List Stamp
-outcome_gone o = o.left.gone.items
+outcome_gone o = o.gone.items
 
 -- what holds where the body was done
 abbrev pub if_done : {X : Type 0} → Reply → List X → List X
@@ -45,3 +45,17 @@ outcome_pins o = if_done (outcome_reply o) (outcome_news o)
 -- the files that the call leaves to nobody
 abbrev pub outcome_free : Outcome → List Stamp
 outcome_free o = free_by (outcome_reply o) (outcome_gone o) (outcome_sealed o)
+
+-- the new page lists once more, in a row that the run made for the entry
+abbrev pub outcome_entry : Outcome → List PartPin
+outcome_entry o = o.entry
+
+-- An outcome can be handed in: the row for its entry has its new page lists. It is handed in once.
+abbrev pub IsFresh : Outcome → Type 0
+IsFresh o = outcome_entry o ≡ outcome_news o
+
+-- an outcome tells of a call what another one told of it
+pub record TellsSame (o after : Outcome) : Type 0 where
+  pub call : outcome_call after ≡ outcome_call o
+  pub reply : outcome_reply after ≡ outcome_reply o
+  pub news : outcome_news after ≡ outcome_news o

@@ -1,7 +1,8 @@
 -- Where a run stands, and what it has found, by an assignment.
-use Rattle.std.specs.Prelude.{◌≡◌, ℕ, ◌+◌, ◌-◌, ◌*◌, ◌^◌, ◌≤◌, List, [], length, take, Option, Some, None, slice_get}
+use Rattle.std.specs.Prelude.{◌≡◌, ℕ, ◌+◌, ◌-◌, ◌*◌, ◌^◌, List, [], length, take, Option, Some, None, slice_get}
 use Rattle.value_core.specs.declared.datum.Datum.{Datum}
 use Rattle.decl_core.specs.Bodies.{body_of}
+use Rattle.decl_core.specs.declared.object.Operation.{Operation}
 use Rattle.hand_core.specs.declared.hand.HandFault.{HandFault}
 use Rattle.hand_core.specs.declared.hand.HandFault.TheVariants as faults
 use Rattle.hand_core.specs.declared.hand.Stamp.{Stamp}
@@ -12,26 +13,32 @@ use Rattle.apply_core.specs.declared.reply.Reply.{Reply}
 use Rattle.apply_core.specs.declared.reply.Reply.TheVariants.{Done, Refused, Failed}
 use Rattle.page_core.specs.declared.plan.PageWrite.{PageWrite}
 use Rattle.page_core.specs.Bytes.{list_bytes, AreWhole}
+use Rattle.known_core.specs.Masks.{unread}
+use Rattle.judge_core.specs.Reads.{IsDue}
 use Rattle.page_core.specs.PartPins.{PartPin, pin_at, pins_by}
 use Rattle.page_core.specs.Renewed.{with_sealed, AreSealed}
 use Rattle.judge_core.specs.declared.judge.Change.{Change}
 use Rattle.judge_core.specs.Given.{IsDone, AreChanges}
+use Rattle.judge_core.specs.Verdicts.{HasReads}
 use Rattle.judge_core.specs.Written.{WritesInOrder, parts_changed}
 use Rattle.call_core.specs.declared.plan.PagePlan.{PagePlan}
 use Rattle.call_core.specs.Calls.{Call}
 use Rattle.call_core.specs.Planned.{IsPlanned, AreNewPins}
-use Rattle.call_core.specs.Read.{AreRead, EarlierAreRead}
+use Rattle.call_core.specs.Read.{AreRead}
 use Rattle.call_core.specs.Truths.{PinHolds, IsTrueAt}
+use Rattle.seen_core.specs.Seen.{IsSeen, IsSeenBefore}
 use Rattle.run_core.specs.declared.phase.Phase.{Phase}
-use Rattle.run_core.specs.declared.phase.Phase.TheVariants.{Reading, Creating, Appending, Sealing, Ended}
+use Rattle.run_core.specs.declared.phase.Phase.TheVariants.{Reading, Paging, Creating, Appending, Sealing, Ended}
 use Rattle.run_core.specs.declared.phase.Plan.{Plan}
 use Rattle.run_core.specs.declared.phase.Read.{Read}
+use Rattle.run_core.specs.declared.phase.More.{More}
 use Rattle.run_core.specs.declared.step.StepAnswer.{StepAnswer}
 use Rattle.run_core.specs.declared.step.StepAnswer.TheVariants as answers
 
 -- how a run has ended, if it has
 abbrev pub ending_of : Phase → Option Reply
 ending_of (Reading r) = None
+ending_of (Paging m) = None
 ending_of (Creating plan) = None
 ending_of (Appending plan pen) = None
 ending_of (Sealing plan pen) = None
@@ -40,6 +47,7 @@ ending_of (Ended reply left) = Some reply
 -- the files that a run sealed, in order
 abbrev pub sealed_in : Phase → List Stamp
 sealed_in (Reading r) = []
+sealed_in (Paging m) = []
 sealed_in (Creating plan) = plan.pages.sealed.items
 sealed_in (Appending plan pen) = plan.pages.sealed.items
 sealed_in (Sealing plan pen) = plan.pages.sealed.items
@@ -48,6 +56,7 @@ sealed_in (Ended reply left) = left.sealed.items
 -- the new page lists of a run
 abbrev pub news_in : Phase → List PartPin
 news_in (Reading r) = []
+news_in (Paging m) = []
 news_in (Creating plan) = pins_by 0 plan.pages.counts plan.pages.stamps.items
 news_in (Appending plan pen) = pins_by 0 plan.pages.counts plan.pages.stamps.items
 news_in (Sealing plan pen) = pins_by 0 plan.pages.counts plan.pages.stamps.items
@@ -56,6 +65,7 @@ news_in (Ended reply left) = left.news
 -- the files of the old lists that are not in the new ones, as a run that has ended found them
 abbrev pub gone_in : Phase → List Stamp
 gone_in (Reading r) = []
+gone_in (Paging m) = []
 gone_in (Creating plan) = []
 gone_in (Appending plan pen) = []
 gone_in (Sealing plan pen) = []
@@ -82,6 +92,7 @@ IsCurrent plan write = slice_get plan.pages.writes.items (length plan.pages.seal
 -- the run's pen has what the run appended
 abbrev pub PenHoldsIn : (ℕ → List ℕ → Type 0) → Phase → Type 0
 PenHoldsIn pending (Reading r) = Unit {0}
+PenHoldsIn pending (Paging m) = Unit {0}
 PenHoldsIn pending (Creating plan) = Unit {0}
 PenHoldsIn pending (Appending plan pen) = pending pen.number []
 PenHoldsIn pending (Sealing plan pen) = (write : PageWrite) → IsCurrent plan write → pending pen.number write.bytes
@@ -90,14 +101,20 @@ PenHoldsIn pending (Ended reply left) = Unit {0}
 -- it writes no file
 abbrev pub HasNoPen : Phase → Type 0
 HasNoPen (Reading r) = Unit {0}
+HasNoPen (Paging m) = Unit {0}
 HasNoPen (Creating plan) = Unit {0}
 HasNoPen (Appending plan pen) = ⊥
 HasNoPen (Sealing plan pen) = ⊥
 HasNoPen (Ended reply left) = Unit {0}
 
+-- there are bytes of each part that the operation reads, where the body of a run has been judged and wants more
+abbrev pub HasItsReads : Operation → Phase → Type 0
+HasItsReads operation phase = (m : More) → phase ≡ Paging m → HasReads operation m.seen.read.items
+
 -- the number of the file that is being written, if there is one
 abbrev pub pen_in : Phase → Option ℕ
 pen_in (Reading r) = None
+pen_in (Paging m) = None
 pen_in (Creating plan) = None
 pen_in (Appending plan pen) = Some pen.number
 pen_in (Sealing plan pen) = Some pen.number
@@ -109,9 +126,13 @@ IsFront a pages count got = (list_bytes a (take count pages) ≡ Some got) × Ar
 
 -- what a call has read so far is true of an assignment
 pub record IsReadSoFar (a : Assignment) (call : Call) (r : Read) : Type 0 where
-  pub earlier : EarlierAreRead a call r.part r.read.items
-  pub places : length r.read.items ≤ r.part
+  pub earlier : IsSeenBefore a call r.part r.seen.known r.seen.read.items
   pub front : (pages : List Stamp) → pin_at call.pins r.part ≡ Some pages → IsFront a pages r.page r.got.items
+
+-- what a call has seen is true of an assignment, and the page that it reads next is the one that its body comes to on that
+pub record IsPagedSoFar (a : Assignment) (call : Call) (m : More) : Type 0 where
+  pub seen : IsSeen a call m.seen.known m.seen.read.items
+  pub due : IsDue m.seen.known (PinHolds a call.pins) call.operation call.arguments m.part m.page
 
 -- the files that were sealed of a plan stand in their places
 pub record IsSealedSoFar (pins : List PartPin) (read : List (List ℕ)) (changes : List Change) (pages : PagePlan) : Type 0 where
@@ -149,6 +170,7 @@ IsRenewedBy a call (Failed failure) sealed news gone = Unit {0}
 -- what a run has found so far is true of an assignment
 abbrev pub FoundBy : Assignment → Call → Phase → Type 0
 FoundBy a call (Reading r) = IsReadSoFar a call r
+FoundBy a call (Paging m) = IsPagedSoFar a call m
 FoundBy a call (Creating plan) = IsWrittenSoFar a call plan
 FoundBy a call (Appending plan pen) = IsWrittenSoFar a call plan
 FoundBy a call (Sealing plan pen) = IsWrittenSoFar a call plan
@@ -171,9 +193,10 @@ IsSettled (Some (Failed failure)) = ⊥
 abbrev pub pages_left : Plan → ℕ
 pages_left plan = length plan.pages.writes.items - length plan.pages.sealed.items
 
--- a number that falls with each step: a part counts for more than all its pages, and a page that is written for three
+-- a number that falls with each step: a part counts for more than all its pages, a page that is not known for one, and a page that is written for three
 abbrev pub work_in : Phase → ℕ
-work_in (Reading r) = 2 ^ 72 + ((16 - r.part) * 2 ^ 66 + (2 ^ 65 - r.page))
+work_in (Reading r) = 2 ^ 73 + ((16 - r.part) * 2 ^ 66 + (2 ^ 65 - r.page))
+work_in (Paging m) = 2 ^ 72 + unread m.seen.known
 work_in (Creating plan) = pages_left plan * 3
 work_in (Appending plan pen) = pages_left plan * 3 - 1
 work_in (Sealing plan pen) = pages_left plan * 3 - 2

@@ -6,13 +6,14 @@ use Rattle.hand_core.specs.Made.{Made}
 use Rattle.hand_core.specs.declared.hand.Stamp.{Stamp}
 use Rattle.page_core.specs.PartPins.{PartPin}
 use Rattle.run_core.specs.declared.phase.Phase.{Phase}
-use Rattle.run_core.specs.declared.phase.Phase.TheVariants.{Reading, Creating, Appending, Sealing, Ended}
+use Rattle.run_core.specs.declared.phase.Phase.TheVariants.{Reading, Paging, Creating, Appending, Sealing, Ended}
 use Rattle.apply_core.specs.declared.reply.Reply.{Reply}
 use Rattle.run_core.specs.declared.run.Run.{Run}
 use Rattle.run_core.specs.Calling.{StepMakes}
 use Rattle.call_core.specs.Calls.{Call}
 use Rattle.run_core.specs.Steps.{Place, place_in, ending_at, sealed_at}
 use Rattle.call_core.specs.Tasks.{task_call}
+use Rattle.call_core.specs.Truths.{PinsAreWhole}
 use Rattle.run_core.specs.Phases.{ending_of, sealed_in, news_in, gone_in, pen_in, PenHoldsIn, FoundBy, work_in}
 
 abbrev pub run_call : Run → Call
@@ -58,13 +59,14 @@ RunMakes makes run ending old new = StepMakes makes (run_call run) run.phase end
 abbrev pub PenHolds : (ℕ → List ℕ → Type 0) → Run → Type 0
 PenHolds pending run = PenHoldsIn pending run.phase
 
--- What a run has found so far is true of an assignment: what it read are the bytes under its pins, what it computed is what its body gives on them, and what it sealed holds what the body changed.
+-- What a run has found so far is true of an assignment, where its pins are whole: what it read are the bytes under them, what it computed is what its body gives on them, and what it sealed holds what the body changed. Of an array of integers not all bytes are read.
 pub record SoFar (a : Assignment) (run : Run) : Type 0 where
-  pub found : FoundBy a (run_call run) run.phase
+  pub found : PinsAreWhole a (run_call run) → FoundBy a (run_call run) run.phase
 
 -- a run without a pen has in it what it appended
 pub no_pen_in : (pending : ℕ → List ℕ → Type 0) (phase : Phase) → pen_in phase ≡ None → PenHoldsIn pending phase
 no_pen_in pending (Reading r) none = tt
+no_pen_in pending (Paging m) none = tt
 no_pen_in pending (Creating plan) none = tt
 no_pen_in pending (Appending plan pen) none = absurd cc
 no_pen_in pending (Sealing plan pen) none = absurd cc
@@ -76,6 +78,7 @@ no_pen pending run none = no_pen_in pending run.phase none
 -- how a run has ended is told by where it stands
 pub ending_in : (phase : Phase) → ending_of phase ≡ ending_at (place_in phase)
 ending_in (Reading r) = refl
+ending_in (Paging m) = refl
 ending_in (Creating plan) = refl
 ending_in (Appending plan pen) = refl
 ending_in (Sealing plan pen) = refl
@@ -86,6 +89,7 @@ ending_by_place run = ending_in run.phase
 
 sealed_by : (phase : Phase) → sealed_in phase ≡ sealed_at (place_in phase)
 sealed_by (Reading r) = refl
+sealed_by (Paging m) = refl
 sealed_by (Creating plan) = refl
 sealed_by (Appending plan pen) = refl
 sealed_by (Sealing plan pen) = refl

@@ -1,5 +1,5 @@
 -- The rule of steps: which device call a run makes, and where it stands after it.
-use Rattle.std.specs.Prelude.{◌≡◌, ◌≢◌, ℕ, ◌+◌, ◌<◌, ◌⊎◌, List, [], ◌∷◌, ◌++◌, length, Option, Some, None, slice_get}
+use Rattle.std.specs.Prelude.{◌≡◌, ◌≢◌, ℕ, ◌+◌, ◌<◌, ◌≤◌, ◌⊎◌, List, [], ◌∷◌, ◌++◌, length, Option, Some, None, slice_get}
 use Rattle.value_core.specs.declared.datum.Datum.{Datum}
 use Rattle.decl_core.specs.Bodies.{body_of}
 use Rattle.decl_core.specs.Touched.{Reads}
@@ -12,15 +12,20 @@ use Rattle.apply_core.specs.declared.need.Need.{Need}
 use Rattle.apply_core.specs.declared.need.Need.TheVariants as needs
 use Rattle.page_core.specs.declared.plan.PageWrite.{PageWrite}
 use Rattle.page_core.specs.PartPins.{pin_at}
+use Rattle.known_core.specs.Masks.{IsOneMore, unread}
+use Rattle.known_core.specs.Wanted.{IsNextPage}
 use Rattle.call_core.specs.Calls.{Call, IsNext, ReadsNone}
+use Rattle.seen_core.specs.Seen.{IsFront}
 use Rattle.run_core.specs.declared.phase.Phase.{Phase}
-use Rattle.run_core.specs.declared.phase.Phase.TheVariants.{Reading, Creating, Appending, Sealing, Ended}
+use Rattle.run_core.specs.declared.phase.Phase.TheVariants.{Reading, Paging, Creating, Appending, Sealing, Ended}
 use Rattle.run_core.specs.Phases.{IsSettled, failure_of}
 
 -- where a run stands
 pub data Place : Type 0 where
   -- it reads the page of this place, counted from 0, of the pin of this part
   at_read : (part page : ℕ) → Place
+  -- of all its parts it has read what it reads at first, these pages are known, and its body comes to this page of this part, counted from 0, which it reads
+  at_page : (known : List ℕ) (part page : ℕ) → Place
   -- the files of the first writes are sealed, and it begins one for the next write
   at_create : (writes : List PageWrite) (sealed : List Stamp) → Place
   -- it adds the bytes of the next write
@@ -33,6 +38,7 @@ pub data Place : Type 0 where
 -- where a run is in this phase
 abbrev pub place_in : Phase → Place
 place_in (Reading r) = at_read r.part r.page
+place_in (Paging m) = at_page m.seen.known m.part m.page
 place_in (Creating plan) = at_create plan.pages.writes.items plan.pages.sealed.items
 place_in (Appending plan pen) = at_append plan.pages.writes.items plan.pages.sealed.items
 place_in (Sealing plan pen) = at_seal plan.pages.writes.items plan.pages.sealed.items
@@ -41,6 +47,7 @@ place_in (Ended reply left) = at_end reply left.sealed.items
 -- the device call that is made there
 abbrev pub need_at : Place → Need
 need_at (at_read part page) = needs.Read
+need_at (at_page known part page) = needs.Read
 need_at (at_create writes sealed) = needs.Create
 need_at (at_append writes sealed) = needs.Append
 need_at (at_seal writes sealed) = needs.Seal
@@ -49,6 +56,7 @@ need_at (at_end reply sealed) = needs.Done
 -- how a run has ended that stands there, if it has
 abbrev pub ending_at : Place → Option Reply
 ending_at (at_read part page) = None
+ending_at (at_page known part page) = None
 ending_at (at_create writes sealed) = None
 ending_at (at_append writes sealed) = None
 ending_at (at_seal writes sealed) = None
@@ -57,6 +65,7 @@ ending_at (at_end reply sealed) = Some reply
 -- the files that it has sealed, in order
 abbrev pub sealed_at : Place → List Stamp
 sealed_at (at_read part page) = []
+sealed_at (at_page known part page) = []
 sealed_at (at_create writes sealed) = sealed
 sealed_at (at_append writes sealed) = sealed
 sealed_at (at_seal writes sealed) = sealed
@@ -68,6 +77,7 @@ PageIsServed serves call part page = (pages : List Stamp) (stamp : Stamp) → pi
 
 abbrev pub ReadIsServed : (Stamp → Type 0) → Call → Place → Type 0
 ReadIsServed serves call (at_read part page) = PageIsServed serves call part page
+ReadIsServed serves call (at_page known part page) = PageIsServed serves call part page
 ReadIsServed serves call (at_create writes sealed) = Unit {0}
 ReadIsServed serves call (at_append writes sealed) = Unit {0}
 ReadIsServed serves call (at_seal writes sealed) = Unit {0}
@@ -76,14 +86,24 @@ ReadIsServed serves call (at_end reply sealed) = Unit {0}
 -- how a run ends whose call fails there for the device: a read may want memory before its call is made
 abbrev pub FailsWith : Place → Option Reply → Type 0
 FailsWith (at_read part page) ending = (ending ≡ Some (replies.Failed failures.Device)) ⊎ (ending ≡ Some (replies.Failed failures.Memory))
+FailsWith (at_page known part page) ending = (ending ≡ Some (replies.Failed failures.Device)) ⊎ (ending ≡ Some (replies.Failed failures.Memory))
 FailsWith (at_create writes sealed) ending = ending ≡ Some (replies.Failed failures.Device)
 FailsWith (at_append writes sealed) ending = ending ≡ Some (replies.Failed failures.Device)
 FailsWith (at_seal writes sealed) ending = ending ≡ Some (replies.Failed failures.Device)
 FailsWith (at_end reply sealed) ending = Unit {0}
 
+-- a page of this part is read there
+abbrev pub IsReadAt : Place → ℕ → Type 0
+IsReadAt (at_read p page) part = p ≡ part
+IsReadAt (at_page known p page) part = p ≡ part
+IsReadAt (at_create writes sealed) part = ⊥
+IsReadAt (at_append writes sealed) part = ⊥
+IsReadAt (at_seal writes sealed) part = ⊥
+IsReadAt (at_end reply sealed) part = ⊥
+
 -- what is read there is a page of a part that the call reads
 abbrev pub ReadsItsPart : Call → Place → Type 0
-ReadsItsPart call place = (part page : ℕ) → place ≡ at_read part page → (Reads (body_of call.operation).statements part → ⊥) → ⊥
+ReadsItsPart call place = (part : ℕ) → IsReadAt place part → (Reads (body_of call.operation).statements part → ⊥) → ⊥
 
 -- each page of the pins of the parts that a call reads can be read
 abbrev pub PinsServed : (Stamp → Type 0) → Call → Type 0
@@ -99,16 +119,25 @@ pub data Starts (call : Call) : Place → Type 0 where
   with_part : {part : ℕ} → IsNext call 0 part → Starts call (at_read part 0)
   with_none : {reply : Reply} → ReadsNone call 0 → IsSettled (Some reply) → Starts call (at_end reply [])
 
--- after a body is judged, the pages of its changes are written; a call that writes none has ended
-pub data IsJudged (call : Call) : Place → Type 0 where
-  changed : {writes : List PageWrite} → 0 < length writes → IsJudged call (at_create writes [])
-  not_changed : {reply : Reply} → IsJudged call (at_end reply [])
+-- After a body is judged on what is known, the pages of its changes are written; a call that writes none has ended; and where the body comes to a page that is not known, this is read.
+pub data IsJudged (call : Call) (known : List ℕ) : Place → Type 0 where
+  changed : {writes : List PageWrite} → 0 < length writes → IsJudged call known (at_create writes [])
+  not_changed : {reply : Reply} → IsJudged call known (at_end reply [])
+  wants : {part page : ℕ} → IsNextPage known call.operation part page → IsJudged call known (at_page known part page)
+
+-- this is the last page of a part that is read at first: of one that is read page by page the first one, of all else the last one of its pin
+pub record IsLastAtFirst (call : Call) (part page : ℕ) : Type 0 where
+  pub pages : List Stamp
+  pub pinned : pin_at call.pins part ≡ Some pages
+  pub last : (page + 1 ≡ length pages) ⊎ IsFront call part page
 
 -- where a run stands after a step
 pub data Follows (call : Call) : Place → Place → Type 0 where
-  reads_on : {part page : ℕ} (pages : List Stamp) → pin_at call.pins part ≡ Some pages → page + 1 < length pages → Follows call (at_read part page) (at_read part (page + 1))
-  reads_next : {part page q : ℕ} (pages : List Stamp) → pin_at call.pins part ≡ Some pages → page + 1 ≡ length pages → IsNext call (part + 1) q → Follows call (at_read part page) (at_read q 0)
-  reads_last : {part page : ℕ} {after : Place} (pages : List Stamp) → pin_at call.pins part ≡ Some pages → page + 1 ≡ length pages → ReadsNone call (part + 1) → IsJudged call after → Follows call (at_read part page) after
+  reads_on : {part page : ℕ} (pages : List Stamp) → pin_at call.pins part ≡ Some pages → page + 1 < length pages → (IsFront call part page → ⊥) → Follows call (at_read part page) (at_read part (page + 1))
+  reads_next : {part page q : ℕ} → IsLastAtFirst call part page → IsNext call (part + 1) q → Follows call (at_read part page) (at_read q 0)
+  reads_last : {part page : ℕ} {after : Place} (known : List ℕ) → IsLastAtFirst call part page → ReadsNone call (part + 1) → unread known ≤ 128 → IsJudged call known after → Follows call (at_read part page) after
+  misses : {part page : ℕ} → IsFront call part page → Follows call (at_read part page) (at_end (replies.Failed failures.Damaged) [])
+  pages_on : {known : List ℕ} {part page : ℕ} {after : Place} (more : List ℕ) → IsOneMore known more part page → unread more + 1 ≡ unread known → IsJudged call more after → Follows call (at_page known part page) after
   creates : {writes : List PageWrite} {sealed : List Stamp} → Follows call (at_create writes sealed) (at_append writes sealed)
   appends : {writes : List PageWrite} {sealed : List Stamp} → Follows call (at_append writes sealed) (at_seal writes sealed)
   seals_on : {writes : List PageWrite} {sealed : List Stamp} (new : Stamp) → length sealed + 1 < length writes → Follows call (at_seal writes sealed) (at_create writes (sealed ++ new ∷ []))

@@ -11,11 +11,12 @@ ghost use Rattle.apply_core.specs.declared.reply.Failure.TheVariants as failures
 ghost use Rattle.apply_core.specs.declared.reply.Reply.TheVariants as replies;
 ghost use Rattle.run_core.specs.Calling.{StepMakes};
 ghost use Rattle.call_core.specs.Tasks.{task_call};
+ghost use Rattle.call_core.specs.Truths.{PinsAreWhole};
 ghost use Rattle.run_core.specs.Steps.{Follows, FailsWith, AreServed, ReadIsServed, place_in};
-ghost use Rattle.run_core.specs.Phases.{ending_of, sealed_in, news_in, answer_to, step_answer, PenHoldsIn, pen_in, FoundBy, work_in};
+ghost use Rattle.run_core.specs.Phases.{ending_of, sealed_in, news_in, answer_to, step_answer, PenHoldsIn, HasItsReads, pen_in, FoundBy, work_in};
 
 use crate::phase::Phase;
-use crate::read::read_step;
+use crate::read::{page_step, read_step};
 use crate::step::StepAnswer;
 use crate::write::{append_step, create_step, seal_step};
 use apply_core::reply::{Failure, Reply};
@@ -41,9 +42,11 @@ pub(crate) fn advance<H: Hand>(
     task: &Task,
     phase: Phase,
 ) -> (Phase, StepAnswer)
+    requires { HasItsReads (arc_value task.now.operation) phase }
     ensures kept { (a : Assignment) → H.agrees hand.new a → H.agrees hand.old a }
-    ensures found { PenHoldsIn (H.pending hand.old) phase → (a : Assignment) → H.agrees hand.new a → FoundBy a (task_call task.now) phase → FoundBy a (task_call task.now) result.0 }
+    ensures found { PenHoldsIn (H.pending hand.old) phase → (a : Assignment) → H.agrees hand.new a → PinsAreWhole a (task_call task.now) → FoundBy a (task_call task.now) phase → FoundBy a (task_call task.now) result.0 }
     ensures steps { Follows (task_call task.now) (place_in phase) (place_in result.0) }
+    ensures reads { HasItsReads (arc_value task.now.operation) result.0 }
     ensures pen { PenHoldsIn (H.pending hand.old) phase → PenHoldsIn (H.pending hand.new) result.0 }
     ensures others { (n : ℕ) (b : List ℕ) → pen_in phase ≢ Some n → H.pending hand.old n b → H.pending hand.new n b }
     ensures earlier { (n : ℕ) (b : List ℕ) → pen_in phase ≢ Some n → H.pending hand.new n b → H.pending hand.old n b ⊎ (pen_in result.0 ≡ Some n) }
@@ -65,6 +68,7 @@ pub(crate) fn advance<H: Hand>(
 {
     let next = match phase {
         Phase::Reading(r) => read_step(alloc, hand, task, r),
+        Phase::Paging(m) => page_step(alloc, hand, task, m),
         Phase::Creating(plan) => create_step(alloc, hand, plan),
         Phase::Appending(plan, pen) => append_step(alloc, hand, plan, pen),
         Phase::Sealing(plan, pen) => seal_step(alloc, hand, plan, pen),

@@ -1,6 +1,6 @@
 //! A call that is run at once.
 
-ghost use Rattle.std.specs.Prelude.{◌≡◌, ◌≢◌, ◌+◌, ◌<◌, ◌≤◌, ◌⊎◌, [], ℕ, List, length, Some, None, OnOk, IfErr};
+ghost use Rattle.std.specs.Prelude.{◌≡◌, ◌≢◌, ◌+◌, ◌<◌, ◌≤◌, [], ℕ, length, Some, None, OnOk, IfOk};
 ghost use Rattle.std.specs.Result.{IsErrOf};
 ghost use Rattle.std.specs.Arc.{arc_value};
 ghost use Rattle.decl_core.specs.Bodies.{body_of};
@@ -10,67 +10,166 @@ ghost use Rattle.hand_core.specs.Device.{Assignment, Failed as DeviceFailed};
 ghost use Rattle.hand_core.specs.Made.{IsDeviceErr};
 ghost use Rattle.apply_core.specs.declared.reply.Failure.TheVariants as failures;
 ghost use Rattle.apply_core.specs.declared.reply.Reply.TheVariants as replies;
-ghost use Rattle.page_core.specs.PartPins.{pins_by};
+ghost use Rattle.page_core.specs.PartPins.{pin_at, pins_by};
 ghost use Rattle.page_core.specs.Renewed.{with_sealed, AreSealed};
-ghost use Rattle.judge_core.specs.Given.{IsDone, AreChanges};
+ghost use Rattle.judge_core.specs.Given.{IsDone, IsDamaged};
+ghost use Rattle.judge_core.specs.Verdicts.{HasReads};
+ghost use Rattle.judge_core.specs.Judged.{OnlyWrites};
+ghost use Rattle.judge_core.specs.Wholes.{AreChangesOf};
+ghost use Rattle.judge_core.specs.declared.judge.Verdict.TheVariants as verdicts;
+ghost use Rattle.seen_core.specs.Seen.{IsPartRead, IsSeen, IsSeenBefore, JudgedBy};
 ghost use Rattle.judge_core.specs.Written.{WritesInOrder, parts_changed};
-ghost use Rattle.call_core.specs.Planned.{IsPlanned};
-ghost use Rattle.call_core.specs.Read.{AreRead, EarlierAreRead};
 ghost use Rattle.call_core.specs.Tasks.{task_call};
 ghost use Rattle.call_core.specs.Tickets.{ticket_call};
-ghost use Rattle.call_core.specs.Truths.{IsTrueOf, PinHolds};
-ghost use Rattle.run_core.specs.Outcomes.{outcome_call, outcome_reply, outcome_sealed, outcome_news, outcome_gone, outcome_pins};
-ghost use Rattle.run_core.specs.Phases.{failure_of, IsRenewedBy};
+ghost use Rattle.call_core.specs.Truths.{IsTrueOf, PinHolds, PinsAreWhole};
+ghost use Rattle.run_core.specs.Outcomes.{outcome_call, outcome_reply, outcome_sealed, outcome_news, outcome_gone, outcome_pins, IsFresh};
+ghost use Rattle.run_core.specs.Phases.{IsRenewedBy};
 
 use crate::ending::{failure, nothing, outcome_of};
 use crate::outcome::Outcome;
 use crate::phase::Leaving;
-use crate::read::put;
+use crate::read::page_of;
 use apply_core::reply::{Failure, Reply};
 use call_core::plan::{PagePlan, plan_pages};
 use call_core::task::{Task, pages_of};
 use call_core::ticket::Ticket;
 use hand_core::hand::{Hand, HandFault};
-use judge_core::judge::{Change, Verdict, judge};
-use page_core::file_bytes::FileBytes;
+use judge_core::judge::{Change, Verdict};
 use page_core::part_pins::PartPins;
-use page_core::read::read_list;
+use page_core::read::{read_list, read_page};
 use page_core::write::{put_sealed, write_pages};
-use std::alloc::{AllocError, Global};
+use seen_core::judging::judge_seen;
+use seen_core::laws::{all_is_seen, next_is_seen, none_is_seen, plans_are_whole};
+use seen_core::more::read_more;
+use seen_core::seen::{Miss, Seen, is_paged};
+use std::alloc::Global;
 use value_core::datum::Datum;
 
-// Reads the parts from this one on that the call reads.
+// Reads the bytes that are read of a part at first: those of its first page, where it is read page by page, else all that
+// are under its pin.
+fn read_bytes<H: Hand>(
+    hand: &mut H,
+    task: &Task,
+    part: usize,
+    got: &mut Vec<u8>,
+) -> Result<(), HandFault>
+    requires next { pin_at task.now.pins part ≢ None }
+    requires empty { got.old.items ≡ [] }
+    ensures kept { (a : Assignment) → H.agrees hand.new a → H.agrees hand.old a }
+    ensures found { OnOk result ((a : Assignment) → H.agrees hand.new a → IsPartRead a (task_call task.now) part 0 got.new.items) }
+    ensures rises { H.failed hand.old < H.failed hand.new → IsDeviceErr result }
+    ensures counted { H.failed hand.old ≤ H.failed hand.new }
+    ensures cause { IsErrOf result HandFault.Device → DeviceFailed (H.failed hand.old) (H.failed hand.new) }
+{
+    let pages = pages_of(&task.pins, part);
+    if is_paged(task, part) {
+        if let Some(first) = pages.first() {
+            return match read_page(hand, first, got) {
+                Ok(()) => Ok(()),
+                Err(fault) => Err(fault),
+            };
+        }
+    }
+    match read_list(hand, pages, got) {
+        Ok(()) => Ok(()),
+        Err(fault) => Err(fault),
+    }
+}
+
+// Reads of a part what is read at first: its first page, where it is read page by page, else all that is under its pin.
+fn read_part<H: Hand>(
+    alloc: Global,
+    hand: &mut H,
+    task: &Task,
+    part: usize,
+    seen: &mut Seen,
+) -> Result<(), Failure>
+    requires next { pin_at task.now.pins part ≢ None }
+    requires low { part < 16 }
+    requires places { length seen.old.read.items ≤ part }
+    ensures kept { (a : Assignment) → H.agrees hand.new a → H.agrees hand.old a }
+    ensures found { OnOk result ((a : Assignment) → H.agrees hand.new a → PinsAreWhole a (task_call task.now) → IsSeenBefore a (task_call task.now) part seen.old.known seen.old.read.items → IsSeenBefore a (task_call task.now) (part + 1) seen.new.known seen.new.read.items) }
+    ensures damaged { IsErrOf result Failure.Damaged → (a : Assignment) → H.agrees hand.new a → PinsAreWhole a (task_call task.now) → IsDamaged (PinHolds a task.now.pins) (arc_value task.now.operation) }
+    ensures long { OnOk result (length seen.new.read.items ≡ part + 1) }
+    ensures rises { H.failed hand.old < H.failed hand.new → IsErrOf result Failure.Device }
+    ensures counted { H.failed hand.old ≤ H.failed hand.new }
+    ensures cause { IsErrOf result Failure.Device → DeviceFailed (H.failed hand.old) (H.failed hand.new) }
+{
+    let mut got = Vec::new(alloc);
+    match read_bytes(hand, task, part, &mut got) {
+        Ok(()) => {}
+        Err(fault) => return Err(failure(fault)),
+    }
+    match seen.take(alloc, task, part, 0, got) {
+        Ok(()) => Ok(()),
+        Err(Miss::Damaged) => Err(Failure::Damaged),
+        Err(Miss::Memory) => Err(Failure::Memory),
+    }
+}
+
+// Reads of the parts from this one on that the call reads what is read at first.
 fn read_from<H: Hand>(
     alloc: Global,
     hand: &mut H,
     task: &Task,
     from: usize,
-    read: &mut Vec<FileBytes>,
-) -> Result<(), HandFault>
-    requires { length read.old.items ≤ from }
+    seen: &mut Seen,
+) -> Result<(), Failure>
+    requires { length seen.old.read.items ≤ from }
     ensures kept { (a : Assignment) → H.agrees hand.new a → H.agrees hand.old a }
-    ensures found { OnOk result ((a : Assignment) → H.agrees hand.new a → EarlierAreRead a (task_call task.now) from read.old.items → AreRead a (task_call task.now) read.new.items) }
-    ensures places { OnOk result ((p : ℕ) → Reads (body_of (arc_value task.now.operation)).statements p → from ≤ p → p < length read.new.items) }
-    ensures grows { OnOk result (length read.old.items ≤ length read.new.items) }
+    ensures found { OnOk result ((a : Assignment) → H.agrees hand.new a → PinsAreWhole a (task_call task.now) → IsSeenBefore a (task_call task.now) from seen.old.known seen.old.read.items → IsSeen a (task_call task.now) seen.new.known seen.new.read.items) }
+    ensures damaged { IsErrOf result Failure.Damaged → (a : Assignment) → H.agrees hand.new a → PinsAreWhole a (task_call task.now) → IsDamaged (PinHolds a task.now.pins) (arc_value task.now.operation) }
+    ensures places { OnOk result ((p : ℕ) → Reads (body_of (arc_value task.now.operation)).statements p → from ≤ p → p < length seen.new.read.items) }
+    ensures grows { OnOk result (length seen.old.read.items ≤ length seen.new.read.items) }
+    ensures rises { H.failed hand.old < H.failed hand.new → IsErrOf result Failure.Device }
+    ensures counted { H.failed hand.old ≤ H.failed hand.new }
+    ensures cause { IsErrOf result Failure.Device → DeviceFailed (H.failed hand.old) (H.failed hand.new) }
+{
+    // What is seen before the next part, and that all is seen after the last one.
+    next_is_seen();
+    all_is_seen();
+    let Some(part) = task.next_part(from) else {
+        return Ok(());
+    };
+    match read_part(alloc, hand, task, part, seen) {
+        Ok(()) => {}
+        Err(failure) => return Err(failure),
+    }
+    match read_from(alloc, hand, task, part + 1, seen) {
+        Ok(()) => Ok(()),
+        Err(failure) => Err(failure),
+    }
+}
+
+// What becomes of the body of a call: each page that it comes to is read, until it comes to none.
+fn judged<H: Hand>(
+    alloc: Global,
+    hand: &mut H,
+    task: &Task,
+    seen: &mut Seen,
+) -> Result<Verdict, HandFault>
+    requires { HasReads (arc_value task.now.operation) seen.old.read.items }
+    ensures kept { (a : Assignment) → H.agrees hand.new a → H.agrees hand.old a }
+    ensures found { IfOk result (λ verdict. (a : Assignment) → H.agrees hand.new a → PinsAreWhole a (task_call task.now) → IsSeen a (task_call task.now) seen.old.known seen.old.read.items → IsSeen a (task_call task.now) seen.new.known seen.new.read.items × JudgedBy a (task_call task.now) seen.new.known seen.new.read.items verdict) }
+    ensures over { IfOk result (λ verdict. (p k : ℕ) → verdict ≢ verdicts.Needs p k) }
+    ensures writes { IfOk result (OnlyWrites (arc_value task.now.operation)) }
+    ensures reads { OnOk result (HasReads (arc_value task.now.operation) seen.new.read.items) }
     ensures rises { H.failed hand.old < H.failed hand.new → IsDeviceErr result }
     ensures counted { H.failed hand.old ≤ H.failed hand.new }
     ensures cause { IsErrOf result HandFault.Device → DeviceFailed (H.failed hand.old) (H.failed hand.new) }
 {
-    let Some(part) = task.next_part(from) else {
-        return Ok(());
-    };
-    let mut got = Vec::new(alloc);
-    match read_list(hand, pages_of(&task.pins, part), &mut got) {
-        Ok(()) => {}
-        Err(fault) => return Err(fault),
-    }
-    match put(alloc, read, part, got) {
-        Ok(()) => {}
-        Err(AllocError) => return Err(HandFault::Memory),
-    }
-    match read_from(alloc, hand, task, part + 1, read) {
-        Ok(()) => Ok(()),
-        Err(fault) => Err(fault),
+    loop {
+        let (part, page) = match judge_seen(alloc, task, seen) {
+            Verdict::Needs(part, page) => (part, page),
+            verdict => return Ok(verdict),
+        };
+        let Some((stamp, _)) = page_of(task, part, page) else {
+            return Err(HandFault::Memory);
+        };
+        match read_more(hand, &stamp, seen, part, page) {
+            Ok(()) => {}
+            Err(fault) => return Err(fault),
+        }
     }
 }
 
@@ -93,12 +192,20 @@ fn write_all<H: Hand>(hand: &mut H, pages: PagePlan) -> (Leaving, Option<HandFau
         writes,
         gone,
         sealed,
+        entry,
     } = pages;
     let (sealed, fault) = write_pages(hand, &writes, sealed);
     let mut stamps = stamps;
     put_sealed(&mut stamps, &writes, &sealed);
     let news = PartPins::from_counts(counts, stamps);
-    (Leaving { news, gone, sealed }, fault)
+    let entry = news.copy_into(entry);
+    let left = Leaving {
+        news,
+        gone,
+        sealed,
+        entry,
+    };
+    (left, fault)
 }
 
 // How a call ended that made no file.
@@ -108,6 +215,7 @@ fn over(alloc: Global, task: Task, reply: Reply) -> Outcome
     ensures news { outcome_news result ≡ [] }
     ensures sealed { outcome_sealed result ≡ [] }
     ensures gone { outcome_gone result ≡ [] }
+    ensures fresh { IsFresh result }
 {
     outcome_of(task, reply, nothing(alloc, Vec::new(alloc)))
 }
@@ -119,21 +227,24 @@ fn written<H: Hand>(
     alloc: Global,
     hand: &mut H,
     task: Task,
-    read: &[FileBytes],
+    seen: &Seen,
     reply: Option<Datum>,
     changes: &[Change],
 ) -> Outcome
-    requires read { (p : ℕ) → Reads (body_of (arc_value task.operation)).statements p → p < length read.now }
+    requires read { HasReads (arc_value task.operation) seen.now.read.items }
     requires rising { WritesInOrder (body_of (arc_value task.operation)).statements 0 (parts_changed changes.now) }
     ensures call { outcome_call result ≡ task_call task }
     ensures kept { (a : Assignment) → H.agrees hand.new a → H.agrees hand.old a }
-    ensures told { (a : Assignment) → H.agrees hand.new a → AreRead a (task_call task) read.now → IsDone (PinHolds a task.pins) (arc_value task.operation) task.args.items reply (AreChanges changes.now) → IsTrueOf a (outcome_call result) (outcome_reply result) (outcome_pins result) }
-    ensures renewed { (a : Assignment) → H.agrees hand.new a → AreRead a (task_call task) read.now → IsDone (PinHolds a task.pins) (arc_value task.operation) task.args.items reply (AreChanges changes.now) → IsRenewedBy a (outcome_call result) (outcome_reply result) (outcome_sealed result) (outcome_news result) (outcome_gone result) }
+    ensures told { (a : Assignment) → H.agrees hand.new a → PinsAreWhole a (task_call task) → IsSeen a (task_call task) seen.now.known seen.now.read.items → IsDone (PinHolds a task.pins) (arc_value task.operation) task.args.items reply (AreChangesOf seen.now.known (arc_value task.operation) seen.now.read.items (PinHolds a task.pins) changes.now) → IsTrueOf a (outcome_call result) (outcome_reply result) (outcome_pins result) }
+    ensures renewed { (a : Assignment) → H.agrees hand.new a → PinsAreWhole a (task_call task) → IsSeen a (task_call task) seen.now.known seen.now.read.items → IsDone (PinHolds a task.pins) (arc_value task.operation) task.args.items reply (AreChangesOf seen.now.known (arc_value task.operation) seen.now.read.items (PinHolds a task.pins) changes.now) → IsRenewedBy a (outcome_call result) (outcome_reply result) (outcome_sealed result) (outcome_news result) (outcome_gone result) }
     ensures rises { H.failed hand.old < H.failed hand.new → outcome_reply result ≡ replies.Failed failures.Device }
     ensures counted { H.failed hand.old ≤ H.failed hand.new }
     ensures cause { outcome_reply result ≡ replies.Failed failures.Device → DeviceFailed (H.failed hand.old) (H.failed hand.new) }
+    ensures fresh { IsFresh result }
 {
-    let pages = match plan_pages(alloc, &task, read, changes) {
+    // What is a plan of what was seen is one of the bytes under the pins.
+    plans_are_whole();
+    let pages = match plan_pages(alloc, &task, &seen.read, changes) {
         Ok(pages) => pages,
         Err(_) => return over(alloc, task, Reply::Failed(Failure::Memory)),
     };
@@ -145,35 +256,44 @@ fn written<H: Hand>(
                 news: _,
                 gone: _,
                 sealed,
+                entry: _,
             } = left;
             outcome_of(task, Reply::Failed(failure(fault)), nothing(alloc, sealed))
         }
     }
 }
 
-// Does the body of a call on the bytes read of its parts, and writes what it changed. The bytes of part p stand at
-// place p.
-fn run_read<H: Hand>(alloc: Global, hand: &mut H, task: Task, read: &[FileBytes]) -> Outcome
-    requires read { (p : ℕ) → Reads (body_of (arc_value task.operation)).statements p → p < length read.now }
+// Does the body of a call on what was read of its parts at first, and on each page that it comes to, and writes what it
+// changed.
+fn run_read<H: Hand>(alloc: Global, hand: &mut H, task: Task, seen: Seen) -> Outcome
+    requires read { HasReads (arc_value task.operation) seen.read.items }
     ensures call { outcome_call result ≡ task_call task }
     ensures kept { (a : Assignment) → H.agrees hand.new a → H.agrees hand.old a }
-    ensures told { (a : Assignment) → H.agrees hand.new a → AreRead a (task_call task) read.now → IsTrueOf a (outcome_call result) (outcome_reply result) (outcome_pins result) }
-    ensures renewed { (a : Assignment) → H.agrees hand.new a → AreRead a (task_call task) read.now → IsRenewedBy a (outcome_call result) (outcome_reply result) (outcome_sealed result) (outcome_news result) (outcome_gone result) }
+    ensures told { (a : Assignment) → H.agrees hand.new a → (PinsAreWhole a (task_call task) → IsSeen a (task_call task) seen.known seen.read.items) → IsTrueOf a (outcome_call result) (outcome_reply result) (outcome_pins result) }
+    ensures renewed { (a : Assignment) → H.agrees hand.new a → PinsAreWhole a (task_call task) → IsSeen a (task_call task) seen.known seen.read.items → IsRenewedBy a (outcome_call result) (outcome_reply result) (outcome_sealed result) (outcome_news result) (outcome_gone result) }
     ensures rises { H.failed hand.old < H.failed hand.new → outcome_reply result ≡ replies.Failed failures.Device }
     ensures counted { H.failed hand.old ≤ H.failed hand.new }
     ensures cause { outcome_reply result ≡ replies.Failed failures.Device → DeviceFailed (H.failed hand.old) (H.failed hand.new) }
+    ensures fresh { IsFresh result }
 {
-    match judge(alloc, &task.operation, &task.args, read) {
+    // So is the plan of no change.
+    plans_are_whole();
+    let mut seen = seen;
+    let verdict = match judged(alloc, hand, &task, &mut seen) {
+        Ok(verdict) => verdict,
+        Err(fault) => return over(alloc, task, Reply::Failed(failure(fault))),
+    };
+    match verdict {
         Verdict::Done(reply, changes) => {
             if changes.is_empty() {
                 over(alloc, task, Reply::Done(reply))
             } else {
-                written(alloc, hand, task, read, reply, &changes)
+                written(alloc, hand, task, &seen, reply, &changes)
             }
         }
         Verdict::Refused(word) => over(alloc, task, Reply::Refused(word)),
         Verdict::Damaged => over(alloc, task, Reply::Failed(Failure::Damaged)),
-        Verdict::Memory => over(alloc, task, Reply::Failed(Failure::Memory)),
+        _ => over(alloc, task, Reply::Failed(Failure::Memory)),
     }
 }
 
@@ -185,17 +305,20 @@ pub fn run_at_once<H: Hand>(alloc: Global, ticket: Ticket, hand: &mut H) -> Outc
     // The outcome is true of each assignment that agrees with all calls.
     ensures told { (a : Assignment) → H.agrees hand.new a → IsTrueOf a (outcome_call result) (outcome_reply result) (outcome_pins result) }
     // Where the body was done its new page lists are those of a plan, over the bytes under the pins.
-    ensures renewed { (a : Assignment) → H.agrees hand.new a → IsRenewedBy a (outcome_call result) (outcome_reply result) (outcome_sealed result) (outcome_news result) (outcome_gone result) }
+    ensures renewed { (a : Assignment) → H.agrees hand.new a → PinsAreWhole a (outcome_call result) → IsRenewedBy a (outcome_call result) (outcome_reply result) (outcome_sealed result) (outcome_news result) (outcome_gone result) }
     // Where the device failed in these calls, so did the call, and it fails for the device only there.
     ensures rises { H.failed hand.old < H.failed hand.new → outcome_reply result ≡ replies.Failed failures.Device }
     ensures counted { H.failed hand.old ≤ H.failed hand.new }
     ensures cause { outcome_reply result ≡ replies.Failed failures.Device → DeviceFailed (H.failed hand.old) (H.failed hand.new) }
+    // It can be handed in.
+    ensures fresh { IsFresh result }
 {
+    none_is_seen();
     let task = Task::new(ticket);
-    let mut read = Vec::new(alloc);
-    match read_from(alloc, hand, &task, 0, &mut read) {
+    let mut seen = Seen::new(alloc);
+    match read_from(alloc, hand, &task, 0, &mut seen) {
         Ok(()) => {}
-        Err(fault) => return over(alloc, task, Reply::Failed(failure(fault))),
+        Err(failure) => return over(alloc, task, Reply::Failed(failure)),
     }
-    run_read(alloc, hand, task, &read)
+    run_read(alloc, hand, task, seen)
 }

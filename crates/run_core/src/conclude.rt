@@ -1,73 +1,77 @@
-//! What follows the last read of a run.
+//! What follows a read of a run, when its body is judged.
 
-ghost use Rattle.std.specs.Prelude.{◌≡◌, ◌≢◌, ◌^◌, ◌<◌, [], ℕ, length, Some, None};
+ghost use Rattle.std.specs.Prelude.{◌≡◌, ◌≢◌, ◌+◌, ◌^◌, ◌<◌, ◌≤◌, [], ℕ, List, Some, None};
 ghost use Rattle.std.specs.Arc.{arc_value};
 ghost use Rattle.decl_core.specs.Bodies.{body_of};
-ghost use Rattle.decl_core.specs.Touched.{Reads, Writes};
+ghost use Rattle.decl_core.specs.Touched.{Writes};
 ghost use Rattle.hand_core.specs.Device.{Assignment};
 ghost use Rattle.apply_core.specs.declared.reply.Failure.TheVariants as failures;
 ghost use Rattle.apply_core.specs.declared.reply.Reply.TheVariants as replies;
-ghost use Rattle.judge_core.specs.Given.{IsDone, AreChanges};
+ghost use Rattle.known_core.specs.Masks.{unread};
+ghost use Rattle.judge_core.specs.Given.{IsDone};
+ghost use Rattle.judge_core.specs.Verdicts.{ReadsNone, HasReads};
+ghost use Rattle.judge_core.specs.Wholes.{AreChangesOf};
 ghost use Rattle.judge_core.specs.Written.{WritesInOrder, parts_changed};
 ghost use Rattle.page_core.specs.PartPins.{pin_at};
-ghost use Rattle.call_core.specs.Read.{AreRead};
 ghost use Rattle.call_core.specs.Tasks.{task_call};
-ghost use Rattle.call_core.specs.Truths.{PinHolds};
-ghost use Rattle.run_core.specs.Phases.{ending_of, sealed_in, news_in, HasNoPen, FoundBy, IsSettled, work_in};
+ghost use Rattle.call_core.specs.Truths.{PinHolds, PinsAreWhole};
+ghost use Rattle.seen_core.specs.Seen.{IsSeen};
+ghost use Rattle.run_core.specs.Phases.{ending_of, sealed_in, news_in, HasNoPen, HasItsReads, FoundBy, IsSettled, work_in};
 ghost use Rattle.run_core.specs.Steps.{IsJudged, place_in};
 
 use crate::ending::{ended, failed};
-use crate::phase::Phase;
+use crate::phase::{More, Phase};
 use crate::write::go_on;
 use apply_core::reply::{Failure, Reply};
 use call_core::plan::plan_pages;
 use call_core::task::Task;
 use hand_core::hand::HandFault;
-use judge_core::judge::{Change, Verdict, judge};
-use page_core::file_bytes::FileBytes;
+use judge_core::judge::{Change, Verdict};
+use seen_core::judging::judge_seen;
+use seen_core::laws::plans_are_whole;
+use seen_core::seen::Seen;
 use std::alloc::Global;
 use value_core::datum::Datum;
 
 // The run goes on to the pages of what its body changed, or it is done.
-fn begin(
-    alloc: Global,
-    task: &Task,
-    read: &[FileBytes],
-    reply: Option<Datum>,
-    changes: &[Change],
-) -> Phase
-    requires read { (p : ℕ) → Reads (body_of (arc_value task.now.operation)).statements p → p < length read.now }
+fn begin(alloc: Global, task: &Task, seen: &Seen, reply: Option<Datum>, changes: &[Change]) -> Phase
+    requires read { HasReads (arc_value task.now.operation) seen.now.read.items }
     requires rising { WritesInOrder (body_of (arc_value task.now.operation)).statements 0 (parts_changed changes.now) }
-    ensures found { (a : Assignment) → AreRead a (task_call task.now) read.now → IsDone (PinHolds a task.now.pins) (arc_value task.now.operation) task.now.args.items reply (AreChanges changes.now) → FoundBy a (task_call task.now) result }
+    ensures found { (a : Assignment) → PinsAreWhole a (task_call task.now) → IsSeen a (task_call task.now) seen.now.known seen.now.read.items → IsDone (PinHolds a task.now.pins) (arc_value task.now.operation) task.now.args.items reply (AreChangesOf seen.now.known (arc_value task.now.operation) seen.now.read.items (PinHolds a task.now.pins) changes.now) → FoundBy a (task_call task.now) result }
     ensures settled { changes.now ≡ [] → IsSettled (ending_of result) }
-    ensures steps { IsJudged (task_call task.now) (place_in result) }
+    ensures steps { (known : List ℕ) → IsJudged (task_call task.now) known (place_in result) }
+    ensures reads { HasItsReads (arc_value task.now.operation) result }
     ensures pen { HasNoPen result }
     ensures sealed { sealed_in result ≡ [] }
     ensures news { (p : ℕ) → pin_at (news_in result) p ≢ None → Writes (body_of (arc_value task.now.operation)).statements p }
     ensures cause { ending_of result ≢ Some (replies.Failed failures.Device) }
     ensures less { work_in result < 2 ^ 72 }
 {
-    match plan_pages(alloc, task, read, changes) {
+    // What is a plan of what was seen is one of the bytes under the pins.
+    plans_are_whole();
+    match plan_pages(alloc, task, &seen.read, changes) {
         Ok(pages) => go_on(reply, pages),
         Err(_) => failed(alloc, HandFault::Memory, Vec::new(alloc)),
     }
 }
 
-// The run goes on to what the body changed, or it has ended. The bytes read of part p stand at place p.
-pub(crate) fn conclude(alloc: Global, task: &Task, read: &[FileBytes]) -> Phase
-    requires read { (p : ℕ) → Reads (body_of (arc_value task.now.operation)).statements p → p < length read.now }
-    ensures found { (a : Assignment) → AreRead a (task_call task.now) read.now → FoundBy a (task_call task.now) result }
-    ensures settled { ((p : ℕ) → Reads (body_of (arc_value task.now.operation)).statements p → ⊥) → IsSettled (ending_of result) }
-    ensures steps { IsJudged (task_call task.now) (place_in result) }
+// The run goes on to what the body changed, or to the page that it comes to, or it has ended.
+pub(crate) fn conclude(alloc: Global, task: &Task, seen: Seen) -> Phase
+    requires read { HasReads (arc_value task.now.operation) seen.read.items }
+    ensures found { (a : Assignment) → PinsAreWhole a (task_call task.now) → IsSeen a (task_call task.now) seen.known seen.read.items → FoundBy a (task_call task.now) result }
+    ensures settled { ReadsNone (arc_value task.now.operation) → IsSettled (ending_of result) }
+    ensures steps { IsJudged (task_call task.now) seen.known (place_in result) }
+    ensures reads { HasItsReads (arc_value task.now.operation) result }
     ensures pen { HasNoPen result }
     ensures sealed { sealed_in result ≡ [] }
     ensures news { (p : ℕ) → pin_at (news_in result) p ≢ None → Writes (body_of (arc_value task.now.operation)).statements p }
     ensures cause { ending_of result ≢ Some (replies.Failed failures.Device) }
-    ensures less { work_in result < 2 ^ 72 }
+    ensures less { work_in result ≤ 2 ^ 72 + unread seen.known }
 {
-    match judge(alloc, &task.operation, &task.args, read) {
-        Verdict::Done(reply, changes) => begin(alloc, task, read, reply, &changes),
+    match judge_seen(alloc, task, &seen) {
+        Verdict::Done(reply, changes) => begin(alloc, task, &seen, reply, &changes),
         Verdict::Refused(word) => ended(alloc, Reply::Refused(word)),
+        Verdict::Needs(part, page) => Phase::Paging(More { part, page, seen }),
         Verdict::Damaged => ended(alloc, Reply::Failed(Failure::Damaged)),
         Verdict::Memory => ended(alloc, Reply::Failed(Failure::Memory)),
     }

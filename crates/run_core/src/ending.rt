@@ -10,7 +10,7 @@ ghost use Rattle.decl_core.specs.Bodies.{body_of};
 ghost use Rattle.decl_core.specs.Touched.{Writes};
 ghost use Rattle.call_core.specs.Tasks.{task_call};
 ghost use Rattle.page_core.specs.PartPins.{PartPin, pin_at, pins_by};
-ghost use Rattle.run_core.specs.Outcomes.{outcome_call, outcome_reply, outcome_sealed, outcome_news, outcome_gone};
+ghost use Rattle.run_core.specs.Outcomes.{outcome_call, outcome_reply, outcome_sealed, outcome_news, outcome_gone, IsFresh};
 ghost use Rattle.run_core.specs.Phases.{ending_of, sealed_in, news_in, failure_of, HasNoPen, pen_in, work_in, FoundBy, IsNotDone};
 ghost use Rattle.run_core.specs.Steps.{place_in, at_end};
 
@@ -44,6 +44,7 @@ pub(crate) fn nothing(alloc: Global, sealed: Vec<Stamp>) -> Leaving
         news: PartPins::from_counts([0; MOST_PARTS], Vec::new(alloc)),
         gone: Vec::new(alloc),
         sealed,
+        entry: PartPins::from_counts([0; MOST_PARTS], Vec::new(alloc)),
     }
 }
 
@@ -59,11 +60,15 @@ pub(crate) fn renewed(pages: PagePlan) -> Leaving
         writes: _,
         gone,
         sealed,
+        entry,
     } = pages;
+    let news = PartPins::from_counts(counts, stamps);
+    let entry = news.copy_into(entry);
     Leaving {
-        news: PartPins::from_counts(counts, stamps),
+        news,
         gone,
         sealed,
+        entry,
     }
 }
 
@@ -102,6 +107,7 @@ pub(crate) fn outcome_of(task: Task, reply: Reply, left: Leaving) -> Outcome
     ensures sealed { outcome_sealed result ≡ left.sealed.items }
     ensures news { outcome_news result ≡ left.news }
     ensures gone { outcome_gone result ≡ left.gone.items }
+    ensures fresh { IsFresh result }
 {
     let Task {
         number,
@@ -110,12 +116,21 @@ pub(crate) fn outcome_of(task: Task, reply: Reply, left: Leaving) -> Outcome
         pins,
         reads: _,
     } = task;
+    let Leaving {
+        news,
+        gone,
+        sealed,
+        entry,
+    } = left;
     Outcome {
         number,
         operation,
         args,
         pins,
         reply,
-        left,
+        news,
+        entry,
+        gone,
+        sealed,
     }
 }

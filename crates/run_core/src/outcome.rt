@@ -1,16 +1,18 @@
 //! How a run ended.
 
-ghost use Rattle.std.specs.Prelude.{◌≡◌, ◌≢◌, [], ℕ, None, IfSome, IfNone};
+ghost use Rattle.std.specs.Prelude.{◌≡◌, ◌≢◌, ◌↔◌, [], ℕ, IsTrue, None, IfSome, IfNone};
 ghost use Rattle.std.specs.Arc.{arc_value};
 ghost use Rattle.decl_core.specs.Bodies.{body_of};
 ghost use Rattle.decl_core.specs.Touched.{Writes};
 ghost use Rattle.page_core.specs.PartPins.{pin_at};
+ghost use Rattle.call_core.specs.Planned.{AreSized};
 
-use crate::phase::Leaving;
 use apply_core::reply::Reply;
+use decl_core::id::MOST_PARTS;
 use decl_core::object::Operation;
 use hand_core::hand::Stamp;
 use page_core::part_pins::PartPins;
+use std::mem;
 use std::sync::Arc;
 use value_core::datum::Datum;
 
@@ -22,13 +24,22 @@ pub struct Outcome {
     pub(crate) args: Vec<Datum>,
     pub(crate) pins: PartPins,
     pub(crate) reply: Reply,
-    pub(crate) left: Leaving,
+    // the new page lists of the parts that the body changed
+    pub(crate) news: PartPins,
+    // the same once more for the entry, until they are taken
+    pub(crate) entry: PartPins,
+    // the files of the old lists that are not in these, in order
+    pub(crate) gone: Vec<Stamp>,
+    // the files that the run sealed, in order
+    pub(crate) sealed: Vec<Stamp>,
+    // each of its new page lists has from 1 to 8 pages
+    ghost sized: { AreSized news },
     // its new page lists are of parts that the operation writes
-    ghost inside: { (p : ℕ) → pin_at left.news p ≢ None → (Writes (body_of (arc_value operation)).statements p → ⊥) → ⊥ },
+    ghost inside: { (p : ℕ) → pin_at news p ≢ None → (Writes (body_of (arc_value operation)).statements p → ⊥) → ⊥ },
 }
 
 impl Outcome {
-    ghost use Rattle.run_core.specs.Outcomes.{outcome_call, outcome_reply, outcome_sealed, outcome_pins, outcome_free};
+    ghost use Rattle.run_core.specs.Outcomes.{outcome_call, outcome_reply, outcome_news, outcome_sealed, outcome_pins, outcome_free, outcome_entry, IsFresh, TellsSame};
 
     /// The number of the call.
     pub fn number(&self) -> u32
@@ -65,14 +76,16 @@ impl Outcome {
         &self.reply
     }
 
-    /// The new pins of the parts that the body changed, in the order of the parts. Only a call that was done has some.
+    /// The new pins of the parts that the body changed, in the order of the parts: of each part from 1 to 8 pages. Only a call
+    /// that was done has some.
     pub fn new_pins(&self) -> Option<&PartPins>
         ensures some { IfSome result (λ pins. pins.now ≡ outcome_pins self.now) }
         ensures none { IfNone result (outcome_pins self.now ≡ []) }
         ensures inside { (p : ℕ) → pin_at (outcome_pins self.now) p ≢ None → Writes (body_of (outcome_call self.now).operation).statements p }
+        ensures sized { AreSized (outcome_pins self.now) }
     {
         match self.reply {
-            Reply::Done(_) => Some(&self.left.news),
+            Reply::Done(_) => Some(&self.news),
             Reply::Refused(_) => None,
             Reply::Failed(_) => None,
         }
@@ -84,16 +97,68 @@ impl Outcome {
         ensures { result.now ≡ outcome_free self.now }
     {
         match self.reply {
-            Reply::Done(_) => &self.left.gone,
+            Reply::Done(_) => &self.gone,
             Reply::Refused(_) => &[],
-            Reply::Failed(_) => &self.left.sealed,
+            Reply::Failed(_) => &self.sealed,
         }
+    }
+
+    /// The operation that was called, the pins that the run read by, and the page lists that it made, where the rest of
+    /// the outcome is not needed any more.
+    pub fn into_rows(self) -> (Arc<Operation>, PartPins, PartPins)
+        ensures operation { arc_value result.0 ≡ (outcome_call self).operation }
+        ensures pins { result.1 ≡ (outcome_call self).pins }
+        ensures news { result.2 ≡ outcome_news self }
+    {
+        let Outcome {
+            number: _,
+            operation,
+            args: _,
+            pins,
+            reply: _,
+            news,
+            entry: _,
+            gone: _,
+            sealed: _,
+        } = self;
+        (operation, pins, news)
     }
 
     /// The files that the run sealed, in order.
     pub fn sealed(&self) -> &[Stamp]
         ensures { result.now ≡ outcome_sealed self.now }
     {
-        &self.left.sealed
+        &self.sealed
+    }
+
+    /// Whether it can be handed in: the row of its entry was not taken. It takes no memory.
+    pub fn is_fresh(&self) -> bool
+        ensures { IsTrue result ↔ IsFresh self.now }
+    {
+        self.entry.is_same(&self.news)
+    }
+
+    /// Takes the row of new pins that the run made for the entry. It takes no memory.
+    pub fn take_entry(&mut self) -> PartPins
+        ensures taken { result ≡ outcome_entry self.old }
+        ensures same { TellsSame self.old self.new }
+        ensures free { outcome_free self.new ≡ outcome_free self.old }
+    {
+        let none = PartPins::from_counts([0; MOST_PARTS], Vec::new(*self.gone.allocator()));
+        mem::replace(&mut self.entry, none)
+    }
+
+    /// Takes the files that the call leaves to nobody, as `free` tells them. It takes no memory.
+    pub fn take_free(&mut self) -> Vec<Stamp>
+        ensures taken { result.items ≡ outcome_free self.old }
+        ensures same { TellsSame self.old self.new }
+        ensures entry { outcome_entry self.new ≡ outcome_entry self.old }
+    {
+        let none = Vec::new(*self.gone.allocator());
+        match self.reply {
+            Reply::Done(_) => mem::replace(&mut self.gone, none),
+            Reply::Refused(_) => none,
+            Reply::Failed(_) => mem::replace(&mut self.sealed, none),
+        }
     }
 }

@@ -7,11 +7,11 @@ ghost use Rattle.hand_core.specs.declared.hand.Stamp.{Stamp};
 ghost use Rattle.hand_core.specs.Device.{Assignment, Always, Failed as DeviceFailed};
 ghost use Rattle.apply_core.specs.declared.reply.Failure.TheVariants as failures;
 ghost use Rattle.apply_core.specs.declared.reply.Reply.TheVariants as replies;
-ghost use Rattle.call_core.specs.Truths.{IsTrueOf};
+ghost use Rattle.call_core.specs.Truths.{IsTrueOf, PinsAreWhole};
 ghost use Rattle.run_core.specs.Phases.{IsRenewedBy};
 ghost use Rattle.run_core.specs.Runs.{run_call, run_ending, run_place, run_sealed, PenHolds, SoFar};
 ghost use Rattle.run_core.specs.Steps.{Leads, AreServed, PinsServed, at_end};
-ghost use Rattle.run_core.specs.Outcomes.{outcome_call, outcome_reply, outcome_sealed, outcome_news, outcome_gone, outcome_pins};
+ghost use Rattle.run_core.specs.Outcomes.{outcome_call, outcome_reply, outcome_sealed, outcome_news, outcome_gone, outcome_pins, IsFresh};
 ghost use Rattle.page_core.specs.PartPins.{pin_at};
 
 use crate::outcome::Outcome;
@@ -27,7 +27,9 @@ pub fn perform<H: Hand>(run: Run, hand: &mut H) -> Outcome
     // The outcome is true of each assignment that agrees with all calls, and of which what the run had found is true.
     ensures told { PenHolds (H.pending hand.old) run → (a : Assignment) → H.agrees hand.new a → SoFar a run → IsTrueOf a (outcome_call result) (outcome_reply result) (outcome_pins result) }
     // Where the body was done its new page lists are those of a plan, over the bytes under the pins.
-    ensures renewed { PenHolds (H.pending hand.old) run → (a : Assignment) → H.agrees hand.new a → SoFar a run → IsRenewedBy a (outcome_call result) (outcome_reply result) (outcome_sealed result) (outcome_news result) (outcome_gone result) }
+    ensures renewed { PenHolds (H.pending hand.old) run → (a : Assignment) → H.agrees hand.new a → SoFar a run → PinsAreWhole a (outcome_call result) → IsRenewedBy a (outcome_call result) (outcome_reply result) (outcome_sealed result) (outcome_news result) (outcome_gone result) }
+    // It can be handed in.
+    ensures fresh { IsFresh result }
     // Its new page lists are of parts that the operation writes.
     ensures writes { (p : ℕ) → pin_at (outcome_pins result) p ≢ None → Writes (body_of (outcome_call result).operation).statements p }
     // What could be read can be read, and the device stays in order.

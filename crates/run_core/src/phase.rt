@@ -1,12 +1,14 @@
 //! Where a run stands.
 
-ghost use Rattle.std.specs.Prelude.{◌≡◌, ◌<◌, ◌≤◌, length};
+ghost use Rattle.std.specs.Prelude.{◌≡◌, ◌<◌, ◌≤◌, length, slice_index};
+ghost use Rattle.std.specs.Int.{bit_at};
+ghost use Rattle.call_core.specs.Planned.{AreSized};
 
 use apply_core::reply::Reply;
 use call_core::plan::PagePlan;
 use hand_core::hand::{Pen, Stamp};
-use page_core::file_bytes::FileBytes;
 use page_core::part_pins::PartPins;
+use seen_core::seen::Seen;
 use value_core::datum::Datum;
 
 /// A run that reads.
@@ -15,11 +17,26 @@ pub(crate) struct Read {
     // the part that is read, and the page of its pin that is read next, counted from 0
     pub(crate) part: usize,
     pub(crate) page: usize,
-    // the bytes of the parts before it, those of part p at place p; empty where a part is not read
-    pub(crate) read: Vec<FileBytes>,
+    // what was read of the parts before it
+    pub(crate) seen: Seen,
     // its own bytes so far
     pub(crate) got: Vec<u8>,
     ghost low: { part < 16 },
+    ghost places: { length seen.read.items ≤ part },
+}
+
+/// A run that reads the page that its body comes to.
+#[derive(Drop)]
+pub(crate) struct More {
+    // the part that is read, and the page of its pin, counted from 0
+    pub(crate) part: usize,
+    pub(crate) page: usize,
+    // what was read of all parts
+    pub(crate) seen: Seen,
+    ghost low: { part < 16 },
+    ghost short: { page < 8 },
+    // the page is not known
+    ghost clear: { bit_at (slice_index seen.known part) page ≡ 0 },
 }
 
 /// A run that writes.
@@ -41,11 +58,17 @@ pub(crate) struct Leaving {
     pub(crate) gone: Vec<Stamp>,
     // the files that the run sealed, in order
     pub(crate) sealed: Vec<Stamp>,
+    // the new page lists once more, in a row of their own
+    pub(crate) entry: PartPins,
+    ghost twice: { entry ≡ news },
+    // each of them has from 1 to 8 pages
+    ghost sized: { AreSized news },
 }
 
 /// Where a run stands.
 pub(crate) enum Phase {
     Reading(Read),
+    Paging(More),
     // a file is begun for the next page
     Creating(Plan),
     // its bytes are added to this file
@@ -65,6 +88,7 @@ pub(crate) fn let_go(phase: Phase) {
             let Pen { number: _ } = pen;
         }
         Phase::Reading(_read) => {}
+        Phase::Paging(_more) => {}
         Phase::Creating(_plan) => {}
         Phase::Ended(_reply, _left) => {}
     }

@@ -1,7 +1,6 @@
 //! Runs of calls.
 
-ghost use Rattle.std.specs.Prelude.{◌≡◌, ◌≢◌, ◌+◌, ◌<◌, ◌≤◌, ◌⊎◌, ◌↔◌, [], ℕ, List, Some, None, IfOk, IfErr, IsTrue};
-ghost use Rattle.apply_core.specs.declared.reply.Reply.{Reply as AReply};
+ghost use Rattle.std.specs.Prelude.{◌≡◌, ◌≢◌, ◌+◌, ◌<◌, ◌≤◌, ◌⊎◌, ◌↔◌, [], ℕ, List, Some, None, IfOk, IfErr};
 ghost use Rattle.std.specs.Arc.{arc_value};
 ghost use Rattle.decl_core.specs.Bodies.{body_of};
 ghost use Rattle.decl_core.specs.Touched.{Reads, Writes};
@@ -9,10 +8,10 @@ ghost use Rattle.hand_core.specs.declared.hand.Stamp.{Stamp};
 ghost use Rattle.hand_core.specs.Device.{Assignment, IsFree, Failed as DeviceFailed};
 ghost use Rattle.apply_core.specs.declared.reply.Failure.TheVariants as failures;
 ghost use Rattle.apply_core.specs.declared.reply.Reply.TheVariants as replies;
-ghost use Rattle.call_core.specs.Truths.{IsTrueOf};
+ghost use Rattle.call_core.specs.Truths.{IsTrueOf, PinsAreWhole};
 ghost use Rattle.call_core.specs.Tasks.{task_call};
 ghost use Rattle.run_core.specs.Steps.{Starts, Follows, FailsWith, AreServed, PinsServed, ReadsItsPart, place_in, need_at};
-ghost use Rattle.run_core.specs.Phases.{ending_of, sealed_in, news_in, pen_in, FoundBy, IsRenewedBy, IsSettled, step_answer};
+ghost use Rattle.run_core.specs.Phases.{ending_of, sealed_in, news_in, pen_in, FoundBy, HasItsReads, IsRenewedBy, IsSettled, step_answer};
 ghost use Rattle.page_core.specs.PartPins.{pin_at};
 
 use crate::advance::advance;
@@ -26,6 +25,8 @@ use apply_core::reply::{Failure, Reply};
 use call_core::task::Task;
 use call_core::ticket::Ticket;
 use hand_core::hand::Hand;
+use seen_core::laws::{all_is_seen, next_is_seen, none_is_seen};
+use seen_core::seen::Seen;
 use std::alloc::Global;
 use std::mem;
 
@@ -39,11 +40,14 @@ pub struct Run {
     ghost inside: { (p : ℕ) → pin_at (news_in phase) p ≢ None → (Writes (body_of (arc_value task.operation)).statements p → ⊥) → ⊥ },
     // it reads parts of its operation's reads alone
     ghost reading: { ReadsItsPart (task_call task) (place_in phase) },
+    // where its body wants more, there are bytes of each part that it reads
+    ghost reads: { HasItsReads (arc_value task.operation) phase },
 }
 
 // Where a new run stands.
 fn first_phase(alloc: Global, task: &Task) -> Phase
-    ensures found { (a : Assignment) → FoundBy a (task_call task.now) result }
+    ensures found { (a : Assignment) → PinsAreWhole a (task_call task.now) → FoundBy a (task_call task.now) result }
+    ensures reads { HasItsReads (arc_value task.now.operation) result }
     ensures settled { ((p : ℕ) → Reads (body_of (arc_value task.now.operation)).statements p → ⊥) → IsSettled (ending_of result) }
     ensures begun { (p : ℕ) → Reads (body_of (arc_value task.now.operation)).statements p → ending_of result ≡ None }
     ensures starts { Starts (task_call task.now) (place_in result) }
@@ -51,20 +55,24 @@ fn first_phase(alloc: Global, task: &Task) -> Phase
     ensures sealed { sealed_in result ≡ [] }
     ensures news { (p : ℕ) → pin_at (news_in result) p ≢ None → Writes (body_of (arc_value task.now.operation)).statements p }
 {
+    // Nothing is seen before the first part, and all where there is none.
+    none_is_seen();
+    next_is_seen();
+    all_is_seen();
     match task.next_part(0) {
         Some(part) => Phase::Reading(Read {
             part,
             page: 0,
-            read: Vec::new(alloc),
+            seen: Seen::new(alloc),
             got: Vec::new(alloc),
         }),
-        None => conclude(alloc, task, &[]),
+        None => conclude(alloc, task, Seen::new(alloc)),
     }
 }
 
 impl Run {
     ghost use Rattle.call_core.specs.Tickets.{ticket_call};
-    ghost use Rattle.run_core.specs.Outcomes.{outcome_call, outcome_reply, outcome_sealed, outcome_news, outcome_gone, outcome_pins};
+    ghost use Rattle.run_core.specs.Outcomes.{outcome_call, outcome_reply, outcome_sealed, outcome_news, outcome_gone, outcome_pins, IsFresh};
     ghost use Rattle.apply_core.specs.declared.need.Need.TheVariants as needs;
     ghost use Rattle.run_core.specs.Runs.{run_call, run_ending, run_sealed, run_pen, run_place, run_work, RunMakes, PenHolds, SoFar};
 
@@ -93,7 +101,7 @@ impl Run {
         ensures done { (result ≡ needs.Done) ↔ (run_ending self.now ≢ None) }
     {
         match &self.phase {
-            Phase::Reading(_) => Need::Read,
+            Phase::Reading(_) | Phase::Paging(_) => Need::Read,
             Phase::Creating(_) => Need::Create,
             Phase::Appending(_, _) => Need::Append,
             Phase::Sealing(_, _) => Need::Seal,
@@ -159,10 +167,12 @@ impl Run {
         // The outcome is true of each assignment of which all that the run found is true.
         ensures told { IfOk result (λ o. (a : Assignment) → SoFar a self → IsTrueOf a (outcome_call o) (outcome_reply o) (outcome_pins o)) }
         // Where the body was done its new page lists are those of a plan, over the bytes under the pins.
-        ensures renewed { IfOk result (λ o. (a : Assignment) → SoFar a self → IsRenewedBy a (outcome_call o) (outcome_reply o) (outcome_sealed o) (outcome_news o) (outcome_gone o)) }
+        ensures renewed { IfOk result (λ o. (a : Assignment) → SoFar a self → PinsAreWhole a (outcome_call o) → IsRenewedBy a (outcome_call o) (outcome_reply o) (outcome_sealed o) (outcome_news o) (outcome_gone o)) }
         ensures call { IfOk result (λ o. outcome_call o ≡ run_call self) }
         ensures reply { IfOk result (λ o. run_ending self ≡ Some (outcome_reply o)) }
         ensures sealed { IfOk result (λ o. outcome_sealed o ≡ run_sealed self) }
+        // It can be handed in.
+        ensures fresh { IfOk result (λ o. IsFresh o) }
         // Its new page lists are of parts that the operation writes.
         ensures writes { IfOk result (λ o. (p : ℕ) → pin_at (outcome_pins o) p ≢ None → Writes (body_of (outcome_call o).operation).statements p) }
         ensures back { IfErr result (λ run. run ≡ self) }
@@ -175,6 +185,11 @@ impl Run {
                 alloc,
                 task,
                 phase: Phase::Reading(read),
+            }),
+            Phase::Paging(more) => Err(Run {
+                alloc,
+                task,
+                phase: Phase::Paging(more),
             }),
             Phase::Creating(plan) => Err(Run {
                 alloc,

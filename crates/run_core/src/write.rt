@@ -49,6 +49,7 @@ fn given_up(plan: Plan) -> Vec<Stamp>
         writes: _,
         gone: _,
         sealed,
+        entry: _,
     } = pages;
     sealed
 }

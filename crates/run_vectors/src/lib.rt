@@ -4,4 +4,12 @@
 #[cfg(test)]
 mod calls;
 #[cfg(test)]
+mod demand;
+#[cfg(test)]
+mod devices;
+#[cfg(test)]
+mod fronts;
+#[cfg(test)]
 mod pages;
+#[cfg(test)]
+mod refused;

@@ -1,6 +1,6 @@
 //! Parts of several pages.
 
-use crate::calls::{counted, object, paged, ticket};
+use crate::calls::{WIDE, counted, object, paged, ticket, zeros};
 use apply_core::reply::Reply;
 use device_core::memory::MemHand;
 use hand_core::hand::Stamp;
@@ -12,31 +12,12 @@ use std::alloc::Global;
 use std::process::Abort;
 use value_core::datum::Datum;
 
-const WIDE: &[u8] = b"object wide;
-  path 1:([get], put, both) end;
-  var v : array [1024] of integer;
-  entry function get(i : integer) : integer; begin get := v[i] end;
-  entry procedure put(i, x : integer); begin v[i] := x end;
-  entry procedure both(x : integer); begin v[0] := x; v[1023] := x end;
-end;
-";
-
 const BUFFER: &[u8] = b"object buffer;
   path 1:(remove) end;
   var box : queue of integer;
   entry function remove : integer; begin remove := first(box); take(box) end;
 end;
 ";
-
-// The bytes of an array of 1,024 zeros.
-fn zeros(rt: &impl Abort, alloc: Global) -> Vec<u8> {
-    let mut bytes = Vec::new(alloc);
-    bytes
-        .extend_from_slice(b"\x01\x01\x04\x00")
-        .expect(rt, "memory");
-    bytes.resize(4_100, 0).expect(rt, "memory");
-    bytes
-}
 
 // The bytes of a queue of 1,024 integers, each with this byte last, or the numbers from 1 on.
 fn queue(rt: &impl Abort, alloc: Global, same: Option<u8>) -> Vec<u8> {
@@ -54,6 +35,11 @@ fn queue(rt: &impl Abort, alloc: Global, same: Option<u8>) -> Vec<u8> {
             .expect(rt, "memory");
     }
     bytes
+}
+
+// Files of the pages into which these bytes are cut.
+fn files(rt: &impl Abort, alloc: Global, hand: &mut MemHand, bytes: &[u8]) -> Vec<Stamp> {
+    paged(alloc, hand, bytes).expect(rt, "files")
 }
 
 // The pages of the new list of the one part.
@@ -84,7 +70,7 @@ fn pages_that_change_are_written(rt: HostRuntime) {
     let alloc = rt.alloc();
     let wide = object(&rt, alloc, WIDE);
     let mut hand = MemHand::new(alloc);
-    let old = paged(&rt, alloc, &mut hand, &zeros(&rt, alloc));
+    let old = files(&rt, alloc, &mut hand, &zeros(alloc).expect(&rt, "memory"));
     let args = [Datum::Integer(1_023), Datum::Integer(7)];
     let (steps, put) = counted(
         &rt,
@@ -94,7 +80,7 @@ fn pages_that_change_are_written(rt: HostRuntime) {
     );
     let pages = new_pages(&rt, alloc, &put);
     assert!(rt;
-        steps == 8
+        steps == 5
             && pages.len() == 5
             && are_same(&pages, &old, 0, 4)
             && old.get(4..) == Some(put.free())
@@ -107,7 +93,7 @@ fn pages_that_change_are_written(rt: HostRuntime) {
         &mut hand,
     );
     let later = new_pages(&rt, alloc, &both);
-    assert!(rt; steps == 11 && are_same(&later, &pages, 1, 4) && are_ends(both.free(), &pages));
+    assert!(rt; steps == 8 && are_same(&later, &pages, 1, 4) && are_ends(both.free(), &pages));
     let args = [Datum::Integer(1_023)];
     let (steps, get) = counted(
         &rt,
@@ -116,7 +102,7 @@ fn pages_that_change_are_written(rt: HostRuntime) {
         &mut hand,
     );
     assert!(rt;
-        steps == 5 && *get.reply() == Reply::Done(Some(Datum::Integer(3))) && get.free().is_empty()
+        steps == 2 && *get.reply() == Reply::Done(Some(Datum::Integer(3))) && get.free().is_empty()
     );
     let args = [Datum::Integer(1_024)];
     let (steps, get) = counted(
@@ -125,7 +111,7 @@ fn pages_that_change_are_written(rt: HostRuntime) {
         ticket(&rt, alloc, &wide, "get", &args, &later),
         &mut hand,
     );
-    assert!(rt; steps == 5 && matches!(get.reply(), Reply::Refused(_)) && get.new_pins().is_none());
+    assert!(rt; steps == 1 && matches!(get.reply(), Reply::Refused(_)) && get.new_pins().is_none());
 }
 
 #[test]
@@ -133,7 +119,7 @@ fn a_call_at_once_writes_the_same(rt: HostRuntime) {
     let alloc = rt.alloc();
     let wide = object(&rt, alloc, WIDE);
     let mut hand = MemHand::new(alloc);
-    let old = paged(&rt, alloc, &mut hand, &zeros(&rt, alloc));
+    let old = files(&rt, alloc, &mut hand, &zeros(alloc).expect(&rt, "memory"));
     let args = [Datum::Integer(3)];
     let both = run_at_once(
         alloc,
@@ -158,7 +144,7 @@ fn pages_that_are_dropped_are_freed(rt: HostRuntime) {
     let alloc = rt.alloc();
     let buffer = object(&rt, alloc, BUFFER);
     let mut hand = MemHand::new(alloc);
-    let old = paged(&rt, alloc, &mut hand, &queue(&rt, alloc, Some(7)));
+    let old = files(&rt, alloc, &mut hand, &queue(&rt, alloc, Some(7)));
     let (steps, removed) = counted(
         &rt,
         alloc,
@@ -172,7 +158,7 @@ fn pages_that_are_dropped_are_freed(rt: HostRuntime) {
             && are_same(&pages, &old, 1, 4)
             && are_ends(removed.free(), &old)
     );
-    let old = paged(&rt, alloc, &mut hand, &queue(&rt, alloc, None));
+    let old = files(&rt, alloc, &mut hand, &queue(&rt, alloc, None));
     let (steps, removed) = counted(
         &rt,
         alloc,

@@ -13,8 +13,7 @@ use Rattle.line_core.specs.Runs.{Runs}
 use Rattle.apply_core.specs.declared.reply.Failure.TheVariants as failures
 use Rattle.apply_core.specs.declared.reply.Reply.{Reply}
 use Rattle.apply_core.specs.declared.reply.Reply.TheVariants as replies
-use Rattle.body_core.specs.Calls.{Call}
-use Rattle.body_core.specs.Steps.{sealed_at}
+use Rattle.call_core.specs.Calls.{Call}
 use Rattle.apply_core.specs.History.{IsLegal, IsReplyOn, left_by, leads_to}
 use Rattle.apply_core.specs.HistoryLaws.{LegalByOne, LeadsByOne}
 use Rattle.board_core.specs.declared.event.TraceEvent.{TraceEvent}
@@ -268,9 +267,9 @@ number_of r run number is there = sym (ap (λ (c : Call). c.number) is) ∙ ther
 
 on_finish : {o : Object} {told : Told} {s : Serial} (number : ℕ) (a : EventAnswer) (new : Scene) → LegalByOne → LeadsByOne → FailsOnlyWithItsDevice → Matches o told s → IsKept new
     → Answers told.world (finish number) a new → Next o told s (a_finish number) (answer_lines new.board.object number a.answer ++ started_lines a.starts new.board.trace) new
-on_finish {o = o} {told = told} {s = s} number a new legal_by leads_by fails m kept (finished {starts = starts} k r run reply among there is ends goes) =
-    let by : Answers told.world (finish number) a new = finished k r run reply among there is ends goes in
-    let noted : Noted = entry_of r reply (sealed_at run.place) in
+on_finish {o = o} {told = told} {s = s} number a new legal_by leads_by fails m kept (finished {starts = starts} k r run reply news among there is ends leaves goes) =
+    let by : Answers told.world (finish number) a new = finished k r run reply news among there is ends leaves goes in
+    let noted : Noted = entry_of r reply news in
     let b : Board = told.world.board in
     let history : new.board.history ≡ b.history ++ noted ∷ [] = goes_history goes ∙ ended_history b noted in
     let ends_are : history_of new.board.history ≡ history_of b.history ++ entry_end noted ∷ [] = ap history_of history ∙ history_snoc b.history noted in

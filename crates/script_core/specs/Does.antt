@@ -5,8 +5,8 @@ use Rattle.value_core.specs.declared.datum.Datum.{Datum}
 use Rattle.decl_core.specs.declared.object.Object.{Object}
 use Rattle.decl_core.specs.ObjectMap.{object_of}
 use Rattle.apply_core.specs.declared.need.Need.{Need}
-use Rattle.body_core.specs.declared.step.StepAnswer.{StepAnswer}
-use Rattle.body_core.specs.declared.step.StepAnswer.TheVariants.{Went, Failed, AlreadyDone}
+use Rattle.run_core.specs.declared.step.StepAnswer.{StepAnswer}
+use Rattle.run_core.specs.declared.step.StepAnswer.TheVariants.{Went, Failed, AlreadyDone}
 use Rattle.trace_core.specs.Text.{trace_text}
 use Rattle.board_core.specs.declared.event.TraceEvent.{TraceEvent}
 use Rattle.board_core.specs.Sound.{event_number}

@@ -222,7 +222,7 @@ fn remove_own<R: Files + AllocGlobal + Clone + Drop>(
 /// refused` for an object that does not close; it is saved all the same.
 ///
 /// `error` is told what a user has to know beside that: `moved to left/K: N.val ..` of the value files that an earlier run left, where it
-/// did not save all; `session of NAME mixed`; `OBJECT.PART not saved: N.val` with the file that holds the value; `OBJECT.trace not written`.
+/// did not save all; `session of NAME mixed`; `OBJECT.PART not saved: N.val ..` with the files that hold the value, page by page; `OBJECT.trace not written`.
 /// The value files of this run are removed at the end where each object was saved and traced, and where nothing was served.
 ///
 /// The faults: `ReadFault` where a connection could not be taken or served, after which all else is still done; `WriteFault`

@@ -3,12 +3,13 @@
 use decl_read::read::read_objects;
 use device_core::memory::MemHand;
 use exclude_core::analyse::analyse;
-use hand_core::pins::Pins;
 use hand_core::whole::put;
 use keep_core::trouble::Trouble;
 use line_core::LinesFault;
 use office_core::office::Office;
 use office_core::room::Room;
+use page_core::page_list::PageList;
+use page_core::pins::Pins;
 use serve_core::gather::Gathering;
 use serve_core::listen::{Came, Left};
 use session_core::order::Named;
@@ -34,7 +35,7 @@ fn named(alloc: Global, text: &[u8], part: &[u8]) -> Option<Vec<Named>> {
     for (_, object) in read_objects(alloc, text).ok()? {
         let name = object.name.copy(alloc).ok()?;
         let accepted = analyse(alloc, object).ok()?;
-        let pins = Pins::new(&[put(&mut hand, part).ok()?]);
+        let pins = Pins::new(&[PageList::new(&[put(&mut hand, part).ok()?]).ok()?]);
         if pins.len() != accepted.object().parts.len() {
             return None;
         }

@@ -1,17 +1,19 @@
 //! The first thread of a session: it does the calls, and reads too, as long as no call waits.
 
-ghost use Rattle.std.specs.Prelude.{◌≡◌, ◌<◌, IsTrue};
+ghost use Rattle.std.specs.Prelude.{◌≡◌, ◌<◌, ◌++◌, ◌∷◌, [], IsTrue, IfOk, IfSome};
 ghost use Rattle.std.specs.Vec.{vec_len, vec_capacity};
-ghost use Rattle.board_core.specs.Lists.{Every};
-ghost use Rattle.slip_core.specs.Slips.{IsTrueTold};
 ghost use Rattle.hand_core.specs.Device.{Assignment};
+ghost use Rattle.call_core.specs.Tickets.{ticket_call};
+ghost use Rattle.run_core.specs.Outcomes.{outcome_call, TellsSame};
+ghost use Rattle.slip_core.specs.Rooms.{IsMade};
+ghost use Rattle.slip_core.specs.Slips.{told_by};
+ghost use Rattle.office_core.specs.declared.seat.Submitted.{Submitted as Ask};
+ghost use Rattle.office_core.specs.Submissions.{Asks, Tells, IsTicketOf};
 ghost use Rattle.talk_core.specs.Truth.{Keeps, AreTrue, OutcomeIsTrue};
 
 use crate::listen::leave;
 use crate::order::Offices;
-use body_core::at_once::run_at_once;
-use body_core::outcome::Outcome;
-use body_core::ticket::Ticket;
+use call_core::ticket::Ticket;
 use desk_core::answer::{Finished, SubmitFault};
 use hand_core::hand::{Hand, Stamp};
 use hand_core::retire::retire_all;
@@ -19,6 +21,8 @@ use office_core::late::Late;
 use office_core::office::Office;
 use office_core::seat::{Seat, Started, Submitted, Tried};
 use path_tree::name::Name;
+use run_core::at_once::run_at_once;
+use run_core::outcome::Outcome;
 use session_text::line::{Line, Refusal};
 use session_text::session::Action;
 use slip_core::room::SlipRoom;
@@ -79,7 +83,9 @@ fn flush<R: Wait, W: Write + Drop, J: Start>(
 }
 
 // Waits until a submitted call starts or is cancelled.
-fn awaited<R: Wait>(rt: &R, office: &Office, submitted: Submitted) -> Option<Ticket> {
+fn awaited<R: Wait>(rt: &R, office: &Office, submitted: Submitted) -> Option<Ticket>
+    ensures { IfSome result (λ t. IsTicketOf submitted t) }
+{
     let mut submitted = submitted;
     for _ in rt.forever() {
         match office.await_start(rt, submitted) {
@@ -99,7 +105,9 @@ fn awaited_beside<R: Wait, I: Read + Drop>(
     seat: &Seat,
     reading: &mut Reading<'_, I>,
     submitted: Submitted,
-) -> Option<Ticket> {
+) -> Option<Ticket>
+    ensures { IfSome result (λ t. IsTicketOf submitted t) }
+{
     let mut submitted = submitted;
     for _ in rt.forever() {
         if reading.lend(rt) {
@@ -139,15 +147,17 @@ fn started<R: Wait + Clock, I: Read + Drop, W: Write + Drop, J: Start>(
     seat: &Seat,
     reading: &mut Reading<'_, I>,
     tried: Tried,
-) -> Option<Ticket> {
-    let tried = match tried {
-        Tried::Waiting(back) => {
-            let most = late.left(rt, Duration::from_millis(BRIEF));
-            office.try_start_within(rt, back, most)
-        }
-        other => other,
+) -> Option<Ticket>
+    ensures { IfSome result (λ t. (s : Ask) → Tells s tried → IsTicketOf s t) }
+{
+    let waiting = match tried {
+        Tried::Ticket(ticket) => return Some(ticket),
+        Tried::Cancelled => return None,
+        Tried::Stranger(back) => return awaited(rt, office, back),
+        Tried::Waiting(back) => back,
     };
-    match tried {
+    let most = late.left(rt, Duration::from_millis(BRIEF));
+    match office.try_start_within(rt, waiting, most) {
         Tried::Ticket(ticket) => Some(ticket),
         Tried::Cancelled => None,
         Tried::Waiting(back) => {
@@ -169,7 +179,9 @@ fn submitted<R: Wait + Clock, W: Write + Drop, J: Start>(
     seat: &mut Seat,
     op: &str,
     args: &[Datum],
-) -> Result<(u32, Tried), SubmitFault> {
+) -> Result<(u32, Tried), SubmitFault>
+    ensures { IfOk result (λ r. (s : Ask) × Asks op.now args.now s × (r.0 ≡ s.number) × Tells s r.1) }
+{
     let most = Duration::from_millis(BRIEF);
     if let Some(answer) = office.submit_in_turn(rt, seat, op, args, late, most) {
         return answer;
@@ -181,6 +193,7 @@ fn submitted<R: Wait + Clock, W: Write + Drop, J: Start>(
 
 // Runs a started call.
 fn performed<H: Hand>(alloc: Global, ticket: Ticket, hand: &mut H) -> Outcome
+    ensures call { outcome_call result ≡ ticket_call ticket }
     ensures kept { Keeps H.agrees hand.old hand.new }
     ensures told { (a : Assignment) → H.agrees hand.new a → OutcomeIsTrue a result }
 {
@@ -188,7 +201,9 @@ fn performed<H: Hand>(alloc: Global, ticket: Ticket, hand: &mut H) -> Outcome
 }
 
 // Hands an outcome in, until it is taken.
-fn completed<R: Wait>(rt: &R, office: &Office, seat: &mut Seat, outcome: &Outcome) -> Finished {
+fn completed<R: Wait>(rt: &R, office: &Office, seat: &mut Seat, outcome: &mut Outcome) -> Finished
+    ensures { TellsSame outcome.old outcome.new }
+{
     for _ in rt.forever() {
         if let Ok(finished) = office.complete_in_place(rt, seat, outcome) {
             return finished;
@@ -232,7 +247,9 @@ fn begun<R: Wait + Clock, I: Read + Drop, W: Write + Drop, J: Start>(
     seat: &mut Seat,
     op: &str,
     args: &[Datum],
-) -> Option<Ticket> {
+) -> Option<Ticket>
+    ensures { IfSome result (λ t. (ticket_call t).arguments ≡ args.now) }
+{
     let (number, tried) = match submitted(rt, office, mouth, late, seat, op, args) {
         Ok(answer) => answer,
         Err(fault) => {
@@ -262,16 +279,18 @@ fn make_room<R: Wait, W: Write + Drop, J: Start>(
 ) -> bool
     ensures same { receipts.new.items ≡ receipts.old.items }
     ensures room { IsTrue result → vec_len receipts.new < vec_capacity receipts.new }
+    ensures made { IsTrue result → IsMade args.now room.new }
 {
     make_room_in(receipts) && room.make(args).is_ok() && mouth.make_room(rt)
 }
 
 // Keeps what the receipt of an outcome tells. There is room for it, so that no receipt is lost.
-fn keep(receipts: &mut Vec<Slip>, room: &mut SlipRoom, finished: &Finished, outcome: &Outcome)
-    requires { vec_len receipts.now < vec_capacity receipts.now }
-    ensures { (a : Assignment) → Every (IsTrueTold a) receipts.old.items → OutcomeIsTrue a outcome.now → Every (IsTrueTold a) receipts.new.items }
+fn keep(receipts: &mut Vec<Slip>, room: &mut SlipRoom, place: usize, session: u32, outcome: Outcome)
+    requires one_more { vec_len receipts.now < vec_capacity receipts.now }
+    requires made { IsMade (outcome_call outcome).arguments room.old }
+    ensures { receipts.new.items ≡ receipts.old.items ++ told_by place session outcome ∷ [] }
 {
-    if let Some(slip) = room.slip_by(finished.place, finished.session, outcome) {
+    if let Some(slip) = room.slip(place, session, outcome) {
         receipts.push_reserved(slip);
     }
 }
@@ -301,11 +320,22 @@ fn serve_at<R: Wait + Clock, I: Read + Drop, W: Write + Drop, H: Hand + Drop, J:
     let Some(ticket) = begun else {
         return;
     };
-    let outcome = performed(alloc, ticket, &mut worked.hand);
-    let finished = completed(rt, office, seat, &outcome);
+    let mut outcome = performed(alloc, ticket, &mut worked.hand);
+    let finished = completed(rt, office, seat, &mut outcome);
     let _said = mouth.say_ended(rt, outcome.number(), outcome.reply());
-    keep(&mut worked.receipts, &mut worked.room, &finished, &outcome);
-    put_off(&mut worked.hand, finished.free, &mut worked.free);
+    let Finished {
+        place,
+        session,
+        free,
+    } = finished;
+    keep(
+        &mut worked.receipts,
+        &mut worked.room,
+        place,
+        session,
+        outcome,
+    );
+    put_off(&mut worked.hand, free, &mut worked.free);
 }
 
 // One call of the object that is opened.

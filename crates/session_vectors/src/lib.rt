@@ -4,6 +4,8 @@
 #[cfg(test)]
 mod deaf;
 #[cfg(test)]
+mod devices;
+#[cfg(test)]
 mod lines;
 #[cfg(test)]
 mod make;

@@ -14,8 +14,8 @@ use std::time::Clock;
 use talk_core::bell::Bell;
 use talk_core::fault::SessionFault;
 
-// The array `[0]`.
-const ZERO: &[u8] = b"\x01\x01\x00\x01\x00\x00\x00\x00";
+/// The array `[0]`.
+pub const ZERO: &[u8] = b"\x01\x01\x00\x01\x00\x00\x00\x00";
 
 // Lines, and what answers them.
 const ASKED: &[u8] = b"open cell\ncancel 7\ndance\nquit\n";
@@ -32,8 +32,8 @@ const WRONG: &[u8] =
 const WRONG_TOLD: &[u8] =
     b"no BadLine\nno NotOpen\nno NoObject\nno BadLine\nopened cell\nno Opened\nno BadArgs\nno UnknownOp\nno BadLine\nbye\n";
 
-// Whether the office of an object is closed with this seat and these receipts.
-fn is_closed(all: Vec<Named>, seats: Vec<Seat>, receipts: &[Slip]) -> bool {
+/// Whether the office of an object is closed with this seat and these receipts.
+pub fn is_closed(all: Vec<Named>, seats: Vec<Seat>, receipts: &[Slip]) -> bool {
     let mut seats = Some(seats);
     for named in all {
         let Some(seats) = seats.take() else {
@@ -44,9 +44,9 @@ fn is_closed(all: Vec<Named>, seats: Vec<Seat>, receipts: &[Slip]) -> bool {
     false
 }
 
-// Plays a session over these lines, so many bytes a read, with a writer that takes so many bytes. It answers whether what was
-// written is a front of what is expected, as long as the writer takes it, whether the fault is this one, and whether the
-// office is closed with the seat and the receipts.
+// Plays a session over these lines, so many bytes a read, with a writer that takes so many bytes. At their end both streams
+// fail, or there is no more. It answers whether what was written is a front of what is expected, as long as the writer takes
+// it, whether the fault is this one, and whether the office is closed with the seat and the receipts.
 fn plays<R: Abort + Threads + Wait + Clock + Sync>(
     rt: &R,
     alloc: Global,
@@ -67,6 +67,7 @@ fn plays<R: Abort + Threads + Wait + Clock + Sync>(
     let writer = Short {
         bytes: Vec::new(alloc),
         left: takes,
+        fails,
     };
     let end = serve_session(rt, alloc, reader, writer, &Bell::new(), &all, hand);
     let mut seats = Vec::new(alloc);
@@ -104,7 +105,9 @@ fn a_write_fails_at_each_byte(rt: HostRuntime) {
     let alloc = rt.alloc();
     for takes in 0..CALLED_TOLD.len() {
         let fault = Some(SessionFault::WriteFault);
-        assert!(rt; plays(&rt, alloc, CALLED, 4096, false, takes, CALLED_TOLD, fault));
+        for fails in [false, true] {
+            assert!(rt; plays(&rt, alloc, CALLED, 4096, fails, takes, CALLED_TOLD, fault));
+        }
     }
 }
 
@@ -218,6 +221,38 @@ fn the_input_ends_at_each_byte(rt: HostRuntime) {
     }
 }
 
+// What is answered to the two calls, from so many bytes of them on: a call whose line came whole has its last line, and one
+// that was cut off is not done.
+const CALLED_CUT: &[(usize, &[u8])] = &[
+    (0, b""),
+    (1, b"no BadLine\n"),
+    (6, b"no NoObject\n"),
+    (9, b"opened cell\n"),
+    (11, b"opened cell\nno BadLine\n"),
+    (16, b"opened cell\nno Gone\n"),
+    (21, b"opened cell\naccepted 1\ndone 1\n"),
+    (22, b"opened cell\naccepted 1\ndone 1\nno BadLine\n"),
+    (27, b"opened cell\naccepted 1\ndone 1\nno Gone\n"),
+    (
+        30,
+        b"opened cell\naccepted 1\ndone 1\naccepted 2\ndone 2 7\n",
+    ),
+    (
+        31,
+        b"opened cell\naccepted 1\ndone 1\naccepted 2\ndone 2 7\nno BadLine\n",
+    ),
+    (34, CALLED_TOLD),
+];
+
+#[test]
+fn calls_are_cut_at_each_byte(rt: HostRuntime) {
+    let alloc = rt.alloc();
+    for len in 0..=CALLED.len() {
+        let told = told_from(CALLED_CUT, len);
+        answers(&rt, alloc, &CALLED[..len], told);
+    }
+}
+
 #[test]
 fn a_read_fails_at_each_byte(rt: HostRuntime) {
     let alloc = rt.alloc();
@@ -274,6 +309,7 @@ fn all_seats_are_given_out(rt: HostRuntime) {
     let writer = Short {
         bytes: Vec::new(alloc),
         left: 4096,
+        fails: false,
     };
     let end = serve_session(&rt, alloc, reader, writer, &Bell::new(), &all, hand);
     assert!(rt; end.writer.bytes.as_slice() == b"no Full\nno NotOpen\nbye\n".as_slice());

@@ -4,10 +4,11 @@ use decl_read::read::read_objects;
 use device_core::memory::MemHand;
 use exclude_core::analyse::{Accepted, analyse};
 use hand_core::hand::Hand;
-use hand_core::pins::Pins;
 use hand_core::whole::put;
 use office_core::office::Office;
 use office_core::room::Room;
+use page_core::page_list::PageList;
+use page_core::pins::Pins;
 use path_tree::name::Name;
 use session_core::order::Named;
 use std::alloc::Global;
@@ -49,7 +50,7 @@ fn accepted(alloc: Global, text: &[u8]) -> Option<(Name, Accepted)> {
 fn room_of(alloc: Global, text: &[u8], part: &[u8], hand: &mut MemHand) -> Option<(Name, Room)> {
     let (name, accepted) = accepted(alloc, text)?;
     let stamp = put(hand, part).ok()?;
-    let pins = Pins::new(&[stamp]);
+    let pins = Pins::new(&[PageList::of(&[stamp])]);
     if pins.len() != accepted.object().parts.len() {
         return None;
     }
@@ -92,16 +93,20 @@ impl Read for Pieces {
     }
 }
 
-/// A writer that takes so many bytes, and then no more.
+/// A writer that takes so many bytes, and then fails, or takes no more.
 #[derive(Drop)]
 pub struct Short {
     pub bytes: Vec<u8>,
     pub left: usize,
+    pub fails: bool,
 }
 
 impl Write for Short {
     fn write(&mut self, buf: &[u8]) -> io::Result<usize> {
         let len = buf.len().min(self.left);
+        if len == 0 && self.fails {
+            return Err(io::Error::from(io::ErrorKind::BrokenPipe));
+        }
         if len == 0 || self.bytes.extend_from_slice(&buf[..len]).is_err() {
             return Ok(0);
         }

@@ -4,7 +4,7 @@ use crate::hand_calls::Call::{
     Append, Create, Discard, Failures, NoAppend, NoCreate, NoRead, NoRetire, Number, Read, Retire,
     Seal, Stamped,
 };
-use crate::hand_calls::{A, B, C, D};
+use crate::hand_calls::{A, B, C, Call, D, E};
 use crate::places::Line::{Ahead, AheadEnds, All, At, Denied, Hand, Other, Shelf, Twin};
 use crate::places::{Line, Place};
 use crate::scratch::Deed::{Has, Lacks, MakeFolder, Mode, Remove, RemoveFolder, Write};
@@ -102,14 +102,14 @@ const AHEAD: &[Line] = &[
     ]),
     At("2.val", Has(b"two")),
     At("3.val", Has(b"three")),
-    // The last read is answered again from memory, and no other one is.
+    // A read is answered again from memory, and one of another place or length is not.
     Ahead(&[Read(B, 0, b"tw")]),
     At("2.val", Write(b"TWO")),
     Ahead(&[
         Read(B, 0, b"tw"),
         Read(B, 1, b"WO"),
-        Read(B, 0, b"TW"),
         Read(B, 0, b"TWO"),
+        Read(B, 0, b"tw"),
     ]),
     // One that was removed is not given.
     Ahead(&[Retire(B)]),
@@ -169,7 +169,65 @@ const SHARED: &[Line] = &[
     Ahead(&[Create(D), Append(D, b"9"), Seal(D, 1)]),
     Twin(&[Read(A, 0, b"one"), Read(B, 0, b"TWO")]),
     Ahead(&[Create(D), Append(D, b"last"), Seal(D, 4)]),
-    Twin(&[Read(D, 1, b"ast"), Read(A, 0, b"ONE")]),
+    Twin(&[Read(D, 1, b"ast"), Read(A, 0, b"ON")]),
+];
+
+// The five files of the next script, each of them read whole.
+const FIVE: &[Call] = &[
+    Read(A, 0, b"one"),
+    Read(B, 0, b"two"),
+    Read(C, 0, b"thr"),
+    Read(D, 0, b"fou"),
+    Read(E, 0, b"fiv"),
+];
+
+// A hand that keeps what it read last: five files, as a part may have them, which another hand wrote.
+const AGAIN: &[Line] = &[
+    Hand(&[
+        Create(A),
+        Create(B),
+        Create(C),
+        Create(D),
+        Create(E),
+        Append(A, b"one"),
+        Append(B, b"two"),
+        Append(C, b"thr"),
+        Append(D, b"fou"),
+        Append(E, b"fiv"),
+        Seal(A, 3),
+        Seal(B, 3),
+        Seal(C, 3),
+        Seal(D, 3),
+        Seal(E, 3),
+    ]),
+    Ahead(FIVE),
+    // The second time none of them is asked of the system.
+    At("1.val", Write(b"ONE")),
+    At("2.val", Write(b"TWO")),
+    At("3.val", Write(b"THR")),
+    At("4.val", Write(b"FOU")),
+    At("5.val", Write(b"FIV")),
+    Ahead(FIVE),
+    // Eight are kept.
+    Ahead(&[Read(B, 1, b"W"), Read(B, 2, b"O"), Read(B, 0, b"TW")]),
+    At("2.val", Write(b"new")),
+    Ahead(FIVE),
+    Ahead(&[Read(B, 1, b"W"), Read(B, 2, b"O"), Read(B, 0, b"TW")]),
+    // A ninth one takes the place of the one that was kept longest, whether or not that was asked for since, and a tenth one that of the next.
+    Ahead(&[Read(B, 0, b"n"), Read(B, 0, b"two"), Read(E, 0, b"fiv")]),
+    Ahead(&[Read(A, 0, b"ONE"), Read(B, 0, b"new"), Read(D, 0, b"fou")]),
+    // What the hand retires is kept no more, and all else is.
+    Ahead(&[Retire(D)]),
+    At("4.val", Write(b"FOU")),
+    At("1.val", Write(b"one")),
+    Ahead(&[
+        Read(A, 0, b"ONE"),
+        Read(B, 2, b"O"),
+        Read(E, 0, b"fiv"),
+        Read(D, 0, b"FOU"),
+        Failures(0),
+    ]),
+    AheadEnds,
 ];
 
 // The one file that a name has, and that nothing else is left.
@@ -307,7 +365,7 @@ const ONLY_READ: &[Line] = &[
 ];
 
 // Of each script: its name, the folder of its devices, which is `.` or is made by the script, and their first number.
-const SCRIPTS: [(&str, &str, u64, &[Line]); 12] = [
+const SCRIPTS: [(&str, &str, u64, &[Line]); 13] = [
     ("all", ".", 1, &[All]),
     ("there", ".", 40, THERE),
     ("come", ".", 1, COMING),
@@ -315,6 +373,7 @@ const SCRIPTS: [(&str, &str, u64, &[Line]); 12] = [
     ("two", ".", 7, TWO),
     ("ahead", ".", 1, AHEAD),
     ("shared", ".", 1, SHARED),
+    ("again", ".", 1, AGAIN),
     ("name", "in", 1, NAMES),
     ("bad", "in", 1, BAD_NAMES),
     ("place", ".", 1, IN_PLACE),

@@ -51,6 +51,8 @@ pub const C: usize = 2;
 
 pub const D: usize = 3;
 
+pub const E: usize = 4;
+
 // How many files a row has.
 const FILES: usize = 8;
 

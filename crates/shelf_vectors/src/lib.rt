@@ -1,5 +1,5 @@
 //! What every hand and every shelf does, and what theirs are told of folders, over the public calls of
-//! `shelf_core`. How the parts of objects go from a shelf to a hand and back is shown in `desk_vectors`.
+//! `store_core`. How the parts of objects go from a shelf to a hand and back is shown in `desk_vectors`.
 #![tactic(auto)]
 
 #[cfg(test)]

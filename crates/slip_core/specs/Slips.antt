@@ -2,15 +2,14 @@
 use Rattle.std.specs.Prelude.{◌≡◌, ℕ, ◌-◌, ◌<◌, List, slice_get, Some}
 use Rattle.decl_core.specs.ObjectMap.{operation_of}
 use Rattle.hand_core.specs.Device.{Assignment}
-use Rattle.body_core.specs.declared.new_pins.NewPin.{NewPin}
-use Rattle.body_core.specs.declared.outcome.Outcome.{Outcome}
 use Rattle.apply_core.specs.declared.reply.Reply.{Reply}
-use Rattle.body_core.specs.Calls.{Call}
-use Rattle.body_core.specs.Outcomes.{outcome_call, outcome_reply, outcome_pins, new_if_done}
-use Rattle.body_core.specs.Truths.{IsTrueOf}
+use Rattle.page_core.specs.PartPins.{PartPin}
+use Rattle.call_core.specs.Calls.{Call}
+use Rattle.call_core.specs.Truths.{IsTrueOf}
+use Rattle.run_core.specs.declared.outcome.Outcome.{Outcome}
+use Rattle.run_core.specs.Outcomes.{outcome_call, outcome_reply, outcome_pins, if_done}
 use Rattle.board_core.specs.declared.receipt.Receipt.{Receipt}
 use Rattle.board_core.specs.Calls.{Noted}
-use Rattle.board_core.specs.ReadPins.{read_pins}
 
 -- what a receipt tells: the place of an entry, and the entry there, as its session and the outcome of its run tell it
 pub record Told : Type 0 where
@@ -18,11 +17,11 @@ pub record Told : Type 0 where
   pub session : ℕ
   pub call : Call
   pub reply : Reply
-  pub news : List NewPin
+  pub news : List PartPin
 
 -- the new pins: a call that was not done has none
-abbrev pub pins_told : Told → List NewPin
-pins_told t = new_if_done t.reply t.news
+abbrev pub pins_told : Told → List PartPin
+pins_told t = if_done t.reply t.news
 
 -- the same of an outcome of a call of this session, whose entry has this place
 abbrev pub told_by : ℕ → ℕ → Outcome → Told
@@ -37,14 +36,14 @@ told_by place session o = record {
 abbrev pub told_of : Receipt → Told
 told_of r = told_by r.place r.noted.session r.noted.outcome
 
--- An entry is the one that is told: it tells of the call all that is told, and of its pins those of the parts that its operation reads.
+-- An entry is the one that is told: it tells of the call all that is told.
 pub record IsEntryTold (t : Told) (e : Noted) : Type 0 where
   pub number : e.number ≡ t.call.number
   pub session : e.session ≡ t.session
   pub operation : operation_of e.operation ≡ operation_of t.call.operation
   pub arguments : e.arguments ≡ t.call.arguments
   pub reply : e.reply ≡ t.reply
-  pub pins : e.pins ≡ read_pins e.operation t.call.pins
+  pub pins : e.pins ≡ t.call.pins
   pub news : e.news ≡ pins_told t
 
 -- the entry at its place in a history is the one that is told

@@ -1,27 +1,30 @@
 //! The making of slips, with memory that is taken ahead.
 
-ghost use Rattle.std.specs.Prelude.{◌≡◌, IfSome};
-ghost use Rattle.slip_core.specs.Slips.{told_of, told_by};
+ghost use Rattle.std.specs.Prelude.{◌≡◌, [], IfSome, IfNone, OnOk};
+ghost use Rattle.run_core.specs.Outcomes.{outcome_call};
+ghost use Rattle.slip_core.specs.Rooms.{IsMade};
+ghost use Rattle.slip_core.specs.Slips.{told_by};
 
 use crate::short::Short;
 use crate::slim::{Slim, are, slims};
 use crate::slip::Slip;
 use apply_core::reply::Reply;
-use board_core::receipt::Receipt;
-use body_core::outcome::{NewPin, Outcome};
-use decl_core::id::MOST_PARTS;
 use hand_core::hand::Stamp;
+use page_core::part_pins::PartPins;
+use run_core::outcome::Outcome;
 use std::alloc::{AllocError, Global};
 use std::mem;
-use std::sync::Arc;
 use value_core::datum::Datum;
 
-// Memory for a row of at most 16. As many as the last row had are there in a piece of their own: to take the whole row and to shrink it
-// costs more than all else of a slip.
+// The most pages that the parts of an object may have: 16 parts of 8 pages.
+const MOST_STAMPS: usize = 128;
+
+// Memory for a row of at most 128 stamps. As many as the last row had are there in a piece of their own: to take the
+// whole row and to shrink it costs more than all else of a slip.
 #[derive(Drop)]
-struct RowRoom<T: Drop> {
-    usual: Vec<T>,
-    most: Vec<T>,
+pub(crate) struct RowRoom {
+    usual: Vec<Stamp>,
+    most: Vec<Stamp>,
     // how many the last row had
     count: usize,
 }
@@ -32,13 +35,22 @@ pub struct SlipRoom {
     alloc: Global,
     args: Vec<Slim>,
     reply: Option<Box<Reply>>,
-    pins: RowRoom<Stamp>,
-    news: RowRoom<NewPin>,
+    pins: RowRoom,
+    news: RowRoom,
 }
 
-impl<T: Copy + Drop> RowRoom<T> {
+// Takes a row away, and leaves none.
+fn emptied(row: &mut Vec<Stamp>, alloc: Global) -> Vec<Stamp>
+    ensures { result.items ≡ [] }
+{
+    let mut out = mem::replace(row, Vec::new(alloc));
+    out.clear();
+    out
+}
+
+impl RowRoom {
     // No memory yet.
-    fn new(alloc: Global) -> RowRoom<T> {
+    fn new(alloc: Global) -> RowRoom {
         RowRoom {
             usual: Vec::new(alloc),
             most: Vec::new(alloc),
@@ -49,29 +61,32 @@ impl<T: Copy + Drop> RowRoom<T> {
     // Takes the memory for a row.
     fn make(&mut self) -> Result<(), AllocError> {
         self.usual.reserve_exact(self.count)?;
-        self.most.reserve_exact(MOST_PARTS)
+        self.most.reserve_exact(MOST_STAMPS)?;
+        Ok(())
     }
 
-    // These items, in memory that was taken for them, or `None` where it is too little.
-    fn filled(&mut self, alloc: Global, items: &[T]) -> Option<Vec<T>>
-        ensures { IfSome result (λ v. v.items ≡ items.now) }
+    // An empty row for so many stamps, in memory that was taken for it. Where that is too little, it has less room.
+    fn row(&mut self, alloc: Global, len: usize) -> Vec<Stamp>
+        ensures { result.items ≡ [] }
     {
-        if items.is_empty() {
-            return Some(Vec::new(alloc));
+        if len == 0 {
+            return Vec::new(alloc);
         }
-        self.count = items.len();
-        let room = if self.usual.capacity() == items.len() {
-            &mut self.usual
-        } else {
-            &mut self.most
-        };
-        let mut out = mem::replace(room, Vec::new(alloc));
-        out.clear();
-        if out.extend_from_slice(items).is_err() {
-            return None;
+        self.count = len;
+        if self.usual.capacity() == len {
+            return emptied(&mut self.usual, alloc);
         }
-        out.shrink_to_fit();
-        Some(out)
+        let mut row = emptied(&mut self.most, alloc);
+        row.shrink_to(len);
+        row
+    }
+
+    // The same pins in memory that was taken for them, or where they lie, where it is too little.
+    fn filled(&mut self, alloc: Global, pins: PartPins) -> PartPins
+        ensures { result ≡ pins }
+    {
+        let row = self.row(alloc, pins.len());
+        pins.within(row)
     }
 }
 
@@ -88,7 +103,9 @@ impl SlipRoom {
     }
 
     /// Takes the memory for the slip of a call with these arguments. The error is that memory was refused.
-    pub fn make(&mut self, args: &[Datum]) -> Result<(), AllocError> {
+    pub fn make(&mut self, args: &[Datum]) -> Result<(), AllocError>
+        ensures { OnOk result (IsMade args.now self.new) }
+    {
         if self.reply.is_none() {
             let reply = Box::new(self.alloc, Reply::Done(None))?;
             self.reply = Some(reply);
@@ -99,32 +116,24 @@ impl SlipRoom {
         Ok(())
     }
 
-    /// The slip of a receipt, or `None` where memory was not taken for a call with its arguments. It takes no memory.
-    pub fn slip(&mut self, receipt: &Receipt) -> Option<Slip>
-        ensures { IfSome result (λ s. s ≡ told_of receipt.now) }
-    {
-        let noted = &receipt.noted;
-        self.slip_by(receipt.place, noted.session, &noted.outcome)
-    }
-
-    /// The same of an outcome of a call of this session, whose entry has this place.
-    pub fn slip_by(&mut self, place: usize, session: u32, outcome: &Outcome) -> Option<Slip>
-        ensures { IfSome result (λ s. s ≡ told_by place session outcome.now) }
+    /// The slip of an outcome of a call of this session, whose entry has this place, from 1. It gives one wherever memory
+    /// was taken for a call with its arguments (`make`), and takes none.
+    pub fn slip(&mut self, place: usize, session: u32, outcome: Outcome) -> Option<Slip>
+        ensures told { IfSome result (λ s. s ≡ told_by place session outcome) }
+        ensures given { IfNone result (IsMade (outcome_call outcome).arguments self.old → ⊥) }
     {
         let args = mem::replace(&mut self.args, Vec::new(self.alloc));
         if !are(&args, outcome.args()) {
             return None;
         }
-        let Ok(operation) = Arc::try_clone(outcome.operation()) else {
-            return None;
-        };
         let reply = Short::within(&mut self.reply, outcome.reply())?;
-        let pins = outcome.pins();
-        let pins = self.pins.filled(self.alloc, pins.as_slice())?;
-        let news = self.news.filled(self.alloc, outcome.new_pins())?;
+        let number = outcome.number();
+        let (operation, pins, news) = outcome.into_rows();
+        let pins = self.pins.filled(self.alloc, pins);
+        let news = self.news.filled(self.alloc, news);
         Some(Slip {
             place,
-            number: outcome.number(),
+            number,
             session,
             operation,
             args,

@@ -1,6 +1,6 @@
 //! Replies in little room.
 
-ghost use Rattle.std.specs.Prelude.{◌≡◌, ◌↔◌, IsTrue, IfOk, IfSome};
+ghost use Rattle.std.specs.Prelude.{◌≡◌, ◌↔◌, IsTrue, IfOk, IfSome, IfNone, None};
 ghost use Rattle.slip_core.specs.Short.{reply_of};
 
 use apply_core::reply::Reply;
@@ -64,10 +64,11 @@ impl Short {
         })
     }
 
-    /// A reply, for which it takes the memory that is spare where it needs some, or `None` where it needs some and none is
-    /// spare.
+    /// A reply, for which it takes the memory that is spare where it needs some, or `None` where it needs some and none
+    /// is spare.
     pub fn within(spare: &mut Option<Box<Reply>>, reply: &Reply) -> Option<Short>
-        ensures { IfSome result (λ s. s ≡ reply.now) }
+        ensures told { IfSome result (λ s. s ≡ reply.now) }
+        ensures given { IfNone result (spare.old ≡ None) }
     {
         if let Some(form) = brief(reply) {
             return Some(Short { form });

@@ -1,20 +1,17 @@
 //! Slips.
 
-ghost use Rattle.std.specs.Prelude.{◌≡◌, ◌↔◌, ◌+◌, ◌≤◌, IsTrue, IfSome, length};
-ghost use Rattle.std.specs.Arc.{arc_value};
-ghost use Rattle.board_core.specs.ReadPins.{pins_in};
+ghost use Rattle.std.specs.Prelude.{◌≡◌, ◌↔◌, [], IsTrue, IfSome, IfNone};
 ghost use Rattle.slip_core.specs.Slips.{StandsIn, IsEntryTold, pins_told};
 
 use crate::short::Short;
 use crate::slim::{Slim, are};
 use apply_core::reply::Reply;
 use board_core::entry::Entry;
-use board_core::part_pin::PartPin;
-use body_core::outcome::NewPin;
-use decl_core::footprint;
+use decl_core::id::MOST_PARTS;
 use decl_core::object::Operation;
 use decl_core::same::same_declaration;
-use hand_core::hand::Stamp;
+use page_core::part_pins::PartPins;
+use std::alloc::Global;
 use std::marker::Model;
 use std::sync::Arc;
 
@@ -27,16 +24,18 @@ pub struct Slip {
     pub(crate) operation: Arc<Operation>,
     pub(crate) args: Vec<Slim>,
     pub(crate) reply: Short,
-    pub(crate) pins: Vec<Stamp>,
-    pub(crate) news: Vec<NewPin>,
-    ghost few: { length pins.items ≤ 16 },
+    // of the parts that the operation reads
+    pub(crate) pins: PartPins,
+    // the page lists that the run made; of a call that was not done they are published by nobody, and not shown
+    pub(crate) news: PartPins,
 }
 
 impl Model for Slip {
     ghost use Rattle.std.specs.Prelude.{map};
     ghost use Rattle.std.specs.Arc.{arc_value};
     ghost use Rattle.decl_core.specs.contracts.object.Operation as e;
-    ghost use Rattle.body_core.specs.Calls.{call_of};
+    ghost use Rattle.call_core.specs.Calls.{call_of};
+    ghost use Rattle.run_core.specs.Outcomes.{if_done};
     ghost use Rattle.slip_core.specs.Slips.{Told};
     ghost use Rattle.slip_core.specs.Short.{datum_of};
     ghost use Rattle.std.specs.Coded.{codes};
@@ -45,53 +44,14 @@ impl Model for Slip {
 
     ghost coded = { Prim.hlevel (codes, e.the_row.coded) };
 
-    ghost view = { λ s. record { place = s.place; session = s.session; call = call_of s.number (arc_value s.operation) (map datum_of s.args.items) s.pins.items; reply = s.reply; news = s.news.items } };
+    ghost view = { λ s. record { place = s.place; session = s.session; call = call_of s.number (arc_value s.operation) (map datum_of s.args.items) s.pins; reply = s.reply; news = if_done s.reply s.news } };
 }
 
-// Whether two new pins are the same.
-fn same_new(a: &NewPin, b: &NewPin) -> bool
-    ensures { IsTrue result ↔ (a.now ≡ b.now) }
+// Whether there are no pins. It takes no memory.
+fn is_none(alloc: Global, pins: &PartPins) -> bool
+    ensures { IsTrue result ↔ (pins.now ≡ []) }
 {
-    *a == *b
-}
-
-// Whether two rows of new pins are the same.
-fn same_news(a: &[NewPin], b: &[NewPin]) -> bool
-    ensures { IsTrue result ↔ (a.now ≡ b.now) }
-{
-    match (a, b) {
-        ([], []) => true,
-        ([x, xs @ ..], [y, ys @ ..]) => same_new(x, y) && same_news(xs, ys),
-        _ => false,
-    }
-}
-
-// Whether a pin of a part is this one.
-fn is_pin(kept: &PartPin, part: usize, stamp: &Stamp) -> bool
-    ensures { IsTrue result ↔ (kept.now ≡ record { part = part; stamp = stamp.now }) }
-{
-    kept.part == part && kept.stamp == *stamp
-}
-
-// Whether these are the pins of the parts in a set, of pins of which the first is of this part.
-fn are_kept(kept: &[PartPin], parts: u16, part: usize, pins: &[Stamp]) -> bool
-    requires { part + length pins.now ≤ 16 }
-    ensures { IsTrue result ↔ (kept.now ≡ pins_in parts part pins.now) }
-{
-    match pins.split_first() {
-        None => kept.is_empty(),
-        Some((pin, rest)) => {
-            if !footprint::is_in(part, parts) {
-                return are_kept(kept, parts, part + 1, rest);
-            }
-            match kept.split_first() {
-                None => false,
-                Some((first, others)) => {
-                    is_pin(first, part, pin) && are_kept(others, parts, part + 1, rest)
-                }
-            }
-        }
-    }
+    pins.is_same(&PartPins::from_counts([0; MOST_PARTS], Vec::new(alloc)))
 }
 
 impl Slip {
@@ -123,14 +83,32 @@ impl Slip {
         self.reply.is_same(reply)
     }
 
-    // The pins that were published.
-    fn new_pins(&self) -> &[NewPin]
-        ensures { result.now ≡ pins_told self.now }
+    // The page lists that were published.
+    fn new_pins(&self) -> Option<&PartPins>
+        ensures some { IfSome result (λ pins. pins.now ≡ pins_told self.now) }
+        ensures none { IfNone result (pins_told self.now ≡ []) }
     {
         match self.reply() {
-            Reply::Done(_) => &self.news,
-            Reply::Refused(_) => &[],
-            Reply::Failed(_) => &[],
+            Reply::Done(_) => Some(&self.news),
+            Reply::Refused(_) => None,
+            Reply::Failed(_) => None,
+        }
+    }
+
+    // Where its memory is from.
+    fn alloc(&self) -> Global {
+        *self.args.allocator()
+    }
+
+    // Whether an entry has its new pins.
+    fn has_news(&self, entry: &Entry) -> bool
+        ensures { IsTrue result ↔ (entry.now.news ≡ pins_told self.now) }
+    {
+        match (entry.new_pins(), self.new_pins()) {
+            (Some(news), Some(others)) => news.is_same(others),
+            (Some(news), None) => is_none(self.alloc(), news),
+            (None, Some(others)) => is_none(self.alloc(), others),
+            (None, None) => true,
         }
     }
 
@@ -153,11 +131,10 @@ impl Slip {
         if !self.reply.is(entry.reply()) {
             return false;
         }
-        if !same_news(entry.new_pins(), self.new_pins()) {
+        if !self.has_news(entry) {
             return false;
         }
-        let reads = footprint::reads(entry.operation());
-        are_kept(entry.pins(), reads, 0, &self.pins)
+        entry.pins().is_same(&self.pins)
     }
 
     /// Whether the entry at its place in a history is the one that it tells of. It takes no memory.

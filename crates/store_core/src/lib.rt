@@ -2,8 +2,8 @@
 //!
 //! `open_parts` reads each part from its shelf, cuts its bytes into pages and writes each page into a file of a hand;
 //! `save_parts` stores the bytes of the pages that published pins name. `specs/Opened.antt` and `specs/Saved.antt` say
-//! what of that is done where a device fails. It is what `shelf_core` is for pins that are one stamp each, under the
-//! same names.
+//! what of that is done where a device fails. How bytes are cut into pages is said by `page_core`, and how a
+//! value is spelled by `value_core`.
 #![tactic(auto)]
 
 pub mod laws;

@@ -11,7 +11,7 @@ use hand_core::hand::{Hand, HandFault, Stamp};
 use hand_core::whole::put;
 use page_core::cut::{MOST_PAGES, page_size};
 use page_core::page_list::PageList;
-use page_core::read::read_page;
+use page_core::read::read_list;
 use std::alloc::Global;
 
 // The first page of some bytes, and what stands behind it.
@@ -103,29 +103,6 @@ pub fn put_cut<H: Hand>(alloc: Global, hand: &mut H, bytes: &[u8]) -> Result<Pag
     }
 }
 
-// Adds the bytes of pages, one behind the other.
-fn read_pages<H: Hand>(hand: &mut H, pages: &[Stamp], got: &mut Vec<u8>) -> Result<(), HandFault>
-    ensures found { OnOk result ((bytes : List ℕ) × (got.new.items ≡ got.old.items ++ bytes) × ((a : Assignment) → H.agrees hand.new a → (list_bytes a pages.now ≡ Some bytes) × AreWhole a pages.now)) }
-    ensures kept { (a : Assignment) → H.agrees hand.new a → H.agrees hand.old a }
-    ensures serves { (s : Stamp) → H.serves hand.old s → H.serves hand.new s }
-    ensures works { Always (H.works_for hand.old) → Always (H.works_for hand.new) }
-    ensures in_order { Always (H.works_for hand.old) → AreServed (H.serves hand.old) pages.now → IsDeviceErr result → ⊥ }
-    ensures counted { H.failed hand.old ≤ H.failed hand.new }
-    ensures cause { IfErr result (λ e. FaultCause (H.failed hand.old) (H.failed hand.new) e) }
-{
-    let Some((page, rest)) = pages.split_first() else {
-        return Ok(());
-    };
-    match read_page(hand, page, got) {
-        Ok(()) => {}
-        Err(fault) => return Err(fault),
-    }
-    match read_pages(hand, rest, got) {
-        Ok(()) => Ok(()),
-        Err(fault) => Err(fault),
-    }
-}
-
 /// Reads the bytes of pages, one behind the other, in one call of `read` each.
 ///
 /// `Memory` where memory for the bytes is refused; else the first read that fails gives the error.
@@ -143,7 +120,7 @@ pub fn fetch_pages<H: Hand>(
     ensures cause { IfErr result (λ e. FaultCause (H.failed hand.old) (H.failed hand.new) e) }
 {
     let mut bytes = Vec::new(alloc);
-    match read_pages(hand, pages, &mut bytes) {
+    match read_list(hand, pages, &mut bytes) {
         Ok(()) => Ok(bytes),
         Err(fault) => Err(fault),
     }

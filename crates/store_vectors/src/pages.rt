@@ -2,6 +2,10 @@
 
 use crate::make::{are_pages, letters};
 use device_core::memory::MemHand;
+use hand_core::hand::Stamp;
+use page_core::cut::page_size;
+use page_core::fault::PageFault;
+use page_core::page_list::PageList;
 use std::alloc::Global;
 use std::process::Abort;
 use store_core::pages::{fetch_pages, put_cut};
@@ -35,4 +39,20 @@ fn bytes_go_round_in_pages(rt: HostRuntime) {
     for (count, pages, size, end) in CUTS {
         goes_round(&rt, rt.alloc(), count, pages, size, end);
     }
+}
+
+// The longest pages, eight of them, are the longest list.
+#[test]
+fn a_list_has_eight_of_the_longest_pages(rt: HostRuntime) {
+    assert!(rt; page_size(2_097_152) == Some(262_144) && page_size(2_097_153).is_none());
+    let mut stamps = [Stamp {
+        number: 1,
+        len: 262_144,
+    }; 8];
+    assert!(rt; PageList::new(&stamps).is_ok());
+    stamps[7] = Stamp {
+        number: 1,
+        len: 262_145,
+    };
+    assert!(rt; PageList::new(&stamps).err() == Some(PageFault::BadLength));
 }

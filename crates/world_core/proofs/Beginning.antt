@@ -3,24 +3,26 @@ use Rattle.std.proofs.Common.{◌≡◌, ℕ, zero, suc, ◌+◌, ◌<◌, ◌�
 use Rattle.std.specs.Prelude.{slice_get, slice_set}
 use Rattle.value_core.specs.Contents.{Contents}
 use Rattle.device_core.specs.declared.file.File.{File}
-use Rattle.hand_core.specs.Device.{Assignment, AreServed}
+use Rattle.hand_core.specs.declared.hand.Stamp.{Stamp}
+use Rattle.hand_core.specs.Device.{Assignment}
 use Rattle.device_core.specs.Files.{IsOpen, Serves}
-use Rattle.body_core.specs.Calls.{Call, call_of}
-use Rattle.body_core.specs.Runs.{run_call, run_pen, run_sealed, run_place, SoFar, AreApart, no_pen}
-use Rattle.body_core.specs.Steps.{PinsServed, NewsServed, Starts}
+use Rattle.call_core.specs.Calls.{Call, call_of}
+use Rattle.run_core.specs.Runs.{run_call, run_pen, run_sealed, run_place, SoFar, AreApart, no_pen}
+use Rattle.run_core.specs.Steps.{Place, AreServed, PinsServed, Starts, with_part, with_none}
+use Rattle.store_core.specs.Pages.{ArePinsServed}
 use Rattle.board_core.specs.Lists.{Every}
 use Rattle.board_core.specs.Calls.{RunningCall, WaitingCall}
 use Rattle.board_core.specs.Board.{Board, taken_at}
 use Rattle.board_core.specs.Sound.{IsSound, IsPinned}
 use Rattle.board_core.proofs.Lists.{Every-at, Every-snoc, EachPair-snoc, Every-all}
-use Rattle.body_core.specs.declared.ticket.Ticket.{Ticket}
-use Rattle.body_core.specs.Tickets.{ticket_call}
+use Rattle.call_core.specs.declared.ticket.Ticket.{Ticket}
+use Rattle.call_core.specs.Tickets.{ticket_call}
 use Rattle.desk_core.specs.declared.answer.Collected.{Collected}
 use Rattle.desk_core.specs.declared.answer.Collected.TheVariants as collects
 use Rattle.desk_core.specs.Answers.{IsLeft, NoneIsLeft, Collects}
 use Rattle.world_core.specs.declared.slot.Slot.{Slot}
 use Rattle.world_core.specs.Scene.{Standing, AreBegun, call_running, collected}
-use Rattle.world_core.specs.Kept.{IsKept, IsReady, HasNew, standing_of}
+use Rattle.world_core.specs.Kept.{IsKept, IsNear, IsReady, HasNew, standing_of}
 use Rattle.board_core.specs.declared.event.TraceEvent.{TraceEvent}
 use Rattle.board_core.specs.declared.event.TraceEvent.TheVariants.{Start, End}
 use Rattle.apply_core.specs.declared.reply.Reply.{Reply}
@@ -45,19 +47,25 @@ none_left_absurd b files runs opening r n kept at number none =
     cc
 
 -- the pins of a running call can be read, where the published ones can
-pub pins_of_running : (b : Board) (files : List File) (k : ℕ) (r : RunningCall) → IsSound b → slice_get b.running k ≡ Some r → AreServed (λ s. Serves files s) b.pins → PinsServed (λ s. Serves files s) (call_running r)
-pins_of_running b files k r sound at served part pin its =
+pub pins_of_running : (b : Board) (files : List File) (k : ℕ) (r : RunningCall) → IsSound b → slice_get b.running k ≡ Some r → ArePinsServed (λ s. Serves files s) b.pins → PinsServed (λ s. Serves files s) (call_running r)
+pins_of_running b files k r sound at served part page reads pages stamp pin there =
     let pinned : IsPinned b.pins r = Every-at (IsPinned b.pins) b.running k r sound.pinned.pinned at in
-    served part pin (pinned part its.0 ∙ its.1)
+    served part pages (pinned part reads ∙ pin) page stamp there
+
+-- it begins at a first page
+starts_near : (call : Call) (place : Place) → Starts call place → IsNear place
+starts_near call place (with_part next) = omega arith
+starts_near call place (with_none nothing settled) = tt
 
 -- a run that has just begun is ready
-pub begun_ready : (b : Board) (files : List File) (k : ℕ) (r : RunningCall) (slot : Slot) → IsSound b → slice_get b.running k ≡ Some r → AreServed (λ s. Serves files s) b.pins
-    → run_call slot.run ≡ call_running r → slot.number ≡ r.number → run_pen slot.run ≡ None → run_sealed slot.run ≡ [] → ((a : Assignment) → SoFar a slot.run) → IsReady files slot
-begun_ready b files k r slot sound at served call number pen sealed fresh = record {
+pub begun_ready : (b : Board) (files : List File) (k : ℕ) (r : RunningCall) (slot : Slot) → IsSound b → slice_get b.running k ≡ Some r → ArePinsServed (λ s. Serves files s) b.pins
+    → run_call slot.run ≡ call_running r → slot.number ≡ r.number → run_pen slot.run ≡ None → run_sealed slot.run ≡ [] → Starts (run_call slot.run) (run_place slot.run) → ((a : Assignment) → SoFar a slot.run) → IsReady files slot
+begun_ready b files k r slot sound at served call number pen sealed starts fresh = record {
   pen = no_pen (λ n bytes. IsOpen files n bytes) slot.run pen;
   pins = subst (PinsServed (λ s. Serves files s)) (sym call) (pins_of_running b files k r sound at served);
-  written = subst (NewsServed (λ s. Serves files s)) (sym sealed) tt;
+  written = subst (λ (stamps : List Stamp). AreServed (λ s. Serves files s) stamps) (sym sealed) tt;
   found = λ a agrees. fresh a;
+  near = starts_near (run_call slot.run) (run_place slot.run) starts;
   number = number ∙ ap (λ (c : Call). c.number) (sym call);
 }
 
@@ -81,6 +89,7 @@ one_begun b files runs opening r slot kept at sound call ready pen =
       ready = Every-snoc (IsReady files) runs slot kept.ready ready;
       apart = EachPair-snoc (λ (x y : Slot). AreApart x.run y.run) runs slot kept.apart (Every-all (λ (x : Slot). AreApart x.run slot.run) (λ x n its other. none_of x n (sym pen ∙ other)) runs);
       served = kept.served;
+      short = kept.short;
       opening = kept.opening;
       entries = kept.entries;
     }

@@ -4,7 +4,9 @@ pub mod Settling
 pub mod Playing
 pub mod Finishing
 pub mod Working
+pub mod Wholes
 pub mod Stepping
+pub mod Reading
 pub mod Showing
 pub mod Opening
 pub mod Sequential

@@ -6,9 +6,9 @@ use Rattle.apply_core.specs.declared.reply.Failure.TheVariants as failures
 use Rattle.apply_core.specs.declared.reply.Reply.{Reply}
 use Rattle.apply_core.specs.declared.reply.Reply.TheVariants as replies
 use Rattle.apply_core.specs.declared.need.Need.TheVariants as needs
-use Rattle.body_core.specs.Calls.{Call}
-use Rattle.body_core.specs.Phases.{IsSettled, step_answer}
-use Rattle.body_core.specs.Steps.{Place, at_read, at_create, at_append, at_seal, at_end, Starts, with_part, with_none, need_at, ending_at, sealed_at}
+use Rattle.call_core.specs.Calls.{Call}
+use Rattle.run_core.specs.Phases.{IsSettled, step_answer}
+use Rattle.run_core.specs.Steps.{Place, at_read, at_page, at_create, at_append, at_seal, at_end, Starts, with_part, with_none, need_at, ending_at}
 use Rattle.board_core.specs.Lists.{Every}
 use Rattle.board_core.specs.Calls.{Noted, AcceptedCall, RunningCall}
 use Rattle.board_core.specs.Board.{Board, joined, dismissed, released, marked, ended, entry_of}
@@ -73,8 +73,8 @@ step_told old new e a rest (not_called fault refused) = refl
 step_told old new e a rest (stepped k run after files there going moves) = refl
 step_told old new e a rest (no_step k run there done) = refl
 step_told old new e a rest (step_not_running none) = refl
-step_told old new e a rest (finished {number = number} k r run reply among there is ends goes) =
-    let noted = entry_of r reply (sealed_at run.place) in
+step_told old new e a rest (finished {number = number} k r run reply news among there is ends leaves goes) =
+    let noted = entry_of r reply news in
     ap (λ es. map told_of es ++ rest) (goes_history goes ∙ ended_history old.board noted) ∙ told_snoc old.board.history noted number reply rest (number_of r run number is there.number) refl
 step_told old new e a rest (not_done k run there going) = refl
 step_told old new e a rest (finish_not_running none) = refl
@@ -147,10 +147,11 @@ goes_fair {kept = kept} Owed goes entries runs = record {
 
 -- what has a step has not ended
 not_ended : (place : Place) → need_at place ≢ needs.Done → ending_at place ≡ None
-not_ended (at_read part pin n) going = refl
-not_ended (at_create changes sealed) going = refl
-not_ended (at_append changes sealed n) going = refl
-not_ended (at_seal changes sealed) going = refl
+not_ended (at_read part page) going = refl
+not_ended (at_page known part page) going = refl
+not_ended (at_create writes sealed) going = refl
+not_ended (at_append writes sealed) going = refl
+not_ended (at_seal writes sealed) going = refl
 not_ended (at_end reply sealed) going = absurd (going refl)
 
 -- a step leaves a fair ending: where it failed for the device, it was made to
@@ -180,9 +181,9 @@ step_fair P Q old new e a more now (stepped {number = number} {works = works} k 
     }
 step_fair P Q old new e a more now (no_step k run there done) fair = all_fair_owed P Q more old fair
 step_fair P Q old new e a more now (step_not_running none) fair = all_fair_owed P Q more old fair
-step_fair P Q old new e a more now (finished {number = number} k r run reply among there is ends goes) fair =
+step_fair P Q old new e a more now (finished {number = number} k r run reply news among there is ends leaves goes) fair =
     let before = all_fair_owed P Q more old fair in
-    let noted = entry_of r reply (sealed_at run.place) in
+    let noted = entry_of r reply news in
     let ended_fair = Every-at (EndsFair Q) old.runs k run before.runs there.there reply ends in
     let one : EntryFair Q noted = subst (λ n. IsFair Q n reply) (ap (λ (c : Call). c.number) is) ended_fair in
     goes_fair Q goes (subst (Every (EntryFair Q)) (sym (ended_history old.board noted)) (Every-snoc (EntryFair Q) old.board.history noted before.entries one))

@@ -3,9 +3,10 @@ use Rattle.std.proofs.Common.{◌≡◌, ℕ, true, false, List, [], ◌∷◌, 
 use Rattle.value_core.specs.Contents.{Contents}
 use Rattle.device_core.specs.declared.file.File.{File}
 use Rattle.hand_core.specs.declared.hand.Stamp.{Stamp}
-use Rattle.hand_core.specs.Device.{Assignment, AreServed}
+use Rattle.hand_core.specs.Device.{Assignment}
 use Rattle.device_core.specs.Files.{HasFiles, Serves, files_of}
-use Rattle.body_core.specs.Runs.{run_call, AreApart}
+use Rattle.store_core.specs.Pages.{ArePinsServed}
+use Rattle.run_core.specs.Runs.{run_call, AreApart}
 use Rattle.board_core.specs.declared.event.TraceEvent.{TraceEvent}
 use Rattle.board_core.specs.declared.event.TraceEvent.TheVariants.{Start}
 use Rattle.board_core.specs.Lists.{Every, EachPair}
@@ -20,7 +21,7 @@ use Rattle.desk_core.specs.Answers.{Cancels}
 use Rattle.world_core.specs.declared.slot.Slot.{Slot}
 use Rattle.world_core.specs.declared.stage.Stage.{Stage}
 use Rattle.world_core.specs.Scene.{Scene, Standing, AreBegun, Goes, call_running, collected}
-use Rattle.world_core.specs.Kept.{IsKept, IsReady, IsStaged, HasNew, standing_of, scene_of}
+use Rattle.world_core.specs.Kept.{IsKept, ArePinsShort, IsReady, IsStaged, HasNew, standing_of, scene_of}
 use Rattle.world_core.proofs.Beginning.{all_collected}
 use Rattle.world_core.proofs.Places.{all_taken}
 
@@ -32,7 +33,7 @@ pub take_front : {X : Type 0} (xs ys : List X) → take (length xs) (xs ++ ys) �
 take_front [] ys = refl
 take_front (x ∷ xs) ys = ap (λ zs. x ∷ zs) (take_front xs ys)
 
-none_taken : (pins : List Stamp) (ones : List WaitingCall) → Every (λ (r : RunningCall). r.taken ≡ false) (map (run_of pins) ones)
+none_taken : (pins : List (List Stamp)) (ones : List WaitingCall) → Every (λ (r : RunningCall). r.taken ≡ false) (map (run_of pins) ones)
 none_taken pins [] = tt
 none_taken pins (w ∷ ones) = (refl, none_taken pins ones)
 
@@ -47,10 +48,10 @@ has_new between settled m from ones started runs trace = record {
 -- the runs of the calls that ran before are those that have runs then
 pub kept_settled : (between settled : Board) (ones : List WaitingCall) (files : List File) (runs : List Slot) (values : List Contents) → HasStarted between ones settled → IsSound settled
     → Every (λ (r : RunningCall). r.taken ≡ true) between.running → map (λ (s : Slot). run_call s.run) runs ≡ map call_running between.running → length runs ≡ length between.running
-    → Every (IsReady files) runs → EachPair (λ (x y : Slot). AreApart x.run y.run) runs → AreServed (λ s. Serves files s) between.pins
+    → Every (IsReady files) runs → EachPair (λ (x y : Slot). AreApart x.run y.run) runs → ArePinsServed (λ s. Serves files s) between.pins → ArePinsShort between.pins
     → ((a : Assignment) → HasFiles files a → ShowContents a (kinds_of between.object) between.opening values) → ((a : Assignment) → HasFiles files a → Every (IsTrueEntry a) between.history)
     → IsKept settled files runs values
-kept_settled between settled ones files runs values started sound taken calls count ready apart served opening entries =
+kept_settled between settled ones files runs values started sound taken calls count ready apart served short opening entries =
     let front : take (length runs) settled.running ≡ between.running = ap (λ k. take k settled.running) count ∙ ap (take (length between.running)) started.running ∙ take_front between.running (map (run_of between.pins) ones) in
     let back : drop (length runs) settled.running ≡ map (run_of between.pins) ones = ap (λ k. drop k settled.running) count ∙ ap (drop (length between.running)) started.running ∙ drop_front between.running (map (run_of between.pins) ones) in
     record {
@@ -61,7 +62,8 @@ kept_settled between settled ones files runs values started sound taken calls co
       calls = calls ∙ ap (map call_running) (sym front);
       ready = ready;
       apart = apart;
-      served = subst (AreServed (λ s. Serves files s)) (sym started.pins) served;
+      served = subst (ArePinsServed (λ s. Serves files s)) (sym started.pins) served;
+      short = subst ArePinsShort (sym started.pins) short;
       opening = λ a agrees. subst (λ o. ShowContents a (kinds_of o) settled.opening values) (sym started.object) (subst (λ pins. ShowContents a (kinds_of between.object) pins values) (sym started.opening) (opening a agrees));
       entries = λ a agrees. subst (Every (IsTrueEntry a)) (sym started.history) (entries a agrees);
     }
@@ -77,7 +79,8 @@ kept_same old between settled ones files runs values kept all running pins openi
     (kept.calls ∙ ap (map call_running) whole)
     (all ∙ ap (λ (rs : List RunningCall). length rs) (sym running))
     kept.ready kept.apart
-    (subst (AreServed (λ s. Serves files s)) (sym pins) kept.served)
+    (subst (ArePinsServed (λ s. Serves files s)) (sym pins) kept.served)
+    (subst ArePinsShort (sym pins) kept.short)
     (λ a agrees. subst (λ o. ShowContents a (kinds_of o) between.opening values) (sym object) (subst (λ ps. ShowContents a (kinds_of old.object) ps values) (sym opening) (kept.opening a agrees)))
     (λ a agrees. subst (Every (IsTrueEntry a)) (sym history) (kept.entries a agrees))
 

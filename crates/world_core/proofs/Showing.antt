@@ -8,8 +8,9 @@ use Rattle.value_core.specs.Spelling.{Spells}
 use Rattle.value_core.proofs.Unique.{unique}
 use Rattle.device_core.specs.declared.file.File.{File}
 use Rattle.hand_core.specs.declared.hand.Stamp.{Stamp}
-use Rattle.hand_core.specs.Device.{Assignment, bytes_of}
+use Rattle.hand_core.specs.Device.{Assignment}
 use Rattle.device_core.specs.Files.{HasFiles, files_of}
+use Rattle.page_core.specs.Bytes.{list_bytes}
 use Rattle.device_core.proofs.Agreeing.{some_map}
 use Rattle.apply_core.specs.History.{leads_to}
 use Rattle.decl_core.specs.declared.object.Object.{Object}
@@ -31,12 +32,12 @@ some_is : {X : Type 0} {x y : X} → Some x ≡ Some y → x ≡ y
 some_is e = cc
 
 -- the bytes under a pin that shows a value spell it
-pub spells_it : (a : Assignment) (kind : Kind) (pin : Stamp) (value : Contents) (bytes : List ℕ) → Shows a kind pin value → bytes_of a pin ≡ Some bytes → Spells bytes kind value
+pub spells_it : (a : Assignment) (kind : Kind) (pin : List Stamp) (value : Contents) (bytes : List ℕ) → Shows a kind pin value → list_bytes a pin ≡ Some bytes → Spells bytes kind value
 spells_it a kind pin value bytes shows are = subst (λ b. Spells b kind value) (some_is (sym shows.there ∙ are)) shows.spells
 
 -- and no other
-pub one_value : (files : List File) (kind : Kind) (pin : Stamp) (v value : Contents) (bytes : List ℕ) → ((a : Assignment) → HasFiles files a → Shows a kind pin value)
-    → ((a : Assignment) → HasFiles files a → bytes_of a pin ≡ Some bytes) → Spells bytes kind v → v ≡ value
+pub one_value : (files : List File) (kind : Kind) (pin : List Stamp) (v value : Contents) (bytes : List ℕ) → ((a : Assignment) → HasFiles files a → Shows a kind pin value)
+    → ((a : Assignment) → HasFiles files a → list_bytes a pin ≡ Some bytes) → Spells bytes kind v → v ≡ value
 one_value files kind pin v value bytes shows are spells =
     let some = some_map files in
     unique bytes kind kind v value spells (spells_it some.0 kind pin value bytes (shows some.0 some.1) (are some.0 some.1))
@@ -67,7 +68,7 @@ one_more old mid new before values part value so desk files runs opening more at
 }
 
 -- the value of a part, which its pin shows whatever assignment agrees
-pub part_shown : (s : Stage) (k : ℕ) (kind : Kind) (pin : Stamp) → IsStaged s → slice_get (kinds_of s.desk.object) k ≡ Some kind → slice_get s.desk.pins k ≡ Some pin
+pub part_shown : (s : Stage) (k : ℕ) (kind : Kind) (pin : List Stamp) → IsStaged s → slice_get (kinds_of s.desk.object) k ≡ Some kind → slice_get s.desk.pins k ≡ Some pin
     → (value : Contents) × (slice_get (leads_to (history_of s.desk.history) s.opening.items) k ≡ Some value) × ((a : Assignment) → HasFiles (files_of s.hand) a → Shows a kind pin value)
 part_shown s k kind pin staged at there = (
   first.1,
@@ -79,7 +80,7 @@ part_shown s k kind pin staged at there = (
   some : (a : Assignment) × HasFiles (files_of s.hand) a
   some = some_map s.hand.files.items
 
-  first : (p : Stamp) × (value : Contents) × (slice_get s.desk.pins k ≡ Some p) × (slice_get (leads_to (history_of s.desk.history) s.opening.items) k ≡ Some value) × Shows some.0 kind p value
+  first : (p : List Stamp) × (value : Contents) × (slice_get s.desk.pins k ≡ Some p) × (slice_get (leads_to (history_of s.desk.history) s.opening.items) k ≡ Some value) × Shows some.0 kind p value
   first = (contents_shown s staged some.0 some.1).each k kind at
 
 pub kind_at : (parts : List Part) (k : ℕ) (part : Part) → slice_get parts k ≡ Some part → slice_get (map (λ (p : Part). p.kind) parts) k ≡ Some part.kind
@@ -88,7 +89,7 @@ kind_at (p ∷ parts) zero part at = ap (λ (q : Part). Some q.kind) (some_is at
 kind_at (p ∷ parts) (suc k) part at = kind_at parts k part at
 
 -- the value that stands at the next place, which its pin shows
-pub value_of : (old mid : Stage) (values : List Contents) (k : ℕ) (o : Object) (part : Part) (pins : List Stamp) (pin : Stamp) → IsStaged old → Showing old mid values k → o ≡ mid.desk.object → pins ≡ old.desk.pins
+pub value_of : (old mid : Stage) (values : List Contents) (k : ℕ) (o : Object) (part : Part) (pins : List (List Stamp)) (pin : List Stamp) → IsStaged old → Showing old mid values k → o ≡ mid.desk.object → pins ≡ old.desk.pins
     → slice_get o.parts.items k ≡ Some part → slice_get pins k ≡ Some pin
     → (value : Contents) × (slice_get (leads_to (history_of old.desk.history) old.opening.items) k ≡ Some value) × ((a : Assignment) → HasFiles (files_of mid.hand) a → Shows a part.kind pin value)
 value_of old mid values k o part pins pin staged so same its there stands =

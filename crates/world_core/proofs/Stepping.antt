@@ -2,33 +2,40 @@
 use Rattle.std.proofs.Common.{◌≡◌, ◌≢◌, ℕ, zero, suc, ◌≤◌, ◌⊎◌, inl, inr, Bool, true, false, ◌||◌, ◌==◌, List, [], ◌∷◌, length, Option, Some, None, refl, sym, ◌∙◌, ap, subst, arith, take, drop, map}
 use Rattle.std.specs.Prelude.{slice_get, slice_set}
 use Rattle.std.specs.List.{list_any}
+use Rattle.std.proofs.lemmas.Bool.{cases_lt}
 use Rattle.std.proofs.lemmas.Bool.Decides.{eqb_tells}
+use Rattle.decl_core.specs.Bodies.{body_of}
+use Rattle.decl_core.specs.Touched.{Reads}
 use Rattle.value_core.specs.declared.kind.Kind.{Kind}
 use Rattle.value_core.specs.Contents.{Contents}
 use Rattle.value_core.specs.Spelling.{Spells}
 use Rattle.device_core.specs.declared.file.File.{File}
 use Rattle.hand_core.specs.declared.hand.Stamp.{Stamp}
-use Rattle.hand_core.specs.Device.{Assignment, IsFree, bytes_of}
+use Rattle.hand_core.specs.Device.{Assignment, IsFree}
 use Rattle.device_core.specs.Files.{HasFiles, IsOpen, Serves}
-use Rattle.body_core.specs.declared.phase.Phase.{Phase}
-use Rattle.body_core.specs.declared.phase.Phase.TheVariants.{Reading, Creating, Appending, Sealing, Ended}
+use Rattle.page_core.specs.Bytes.{list_bytes}
+use Rattle.page_core.specs.Cut.{most_pages}
+use Rattle.page_core.specs.PartPins.{pin_at}
+use Rattle.run_core.specs.declared.phase.Phase.{Phase}
+use Rattle.run_core.specs.declared.phase.Phase.TheVariants.{Reading, Paging, Creating, Appending, Sealing, Ended}
 use Rattle.apply_core.specs.declared.reply.Failure.TheVariants as failures
 use Rattle.apply_core.specs.declared.reply.Reply.{Reply}
 use Rattle.apply_core.specs.declared.reply.Reply.TheVariants.{Done, Refused, Failed}
-use Rattle.body_core.specs.declared.run.Run.{Run}
-use Rattle.body_core.specs.Calls.{Call}
-use Rattle.body_core.specs.Phases.{ending_of, step_answer, FoundBy}
+use Rattle.run_core.specs.declared.run.Run.{Run}
+use Rattle.call_core.specs.Calls.{Call}
+use Rattle.run_core.specs.Phases.{ending_of, step_answer, FoundBy}
 use Rattle.world_core.specs.RunLaws.{PensStay, PensAreOpen}
-use Rattle.body_core.specs.Runs.{run_call, run_ending, run_pen, run_place, run_sealed, PenHolds, SoFar, AreApart, ending_by_place}
+use Rattle.run_core.specs.Runs.{run_call, run_ending, run_pen, run_place, run_sealed, PenHolds, SoFar, AreApart, ending_by_place}
 use Rattle.apply_core.specs.declared.need.Need.TheVariants as needs
-use Rattle.body_core.specs.Steps.{Place, at_read, at_create, at_append, at_seal, at_end, need_at, ending_at, Follows, FailsWith, PinsServed, NewsServed}
-use Rattle.body_core.specs.Truths.{PinHolds, IsDamaged}
+use Rattle.run_core.specs.Steps.{Place, at_read, at_page, at_create, at_append, at_seal, at_end, need_at, ending_at, Follows, FailsWith, AreServed, IsReadAt, PinsServed, IsJudged, changed, not_changed, wants, reads_on, reads_next, reads_last, misses, pages_on, creates, appends, seals_on, seals_last, fails, stays}
+use Rattle.judge_core.specs.Given.{IsDamaged}
+use Rattle.call_core.specs.Truths.{PinHolds, PinsAreWhole}
 use Rattle.board_core.specs.Lists.{Every, EachPair}
-use Rattle.board_core.specs.Calls.{AcceptedCall, RunningCall}
-use Rattle.board_core.specs.Board.{Board, call_at}
+use Rattle.board_core.specs.Calls.{RunningCall}
+use Rattle.board_core.specs.Board.{Board}
 use Rattle.board_core.specs.Chain.{AreOf, ChainedAreLegal, ShowContents}
 use Rattle.board_core.specs.Sound.{IsMadeOf, IsPinned, IsRunningIn, kinds_of}
-use Rattle.board_core.proofs.Lists.{Every-at, Every-both}
+use Rattle.board_core.proofs.Lists.{Every-at, Every-both, among_at}
 use Rattle.desk_core.specs.Answers.{runs_in}
 use Rattle.world_core.specs.declared.slot.Slot.{Slot}
 use Rattle.world_core.specs.declared.event.Answer.TheVariants.{Stepped}
@@ -36,8 +43,9 @@ use Rattle.world_core.specs.declared.event.EventAnswer.{EventAnswer}
 use Rattle.world_core.specs.Answers.{Answers, Moves, stepped, with_starts}
 use Rattle.world_core.specs.Events.{step}
 use Rattle.world_core.specs.Scene.{Scene, Standing, IsRunAt, call_running}
-use Rattle.world_core.specs.Kept.{IsKept, IsReady, standing_of}
+use Rattle.world_core.specs.Kept.{IsKept, IsNear, IsReady, standing_of}
 use Rattle.world_core.proofs.Places.{some_is, one_place, length_set}
+use Rattle.world_core.proofs.Wholes.{of_call_at, call_whole}
 use Rattle.world_core.proofs.Working.{run_within, work_falls}
 
 -- the item of one list that stands where the item of another does
@@ -59,32 +67,34 @@ pub its_call : (b : Board) (files : List File) (runs : List Slot) (values : List
     → (r : RunningCall) × (slice_get b.running k ≡ Some r) × (run_call slot.run ≡ call_running r)
 its_call b files runs values k slot kept at = beside (λ (s : Slot). run_call s.run) call_running runs b.running k slot kept.calls at
 
+-- the pins of a run's call are whole
+pub run_whole : (b : Board) (files : List File) (runs : List Slot) (values : List Contents) (k : ℕ) (slot : Slot) (a : Assignment) → IsKept b files runs values → slice_get runs k ≡ Some slot → HasFiles files a → PinsAreWhole a (run_call slot.run)
+run_whole b files runs values k slot a kept at agrees =
+    let its = its_call b files runs values k slot kept at in
+    subst (PinsAreWhole a) (sym its.2) (call_whole b files runs values its.0 a kept (among_at b.running k its.0 its.1) agrees)
+
 -- a run that ended so has found a part damaged
 damaged_in : (a : Assignment) (call : Call) (phase : Phase) → ending_of phase ≡ Some (Failed failures.Damaged) → FoundBy a call phase → IsDamaged (PinHolds a call.pins) call.operation
 damaged_in a call (Reading r) is found = absurd cc
+damaged_in a call (Paging m) is found = absurd cc
 damaged_in a call (Creating plan) is found = absurd cc
-damaged_in a call (Appending plan pen k) is found = absurd cc
+damaged_in a call (Appending plan pen) is found = absurd cc
 damaged_in a call (Sealing plan pen) is found = absurd cc
-damaged_in a call (Ended (Done reply) news) is found = absurd cc
-damaged_in a call (Ended (Refused word) news) is found = absurd cc
-damaged_in a call (Ended (Failed failures.Damaged) news) is found = found
-damaged_in a call (Ended (Failed failures.Device) news) is found = absurd cc
-damaged_in a call (Ended (Failed failures.Memory) news) is found = absurd cc
+damaged_in a call (Ended (Done reply) left) is found = absurd cc
+damaged_in a call (Ended (Refused word) left) is found = absurd cc
+damaged_in a call (Ended (Failed failures.Damaged) left) is found = found.0
+damaged_in a call (Ended (Failed failures.Device) left) is found = absurd cc
+damaged_in a call (Ended (Failed failures.Memory) left) is found = absurd cc
 
 -- where the pins show contents, no part that a running call reads is damaged
-no_damage : (a : Assignment) (kinds : List Kind) (pins : List Stamp) (contents : List Contents) (r : RunningCall) → ShowContents a kinds pins contents → AreOf kinds r.call.operation → IsPinned pins r
+no_damage : (a : Assignment) (kinds : List Kind) (pins : List (List Stamp)) (contents : List Contents) (r : RunningCall) → ShowContents a kinds pins contents → AreOf kinds r.call.operation → IsPinned pins r
     → IsDamaged (PinHolds a r.pins) r.call.operation → ⊥
 no_damage a kinds pins contents r show are pinned damaged =
     let there = show.each damaged.p damaged.kind (are damaged.p damaged.kind damaged.named) in
     let hold = damaged.there in
     let same_pin : there.0 ≡ hold.0 = some_is (sym there.2 ∙ pinned damaged.p damaged.named.named ∙ hold.1) in
-    let same_bytes : there.4.bytes ≡ damaged.bytes = some_is (sym there.4.there ∙ ap (bytes_of a) same_pin ∙ hold.2) in
+    let same_bytes : there.4.bytes ≡ damaged.bytes = some_is (sym there.4.there ∙ ap (list_bytes a) same_pin ∙ hold.2) in
     damaged.spell_none there.1 (subst (λ (bs : List ℕ). Spells bs damaged.kind there.1) same_bytes there.4.spells)
-
--- what holds of each accepted call
-of_call_at : (P : AcceptedCall → Type 0) (calls : List AcceptedCall) (n : ℕ) (call : AcceptedCall) → Every P calls → call_at calls n ≡ Some call → P call
-of_call_at P calls zero call all at = absurd cc
-of_call_at P calls (suc k) call all at = Every-at P calls k call all at
 
 -- a run that goes on with this call finds no part damaged
 pub not_damaged : (law : ChainedAreLegal) (b : Board) (files : List File) (runs : List Slot) (values : List Contents) (k : ℕ) (slot : Slot) (run : Run) (a : Assignment)
@@ -96,7 +106,7 @@ not_damaged law b files runs values k slot run a kept at same agrees found ended
     let made : IsMadeOf b.object r.call = of_call_at (IsMadeOf b.object) b.calls r.number r.call kept.sound.counted.made runs_so.call in
     let shown : ShowContents a (kinds_of b.object) b.pins _ = (law a (kinds_of b.object) b.opening b.pins b.history values kept.sound.pinned.entries kept.sound.pinned.chained (kept.opening a agrees) (kept.entries a agrees)).1 in
     no_damage a (kinds_of b.object) b.pins _ r shown made.parts (Every-at (IsPinned b.pins) b.running k r kept.sound.pinned.pinned its.1)
-    (subst (λ (c : Call). IsDamaged (PinHolds a c.pins) c.operation) (same ∙ its.2) (damaged_in a (run_call run) run.phase ended found.found))
+    (subst (λ (c : Call). IsDamaged (PinHolds a c.pins) c.operation) (same ∙ its.2) (damaged_in a (run_call run) run.phase ended (found.found (subst (PinsAreWhole a) (sym same) (run_whole b files runs values k slot a kept at agrees)))))
 
 -- A step of this run over these files leaves the other files and runs as they are.
 pub record Spares (old new : List File) (before after : Run) : Type 0 where
@@ -112,22 +122,23 @@ pub record Makes (is_to_work : Bool) (old new : List File) (before after : Run) 
   pub found : PenHolds (λ n b. IsOpen old n b) before → (a : Assignment) → HasFiles new a → SoFar a before → SoFar a after
   pub pen : PenHolds (λ n b. IsOpen old n b) before → PenHolds (λ n b. IsOpen new n b) after
   pub moves : Follows (run_call before) (run_place before) (run_place after)
-  pub written : NewsServed (λ s. Serves old s) (run_sealed before) → NewsServed (λ s. Serves new s) (run_sealed after)
+  pub written : AreServed (λ s. Serves old s) (run_sealed before) → AreServed (λ s. Serves new s) (run_sealed after)
   pub works : is_to_work ≡ true → PenHolds (λ n b. IsOpen old n b) before → PinsServed (λ s. Serves old s) (run_call before) → run_ending before ≡ None → run_ending after ≡ Some (Failed failures.Device) → ⊥
   pub fails : is_to_work ≡ false → FailsWith (run_place before) (run_ending after)
 
-news_stay : (old new : Stamp → Type 0) (news : _) → ((s : Stamp) → old s → new s) → NewsServed old news → NewsServed new news
-news_stay old new [] serves is = tt
-news_stay old new (one ∷ news) serves is = (serves one.stamp is.0, news_stay old new news serves is.1)
+sealed_stay : (old new : Stamp → Type 0) (sealed : List Stamp) → ((s : Stamp) → old s → new s) → AreServed old sealed → AreServed new sealed
+sealed_stay old new [] serves is = tt
+sealed_stay old new (one ∷ sealed) serves is = (serves one is.0, sealed_stay old new sealed serves is.1)
 
 module _ (stay : PensStay) (are_open : PensAreOpen) (old new : List File) (slot left : Slot) (spares : Spares old new slot.run left.run) where
   -- another run is ready after the step
   other_ready : (x : Slot) → AreApart x.run slot.run → IsReady old x → IsReady new x
   other_ready x apart ready = record {
     pen = stay old new x.run (λ n b at is. spares.others n b (apart n at) is) ready.pen;
-    pins = λ part pin its. spares.serves pin (ready.pins part pin its);
-    written = news_stay (λ s. Serves old s) (λ s. Serves new s) (run_sealed x.run) spares.serves ready.written;
+    pins = λ part page reads pages stamp pin there. spares.serves stamp (ready.pins part page reads pages stamp pin there);
+    written = sealed_stay (λ s. Serves old s) (λ s. Serves new s) (run_sealed x.run) spares.serves ready.written;
     found = λ a agrees. ready.found a (spares.kept a agrees);
+    near = ready.near;
     number = ready.number;
   }
 
@@ -205,7 +216,8 @@ runs_stepped stay are_open b old new runs values k slot left kept at spares read
       calls = calls ∙ kept.calls ∙ ap (λ n. map call_running (take n b.running)) (sym count);
       ready = ready_set stay are_open old new slot left spares runs k at kept.apart ready kept.ready;
       apart = apart_set stay are_open old new slot left spares runs k at kept.apart kept.ready;
-      served = λ part pin its. spares.serves pin (kept.served part pin its);
+      served = λ part pages at_part page stamp there. spares.serves stamp (kept.served part pages at_part page stamp there);
+      short = kept.short;
       opening = λ a agrees. kept.opening a (spares.kept a agrees);
       entries = λ a agrees. kept.entries a (spares.kept a agrees);
     }
@@ -250,19 +262,60 @@ run_at b files runs values k n slot kept at number =
 
 -- a run that has a call to make has not ended
 pub not_ended : (place : Place) → need_at place ≢ needs.Done → ending_at place ≡ None
-not_ended (at_read part pin n) more = refl
-not_ended (at_create changes sealed) more = refl
-not_ended (at_append changes sealed n) more = refl
-not_ended (at_seal changes sealed) more = refl
+not_ended (at_read part page) more = refl
+not_ended (at_page known part page) more = refl
+not_ended (at_create writes sealed) more = refl
+not_ended (at_append writes sealed) more = refl
+not_ended (at_seal writes sealed) more = refl
 not_ended (at_end reply sealed) more = absurd (more refl)
 
+-- the pin of the part that a run reads is short, where those are that are published
+few_read : (run : Run) (part page : ℕ) (pages : List Stamp) → (Reads (body_of (run_call run).operation).statements part → length pages ≤ most_pages) → run_place run ≡ at_read part page → length pages ≤ most_pages
+few_read run part page pages short at = elim (cases_lt most_pages (length pages)) [
+  | inl long ↦ absurd (run.reading part (subst (λ (p : Place). IsReadAt p part) (sym at) refl) (λ reads. let few = short reads in omega (arith, long, few)))
+  | inr few ↦ few
+]
+
+judged_near : (call : Call) (known : List ℕ) (place : Place) → IsJudged call known place → IsNear place
+judged_near call known place (changed some) = tt
+judged_near call known place not_changed = tt
+judged_near call known place (wants next) = next.few
+
+-- a step leads to a page that has one of the places that a page may have
+follows_near : (call : Call) (before after : Place) → ((part page : ℕ) (pages : List Stamp) → before ≡ at_read part page → pin_at call.pins part ≡ Some pages → length pages ≤ most_pages) → Follows call before after
+    → IsNear before → IsNear after
+follows_near call before after short (reads_on {part = part} {page = page} pages pin more front) near = omega (arith, more, short part page pages refl pin)
+follows_near call before after short (reads_next last next) near = omega arith
+follows_near call before after short (reads_last known last none few judged) near = judged_near call known after judged
+follows_near call before after short (misses front) near = tt
+follows_near call before after short (pages_on known one less judged) near = judged_near call known after judged
+follows_near call before after short creates near = tt
+follows_near call before after short appends near = tt
+follows_near call before after short (seals_on one more) near = tt
+follows_near call before after short (seals_last one all) near = tt
+follows_near call before after short (fails fault going) near = tt
+follows_near call before after short stays near = tt
+
+-- the pins of a running call are short
+pub step_near : (b : Board) (files : List File) (runs : List Slot) (values : List Contents) (k : ℕ) (slot left : Slot) → IsKept b files runs values → slice_get runs k ≡ Some slot
+    → Follows (run_call slot.run) (run_place slot.run) (run_place left.run) → IsNear (run_place left.run)
+step_near b files runs values k slot left kept at follows =
+    let its = its_call b files runs values k slot kept at in
+    let r : RunningCall = its.0 in
+    let pinned : IsPinned b.pins r = Every-at (IsPinned b.pins) b.running k r kept.sound.pinned.pinned its.1 in
+    let short : (part : ℕ) (pages : List Stamp) → pin_at (run_call slot.run).pins part ≡ Some pages → Reads (body_of (run_call slot.run).operation).statements part → length pages ≤ most_pages =
+    λ part pages pin reads. kept.short part pages (pinned part (subst (λ (c : Call). Reads (body_of c.operation).statements part) its.2 reads) ∙ subst (λ (c : Call). pin_at c.pins part ≡ Some pages) its.2 pin) in
+    follows_near (run_call slot.run) (run_place slot.run) (run_place left.run) (λ part page pages there pin. few_read slot.run part page pages (short part pages pin) there) follows
+    (Every-at (IsReady files) runs k slot kept.ready at).near
+
 -- the run itself after its step
-pub one_ready : (works : Bool) (old new : List File) (slot left : Slot) → Spares old new slot.run left.run → Makes works old new slot.run left.run → left.number ≡ slot.number → IsReady old slot → IsReady new left
-one_ready works old new slot left spares makes number ready = record {
+pub one_ready : (works : Bool) (old new : List File) (slot left : Slot) → Spares old new slot.run left.run → Makes works old new slot.run left.run → left.number ≡ slot.number → IsNear (run_place left.run) → IsReady old slot → IsReady new left
+one_ready works old new slot left spares makes number near ready = record {
   pen = makes.pen ready.pen;
-  pins = subst (PinsServed (λ s. Serves new s)) (sym spares.call) (λ part pin its. spares.serves pin (ready.pins part pin its));
+  pins = subst (PinsServed (λ s. Serves new s)) (sym spares.call) (λ part page reads pages stamp pin there. spares.serves stamp (ready.pins part page reads pages stamp pin there));
   written = makes.written ready.written;
   found = λ a agrees. makes.found ready.pen a agrees (ready.found a (spares.kept a agrees));
+  near = near;
   number = number ∙ ready.number ∙ ap (λ (c : Call). c.number) (sym spares.call);
 }
 
@@ -273,12 +326,15 @@ one_moves law works b old new runs values k slot left kept at more spares makes 
     let ready : IsReady old slot = Every-at (IsReady old) runs k slot kept.ready at in
     let a : Assignment = spares.some.0 in
     let before : HasFiles old a = spares.kept a spares.some.1 in
+    let near : IsNear (run_place left.run) = step_near b old runs values k slot left kept at makes.moves in
+    let whole : PinsAreWhole a (run_call slot.run) = run_whole b old runs values k slot a kept at before in
+    let after : SoFar a left.run = makes.found ready.pen a spares.some.1 (ready.found a before) in
     record {
       follows = makes.moves;
       works = λ on is. makes.works on ready.pen ready.pins (ending_by_place slot.run ∙ not_ended (run_place slot.run) more) (ending_by_place left.run ∙ is);
       fails = λ off. subst (FailsWith (run_place slot.run)) (ending_by_place left.run) (makes.fails off);
-      sound = λ is. not_damaged law b old runs values k slot left.run a kept at spares.call before (makes.found ready.pen a spares.some.1 (ready.found a before)) (ending_by_place left.run ∙ is);
-      falls = work_falls (run_call slot.run) (run_place slot.run) (run_place left.run) (run_within old slot.run ready.pen) (run_within new left.run (makes.pen ready.pen)) more makes.moves;
+      sound = λ is. not_damaged law b old runs values k slot left.run a kept at spares.call before after (ending_by_place left.run ∙ is);
+      falls = work_falls (run_call slot.run) (run_place slot.run) (run_place left.run) (run_within a slot.run ready.near whole (ready.found a before)) (run_within a left.run near (subst (PinsAreWhole a) (sym spares.call) whole) after) more makes.moves;
     }
 
 abbrev table : Board → List Contents → List File → List Standing → Scene

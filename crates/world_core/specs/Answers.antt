@@ -2,13 +2,16 @@
 use Rattle.std.specs.Prelude.{◌≡◌, ◌≢◌, ℕ, ◌+◌, ◌≤◌, ◌<◌, ◌⊎◌, ◌==◌, not, Bool, true, false, List, length, filter, slice_set, Some}
 use Rattle.std.specs.Global.{Vec}
 use Rattle.value_core.specs.Contents.{Contents}
+use Rattle.hand_core.specs.declared.hand.Stamp.{Stamp}
+use Rattle.hand_core.specs.Device.{Assignment}
 use Rattle.device_core.specs.declared.file.File.{File}
+use Rattle.page_core.specs.PartPins.{PartPin}
 use Rattle.apply_core.specs.declared.reply.Failure.TheVariants as failures
 use Rattle.apply_core.specs.declared.reply.Reply.{Reply}
 use Rattle.apply_core.specs.declared.reply.Reply.TheVariants as replies
 use Rattle.apply_core.specs.declared.need.Need.TheVariants as needs
-use Rattle.body_core.specs.Steps.{Place, Follows, FailsWith, need_at, ending_at, sealed_at, chunk}
-use Rattle.body_core.specs.Phases.{step_answer}
+use Rattle.run_core.specs.Steps.{Place, Follows, FailsWith, need_at, ending_at, sealed_at}
+use Rattle.run_core.specs.Phases.{IsRenewedBy, step_answer}
 use Rattle.apply_core.specs.History.{leads_to}
 use Rattle.board_core.specs.Lists.{Among}
 use Rattle.board_core.specs.Calls.{AcceptedCall, RunningCall}
@@ -23,20 +26,25 @@ use Rattle.world_core.specs.declared.event.Answer.{Answer}
 use Rattle.world_core.specs.declared.event.Answer.TheVariants.{Number, Stepped, Ended, Cancel, Dropped, Shown, Refused}
 use Rattle.world_core.specs.declared.event.EventAnswer.{EventAnswer}
 use Rattle.world_core.specs.Events.{WorldEvent, call, step, finish, cancel, leave, look}
-use Rattle.world_core.specs.Scene.{Scene, Standing, Goes, IsRunAt, call_running}
+use Rattle.world_core.specs.Scene.{Scene, Standing, AgreesWith, Goes, IsRunAt, call_running}
 use Rattle.world_core.specs.Work.{work_at}
 
 -- an answer, and how many calls the event started
 abbrev pub with_starts : Answer → ℕ → EventAnswer
 with_starts answer starts = record { answer = answer; starts = starts }
 
--- A step of a run by the rule of steps: one that works does not fail for the device, one that does not work fails, and no part is found damaged. It takes a chunk off what the run has to do.
+-- A step of a run by the rule of steps: one that works does not fail for the device, one that does not work fails, and no part is found damaged. It leaves the run less to do.
 pub record Moves (run : Standing) (is_to_work : Bool) (after : Place) : Type 0 where
   pub follows : Follows run.call run.place after
   pub works : is_to_work ≡ true → ending_at after ≢ Some (replies.Failed failures.Device)
   pub fails : is_to_work ≡ false → FailsWith run.place (ending_at after)
   pub sound : ending_at after ≢ Some (replies.Failed failures.Damaged)
-  pub falls : work_at after + chunk ≤ work_at run.place
+  pub falls : work_at after < work_at run.place
+
+-- What a run leaves that has ended so: where its body was done, its new pins are the lists of a plan, over the bytes that it read and those that the body changed; whatever the device agrees with.
+pub record Leaves (w : Scene) (run : Standing) (reply : Reply) (news : List PartPin) : Type 0 where
+  pub gone : List Stamp
+  pub renewed : (a : Assignment) → AgreesWith w a → IsRenewedBy a run.call reply (sealed_at run.place) news gone
 
 -- The answer to an event, and what it leaves. A refused event changes nothing.
 pub data Answers (old : Scene) : WorldEvent → EventAnswer → Scene → Type 0 where
@@ -50,9 +58,9 @@ pub data Answers (old : Scene) : WorldEvent → EventAnswer → Scene → Type 0
       (record old { runs = slice_set old.runs k (record run { place = after }); files = files })
   no_step : {number : ℕ} {works : Bool} (k : ℕ) (run : Standing) → IsRunAt old.runs k number run → need_at run.place ≡ needs.Done → Answers old (step number works) (with_starts (Refused NoStep) 0) old
   step_not_running : {number : ℕ} {works : Bool} → runs_in old.board number ≡ false → Answers old (step number works) (with_starts (Refused NotRunning) 0) old
-  -- a call finishes as its run has ended, and what that staged is published, if it was done
-  finished : {number starts : ℕ} {new : Scene} (k : ℕ) (r : RunningCall) (run : Standing) (reply : Reply) → Among r old.board.running → IsRunAt old.runs k number run → run.call ≡ call_running r → ending_at run.place ≡ Some reply
-      → Goes old (ended old.board (entry_of r reply (sealed_at run.place))) (filter (λ s. not (s.call.number == number)) old.runs) starts new
+  -- a call finishes as its run has ended, and the new pins that it leaves are published, if it was done
+  finished : {number starts : ℕ} {new : Scene} (k : ℕ) (r : RunningCall) (run : Standing) (reply : Reply) (news : List PartPin) → Among r old.board.running → IsRunAt old.runs k number run → run.call ≡ call_running r → ending_at run.place ≡ Some reply
+      → Leaves old run reply news → Goes old (ended old.board (entry_of r reply news)) (filter (λ s. not (s.call.number == number)) old.runs) starts new
       → Answers old (finish number) (with_starts (Ended reply) starts) new
   not_done : {number : ℕ} (k : ℕ) (run : Standing) → IsRunAt old.runs k number run → need_at run.place ≢ needs.Done → Answers old (finish number) (with_starts (Refused NotDone) 0) old
   finish_not_running : {number : ℕ} → runs_in old.board number ≡ false → Answers old (finish number) (with_starts (Refused NotRunning) 0) old

@@ -1,11 +1,14 @@
 -- What holds of the tables of a world.
-use Rattle.std.specs.Prelude.{◌≡◌, ◌≤◌, ℕ, true, false, List, take, drop, map, length, vec_capacity}
+use Rattle.std.specs.Prelude.{◌≡◌, ◌<◌, ◌≤◌, ℕ, true, false, List, take, drop, map, length, vec_capacity, slice_get, Some}
 use Rattle.value_core.specs.Contents.{Contents}
 use Rattle.device_core.specs.declared.file.File.{File}
-use Rattle.hand_core.specs.Device.{Assignment, AreServed}
+use Rattle.hand_core.specs.declared.hand.Stamp.{Stamp}
+use Rattle.hand_core.specs.Device.{Assignment}
 use Rattle.device_core.specs.Files.{HasFiles, IsOpen, Serves, files_of}
-use Rattle.body_core.specs.Runs.{run_call, run_place, run_sealed, PenHolds, SoFar, AreApart}
-use Rattle.body_core.specs.Steps.{PinsServed, NewsServed}
+use Rattle.run_core.specs.Runs.{run_call, run_place, run_sealed, PenHolds, SoFar, AreApart}
+use Rattle.page_core.specs.Cut.{most_pages}
+use Rattle.store_core.specs.Pages.{ArePinsServed}
+use Rattle.run_core.specs.Steps.{Place, at_read, at_page, at_create, at_append, at_seal, at_end, AreServed, PinsServed}
 use Rattle.board_core.specs.Lists.{Every, EachPair}
 use Rattle.board_core.specs.declared.event.TraceEvent.TheVariants.{Start}
 use Rattle.board_core.specs.Calls.{RunningCall, WaitingCall}
@@ -24,12 +27,26 @@ standing_of slot = record { call = run_call slot.run; place = run_place slot.run
 abbrev pub scene_of : Stage → Scene
 scene_of s = record { board = s.desk; opening = s.opening.items; files = files_of s.hand; runs = map standing_of s.runs.items }
 
+-- the page that is read there has one of the places that a page may have
+abbrev pub IsNear : Place → Type 0
+IsNear (at_read part page) = page < most_pages
+IsNear (at_page known part page) = page < most_pages
+IsNear (at_create writes sealed) = Unit {0}
+IsNear (at_append writes sealed) = Unit {0}
+IsNear (at_seal writes sealed) = Unit {0}
+IsNear (at_end reply sealed) = Unit {0}
+
+-- no pin has more pages than a part may have
+abbrev pub ArePinsShort : List (List Stamp) → Type 0
+ArePinsShort pins = (p : ℕ) (pages : List Stamp) → slice_get pins p ≡ Some pages → length pages ≤ most_pages
+
 -- A run can go on over these files: they hold what it appended, its pins and what it sealed can be read, and what it has found is true of each assignment that agrees.
 pub record IsReady (files : List File) (slot : Slot) : Type 0 where
   pub pen : PenHolds (λ n b. IsOpen files n b) slot.run
   pub pins : PinsServed (λ s. Serves files s) (run_call slot.run)
-  pub written : NewsServed (λ s. Serves files s) (run_sealed slot.run)
+  pub written : AreServed (λ s. Serves files s) (run_sealed slot.run)
   pub found : (a : Assignment) → HasFiles files a → SoFar a slot.run
+  pub near : IsNear (run_place slot.run)
   pub number : slot.number ≡ (run_call slot.run).number
 
 -- a board, files, and the runs of the first running calls, whose tickets were taken
@@ -41,7 +58,8 @@ pub record IsKept (b : Board) (files : List File) (runs : List Slot) (values : L
   pub calls : map (λ slot. run_call slot.run) runs ≡ map call_running (take (length runs) b.running)
   pub ready : Every (IsReady files) runs
   pub apart : EachPair (λ (x y : Slot). AreApart x.run y.run) runs
-  pub served : AreServed (λ s. Serves files s) b.pins
+  pub served : ArePinsServed (λ s. Serves files s) b.pins
+  pub short : ArePinsShort b.pins
   pub opening : (a : Assignment) → HasFiles files a → ShowContents a (kinds_of b.object) b.opening values
   pub entries : (a : Assignment) → HasFiles files a → Every (IsTrueEntry a) b.history
 

@@ -1,11 +1,10 @@
 -- Laws of lists of events.
-use Rattle.std.specs.Prelude.{◌≡◌, ◌≢◌, ℕ, ◌+◌, ◌≤◌, Bool, List, map}
+use Rattle.std.specs.Prelude.{◌≡◌, ◌≢◌, ℕ, ◌<◌, ◌≤◌, Bool, List, map}
 use Rattle.decl_core.specs.declared.object.Object.{Object}
 use Rattle.apply_core.specs.declared.reply.Failure.TheVariants as failures
 use Rattle.apply_core.specs.declared.reply.Reply.TheVariants as replies
 use Rattle.apply_core.specs.declared.need.Need.{Need}
-use Rattle.body_core.specs.declared.step.StepAnswer.{StepAnswer}
-use Rattle.body_core.specs.Steps.{chunk}
+use Rattle.run_core.specs.declared.step.StepAnswer.{StepAnswer}
 use Rattle.board_core.specs.Lists.{Every}
 use Rattle.board_core.specs.Calls.{Noted}
 use Rattle.world_core.specs.declared.event.Answer.TheVariants.{Stepped}
@@ -26,10 +25,10 @@ abbrev pub RepliesAreTold : Type 0
 RepliesAreTold = (o : Object) (old new : Scene) (events : List WorldEvent) (answers : List EventAnswer) → IsNew o old → Plays old events answers new →
     map (λ (e : Noted). (e.number, e.reply)) new.board.history ≡ finishes events answers
 
--- A step takes a chunk off what its run has to do.
+-- A step leaves its run less to do.
 abbrev pub StepsTakeWork : Type 0
 StepsTakeWork = (old new : Scene) (number : ℕ) (works : Bool) (a : EventAnswer) (need : Need) (answer : StepAnswer) → Answers old (step number works) a new → a.answer ≡ Stepped need answer →
-    work_of number new.runs + chunk ≤ work_of number old.runs
+    work_of number new.runs < work_of number old.runs
 
 -- No run has more to do than the most.
 abbrev pub WorkIsBounded : Type 0

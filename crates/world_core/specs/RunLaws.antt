@@ -2,8 +2,8 @@
 use Rattle.std.specs.Prelude.{◌≡◌, ℕ, List, Some}
 use Rattle.device_core.specs.declared.file.File.{File}
 use Rattle.device_core.specs.Files.{IsOpen}
-use Rattle.body_core.specs.declared.run.Run.{Run}
-use Rattle.body_core.specs.Runs.{run_pen, PenHolds}
+use Rattle.run_core.specs.declared.run.Run.{Run}
+use Rattle.run_core.specs.Runs.{run_pen, PenHolds}
 
 -- files hold what a run appended, where its file is as it was
 abbrev pub PensStay : Type 0

@@ -7,8 +7,8 @@ use Rattle.hand_core.specs.declared.hand.Stamp.{Stamp}
 use Rattle.device_core.specs.declared.file.File.{File}
 use Rattle.hand_core.specs.Device.{Assignment}
 use Rattle.device_core.specs.Files.{HasFiles}
-use Rattle.body_core.specs.Calls.{Call, call_of}
-use Rattle.body_core.specs.Steps.{Place, Starts}
+use Rattle.call_core.specs.Calls.{Call, call_of}
+use Rattle.run_core.specs.Steps.{Place, Starts}
 use Rattle.board_core.specs.Calls.{RunningCall}
 use Rattle.board_core.specs.Board.{Board, opened}
 use Rattle.board_core.specs.Sound.{kinds_of}
@@ -65,7 +65,7 @@ pub record IsRunAt (runs : List Standing) (k n : ℕ) (run : Standing) : Type 0 
 
 -- the world of an object before any event: no calls, each part with its opening value
 pub record IsNew (o : Object) (w : Scene) : Type 0 where
-  pub pins : List Stamp
+  pub pins : List (List Stamp)
   pub board : w.board ≡ opened o pins
   pub opening : w.opening ≡ map opening_of (kinds_of o)
   pub runs : w.runs ≡ []

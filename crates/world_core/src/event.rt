@@ -5,8 +5,8 @@ ghost use Rattle.world_core.specs.Names.{refusal_name};
 
 use apply_core::need::Need;
 use apply_core::reply::Reply;
-use body_core::step::StepAnswer;
 use desk_core::answer::{Cancelled, SubmitFault};
+use run_core::step::StepAnswer;
 use value_core::datum::Datum;
 use value_core::value::Value;
 

@@ -12,8 +12,8 @@ pub fn replies_are_told()
     ensures { RepliesAreTold }
 {}
 
-/// Each step of a run takes a chunk off what it has to do, and no run has more to do than the most. So each run ends after
-/// fewer than 2^59 steps.
+/// Each step of a run leaves it less to do, and no run has more to do than the most. So each run ends after at most 640
+/// steps: of 16 parts it reads 8 pages at first, and 8 that its body comes to, and writes as many, each in three steps.
 pub fn steps_take_work()
     ensures falls { StepsTakeWork }
     ensures most { WorkIsBounded }

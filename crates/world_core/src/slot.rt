@@ -1,16 +1,21 @@
 //! The run of a running call.
 
-ghost use Rattle.std.specs.Prelude.{◌≡◌, ◌≢◌, Some, None};
+ghost use Rattle.std.specs.Prelude.{◌≡◌, ◌≢◌, ◌≤◌, ℕ, List, length, Some, None};
+ghost use Rattle.decl_core.specs.Bodies.{body_of};
+ghost use Rattle.decl_core.specs.Touched.{Writes};
+ghost use Rattle.hand_core.specs.declared.hand.Stamp.{Stamp};
 ghost use Rattle.hand_core.specs.Device.{Assignment};
-ghost use Rattle.body_core.specs.Runs.{run_call, run_ending, run_sealed, SoFar};
-ghost use Rattle.body_core.specs.Outcomes.{outcome_call, outcome_reply, outcome_news, outcome_pins};
-ghost use Rattle.body_core.specs.Truths.{IsTrueOf};
+ghost use Rattle.page_core.specs.PartPins.{pin_at};
+ghost use Rattle.call_core.specs.Truths.{IsTrueOf, PinsAreWhole};
+ghost use Rattle.run_core.specs.Phases.{IsRenewedBy};
+ghost use Rattle.run_core.specs.Runs.{run_call, run_ending, run_sealed, SoFar};
+ghost use Rattle.run_core.specs.Outcomes.{outcome_call, outcome_reply, outcome_sealed, outcome_news, outcome_gone, outcome_pins, IsFresh};
 
-use body_core::outcome::Outcome;
-use body_core::perform::perform;
-use body_core::run::Run;
 use device_core::fuse::FuseHand;
 use device_core::memory::MemHand;
+use run_core::outcome::Outcome;
+use run_core::perform::perform;
+use run_core::run::Run;
 use std::alloc::Global;
 
 // A run, with the number of its call. A run has to be spent: one that is let go makes failing steps till it ends.
@@ -26,7 +31,11 @@ impl Slot {
         requires { run_ending self.run ≢ None }
         ensures call { outcome_call result ≡ run_call self.run }
         ensures reply { run_ending self.run ≡ Some (outcome_reply result) }
-        ensures news { outcome_news result ≡ run_sealed self.run }
+        ensures sealed { outcome_sealed result ≡ run_sealed self.run }
+        ensures renewed { (a : Assignment) → SoFar a self.run → PinsAreWhole a (outcome_call result) → IsRenewedBy a (outcome_call result) (outcome_reply result) (outcome_sealed result) (outcome_news result) (outcome_gone result) }
+        ensures fresh { IsFresh result }
+        ensures short { (p : ℕ) (pages : List Stamp) → pin_at (outcome_pins result) p ≡ Some pages → length pages ≤ 8 }
+        ensures writes { (p : ℕ) → pin_at (outcome_pins result) p ≢ None → Writes (body_of (outcome_call result).operation).statements p }
         ensures told { (a : Assignment) → SoFar a self.run → IsTrueOf a (outcome_call result) (outcome_reply result) (outcome_pins result) }
     {
         let Slot {
@@ -35,7 +44,11 @@ impl Slot {
             run,
         } = self;
         match run.outcome() {
-            Ok(outcome) => outcome,
+            Ok(outcome) => {
+                // Each of its new pins has 8 pages at most.
+                let _news = outcome.new_pins();
+                outcome
+            }
             Err(run) => {
                 give_up(alloc, run);
                 unreachable!()

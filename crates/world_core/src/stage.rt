@@ -7,9 +7,9 @@ ghost use Rattle.device_core.specs.Files.{HasFiles, IsOpen, Serves, files_of};
 ghost use Rattle.apply_core.specs.declared.reply.Failure.TheVariants as failures;
 ghost use Rattle.apply_core.specs.declared.reply.Reply.TheVariants as replies;
 ghost use Rattle.apply_core.specs.declared.need.Need.TheVariants as needs;
-ghost use Rattle.body_core.specs.Runs.{run_call, run_ending, run_place, run_sealed, run_pen, PenHolds, SoFar};
-ghost use Rattle.body_core.specs.Steps.{Starts, Follows, FailsWith, PinsServed, NewsServed};
-ghost use Rattle.body_core.specs.Phases.{step_answer};
+ghost use Rattle.run_core.specs.Runs.{run_call, run_ending, run_place, run_sealed, run_pen, PenHolds, SoFar};
+ghost use Rattle.run_core.specs.Steps.{Starts, Follows, FailsWith, AreServed, PinsServed};
+ghost use Rattle.run_core.specs.Phases.{step_answer};
 ghost use Rattle.apply_core.specs.History.{leads_to};
 ghost use Rattle.board_core.specs.Lists.{Every};
 ghost use Rattle.board_core.specs.Calls.{RunningCall, WaitingCall};
@@ -29,12 +29,12 @@ use crate::slot::Slot;
 use apply_core::need::Need;
 use board_core::event::TraceEvent;
 use board_core::laws::{chained_are_legal, truth_is_noted};
-use body_core::run::Run;
-use body_core::step::StepAnswer;
 use desk_core::answer::{Cancelled, Collected};
 use desk_core::desk::Desk;
 use device_core::fuse::FuseHand;
 use device_core::memory::MemHand;
+use run_core::run::Run;
+use run_core::step::StepAnswer;
 use std::alloc::{AllocError, Global};
 use std::mem;
 use value_core::datum::Datum;
@@ -92,7 +92,7 @@ fn step_run(alloc: Global, hand: &mut MemHand, run: &mut Run, works: bool) -> St
     ensures unused { (n : ℕ) → run_pen run.new ≡ Some n → (run_pen run.old ≡ Some n) ⊎ IsFree (λ a. HasFiles (files_of hand.new) a) (λ n b. IsOpen (files_of hand.old) n b) n }
     ensures others { (n : ℕ) (b : List ℕ) → run_pen run.old ≢ Some n → IsOpen (files_of hand.old) n b → IsOpen (files_of hand.new) n b }
     ensures serves { (s : Stamp) → Serves (files_of hand.old) s → Serves (files_of hand.new) s }
-    ensures written { NewsServed (λ s. Serves (files_of hand.old) s) (run_sealed run.old) → NewsServed (λ s. Serves (files_of hand.new) s) (run_sealed run.new) }
+    ensures written { AreServed (λ s. Serves (files_of hand.old) s) (run_sealed run.old) → AreServed (λ s. Serves (files_of hand.new) s) (run_sealed run.new) }
     ensures works { works ≡ true → PenHolds (λ n b. IsOpen (files_of hand.old) n b) run.old → PinsServed (λ s. Serves (files_of hand.old) s) (run_call run.old) → run_ending run.old ≡ None → run_ending run.new ≡ Some (replies.Failed failures.Device) → ⊥ }
     ensures fails { works ≡ false → FailsWith (run_place run.old) (run_ending run.new) }
     ensures answer { result ≡ step_answer (run_ending run.old) (run_ending run.new) }

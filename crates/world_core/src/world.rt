@@ -2,12 +2,10 @@
 
 ghost use Rattle.std.specs.Prelude.{◌≡◌, List, IfOk, map};
 ghost use Rattle.board_core.specs.Board.{Rests};
-ghost use Rattle.board_core.specs.Sound.{IsSound};
 ghost use Rattle.world_core.specs.declared.event.EventAnswer.{EventAnswer as AnAnswer};
 ghost use Rattle.world_core.specs.Events.{event_of};
 ghost use Rattle.world_core.specs.Scene.{IsNew};
 ghost use Rattle.world_core.specs.Answers.{Answers};
-ghost use Rattle.world_core.specs.Plays.{Plays};
 ghost use Rattle.world_core.specs.Headline.{IsSequential, EveryHistoryIsSequential};
 
 use crate::event::{Event, EventAnswer};
@@ -17,9 +15,9 @@ use desk_core::desk::Desk;
 use device_core::mem_shelf::MemShelf;
 use device_core::memory::MemHand;
 use exclude_core::analyse::Accepted;
-use shelf_core::open::open_parts;
 use std::alloc::{AllocError, Global};
 use std::marker::Model;
+use store_core::open::open_parts;
 use value_core::value::Value;
 
 /// An object, its desk, the runs of its calls, and one device in memory. It has to be spent, by [`World::end`].

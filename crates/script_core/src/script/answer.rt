@@ -12,10 +12,10 @@ ghost use Rattle.script_core.specs.Does.{Does, Happens, IsNoWant, IsTold, answer
 
 use crate::script::steps::step_to_end;
 use board_core::event::TraceEvent;
-use body_core::step::StepAnswer;
 use decl_core::object::Object;
 use desk_core::answer::{Cancelled, SubmitFault};
 use desk_core::desk::Desk;
+use run_core::step::StepAnswer;
 use script_text::answers::{
     push_all_stepped, push_called, push_cancelled, push_dropped, push_finished, push_refused,
     push_shown, push_started, push_stepped,

@@ -26,7 +26,7 @@ pub fn step_to_end(world: &mut World, number: u32) -> u64
     requires { runs_in world.old.board number ≡ true }
     ensures { StepsOn number world.old result world.new }
 {
-    // There are fewer than 2^59.
+    // There are at most 640.
     steps_take_work();
     let mut count = 0;
     'steps: while step_once(world, number) {

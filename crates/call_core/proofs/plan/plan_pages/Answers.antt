@@ -4,7 +4,7 @@ use Rattle.decl_core.specs.Bodies.{body_of}
 use Rattle.decl_core.proofs.Footprints.{writes_are_reads}
 use Rattle.call_core.specs.Planned.{IsPlanned}
 use Rattle.call_core.proofs.Changing.{are_within, are_known}
-use Rattle.call_core.proofs.Renewals.{planned_from_empty, counts_are, each_place}
+use Rattle.call_core.proofs.Renewals.{planned_from_empty, counts_are, each_place, renewals_short}
 use Rattle.call_core.proofs.plan.plan_pages.Goals as goal
 
 pub plan_from-requires-clause-within : goal.plan_from-requires-clause-within
@@ -26,7 +26,9 @@ invariant_of-result c =
     record {
       counted = counts_are c.args.task.now.pins c.args.read.now c.args.changes.now c.plan_from.new.counts c.plan_from.new.stamps.items c.plan_from.new.writes.items c.plan_from.new.gone.items plan;
       placed = each_place plan.parts c.plan_from.new.stamps.items c.plan_from.new.writes.items c.plan_from.new.gone.items plan.plans;
+      short = renewals_short c.args.task.now.pins c.args.read.now 0 c.args.changes.now plan.parts c.plan_from.new.counts plan.renewals;
       few = omega (arith, ap length c.in-Ok-with_capacity.ensures.items);
+      twice = (c.in-Ok-with_capacity-2.ensures.items, omega (arith, c.in-Ok-with_capacity-2.ensures.capacity, c.len-2.ensures, c.plan_from.new.stamps.ok.0));
       room = omega (arith, c.in-Ok-with_capacity.ensures.capacity, c.len.ensures, c.plan_from.new.writes.ok.0);
     }
 

@@ -4,7 +4,7 @@ use Rattle.std.proofs.lemmas.Option.{slice_get-get_or}
 use Rattle.decl_core.specs.declared.object.Operation.{Operation}
 use Rattle.board_core.specs.Board.{bodies}
 use Rattle.desk_core.specs.Answers.{HasName}
-use Rattle.desk_core.proofs.Starting.{Every-more}
+use Rattle.queue_core.proofs.Fronts.{Every-more}
 use Rattle.board_core.proofs.Made.{body_at}
 use Rattle.board_core.proofs.Traces.{true_false}
 use Rattle.desk_core.proofs.find.place_of.Goals as goal

@@ -1,8 +1,11 @@
 use Rattle.std.proofs.Common.{◌≡◌, List, ◌++◌, length, ap, sym, ◌∙◌, subst, arith}
 use Rattle.hand_core.specs.declared.hand.Stamp.{Stamp}
 use Rattle.page_core.specs.declared.plan.PageWrite.{PageWrite}
-use Rattle.page_core.specs.PartPins.{pins_by}
+use Rattle.page_core.specs.PartPins.{pins_by, count_pages}
 use Rattle.page_core.specs.Renewed.{AreSealed, ArePlaces, with_sealed}
+use Rattle.page_core.proofs.PartRows.{count_by}
+use Rattle.call_core.specs.Planned.{AreSized}
+use Rattle.call_core.proofs.Sizes.{sized_by}
 use Rattle.run_core.proofs.WritingAll.{all_places, sealed_long}
 use Rattle.run_core.proofs.at_once.write_all.Goals as goal
 
@@ -15,6 +18,19 @@ put_sealed-requires g c =
 
 pub from_counts-news-requires : goal.from_counts-news-requires
 from_counts-news-requires g c = c.args.pages.counted ∙ sym (ap length c.put_sealed.ensures ∙ sealed_long c.args.pages.stamps.items c.deref-2.result.now c.deref-3.result.now)
+
+pub copy_into-entry-requires-clause-room : goal.copy_into-entry-requires-clause-room
+copy_into-entry-requires-clause-room g c =
+    let long = ap length c.put_sealed.ensures ∙ sealed_long c.args.pages.stamps.items c.deref-2.result.now c.deref-3.result.now in
+    omega (arith, c.args.pages.twice.1, long, count_by 0 c.args.pages.counts c.put_sealed.new.stamps.items (c.args.pages.counted ∙ sym long), ap count_pages c.from_counts-news.ensures)
+
+pub invariant_of-left : goal.invariant_of-left
+invariant_of-left g c =
+    let long = ap length c.put_sealed.ensures ∙ sealed_long c.args.pages.stamps.items c.deref-2.result.now c.deref-3.result.now in
+    record {
+      twice = c.copy_into-entry.ensures;
+      sized = subst AreSized (sym c.from_counts-news.ensures) (sized_by 0 c.args.pages.counts c.put_sealed.new.stamps.items (c.args.pages.counted ∙ sym long) c.args.pages.short);
+    }
 
 pub returns-clause-news : goal.returns-clause-news
 returns-clause-news g c =

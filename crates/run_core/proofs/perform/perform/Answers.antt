@@ -46,3 +46,9 @@ returns-in-Ok-clause-rises g c = λ up. some_same (sym c.in-Ok.ensures.reply ∙
 
 pub returns-in-Ok-clause-written : goal.returns-in-Ok-clause-written
 returns-in-Ok-clause-written g c = λ was. subst (AreServed (g.H.Hand.serves c.loop-outcome.hand)) (sym c.in-Ok.ensures.sealed) (c.loop-outcome.invariant.written was)
+
+pub returns-in-Ok-clause-told : goal.returns-in-Ok-clause-told
+returns-in-Ok-clause-told g c = λ holds a agrees so. c.in-Ok.ensures.told a (c.loop-outcome.invariant.found holds a agrees so)
+
+pub returns-in-Ok-clause-renewed : goal.returns-in-Ok-clause-renewed
+returns-in-Ok-clause-renewed g c = λ holds a agrees so. c.in-Ok.ensures.renewed a (c.loop-outcome.invariant.found holds a agrees so)

@@ -1,10 +1,12 @@
-use Rattle.std.proofs.Common.{subst, sym}
-use Rattle.board_core.specs.Lists.{Every}
-use Rattle.slip_core.specs.Slips.{IsTrueTold}
+use Rattle.slip_core.specs.Slips.{told_by}
+use Rattle.talk_core.proofs.Truths.{more_true}
+use Rattle.session_core.proofs.Telling.{as_true}
 use Rattle.session_core.proofs.work.serve_at.Goals as goal
 
 pub returns-clause-told : goal.returns-clause-told
-returns-clause-told g c = λ are a h.
-    let later = c.put_off.ensures a h in
-    c.keep.ensures a (subst (Every (IsTrueTold a)) (sym c.make_room.ensures.same) (are a (c.retire_left.ensures a (c.performed-outcome.ensures.kept a later))))
-    (c.performed-outcome.ensures.told a later)
+returns-clause-told g c =
+    let f = c.completed-finished.result in
+    let o = c.completed-finished.new.outcome in
+    more_true g.H.Hand.agrees c.args.worked.now.hand c.performed-outcome.new.hand c.put_off.new.hand c.args.worked.now.receipts.items c.make_room.new.receipts.items c.keep.new.receipts.items (told_by f.place f.session o)
+    c.make_room.ensures.same c.keep.ensures (λ a later. c.retire_left.ensures a (c.performed-outcome.ensures.kept a later)) c.put_off.ensures
+    (λ a later. as_true a c.performed-outcome.result o c.completed-finished.ensures (c.performed-outcome.ensures.told a later))

@@ -1,5 +1,5 @@
 use Rattle.device_core.specs.Files.{IsOpen}
-use Rattle.body_core.proofs.Pens.{pending_of}
+use Rattle.run_core.proofs.Pens.{pending_of}
 use Rattle.world_core.proofs.pens.pens_are_open.Goals as goal
 
 pub returns : goal.returns

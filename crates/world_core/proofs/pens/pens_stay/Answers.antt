@@ -1,5 +1,5 @@
 use Rattle.device_core.specs.Files.{IsOpen}
-use Rattle.body_core.proofs.Pens.{kept}
+use Rattle.run_core.proofs.Pens.{kept}
 use Rattle.world_core.proofs.pens.pens_stay.Goals as goal
 
 pub returns : goal.returns

@@ -4,7 +4,7 @@ use Rattle.path_tree.specs.Satisfies.{MayStart}
 use Rattle.path_count.specs.Stands.{StandsFor, started_calls}
 use Rattle.board_core.specs.declared.event.TraceEvent.TheVariants.{Start}
 use Rattle.board_core.specs.Calls.{WaitingCall, RunningCall}
-use Rattle.board_core.specs.Board.{Board, started, IsNext, paths_of, past_of}
+use Rattle.board_core.specs.Board.{Board, started, IsNext, paths_of, past_of, read_pins}
 use Rattle.desk_core.specs.Kept.{board_of, events_of, IsMarkIn}
 use Rattle.desk_core.specs.declared.marks.Mark.TheVariants as marks
 use Rattle.board_core.specs.Lists.{Every}
@@ -35,7 +35,7 @@ invariant_of-self c =
     let yes = (c.start.ensures.answer n (paths_of b) (past_of b) c.self.invariant.stands).1
     (subst (λ op. (op < n) × MayStart (paths_of b) op (past_of b) × (started_calls (past_of b) < 65536)) (sym asked.1) (op_within b w sound next.waits, next.may, less)) in
     let after = c.start.ensures.taken yes n (paths_of b) (past_of b) (as_path w.number w.call) c.self.invariant.stands (sym asked.1) at.fresh in
-    let one : RunningCall = record { number = w.number; call = w.call; pins = b.pins; taken = false } in
+    let one : RunningCall = record { number = w.number; call = w.call; pins = read_pins w.call.operation b.pins; taken = false } in
     let t = ap length c.note_start.ensures.items ∙ length-append all (marks.Start c.asked_at-number.result.0 ∷ []) in
     let r = ap length running ∙ length-append b.running (one ∷ []) in
     let wl = ap (λ (x : Board). length x.waiting) made in

@@ -7,14 +7,15 @@ use Rattle.board_core.specs.Board.{Board, taken_at}
 use Rattle.desk_core.specs.Kept.{board_of}
 use Rattle.board_core.specs.Sound.{IsSound}
 use Rattle.board_core.proofs.Sound.{sound-taken}
-use Rattle.desk_core.proofs.Starting.{has_pins}
+use Rattle.desk_core.proofs.Starting.{has_pins, read_again}
 use Rattle.desk_core.proofs.Tables.{taken_is}
 use Rattle.desk_core.proofs.roster.Roster.collect.Goals as goal
 
 pub ticket_at-requires : goal.ticket_at-requires
 ticket_at-requires c = record {
   place = slice_get_within c.self.inside.running.items c.args.place c.requires.0 (subst (λ (x : Board). slice_get x.running c.args.place ≡ Some c.requires.0) (sym c.self.view_is) c.requires.1);
-  pins = λ r is. has_pins (board_of c.self.inside) c.args.place r c.self.invariant.sound is;
+  few = omega (arith, c.self.invariant.sound.pinned.each, c.self.inside.accepted.few);
+  pins = λ r is. (read_again (board_of c.self.inside) c.args.place r c.self.invariant.sound is, has_pins (board_of c.self.inside) c.args.place r c.self.invariant.sound is);
 }
 
 pub invariant_of-self : goal.invariant_of-self

@@ -5,4 +5,4 @@ use Rattle.run_core.proofs.outcome.Outcome.new_pins.Goals as goal
 
 pub returns-in-Done-clause-inside : goal.returns-in-Done-clause-inside
 returns-in-Done-clause-inside c = λ p has.
-    surely_written (body_of (arc_value c.args.self.now.operation)).statements p (c.args.self.now.inside p (done_has c.args.self.now.reply c.args.self.now.left.news p has))
+    surely_written (body_of (arc_value c.args.self.now.operation)).statements p (c.args.self.now.inside p (done_has c.args.self.now.reply c.args.self.now.news p has))

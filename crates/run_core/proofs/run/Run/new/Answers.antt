@@ -8,4 +8,5 @@ pub invariant_of-result : goal.invariant_of-result
 invariant_of-result c = record {
   inside = λ p has none. none (c.first_phase-phase.ensures.news p has);
   reading = starts_reads _ _ c.first_phase-phase.ensures.starts;
+  reads = c.first_phase-phase.ensures.reads;
 }

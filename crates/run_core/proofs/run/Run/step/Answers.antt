@@ -1,7 +1,8 @@
 use Rattle.std.proofs.Common.{◌≡◌, ◌⊎◌, inl, inr, Some, rules, ap, sym, subst, ◌∙◌}
+use Rattle.std.specs.Arc.{arc_value}
 use Rattle.hand_core.specs.Device.{IsFree}
 use Rattle.page_core.specs.PartPins.{pin_at}
-use Rattle.run_core.specs.Phases.{ending_of, news_in, pen_in, PenHoldsIn, FoundBy}
+use Rattle.run_core.specs.Phases.{ending_of, news_in, pen_in, PenHoldsIn, HasItsReads, FoundBy}
 use Rattle.run_core.specs.Calling.{StepMakes}
 use Rattle.run_core.specs.Steps.{ReadsItsPart, place_in}
 use Rattle.call_core.specs.Tasks.{task_call}
@@ -19,7 +20,13 @@ invariant_of-self g c =
         | inr writes ↦ none writes
       ];
       reading = step_reads (task_call c.args.self.now.task) _ _ _ _ before after c.advance-phase.ensures.steps c.args.self.now.reading;
+      reads = subst (λ ph. HasItsReads (arc_value c.args.self.now.task.operation) ph) (sym after) c.advance-phase.ensures.reads;
     }
+
+pub advance-phase-requires : goal.advance-phase-requires
+advance-phase-requires g c =
+    let before : c.replace-phase.result ≡ c.args.self.now.phase = search rules in
+    subst (λ ph. HasItsReads (arc_value c.args.self.now.task.operation) ph) (sym before) c.args.self.now.reads
 
 pub returns-clause-unused : goal.returns-clause-unused
 returns-clause-unused g c = λ n is.
@@ -58,7 +65,7 @@ pub returns-clause-ended : goal.returns-clause-ended
 returns-clause-ended g c = λ over.
     let before : c.replace-phase.result ≡ c.args.self.now.phase = search rules in
     let after : c.replace-old.new.dest ≡ c.advance-phase.result.0 = search rules in
-    same_run c.args.self.now _ _ _ (after ∙ c.advance-phase.ensures.ended (λ none. over (ap ending_of (sym before) ∙ none)) ∙ before)
+    same_run c.args.self.now _ _ _ _ (after ∙ c.advance-phase.ensures.ended (λ none. over (ap ending_of (sym before) ∙ none)) ∙ before)
 
 pub returns-clause-found : goal.returns-clause-found
 returns-clause-found g c = λ holds a agrees so.
@@ -66,6 +73,6 @@ returns-clause-found g c = λ holds a agrees so.
     let before : c.replace-phase.result ≡ c.args.self.now.phase = search rules in
     let after : c.replace-old.new.dest ≡ c.advance-phase.result.0 = search rules in
     record {
-      found = subst (λ ph. FoundBy a call ph) (sym after)
-          (c.advance-phase.ensures.found (subst (λ ph. PenHoldsIn (g.H.Hand.pending c.args.hand.now) ph) (sym before) holds) a agrees (subst (λ ph. FoundBy a call ph) (sym before) so.found));
+      found = λ whole. subst (λ ph. FoundBy a call ph) (sym after)
+          (c.advance-phase.ensures.found (subst (λ ph. PenHoldsIn (g.H.Hand.pending c.args.hand.now) ph) (sym before) holds) a agrees whole (subst (λ ph. FoundBy a call ph) (sym before) (so.found whole)));
     }

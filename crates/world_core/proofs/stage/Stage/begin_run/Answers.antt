@@ -1,6 +1,6 @@
 use Rattle.std.proofs.Common.{◌≡◌, sym, ◌∙◌, ap, subst, length}
 use Rattle.device_core.specs.Files.{files_of}
-use Rattle.body_core.specs.Runs.{run_call}
+use Rattle.run_core.specs.Runs.{run_call}
 use Rattle.board_core.specs.Calls.{RunningCall}
 use Rattle.board_core.specs.Board.{Board, taken_at}
 use Rattle.board_core.specs.Sound.{IsSound}
@@ -26,7 +26,7 @@ returns-clause-kept c =
     let slot : ASlot = record { alloc = old.alloc; number = c.args.number; run = c.new-run.result } in
     let call : run_call c.new-run.result ≡ call_running r = c.new-run.ensures.call ∙ found.1 in
     let sound : IsSound (taken_at old.desk (length old.runs.items) r) = subst IsSound found.0 c.history.ensures.sound in
-    let ready = begun_ready old.desk (files_of old.hand) (length old.runs.items) r slot c.requires.kept.sound next.1 c.requires.kept.served call (sym next.2) c.new-run.ensures.pen c.new-run.ensures.sealed c.new-run.ensures.fresh in
+    let ready = begun_ready old.desk (files_of old.hand) (length old.runs.items) r slot c.requires.kept.sound next.1 c.requires.kept.served call (sym next.2) c.new-run.ensures.pen c.new-run.ensures.sealed c.new-run.ensures.starts c.new-run.ensures.fresh in
     let all = one_begun old.desk (files_of old.hand) old.runs.items old.opening.items r slot c.requires.kept next.1 sound call ready c.new-run.ensures.pen in
     subst (λ (b : Board). IsKept b (files_of old.hand) c.push_reserved.new.self.items old.opening.items) (sym found.0)
     (subst (λ runs. IsKept (taken_at old.desk (length old.runs.items) r) (files_of old.hand) runs old.opening.items) (sym c.push_reserved.ensures.items) all)

@@ -3,8 +3,8 @@ use Rattle.std.specs.Prelude.{slice_get}
 use Rattle.std.proofs.lemmas.Option.{slice_get_within, get_or_from_slice_get}
 use Rattle.device_core.specs.Files.{files_of}
 use Rattle.apply_core.specs.declared.need.Need.TheVariants as needs
-use Rattle.body_core.specs.Runs.{run_ending, run_place}
-use Rattle.body_core.specs.Steps.{need_at}
+use Rattle.run_core.specs.Runs.{run_ending, run_place}
+use Rattle.run_core.specs.Steps.{need_at}
 use Rattle.board_core.specs.Lists.{Every}
 use Rattle.world_core.specs.declared.event.EventAnswer.{EventAnswer}
 use Rattle.world_core.specs.declared.slot.Slot.{Slot}

@@ -4,10 +4,10 @@ use Rattle.std.proofs.lemmas.Option.{slice_get_within, get_or_from_slice_get}
 use Rattle.device_core.specs.Files.{files_of}
 use Rattle.apply_core.specs.declared.need.Need.{Need}
 use Rattle.apply_core.specs.declared.need.Need.TheVariants as needs
-use Rattle.body_core.specs.declared.step.StepAnswer.{StepAnswer}
-use Rattle.body_core.specs.Runs.{run_ending, run_place}
-use Rattle.body_core.specs.Phases.{step_answer}
-use Rattle.body_core.specs.Steps.{need_at}
+use Rattle.run_core.specs.declared.step.StepAnswer.{StepAnswer}
+use Rattle.run_core.specs.Runs.{run_ending, run_place}
+use Rattle.run_core.specs.Phases.{step_answer}
+use Rattle.run_core.specs.Steps.{need_at}
 use Rattle.board_core.specs.Lists.{Every}
 use Rattle.board_core.proofs.Lists.{Every-at}
 use Rattle.board_core.proofs.Traces.{true_false}
@@ -19,7 +19,7 @@ use Rattle.world_core.specs.Events.{step}
 use Rattle.world_core.specs.Kept.{IsReady, scene_of, standing_of}
 use Rattle.world_core.specs.Scene.{IsRunAt}
 use Rattle.world_core.proofs.Places.{length_set}
-use Rattle.world_core.proofs.Stepping.{Spares, Makes, not_running, run_at, one_ready, one_moves, runs_stepped, step_answers}
+use Rattle.world_core.proofs.Stepping.{Spares, Makes, not_running, run_at, step_near, one_ready, one_moves, runs_stepped, step_answers}
 use Rattle.world_core.proofs.stage.Stage.step.Goals as goal
 
 pub returns-in-None-clause-answers : goal.returns-in-None-clause-answers
@@ -96,7 +96,8 @@ returns-clause-staged c =
     let makes : Makes c.args.works (files_of c.args.self.now.hand) (files_of c.step_run-answer.new.hand) own.run left.run =
     record { found = e.found; pen = e.pen; moves = e.moves; written = e.written; works = e.works; fails = e.fails } in
     let ready : IsReady (files_of c.step_run-answer.new.hand) left =
-    one_ready c.args.works (files_of c.args.self.now.hand) (files_of c.step_run-answer.new.hand) own left spares makes refl (Every-at (IsReady (files_of c.args.self.now.hand)) runs k own c.requires.staged.kept.ready at) in
+    one_ready c.args.works (files_of c.args.self.now.hand) (files_of c.step_run-answer.new.hand) own left spares makes refl
+    (step_near c.args.self.now.desk (files_of c.args.self.now.hand) runs c.args.self.now.opening.items k own left c.requires.staged.kept at e.moves) (Every-at (IsReady (files_of c.args.self.now.hand)) runs k own c.requires.staged.kept.ready at) in
     record {
       kept = runs_stepped c.pens_stay.ensures c.pens_are_open.ensures c.args.self.now.desk (files_of c.args.self.now.hand) (files_of c.step_run-answer.new.hand) runs c.args.self.now.opening.items k own left
           c.requires.staged.kept at spares ready;

@@ -1,5 +1,0 @@
-use Rattle.std.proofs.Common.{length}
-use Rattle.body_core.proofs.files.+append_all.Given as goal
-
-abbrev pub decreases-append_all : goal.decreases-append_all
-decreases-append_all g l = length l.bytes.now

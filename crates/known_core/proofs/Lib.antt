@@ -1,0 +1,10 @@
+pub mod Agreeing
+pub mod Keeping
+pub mod Telling
+pub mod Courses
+pub mod Totals
+pub mod Filling
+pub mod Missing
+pub mod Full
+pub mod Fitting
+pub mod AllKnown

@@ -1,0 +1,10 @@
+use Rattle.std.proofs.Common.{◌≡◌, map, drop}
+use Rattle.value_core.specs.Contents.{kind_of}
+use Rattle.known_core.specs.Masks.{known_by}
+use Rattle.apply_core.specs.Fitting.{TermsFit}
+use Rattle.known_core.specs.Sums.{seeing, with_terms}
+use Rattle.known_core.proofs.eval.+evaluating.Given as goal
+
+abbrev pub invariant-sum-loop-term : goal.invariant-sum-loop-term
+invariant-sum-loop-term l =
+    TermsFit (map kind_of l.parts) (drop l.term-index l.terms) × (with_terms (known_by l.known) (seeing l.args l.parts) l.total (drop l.term-index l.terms) ≡ with_terms (known_by l.known) (seeing l.args l.parts) l.first l.terms)

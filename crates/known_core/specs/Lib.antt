@@ -1,0 +1,9 @@
+pub mod Known
+pub mod Partly
+pub mod Laws
+pub mod Masks
+pub mod Wanted
+pub mod Breaks
+pub mod Sums
+pub mod Filled
+pub mod PageRow

@@ -1,0 +1,275 @@
+//! Expressions and conditions, evaluated on what is known of the values of parts.
+
+ghost use Rattle.std.specs.Prelude.{◌≡◌, ◌<◌, length, map, IfOk};
+ghost use Rattle.value_core.specs.Contents.{kind_of};
+ghost use Rattle.value_core.specs.Datum.{elem_of};
+ghost use Rattle.decl_core.specs.View.{from_of, integers_of, texts_of, form_of, condition_of};
+ghost use Rattle.decl_core.specs.Sorts.{sort_of_form};
+ghost use Rattle.decl_core.specs.Meaning.{part_at, argument_at, integer_in as in_integer, text_in as in_text, compares as related};
+ghost use Rattle.known_core.specs.Partly.{if_known as where_known, datum_known, integer_known, text_known, value_known, holds_known};
+ghost use Rattle.known_core.specs.Masks.{known_by};
+ghost use Rattle.known_core.specs.Breaks.{given};
+ghost use Rattle.known_core.specs.declared.eval.Break.TheVariants.{Refused};
+ghost use Rattle.apply_core.specs.Fitting.{kind_at, FromFits, IntegersFit, TextsFit, SignedFits, TermsFit, FormFits, ConditionFits};
+ghost use Rattle.known_core.specs.Sums.{seeing, with_signed, with_terms};
+
+use crate::pages::Pages;
+use decl_core::expr::{Expr, IntegerExpr, Signed, Source, TextExpr};
+use decl_core::id::{ParamId, PartId};
+use decl_core::stmt::{Cond, Relation};
+use value_core::arithmetic::{add, sub};
+use value_core::datum::Datum;
+use value_core::refusal::Refusal;
+use value_core::text::Text;
+use value_core::value::Value;
+
+/// Why an expression has no value.
+#[derive(Clone, Copy)]
+pub enum Break {
+    /// An operation on a value refused it.
+    Refused(Refusal),
+    /// It comes to this element of this part, which is not known.
+    Needs(PartId, u32),
+}
+
+impl From<Refusal> for Break {
+    ghost from_gives = { λ refusal b. b ≡ Refused refusal };
+
+    fn from(refusal: Refusal) -> Break {
+        Break::Refused(refusal)
+    }
+}
+
+// This datum, where the element is known.
+fn if_known(part: PartId, index: u32, datum: Datum, known: &Pages) -> Result<Datum, Break>
+    ensures { where_known (known_by known.now) part index datum ≡ given result }
+{
+    if known.has(part, index) {
+        Ok(datum)
+    } else {
+        Err(Break::Needs(part, index))
+    }
+}
+
+// The value of a part.
+fn value_of(parts: &[Value], part: PartId) -> &Value
+    requires { part < length (map kind_of parts.now) }
+    ensures value { result.now ≡ part_at parts.now part }
+    ensures kind { kind_of result.now ≡ kind_at (map kind_of parts.now) part }
+{
+    &parts[part.place() as usize]
+}
+
+// The argument for a parameter.
+fn argument(args: &[Datum], param: ParamId) -> Datum
+    ensures { result ≡ argument_at args.now param }
+{
+    match args.get(param as usize) {
+        Some(datum) => *datum,
+        None => Datum::Integer(0),
+    }
+}
+
+// What stands where an integer is due.
+fn integer_in(datum: Datum) -> u32
+    ensures { result ≡ in_integer datum }
+{
+    match datum {
+        Datum::Integer(n) => n,
+        Datum::Text(_) => 0,
+    }
+}
+
+// What stands where a text is due.
+fn text_in(datum: Datum) -> Text
+    ensures { result ≡ in_text datum }
+{
+    match datum {
+        Datum::Integer(_) => Text::empty(),
+        Datum::Text(text) => text,
+    }
+}
+
+// What is taken from there.
+#[cycle(evaluating)]
+fn from(source: &Source, args: &[Datum], parts: &[Value], known: &Pages) -> Result<Datum, Break>
+    requires fits { FromFits (map kind_of parts.now) (from_of source.now) }
+    ensures { datum_known (known_by known.now) (seeing args.now parts.now) (from_of source.now) ≡ given result }
+{
+    match source {
+        Source::Parameter(param) => Ok(argument(args, *param)),
+        Source::Element(part, index) => {
+            let index = integer(index, args, parts, known)?;
+            let datum = value_of(parts, *part).element(index)?;
+            if_known(*part, index, datum, known)
+        }
+        Source::First(part) => {
+            let datum = value_of(parts, *part).first()?;
+            Ok(datum)
+        }
+        Source::Lookup(part, key) => {
+            let key = text(key, args, parts, known)?;
+            let datum = value_of(parts, *part).lookup(&key)?;
+            Ok(datum)
+        }
+    }
+}
+
+// The value of an expression that is an integer.
+#[cycle(evaluating)]
+pub(crate) fn integer(
+    e: &IntegerExpr,
+    args: &[Datum],
+    parts: &[Value],
+    known: &Pages,
+) -> Result<u32, Break>
+    requires fits { IntegersFit (map kind_of parts.now) (integers_of e.now) }
+    ensures { integer_known (known_by known.now) (seeing args.now parts.now) (integers_of e.now) ≡ given result }
+{
+    match e {
+        IntegerExpr::Number(n) => Ok(*n),
+        IntegerExpr::From(source) => {
+            let datum = from(source, args, parts, known)?;
+            Ok(integer_in(datum))
+        }
+        IntegerExpr::Count(part) => Ok(value_of(parts, *part).count()),
+        IntegerExpr::Sum(first, terms) => match integer(first, args, parts, known) {
+            Ok(first) => sum(first, terms, args, parts, known),
+            Err(stop) => Err(stop),
+        },
+    }
+}
+
+// A value with terms added and subtracted, from left to right.
+#[cycle(evaluating)]
+fn sum(
+    first: u32,
+    terms: &[Signed],
+    args: &[Datum],
+    parts: &[Value],
+    known: &Pages,
+) -> Result<u32, Break>
+    requires fits { TermsFit (map kind_of parts.now) terms.now }
+    ensures { with_terms (known_by known.now) (seeing args.now parts.now) first terms.now ≡ given result }
+{
+    let mut total = first;
+    for term in terms {
+        total = with(total, term, args, parts, known)?;
+    }
+    Ok(total)
+}
+
+// A value with a term added or subtracted.
+#[cycle(evaluating)]
+fn with(
+    so_far: u32,
+    term: &Signed,
+    args: &[Datum],
+    parts: &[Value],
+    known: &Pages,
+) -> Result<u32, Break>
+    requires fits { SignedFits (map kind_of parts.now) term.now }
+    ensures { with_signed (known_by known.now) (seeing args.now parts.now) so_far term.now ≡ given result }
+{
+    match term {
+        Signed::Plus(e) => {
+            let n = integer(e, args, parts, known)?;
+            let total = add(so_far, n)?;
+            Ok(total)
+        }
+        Signed::Minus(e) => {
+            let n = integer(e, args, parts, known)?;
+            let total = sub(so_far, n)?;
+            Ok(total)
+        }
+    }
+}
+
+// The value of an expression that is a text.
+#[cycle(evaluating)]
+pub(crate) fn text(
+    e: &TextExpr,
+    args: &[Datum],
+    parts: &[Value],
+    known: &Pages,
+) -> Result<Text, Break>
+    requires fits { TextsFit (map kind_of parts.now) (texts_of e.now) }
+    ensures { text_known (known_by known.now) (seeing args.now parts.now) (texts_of e.now) ≡ given result }
+{
+    match e {
+        TextExpr::Literal(content) => Ok(**content),
+        TextExpr::From(source) => {
+            let datum = from(source, args, parts, known)?;
+            Ok(text_in(datum))
+        }
+    }
+}
+
+// The value of an expression.
+pub(crate) fn datum(
+    e: &Expr,
+    args: &[Datum],
+    parts: &[Value],
+    known: &Pages,
+) -> Result<Datum, Break>
+    requires fits { FormFits (map kind_of parts.now) (form_of e.now) }
+    ensures value { value_known (known_by known.now) (seeing args.now parts.now) (form_of e.now) ≡ given result }
+    ensures sort { IfOk result (λ d. elem_of d ≡ sort_of_form (form_of e.now)) }
+{
+    match e {
+        Expr::Integer(e) => {
+            let n = integer(e, args, parts, known)?;
+            Ok(Datum::Integer(n))
+        }
+        Expr::Text(e) => {
+            let text = text(e, args, parts, known)?;
+            Ok(Datum::Text(text))
+        }
+    }
+}
+
+// Whether a relation holds of two integers.
+fn compares(relation: Relation, first: u32, second: u32) -> bool
+    ensures { result ≡ related relation first second }
+{
+    match relation {
+        Relation::Equal => first == second,
+        Relation::Differ => first != second,
+        Relation::Less => first < second,
+        Relation::LessEqual => first <= second,
+        Relation::Greater => first > second,
+        Relation::GreaterEqual => first >= second,
+    }
+}
+
+// Whether a condition holds.
+pub(crate) fn holds(c: &Cond, args: &[Datum], parts: &[Value], known: &Pages) -> Result<bool, Break>
+    requires fits { ConditionFits (map kind_of parts.now) (condition_of c.now) }
+    ensures { holds_known (known_by known.now) (seeing args.now parts.now) (condition_of c.now) ≡ given result }
+{
+    match c {
+        Cond::Integers(relation, a, b) => {
+            let first = integer(a, args, parts, known)?;
+            let second = integer(b, args, parts, known)?;
+            Ok(compares(*relation, first, second))
+        }
+        Cond::SameTexts(a, b) => {
+            let first = text(a, args, parts, known)?;
+            let second = text(b, args, parts, known)?;
+            Ok(first == second)
+        }
+        Cond::OtherTexts(a, b) => {
+            let first = text(a, args, parts, known)?;
+            let second = text(b, args, parts, known)?;
+            Ok(first != second)
+        }
+        Cond::Has(part, key) => {
+            let key = text(key, args, parts, known)?;
+            Ok(value_of(parts, *part).has(&key))
+        }
+        Cond::Not(c) => {
+            let inner = holds(c, args, parts, known)?;
+            Ok(!inner)
+        }
+    }
+}

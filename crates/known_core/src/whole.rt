@@ -1,0 +1,56 @@
+//! The body of an operation, done on whole values.
+
+ghost use Rattle.std.specs.Prelude.{◌≡◌, ◌<◌, ℕ, length, map, IfOk, IfErr};
+ghost use Rattle.std.specs.Result.{IsErrOf};
+ghost use Rattle.value_core.specs.Contents.{kind_of, IsContents};
+ghost use Rattle.decl_core.specs.Bodies.{body_of};
+ghost use Rattle.decl_core.specs.Meaning.{apply_body, done, part_at};
+ghost use Rattle.apply_core.specs.Fits.{ArgumentsFit, HoldsReads};
+ghost use Rattle.apply_core.specs.Stops.{StopTells};
+ghost use Rattle.known_core.specs.Breaks.{StopsAs};
+ghost use Rattle.known_core.specs.declared.act.Stop.TheVariants.{Needs};
+
+use crate::act::Stop;
+use crate::evaluate::evaluate;
+use crate::pages::Pages;
+use apply_core::act::Stop as WholeStop;
+use decl_core::object::Operation;
+use value_core::datum::Datum;
+use value_core::value::Value;
+
+/// Does the body of an operation on values, in place: that of part p stands at place p, where the operation reads it.
+/// All of them is known, so that it is done or refused. A body that ends otherwise leaves them changed in part.
+pub fn evaluate_whole(
+    operation: &Operation,
+    args: &[Datum],
+    parts: &mut Vec<Value>,
+) -> Result<Option<Datum>, WholeStop>
+    requires fits { ArgumentsFit operation.now args.now }
+    requires held { HoldsReads operation.now parts.old.items }
+    ensures done { IfOk result (λ reply. apply_body (body_of operation.now) args.now parts.old.items ≡ (done reply, parts.new.items)) }
+    ensures stopped { IfErr result (λ stop. StopTells (apply_body (body_of operation.now) args.now parts.old.items).0 stop) }
+    ensures kinds { map kind_of parts.new.items ≡ map kind_of parts.old.items }
+    // Only a body that changes a part takes memory.
+    ensures memory { IsErrOf result WholeStop.Memory → 0 < length parts.old.items }
+{
+    match evaluate(operation, args, parts, &Pages::full()) {
+        Ok(reply) => Ok(reply),
+        Err(stop) => Err(needing_nothing(stop, parts)),
+    }
+}
+
+// Why a body stopped of which nothing was needed.
+fn needing_nothing(stop: Stop, parts: &[Value]) -> WholeStop
+    requires there { (p i : ℕ) → stop ≡ Needs p i → p < length parts.now }
+    requires none { (p i : ℕ) → stop ≡ Needs p i → p < 16 → IsContents (part_at parts.now p) → ⊥ }
+    ensures { StopsAs stop result }
+{
+    match stop {
+        Stop::Refused(word) => WholeStop::Refused(word),
+        Stop::Memory => WholeStop::Memory,
+        Stop::Needs(part, _) => {
+            let _kind = parts[part.place() as usize].kind();
+            unreachable!()
+        }
+    }
+}

@@ -1,5 +1,0 @@
-use Rattle.std.proofs.Common.{length}
-use Rattle.page_board.proofs.same.+same_args.Given as goal
-
-abbrev pub decreases-same_args : goal.decreases-same_args
-decreases-same_args l = length l.a.now

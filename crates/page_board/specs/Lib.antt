@@ -1,9 +1,0 @@
-pub mod Lists
-pub mod Calls
-pub mod Board
-pub mod Started
-pub mod Chain
-pub mod Free
-pub mod Sound
-pub mod Outcomes
-pub mod Laws

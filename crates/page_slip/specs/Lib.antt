@@ -1,3 +1,0 @@
-pub mod Short
-pub mod Slips
-pub mod Rooms

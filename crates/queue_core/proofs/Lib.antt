@@ -1,0 +1,4 @@
+pub mod Fronts
+pub mod Queueing
+pub mod Rows
+pub mod Sending

@@ -1,0 +1,24 @@
+use Rattle.std.proofs.Common.{◌≡◌}
+use Rattle.std.specs.Arc.{arc_value}
+use Rattle.hand_core.specs.Device.{Assignment}
+use Rattle.known_core.specs.Masks.{unread}
+use Rattle.judge_core.specs.Verdicts.{HasReads}
+use Rattle.seen_core.specs.Seen.{IsSeen}
+use Rattle.call_core.specs.Tasks.{task_call}
+use Rattle.call_core.specs.Truths.{PinsAreWhole}
+use Rattle.run_core.proofs.at_once.judged.Given as goal
+
+-- the pages that were read so far are seen
+abbrev pub invariant-loop-part : goal.invariant-loop-part
+invariant-loop-part g l =
+    let agrees = g.H.Hand.agrees in
+    let call = task_call l.fn.task in
+    record {
+      kept : (a : Assignment) → agrees l.hand a → agrees l.fn.hand a;
+      seen : (a : Assignment) → agrees l.hand a → PinsAreWhole a call → IsSeen a call l.fn.seen.known l.fn.seen.read.items → IsSeen a call l.seen.known l.seen.read.items;
+      reads : HasReads (arc_value l.fn.task.operation) l.seen.read.items;
+      none : g.H.Hand.failed l.hand ≡ g.H.Hand.failed l.fn.hand;
+    }
+
+abbrev pub decreases-loop-part : goal.decreases-loop-part
+decreases-loop-part g l = unread l.seen.known
