@@ -276,8 +276,12 @@ class Returning(Script):
         words = ["call", "s" + self.number(session), "#" + self.number(key), self.cased(op)]
         self.add([*words, *self.texts(arguments)], answer)
 
+    def key_of(self, session, number):
+        """The place of a call among the calls of its session; that of the next one where no call has this number yet."""
+        return sum(it.session == session for it in self.world.calls[: number - 1]) + 1
+
     def next_key(self, session):
-        return len(self.world.keys(session)) + 1
+        return self.key_of(session, len(self.world.calls) + 1)
 
     def draw_new(self):
         """A call under the next key of its session."""
@@ -303,7 +307,7 @@ class Returning(Script):
         if self.draw.one_in(6):
             op, arguments = self.draw.of(((op, self.wrong(arguments)), (self.draw.of(UNKNOWN), arguments),
                                           (self.operation(self.made.operations), arguments)))
-        self.add_keyed(call.session, self.world.keys(call.session).index(number) + 1, op, arguments)
+        self.add_keyed(call.session, self.key_of(call.session, number), op, arguments)
 
     def draw_wrong_key(self):
         """A key that no call of the session has, and that is not the next one."""
