@@ -5,7 +5,8 @@ ghost use Rattle.talk_core.specs.Written.{IsNoteOf, AreNoted, IsWritten, HasWrit
 
 use office_core::seat::Seat;
 use slip_core::slip::Slip;
-use talk_core::fault::{HearFault, SessionFault};
+use hear_core::fault::HearFault;
+use talk_core::fault::SessionFault;
 use talk_core::note::Note;
 use talk_core::output::Health;
 

@@ -17,14 +17,14 @@ use std::sync::Wait;
 use std::thread;
 use std::thread::Threads;
 use std::time::Clock;
-use talk_core::bell::{Bell, UntilBell};
-use talk_core::ear::Ear;
+use hear_core::bell::{Bell, UntilBell};
+use hear_core::ear::Ear;
 use talk_core::fault::SessionFault;
 use talk_core::mouth::Mouth;
 use talk_core::note::Note;
 use talk_core::output::{Health, Start};
-use talk_core::reading::Reading;
-use talk_core::relay::Relay;
+use hear_core::reading::Reading;
+use hear_core::relay::Relay;
 
 // What a session hands back, by what was written and what its first thread left.
 fn ended<W: Drop, H: Drop>(

@@ -32,11 +32,11 @@ use std::io::{Read, Write};
 use std::sync::Wait;
 use std::time::{Clock, Duration};
 use std::{mem, str};
-use talk_core::ear::Heard;
-use talk_core::fault::HearFault;
+use hear_core::ear::Heard;
+use hear_core::fault::HearFault;
 use talk_core::mouth::Mouth;
 use talk_core::output::Start;
-use talk_core::reading::Reading;
+use hear_core::reading::Reading;
 use talk_core::room::make_room_in;
 use value_core::datum::Datum;
 

@@ -13,7 +13,7 @@ use std::sync::{Arc, Wait};
 use std::thread;
 use std::thread::Threads;
 use std::time::Clock;
-use talk_core::bell::Bell;
+use hear_core::bell::Bell;
 
 // An object whose `b` comes after an `a`, and which does nothing with its part, so that any hand performs its calls.
 const TURNS: &[u8] = b"object turns;
