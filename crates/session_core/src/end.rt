@@ -15,7 +15,7 @@ use talk_core::output::Health;
 pub struct SessionEnd<W: Drop, H: Drop> {
     /// The object that was opened, by its place among the offices.
     pub object: Option<usize>,
-    /// The seat there.
+    /// The seat there, but that of a client that has a name: it is parked.
     pub seat: Option<Seat>,
     /// What the receipts of its calls tell, in order.
     pub receipts: Vec<Slip>,
