@@ -1,0 +1,36 @@
+-- What a call under a key is answered.
+use Rattle.std.specs.Prelude.{◌≡◌, ℕ, Result, Ok, Err}
+use Rattle.board_core.specs.Board.{Board}
+use Rattle.board_core.specs.Sound.{IsSound}
+use Rattle.desk_core.specs.Answers.{Asked}
+use Rattle.desk_core.specs.Keyed.{IsKeptCall}
+use Rattle.desk_core.specs.declared.answer.KeyedFault.{KeyedFault}
+use Rattle.desk_core.specs.declared.answer.Keyed.{Keyed}
+use Rattle.desk_core.specs.declared.answer.Keyed.TheVariants as keyed
+use Rattle.office_core.specs.declared.seat.Submitted.{Submitted}
+use Rattle.office_core.specs.declared.keyed.Resubmitted.{Resubmitted}
+use Rattle.office_core.specs.declared.keyed.Resubmitted.TheVariants as asked
+use Rattle.office_core.specs.declared.keyed.KeyedTry.{KeyedTry}
+use Rattle.office_core.specs.declared.keyed.KeyedTry.TheVariants as tries
+use Rattle.office_core.specs.Submissions.{Asks, IsOf, Tells}
+
+-- what the desk answers
+abbrev pub keyed_of : Resubmitted → Keyed
+keyed_of (asked.New s) = keyed.New s.number
+keyed_of (asked.Kept kept) = keyed.Kept kept
+
+abbrev pub answer_of : Result Resubmitted KeyedFault → Result Keyed KeyedFault
+answer_of (Ok r) = Ok (keyed_of r)
+answer_of (Err fault) = Err fault
+
+-- What is told of a call under a key: a new one is of what was asked, and of the board's call of its number; an old one is the call of this key that a sound board has.
+abbrev pub Resubmits : Board → Asked → ℕ → Result Resubmitted KeyedFault → Type 0
+Resubmits b a key (Ok (asked.New s)) = Asks a.name a.arguments s × IsOf b s
+Resubmits b a key (Ok (asked.Kept kept)) = IsSound b × IsKeptCall b a key kept
+Resubmits b a key (Err fault) = Unit {0}
+
+-- The same with a look at a new one: the number is that of a submission of what was asked, and the look tells of that submission.
+abbrev pub TriesKeyed : Board → Asked → ℕ → Result KeyedTry KeyedFault → Type 0
+TriesKeyed b a key (Ok (tries.New number tried)) = (s : Submitted) × Asks a.name a.arguments s × (number ≡ s.number) × Tells s tried
+TriesKeyed b a key (Ok (tries.Kept kept)) = IsSound b × IsKeptCall b a key kept
+TriesKeyed b a key (Err fault) = Unit {0}
