@@ -10,9 +10,7 @@ use Rattle.desk_core.specs.declared.answer.Keyed.TheVariants as keyed
 use Rattle.office_core.specs.declared.seat.Submitted.{Submitted}
 use Rattle.office_core.specs.declared.keyed.Resubmitted.{Resubmitted}
 use Rattle.office_core.specs.declared.keyed.Resubmitted.TheVariants as asked
-use Rattle.office_core.specs.declared.keyed.KeyedTry.{KeyedTry}
-use Rattle.office_core.specs.declared.keyed.KeyedTry.TheVariants as tries
-use Rattle.office_core.specs.Submissions.{Asks, IsOf, Tells}
+use Rattle.office_core.specs.Submissions.{Asks, IsOf}
 
 -- what the desk answers
 abbrev pub keyed_of : Resubmitted → Keyed
@@ -28,9 +26,3 @@ abbrev pub Resubmits : Board → Asked → ℕ → Result Resubmitted KeyedFault
 Resubmits b a key (Ok (asked.New s)) = Asks a.name a.arguments s × IsOf b s
 Resubmits b a key (Ok (asked.Kept kept)) = IsSound b × IsKeptCall b a key kept
 Resubmits b a key (Err fault) = Unit {0}
-
--- The same with a look at a new one: the number is that of a submission of what was asked, and the look tells of that submission.
-abbrev pub TriesKeyed : Board → Asked → ℕ → Result KeyedTry KeyedFault → Type 0
-TriesKeyed b a key (Ok (tries.New number tried)) = (s : Submitted) × Asks a.name a.arguments s × (number ≡ s.number) × Tells s tried
-TriesKeyed b a key (Ok (tries.Kept kept)) = IsSound b × IsKeptCall b a key kept
-TriesKeyed b a key (Err fault) = Unit {0}

@@ -1,36 +1,26 @@
 //! Calls under a key: a call that a session made before is not run again.
 
-ghost use Rattle.std.specs.Prelude.{◌≡◌, ◌<◌, ◌≤◌, IfSome};
+ghost use Rattle.std.specs.Prelude.{◌≡◌, ◌<◌, ◌≤◌};
 ghost use Rattle.board_core.specs.Board.{Board};
 ghost use Rattle.board_core.specs.Sound.{IsSound};
 ghost use Rattle.key_core.specs.Keys.{next_key};
 ghost use Rattle.desk_core.specs.Answers.{IsGone};
 ghost use Rattle.desk_core.specs.Keyed.{Finds, SubmitsKeyed};
 ghost use Rattle.office_core.specs.Rooms.{KeepsSeats};
-ghost use Rattle.office_core.specs.Keyed.{answer_of, Resubmits, TriesKeyed};
+ghost use Rattle.office_core.specs.Keyed.{answer_of, Resubmits};
 
-use crate::late::Late;
-use crate::office::{HOLD, Office};
+use crate::office::Office;
 use crate::room::Room;
-use crate::seat::{Submitted, Tried};
+use crate::seat::Submitted;
 use desk_core::answer::{Kept, KeyedFault};
 use seat_core::seat::Seat;
 use std::sync::Wait;
-use std::time::{Clock, Duration};
 use value_core::datum::Datum;
 
 /// What a call under a key is answered. A submission has to be spent, by a wait for its start.
 pub enum Resubmitted {
     /// The call was taken.
     New(Submitted),
-    /// The session made it before, under this key, and this became of it.
-    Kept(Kept),
-}
-
-/// The same, where a look at the call that was taken tells at once whether it has started.
-pub enum KeyedTry {
-    /// The number of the call that was taken, and what the look tells.
-    New(u32, Tried),
     /// The session made it before, under this key, and this became of it.
     Kept(Kept),
 }
@@ -102,31 +92,21 @@ impl Room {
     }
 }
 
-// Takes a call under a key, and looks whether it has started.
-fn submit_keyed_and_look(
-    room: &mut Room,
-    seat: &mut Seat,
-    key: u32,
-    op: &str,
-    args: &[Datum],
-) -> Result<KeyedTry, KeyedFault>
-    ensures tells { (b : Board) × TriesKeyed b (record { session = seat.old.session; name = op.now; arguments = args.now }) key result }
-    ensures seat { seat.new ≡ seat.old }
-{
-    let submitted = match room.submit_keyed(seat, key, op, args) {
-        Ok(Resubmitted::New(submitted)) => submitted,
-        Ok(Resubmitted::Kept(kept)) => return Ok(KeyedTry::Kept(kept)),
-        Err(fault) => return Err(fault),
-    };
-    let number = submitted.number();
-    let tried = room.look(submitted);
-    if let Tried::Ticket(_) = &tried {
-        room.note_start(number);
-    }
-    Ok(KeyedTry::New(number, tried))
-}
-
 impl Office {
+    /// What is known of a key of this seat's session, as [`Room::kept`], of some board of this office.
+    pub fn kept<R: Wait>(
+        &self,
+        rt: &R,
+        seat: &Seat,
+        key: u32,
+        op: &str,
+        args: &[Datum],
+    ) -> Result<Option<Kept>, KeyedFault>
+        ensures { (b : Board) × IsSound b × Finds b (record { session = seat.now.session; name = op.now; arguments = args.now }) key result }
+    {
+        self.enter(rt).kept(seat, key, op, args)
+    }
+
     /// Submits a call of this seat's session under a key, as [`Room::submit_keyed`]. Of a call that the session made before it answers what
     /// some board of this office has of it.
     pub fn submit_keyed<R: Wait>(
@@ -142,73 +122,6 @@ impl Office {
     {
         // The only call that a submission may start is its own, for which nobody waits yet.
         self.enter(rt).submit_keyed(seat, key, op, args)
-    }
-
-    // What is known of the key, where a call under it is not to be submitted.
-    fn answered<R: Wait>(
-        &self,
-        rt: &R,
-        seat: &Seat,
-        key: u32,
-        op: &str,
-        args: &[Datum],
-    ) -> Option<Result<KeyedTry, KeyedFault>>
-        ensures { IfSome result (λ found. (b : Board) × TriesKeyed b (record { session = seat.now.session; name = op.now; arguments = args.now }) key found) }
-    {
-        match self.enter(rt).kept(seat, key, op, args) {
-            Ok(None) => None,
-            Ok(Some(kept)) => Some(Ok(KeyedTry::Kept(kept))),
-            Err(fault) => Some(Err(fault)),
-        }
-    }
-
-    /// Submits a call of this seat's session under a key, and looks under the same lock whether it has started. A fault is one of
-    /// `submit_keyed`. A call that the session made before is answered at once; a new one is held back as by [`Office::submit_and_try`].
-    pub fn submit_keyed_and_try<R: Wait + Clock>(
-        &self,
-        rt: &R,
-        seat: &mut Seat,
-        key: u32,
-        op: &str,
-        args: &[Datum],
-    ) -> Result<KeyedTry, KeyedFault>
-        ensures tells { (b : Board) × TriesKeyed b (record { session = seat.old.session; name = op.now; arguments = args.now }) key result }
-        ensures seat { seat.new ≡ seat.old }
-    {
-        if let Some(answer) = self.answered(rt, seat, key, op, args) {
-            return answer;
-        }
-        let mut late = Late::new();
-        let most = Duration::from_millis(HOLD);
-        let mut guard = match self.enter_in_turn(rt, op, &mut late, most) {
-            Some(guard) => guard,
-            None => self.enter(rt),
-        };
-        submit_keyed_and_look(&mut guard, seat, key, op, args)
-    }
-
-    /// The same, but where the watch tells before the call's turn that so much time has passed, nothing is submitted, and it answers nothing.
-    pub fn submit_keyed_in_turn<R: Wait + Clock>(
-        &self,
-        rt: &R,
-        seat: &mut Seat,
-        key: u32,
-        op: &str,
-        args: &[Datum],
-        late: &mut Late,
-        most: Duration,
-    ) -> Option<Result<KeyedTry, KeyedFault>>
-        ensures tells { IfSome result (λ found. (b : Board) × TriesKeyed b (record { session = seat.old.session; name = op.now; arguments = args.now }) key found) }
-        ensures seat { seat.new ≡ seat.old }
-    {
-        if let Some(answer) = self.answered(rt, seat, key, op, args) {
-            return Some(answer);
-        }
-        let mut guard = match self.enter_in_turn(rt, op, late, most) {
-            Some(guard) => guard,
-            None => return None,
-        };
-        Some(submit_keyed_and_look(&mut guard, seat, key, op, args))
     }
 
     /// The key of the next call of this seat's session, from 1, as some board of this office has it.
