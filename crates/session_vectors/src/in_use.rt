@@ -1,17 +1,17 @@
 //! Names that are in use, and calls that wait or run while their client comes back.
 
 use crate::deaf::TURNS;
-use crate::lines::{ZERO, is_closed};
+use crate::lines::ZERO;
 use crate::make::{BUFFER, CELL, Pieces, Short, offices};
-use crate::waiting::{Counted, EMPTY, Gate, MOST_TURNS, await_lines};
+use crate::waiting::{Counted, EMPTY, Gate, await_lines};
+use call_core::ticket::Ticket;
 use device_core::memory::MemHand;
 use hear_core::bell::Bell;
 use office_core::named::NameFault;
 use office_core::office::Office;
-use office_core::seat::Tried;
+use office_core::seat::{Seat, Started, Submitted, Tried};
 use path_tree::name::Name;
 use run_core::at_once::run_at_once;
-use seat_core::seat::Seat;
 use session_core::order::Named;
 use session_core::serve::serve_session;
 use std::alloc::Global;
@@ -133,7 +133,7 @@ const LINGERS: &[(u64, &[u8])] = &[
     (2, b"quit\n"),
 ];
 
-// Whether a session over these lines writes this.
+// The hand of a session that waits for the end of its input, where it writes what it has to.
 fn quits<R: Threads + Wait + Clock + Sync>(
     rt: &R,
     alloc: Global,
@@ -141,10 +141,13 @@ fn quits<R: Threads + Wait + Clock + Sync>(
     hand: MemHand,
     reader: Lingering,
     writer: Counted,
-) -> bool {
+) -> Option<MemHand> {
     let end = serve_session(rt, alloc, reader, writer, &Bell::new(), all, hand);
     let told: &[u8] = b"opened buffer next 1\naccepted 1\ncancelled 1\nbye\n";
-    end.fault.is_none() && end.seat.is_none() && end.writer.bytes.as_slice() == told
+    if end.fault.is_some() || end.seat.is_some() || end.writer.bytes.as_slice() != told {
+        return None;
+    }
+    Some(end.hand)
 }
 
 // The second thread of a session that ends by `quit` behind a waiting call leaves the object at the end of its input. So nobody gets the name
@@ -170,16 +173,102 @@ fn a_name_is_in_use_until_the_input_ends(rt: HostRuntime) {
         written: Arc::try_clone(&written).expect(&rt, "memory"),
     };
     let shared = &rt;
-    let (ended, is_out) = thread::join(
+    let (hand, is_out) = thread::join(
         shared,
         || quits(shared, alloc, &all, hand, reader, writer),
         || lingers(shared, &all, &name, &written, &asked, &may_end),
     );
-    assert!(rt; ended && is_out);
+    assert!(rt; is_out);
+    let hand = hand.expect(&rt, "what it has to write");
     let lines = b"open buffer as ann\ncall #1 remove\ncall #2 deposit 4\ncall #3 remove\nquit\n";
     let told: &[u8] =
         b"opened buffer next 2\nrepeat cancelled 1\naccepted 2\ndone 2\naccepted 3\ndone 3 4\nbye\n";
-    let hand = MemHand::new(alloc);
     let (bytes, _) = visit(&rt, alloc, &all, hand, lines);
     assert!(rt; bytes.as_slice() == told);
+}
+
+// The ticket of a call of `a`, which starts at once.
+fn begun<R: Abort + Wait + Clock>(rt: &R, office: &Office, seat: &mut Seat) -> Ticket {
+    let (_, tried) = office.submit_and_try(rt, seat, "a", &[]).expect(rt, "a call");
+    let ticket = match tried {
+        Tried::Ticket(ticket) => Some(ticket),
+        Tried::Cancelled => None,
+        Tried::Waiting(back) => awaited(rt, office, back),
+        Tried::Stranger(back) => awaited(rt, office, back),
+    };
+    ticket.expect(rt, "a ticket")
+}
+
+// Waits for a call that waits.
+fn awaited<R: Wait>(rt: &R, office: &Office, submitted: Submitted) -> Option<Ticket> {
+    let mut submitted = submitted;
+    for _ in rt.forever() {
+        match office.await_start(rt, submitted) {
+            Started::Ticket(ticket) => return Some(ticket),
+            Started::Cancelled => return None,
+            Started::Stranger(back) => submitted = back,
+        }
+    }
+    unreachable!()
+}
+
+// Begins a call, has the client beside it come, and runs the call once that was told so many lines.
+fn runs<R: Abort + Wait + Clock>(
+    rt: &R,
+    alloc: Global,
+    office: &Office,
+    seat: Seat,
+    written: &AtomicU64,
+) -> bool {
+    let mut seat = seat;
+    let ticket = begun(rt, office, &mut seat);
+    written.fetch_add(1, Ordering::SeqCst);
+    await_lines(written, 4);
+    let mut hand = MemHand::new(alloc);
+    let mut outcome = run_at_once(alloc, ticket, &mut hand);
+    office.complete_in_place(rt, &mut seat, &mut outcome).is_ok()
+}
+
+const BEHIND: &[(u64, &[u8])] = &[(1, b"open turns as ann\ncall #1 a\ncall #2 a\ncall #2 a\nquit\n")];
+
+// Whether a session over these lines writes this, while a call of another session runs.
+fn follows<R: Threads + Wait + Clock + Sync>(
+    rt: &R,
+    alloc: Global,
+    all: &Vec<Named>,
+    hand: MemHand,
+    reader: Gate,
+    writer: Counted,
+) -> bool {
+    let end = serve_session(rt, alloc, reader, writer, &Bell::new(), all, hand);
+    let told: &[u8] =
+        b"opened turns next 2\nrepeat done 1\naccepted 3\ndone 3\nrepeat done 3\nbye\n";
+    end.fault.is_none() && end.seat.is_none() && end.writer.bytes.as_slice() == told
+}
+
+// While a call of another session runs, a call that was made before is answered, and a new one waits for its end.
+#[test]
+fn a_call_under_a_key_stands_behind_a_running_one(rt: HostRuntime) {
+    let alloc = rt.alloc();
+    let (all, hand) = offices(&rt, alloc, TURNS, ZERO);
+    let (bytes, hand) = visit(&rt, alloc, &all, hand, b"open turns as ann\ncall #1 a\nquit\n");
+    assert!(rt; bytes.as_slice() == b"opened turns next 1\naccepted 1\ndone 1\nbye\n".as_slice());
+    let named = all.first().expect(&rt, "an office");
+    let seat = named.office.seat(&rt).expect(&rt, "a seat");
+    let written = Arc::new(alloc, AtomicU64::new(0)).expect(&rt, "memory");
+    let reader = Gate {
+        lines: BEHIND,
+        written: Arc::try_clone(&written).expect(&rt, "memory"),
+    };
+    let writer = Counted {
+        bytes: Vec::new(alloc),
+        written: Arc::try_clone(&written).expect(&rt, "memory"),
+    };
+    let shared = &rt;
+    let (followed, ended) = thread::join(
+        shared,
+        || follows(shared, alloc, &all, hand, reader, writer),
+        || runs(shared, alloc, &named.office, seat, &written),
+    );
+    assert!(rt; followed && ended);
 }
