@@ -6,3 +6,5 @@ pub mod Places
 pub mod Telling
 pub mod Sending
 pub mod Publishing
+pub mod Sessions
+pub mod Keying

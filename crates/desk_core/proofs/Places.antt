@@ -11,24 +11,8 @@ use Rattle.board_core.proofs.Lists.{Every-map, Every-snoc}
 use Rattle.board_core.specs.Board.{Board}
 use Rattle.board_core.specs.Sound.{IsSound, IsNoted}
 use Rattle.board_core.proofs.Sound.{call_number}
-use Rattle.queue_core.proofs.Fronts.{get_set}
+use Rattle.key_core.proofs.Items.{get_more, get_set, get_front, get_last}
 use Rattle.desk_core.specs.Kept.{IsPlaceOf, ArePlaces}
-
--- an item of a longer list
-get_more : {X : Type 0} (xs : List X) (y : X) (k : ℕ) (x : X) → slice_get (xs ++ y ∷ []) k ≡ Some x → (slice_get xs k ≡ Some x) ⊎ ((k ≡ length xs) × (y ≡ x))
-get_more [] y zero x is = inr (refl, ap (λ o. unwrap_or o y) is)
-get_more [] y (suc k) x is = absurd cc
-get_more (z ∷ xs) y zero x is = inl is
-get_more (z ∷ xs) y (suc k) x is = elim (get_more xs y k x is) [ inl h ↦ inl h | inr h ↦ inr (omega (arith, h.0), h.1) ]
-
-get_front : {X : Type 0} (xs ys : List X) (k : ℕ) (x : X) → slice_get xs k ≡ Some x → slice_get (xs ++ ys) k ≡ Some x
-get_front [] ys k x is = absurd cc
-get_front (y ∷ xs) ys zero x is = is
-get_front (y ∷ xs) ys (suc k) x is = get_front xs ys k x is
-
-get_last : {X : Type 0} (xs : List X) (x : X) → slice_get (xs ++ x ∷ []) (length xs) ≡ Some x
-get_last [] x = refl
-get_last (y ∷ xs) x = get_last xs x
 
 none_at : (k place : ℕ) → slice_get [] k ≡ Some place → ⊥
 none_at k place is = absurd cc
@@ -103,3 +87,8 @@ none_beyond history n none = none_any history n none
 -- the numbers of entries are numbers of calls
 pub noted_below : (b : Board) → IsSound b → Every (λ e. e.number ≤ length b.calls) b.history
 noted_below b h = Every-map (IsNoted b.calls) (λ e. e.number ≤ length b.calls) (λ e is. (call_number b.calls e.number is.call is.there).1) b.history h.told.noted
+
+-- the entry at a place
+pub place_entry : (history : List Noted) (n place : ℕ) → 0 < place → IsPlaceOf history n place → (e : Noted) × (slice_get history (place - 1) ≡ Some e) × (e.number ≡ n)
+place_entry history n zero above is = absurd (omega (arith, above))
+place_entry history n (suc k) above is = (is.0, subst (λ i. slice_get history i ≡ Some is.0) (omega arith) is.1, is.2)

@@ -61,6 +61,10 @@ waits_in b n = list_any (λ w. w.number == n) b.waiting
 abbrev pub runs_in : Board → ℕ → Bool
 runs_in b n = list_any (λ r. r.number == n) b.running
 
+-- a call of this session runs
+abbrev pub runs_by : Board → ℕ → Bool
+runs_by b session = list_any (λ r. r.call.session == session) b.running
+
 -- the operation and the arguments of what is asked: this operation, at this place
 pub record IsAsked (b : Board) (a : Asked) (call : AcceptedCall) : Type 0 where
   pub session : call.session ≡ a.session

@@ -8,6 +8,7 @@ use Rattle.board_core.specs.Lists.{Every}
 use Rattle.board_core.specs.Calls.{Noted}
 use Rattle.board_core.specs.Board.{Board, paths_of, past_of}
 use Rattle.board_core.specs.Sound.{IsSound}
+use Rattle.key_core.specs.Index.{AreIndexed}
 use Rattle.desk_core.specs.declared.marks.Mark.{Mark}
 use Rattle.desk_core.specs.declared.marks.Mark.TheVariants as marks
 use Rattle.desk_core.specs.declared.roster.Roster.TheInside.{Inside}
@@ -60,10 +61,11 @@ pub record HasRoom (d : Inside) : Type 0 where
   pub history : length d.history.items + length d.waiting + length d.running.items ≤ vec_capacity d.history
   pub running : length d.waiting + length d.running.items ≤ vec_capacity d.running
 
--- a board that is sound, counters that stand for it, marks and places of its entries, and room
+-- a board that is sound, counters that stand for it, marks and places of its entries, the numbers of each session's calls, and room
 pub record IsKept (d : Inside) : Type 0 where
   pub marks : Every (IsMarkIn (length d.history.items)) d.marks.items
   pub places : ArePlaces d.history.items (length d.calls.items) d.places.items
+  pub index : AreIndexed (map (λ c. arc_value c) d.calls.items) d.index
   pub sound : IsSound (board_of d)
   pub stands : StandsFor d.counters (length d.accepted.operations.items) (paths_of (board_of d)) (past_of (board_of d))
   pub room : HasRoom d

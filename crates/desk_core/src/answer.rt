@@ -3,6 +3,7 @@
 ghost use Rattle.std.specs.Prelude.{◌≡◌};
 ghost use Rattle.desk_core.specs.Answers.{receipt_by};
 
+use apply_core::reply::Reply;
 use board_core::receipt::{NotedOutcome, Receipt};
 use call_core::ticket::Ticket;
 use hand_core::hand::Stamp;
@@ -33,6 +34,54 @@ pub enum SubmitFault {
     /// Memory was refused.
     #[error("Memory")]
     Memory,
+}
+
+/// Why a call under a key is refused. The first that applies is told.
+#[derive(Clone, Copy, Debug, PartialEq, Eq, Error)]
+pub enum KeyedFault {
+    /// The session has left, or has no number from 1 to 1,024.
+    #[error("Gone")]
+    Gone,
+    /// The key is 0, or past that of the session's next call.
+    #[error("BadKey")]
+    BadKey,
+    /// The session's call of this key is of another operation or has other arguments.
+    #[error("KeyReused")]
+    KeyReused,
+    /// The key is that of the session's next call, which is refused.
+    #[error("{0}")]
+    Submit(SubmitFault),
+}
+
+/// What became of an accepted call.
+#[derive(Clone, Copy, Debug, PartialEq, Eq)]
+pub enum CallState {
+    /// It waits.
+    Waiting,
+    /// It runs.
+    Running,
+    /// It was cancelled.
+    Cancelled,
+    /// It has finished, with this reply.
+    Ended(Reply),
+}
+
+/// A call that a session made before, under the key that is asked for.
+#[derive(Clone, Copy, Debug, PartialEq, Eq)]
+pub struct Kept {
+    /// Its number.
+    pub number: u32,
+    /// What became of it.
+    pub state: CallState,
+}
+
+/// What a call under a key is answered.
+#[derive(Clone, Copy, Debug, PartialEq, Eq)]
+pub enum Keyed {
+    /// The key is that of the session's next call, and the call was taken, under this number.
+    New(u32),
+    /// The session made this call before, under this key. Nothing is changed.
+    Kept(Kept),
 }
 
 /// What became of a cancel.

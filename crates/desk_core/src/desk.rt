@@ -1,17 +1,21 @@
 //! A desk: its tables, in which no waiting call may start.
 
-ghost use Rattle.std.specs.Prelude.{◌≡◌, ◌+◌, ◌<◌, ◌≤◌, ◌⊎◌, ◌↔◌, length, IfOk, IfErr, OnOk, IfSome, IfNone, IsTrue, Some, None, slice_get};
+ghost use Rattle.std.specs.Prelude.{◌≡◌, ◌+◌, ◌<◌, ◌≤◌, ◌⊎◌, ◌↔◌, length, IfOk, IfErr, OnOk, IfSome, IfNone, IsTrue, true, false, Some, None, slice_get};
 ghost use Rattle.std.specs.Arc.{arc_value};
 ghost use Rattle.board_core.specs.Calls.{AcceptedCall};
 ghost use Rattle.board_core.specs.Board.{opened, joined, released, marked, call_at, Rests};
 ghost use Rattle.board_core.specs.Started.{Settles};
+ghost use Rattle.key_core.specs.Keys.{next_key, resumed};
+ghost use Rattle.desk_core.specs.Keyed.{Finds, SubmitsKeyed};
 ghost use Rattle.board_core.specs.Sound.{IsSound};
 ghost use Rattle.decl_core.specs.ObjectMap.{object_of};
 ghost use Rattle.trace_core.specs.Text.{trace_text as text_of};
 ghost use Rattle.desk_core.specs.Told.{lines_told};
-ghost use Rattle.desk_core.specs.Answers.{IsTaken, IsRefused, Cancels, Collects, Finishes, IsStranger, receipt_by, waits_in, runs_in};
+ghost use Rattle.desk_core.specs.Answers.{IsGone, IsTaken, IsRefused, Cancels, Collects, Finishes, IsStranger, receipt_by, waits_in, runs_in, runs_by};
 
-use crate::answer::{Cancelled, Collected, Finished, Stranger, SubmitFault};
+use crate::answer::{
+    Cancelled, Collected, Finished, Kept, Keyed, KeyedFault, Stranger, SubmitFault,
+};
 use crate::roster::{MOST_SESSIONS, Roster};
 use board_core::call::Call;
 use board_core::entry::Entry;
@@ -129,6 +133,71 @@ impl Desk {
         }
     }
 
+    /// What is known of a key of a session, for a call of the operation of this name, in any case, with these arguments: the
+    /// call that the session made under it, or `None` where it is the key of the session's next call. The key of a call is
+    /// its rank, from 1, among the accepted calls of its session, cancelled ones included. No search grows with the history.
+    ///
+    /// The errors are the first three of [`KeyedFault`], of which the first that applies is told.
+    pub fn kept(
+        &self,
+        session: u32,
+        key: u32,
+        op: &str,
+        args: &[Datum],
+    ) -> Result<Option<Kept>, KeyedFault>
+        ensures { Finds self.now (record { session = session; name = op.now; arguments = args.now }) key result }
+    {
+        self.roster.kept(session, key, op.as_bytes(), args)
+    }
+
+    /// Takes a call of a session under a key. Under the key of the session's next call it is a [`Desk::submit`]. Under that
+    /// of an earlier one, which has to be of the same operation and arguments, it answers what became of that call, also
+    /// while a call of the session waits or runs: nothing is changed then, and no memory is taken.
+    ///
+    /// The errors, of which the first that applies is told, are those of [`KeyedFault`]; a refused call takes no key and
+    /// changes nothing.
+    pub fn submit_keyed(
+        &mut self,
+        session: u32,
+        key: u32,
+        op: &str,
+        args: &[Datum],
+    ) -> Result<Keyed, KeyedFault>
+        ensures board { SubmitsKeyed self.old (record { session = session; name = op.now; arguments = args.now }) key result self.new }
+        ensures history { self.new.history ≡ self.old.history }
+        ensures pins { self.new.pins ≡ self.old.pins }
+    {
+        match self.kept(session, key, op, args) {
+            Ok(None) => self.submit_next(session, op, args),
+            Ok(Some(kept)) => Ok(Keyed::Kept(kept)),
+            Err(fault) => Err(fault),
+        }
+    }
+
+    // Takes a call under the session's next key.
+    fn submit_next(&mut self, session: u32, op: &str, args: &[Datum]) -> Result<Keyed, KeyedFault>
+        requires here { IsGone self.old session → ⊥ }
+        ensures board { SubmitsKeyed self.old (record { session = session; name = op.now; arguments = args.now }) (next_key self.old.calls session) result self.new }
+        ensures history { self.new.history ≡ self.old.history }
+        ensures pins { self.new.pins ≡ self.old.pins }
+    {
+        match self.submit(session, op, args) {
+            Ok(number) => Ok(Keyed::New(number)),
+            Err(fault) => Err(KeyedFault::Submit(fault)),
+        }
+    }
+
+    /// The key of the session's next call. What has no number from 1 to 1,024 is no session: 1.
+    pub fn next_key(&self, session: u32) -> u32
+        ensures key { 0 < session → session ≤ 1024 → result ≡ next_key self.now.calls session }
+        ensures none { (session ≡ 0) ⊎ (1024 < session) → result ≡ 1 }
+    {
+        if session == 0 || session as usize > MOST_SESSIONS {
+            return 1;
+        }
+        self.roster.next_key(session)
+    }
+
     /// What became of a call: its ticket, once, with the pins that were published at its start.
     pub fn collect(&mut self, number: u32) -> Collected
         ensures board { Collects self.old number result self.new }
@@ -218,7 +287,7 @@ impl Desk {
     }
 
     /// A session leaves: its waiting call is cancelled, its running call goes on, and its later submissions are
-    /// refused as Gone. What has no number from 1 to 1,024 is no session.
+    /// refused as Gone, until a [`Desk::resume`]. What has no number from 1 to 1,024 is no session.
     pub fn disconnect(&mut self, session: u32)
         ensures left { 0 < session → session ≤ 1024 → Settles (marked (released self.old session) session) self.new }
         ensures none { (session ≡ 0) ⊎ (1024 < session) → self.new ≡ self.old }
@@ -233,6 +302,21 @@ impl Desk {
         self.roster.admit();
     }
 
+    /// A session is back: where it had left, its submissions are taken again, and nothing else changes. It answers whether
+    /// there is such a session: they have the numbers from 1 to 1,024. It takes no memory.
+    pub fn resume(&mut self, session: u32) -> bool
+        ensures back { 0 < session → session ≤ 1024 → (result ≡ true) × (self.new ≡ resumed self.old session) }
+        ensures none { (session ≡ 0) ⊎ (1024 < session) → (result ≡ false) × (self.new ≡ self.old) }
+        ensures history { self.new.history ≡ self.old.history }
+        ensures pins { self.new.pins ≡ self.old.pins }
+    {
+        if session == 0 || session as usize > MOST_SESSIONS {
+            return false;
+        }
+        self.roster.unmark(session);
+        true
+    }
+
     /// Whether the call of this number waits.
     pub fn waits(&self, number: u32) -> bool
         ensures { result ≡ waits_in self.now number }
@@ -245,6 +329,13 @@ impl Desk {
         ensures { result ≡ runs_in self.now number }
     {
         self.roster.runs(number)
+    }
+
+    /// Whether a call of this session runs.
+    pub fn runs_for(&self, session: u32) -> bool
+        ensures { result ≡ runs_by self.now session }
+    {
+        self.roster.runs_for(session)
     }
 
     /// Whether no call waits or runs.

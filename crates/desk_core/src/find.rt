@@ -10,11 +10,13 @@ ghost use Rattle.board_core.specs.Board.{bodies};
 ghost use Rattle.board_core.specs.Outcomes.{IsOf};
 ghost use Rattle.desk_core.specs.Answers.{HasName, IsNamedAt};
 
+use board_core::call::Call;
 use board_core::same::same_args;
 use decl_core::object::{Object, Operation};
 use decl_core::same::same_declaration;
 use queue_core::open_call::{Running, Waiting};
 use run_core::outcome::Outcome;
+use value_core::datum::Datum;
 
 // Whether an operation has this name.
 fn has_name(operation: &Operation, name: &[u8]) -> bool
@@ -34,6 +36,13 @@ pub(crate) fn place_of(object: &Object, name: &[u8]) -> Option<usize>
         }
     }
     None
+}
+
+// Whether a call is of the operation of this name, with these arguments.
+pub(crate) fn is_same_call(call: &Call, name: &[u8], args: &[Datum]) -> bool
+    ensures { IsTrue result ↔ (HasName name.now call.now.operation × (call.now.arguments ≡ args.now)) }
+{
+    has_name(call.operation(), name) && same_args(call.args(), args)
 }
 
 // Whether a call of this session waits.

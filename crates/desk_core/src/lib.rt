@@ -9,6 +9,7 @@
 pub mod answer;
 pub mod desk;
 mod find;
+pub mod laws;
 mod marks;
 mod roster;
 mod text;

@@ -10,13 +10,15 @@ ghost use Rattle.call_core.specs.Calls.{HasPins, call_of};
 ghost use Rattle.call_core.specs.Planned.{AreSized};
 ghost use Rattle.call_core.specs.Tickets.{ticket_call};
 ghost use Rattle.board_core.specs.Lists.{Every};
-ghost use Rattle.board_core.specs.Calls.{WaitingCall, RunningCall};
+ghost use Rattle.board_core.specs.Calls.{AcceptedCall, WaitingCall, RunningCall};
 ghost use Rattle.decl_core.specs.Bodies.{body_of};
 ghost use Rattle.decl_core.specs.Touched.{Writes};
 ghost use Rattle.page_core.specs.PartPins.{pin_at};
 ghost use Rattle.run_core.specs.Outcomes.{outcome_call, if_done, IsFresh};
 ghost use Rattle.board_core.specs.Board.{Board, bodies, call_at, opened, joined, dismissed, released, taken_at, marked, started, ended, entry_of, published, read_pins, IsNext, Rests, Admits};
-ghost use Rattle.desk_core.specs.Answers.{IsGone, is_busy, waits_in, runs_in, ended_in, IsLeft, NoneIsLeft, IsTaken, IsRefused, IsStranger};
+ghost use Rattle.key_core.specs.Keys.{next_key, resumed};
+ghost use Rattle.desk_core.specs.Keyed.{IsStateOf, Finds};
+ghost use Rattle.desk_core.specs.Answers.{HasName, IsGone, is_busy, waits_in, runs_in, runs_by, ended_in, IsLeft, NoneIsLeft, IsTaken, IsRefused, IsStranger};
 ghost use Rattle.board_core.specs.Free.{IsNeeded, Picks};
 ghost use Rattle.board_core.specs.Outcomes.{IsOf};
 ghost use Rattle.desk_core.specs.Publishing.{ArePageLists, with_pin};
@@ -24,8 +26,10 @@ ghost use Rattle.trace_core.specs.Text.{trace_text as text_of};
 ghost use Rattle.desk_core.specs.Told.{lines_told};
 ghost use Rattle.board_core.specs.Sound.{IsSound};
 
-use crate::answer::SubmitFault;
-use crate::find::{place_of, place_of_left, place_to_end, runs, runs_for, waits, waits_for};
+use crate::answer::{CallState, Kept, KeyedFault, SubmitFault};
+use crate::find::{
+    is_same_call, place_of, place_of_left, place_to_end, runs, runs_for, waits, waits_for,
+};
 use crate::marks::{Mark, event_of, note, note_end, note_start};
 use crate::text::{call_of, push_marks};
 use apply_core::fits::arguments_fit;
@@ -38,6 +42,7 @@ use call_core::ticket::Ticket;
 use decl_core::object::Object;
 use exclude_core::analyse::Accepted;
 use hand_core::hand::Stamp;
+use key_core::index::Index;
 use page_core::page_list::PageList;
 use page_core::part_pins::PartPins;
 use page_core::pins::Pins;
@@ -70,6 +75,7 @@ pub(crate) struct Roster {
     counters: Counters,
     calls: Vec<Arc<Call>>,
     places: Vec<usize>,
+    index: Index,
     marks: Vec<Mark>,
     history: Vec<Entry>,
     waiting: Queue,
@@ -263,12 +269,14 @@ impl Roster {
         let counters = counters_of(alloc, accepted.object())?;
         let left = vec![in alloc; false; MOST_SESSIONS]?;
         let waiting = Queue::new(alloc)?;
+        let index = Index::new(alloc)?;
         Ok(Roster {
             alloc,
             accepted,
             counters,
             calls: Vec::new(alloc),
             places: Vec::new(alloc),
+            index,
             marks: Vec::new(alloc),
             history: Vec::new(alloc),
             waiting,
@@ -323,6 +331,7 @@ impl Roster {
         requires few { length self.old.calls < 65536 }
         requires open_few { length self.old.waiting + length self.old.running < 256 }
         requires free { is_busy self.old session ≡ false }
+        requires session { (0 < session) × (session ≤ 1024) }
         ensures number { IfOk result (λ r. r.0 ≡ length self.old.calls + 1) }
         ensures shared { IfOk result (λ r. (operation : Operation) → slice_get (bodies self.old.object) place ≡ Some operation → arc_value r.1 ≡ record { session = session; op = place; operation = operation; arguments = args.now }) }
         ensures ok { OnOk result ((operation : Operation) → slice_get (bodies self.old.object) place ≡ Some operation → self.new ≡ joined self.old (record { session = session; op = place; operation = operation; arguments = args.now })) }
@@ -348,6 +357,7 @@ impl Roster {
             self.waiting.len(),
             &mut self.running,
         )?;
+        self.index.add(session, number)?;
         self.places.push_reserved(0);
         self.calls.push_reserved(call);
         self.waiting.push(asked);
@@ -374,6 +384,14 @@ impl Roster {
         ensures { self.new ≡ marked self.old session }
     {
         self.left[session as usize - 1] = true;
+    }
+
+    // Marks a session as one that has not left.
+    pub(crate) fn unmark(&mut self, session: u32)
+        requires { (0 < session) × (session ≤ 1024) }
+        ensures { self.new ≡ resumed self.old session }
+    {
+        self.left[session as usize - 1] = false;
     }
 
     // Ends the running call at this place, publishes new pins, where there are some, and tells its session. Its entry
@@ -462,6 +480,73 @@ impl Roster {
         Ok(place)
     }
 
+    // The key of the session's next call.
+    pub(crate) fn next_key(&self, session: u32) -> u32
+        requires { (0 < session) × (session ≤ 1024) }
+        ensures { result ≡ next_key self.now.calls session }
+    {
+        self.index.count(session) as u32 + 1
+    }
+
+    // What became of the accepted call of this number.
+    fn state(&self, number: u32) -> CallState
+        requires { (0 < number) × (number ≤ length self.now.calls) }
+        ensures { IsStateOf self.now number result }
+    {
+        if self.waits(number) {
+            return CallState::Waiting;
+        }
+        if self.runs(number) {
+            return CallState::Running;
+        }
+        let place = self.places[number as usize - 1];
+        if place == 0 {
+            return CallState::Cancelled;
+        }
+        CallState::Ended(*self.history[place - 1].reply())
+    }
+
+    // Whether the call of this number is of the operation of this name, with these arguments.
+    fn is_same(&self, number: u32, name: &[u8], args: &[Datum]) -> bool
+        ensures { IsTrue result ↔ ((call : AcceptedCall) × (call_at self.now.calls number ≡ Some call) × HasName name.now call.operation × (call.arguments ≡ args.now)) }
+    {
+        match self.call(number) {
+            Some(call) => is_same_call(call, name, args),
+            None => false,
+        }
+    }
+
+    // What is known of a key of a session, for a call of the operation of this name.
+    pub(crate) fn kept(
+        &self,
+        session: u32,
+        key: u32,
+        name: &[u8],
+        args: &[Datum],
+    ) -> Result<Option<Kept>, KeyedFault>
+        ensures { Finds self.now (record { session = session; name = name.now; arguments = args.now }) key result }
+    {
+        if self.is_gone(session) {
+            return Err(KeyedFault::Gone);
+        }
+        if key == 0 {
+            return Err(KeyedFault::BadKey);
+        }
+        if key > self.next_key(session) {
+            return Err(KeyedFault::BadKey);
+        }
+        match self.index.number(session, key) {
+            None => Ok(None),
+            Some(number) => {
+                if !self.is_same(number, name, args) {
+                    return Err(KeyedFault::KeyReused);
+                }
+                let state = self.state(number);
+                Ok(Some(Kept { number, state }))
+            }
+        }
+    }
+
     // The place of the running call that ends with an outcome, where that was not handed in before.
     pub(crate) fn place_to_end(&self, outcome: &Outcome) -> Option<usize>
         ensures some { IfSome result (λ k. IsFresh outcome.now × ((r : RunningCall) × (slice_get self.now.running k ≡ Some r) × IsOf (outcome_call outcome.now) r)) }
@@ -482,6 +567,13 @@ impl Roster {
         ensures { result ≡ runs_in self.now number }
     {
         runs(&self.running, number)
+    }
+
+    // Whether a call of this session runs.
+    pub(crate) fn runs_for(&self, session: u32) -> bool
+        ensures { result ≡ runs_by self.now session }
+    {
+        runs_for(&self.running, session)
     }
 
     // The call of this number.
