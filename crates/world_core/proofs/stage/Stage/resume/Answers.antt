@@ -1,0 +1,1 @@
+use Rattle.world_core.proofs.stage.Stage.resume.Goals as goal
