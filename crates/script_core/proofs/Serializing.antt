@@ -24,7 +24,7 @@ use Rattle.board_core.specs.Board.{Board, call_at, joined, dismissed, released, 
 use Rattle.key_core.specs.Keys as keys
 use Rattle.key_core.specs.Keys.{next_key}
 use Rattle.board_core.specs.Chain.{end_of as entry_end, history_of}
-use Rattle.board_core.specs.Sound.{IsRunningIn, kinds_of, event_number}
+use Rattle.board_core.specs.Sound.{IsRunningIn, IsSound, kinds_of, event_number}
 use Rattle.desk_core.specs.declared.answer.CallState.{CallState}
 use Rattle.desk_core.specs.declared.answer.CallState.TheVariants as states
 use Rattle.desk_core.specs.Answers.{Asked, IsNamedAt}
@@ -44,7 +44,8 @@ use Rattle.script_core.specs.declared.script.ScriptEnd.{ScriptEnd}
 use Rattle.script_core.specs.declared.script.ScriptEnd.TheVariants.{Whole, BadLine}
 use Rattle.script_core.specs.Writes.{Told, IsBegun, IsKept, NamesObject, Writes}
 use Rattle.script_core.specs.Run.{IsScript}
-use Rattle.script_core.specs.Serial.{Serial, MayReply, AreStarts, IsRepeat, Serially, WritesSerially, IsSerialScript}
+use Rattle.script_core.specs.Serial.{Serial, MayReply, AreStarts, IsRepeat, IsUnended, Serially, WritesSerially, IsSerialScript}
+use Rattle.script_core.proofs.Unended.{waits_unended, runs_unended, none_unended}
 
 -- A world came about from a new one by events in which only these calls were made to fail.
 record Carries (o : Object) (w : Scene) (failing : List ℕ) : Type 0 where
@@ -271,13 +272,24 @@ on_call {o = o} {told = told} {s = s} session name arguments a new m kept (not_c
     stays (a_call session name arguments) _ new m kept (Serially.not_called (refusal_name (refusals.Submit fault)) (no_starts (refused_line (refusal_name (refusals.Submit fault))) told.world.board.trace)) refl refl refl refl
     (carries_on s.failing m.carries (call (record { session = session; name = name; arguments = arguments })) a by (λ n h. h) (λ n is. absurd (not_by_call (record { session = session; name = name; arguments = arguments }) n is)))
 
+-- a call that has not finished has no reply
+no_reply : {o : Object} {s : Serial} (told : Told) (number : ℕ) → Matches o told s → Every (λ (e : Noted). e.number ≢ number) told.world.board.history → IsUnended s.replies number
+no_reply told number m none = subst (λ rs. IsUnended rs number) (sym m.replies) (in_order told.world.board.history none)
+  where
+    in_order : (entries : List Noted) → Every (λ (e : Noted). e.number ≢ number) entries → IsUnended (map told_of entries) number
+    in_order [] none = tt
+    in_order (e ∷ entries) none = (none.0, in_order entries none.1)
+
 -- a call that was made before is told as what became of it
-on_repeat : {o : Object} {told : Told} {s : Serial} (session key : ℕ) (name : List ℕ) (arguments : List Datum) (number : ℕ) (state : CallState) (trace : List TraceEvent) → Matches o told s
+on_repeat : {o : Object} {told : Told} {s : Serial} (session key : ℕ) (name : List ℕ) (arguments : List Datum) (number : ℕ) (state : CallState) (trace : List TraceEvent) → Matches o told s → IsSound told.world.board
     → IsRepeat s.calls session key name arguments number → IsStateOf told.world.board number state → Serially (a_keyed_call session key name arguments) s (repeat_line number state ++ started_lines 0 trace) s
-on_repeat session key name arguments number states.Waiting trace m is so = Serially.kept number (codes "waiting") is (inl refl) (no_starts (kept_line (codes "waiting") number) trace)
-on_repeat session key name arguments number states.Running trace m is so = Serially.kept number (codes "running") is (inr (inl refl)) (no_starts (kept_line (codes "running") number) trace)
-on_repeat session key name arguments number states.Cancelled trace m is so = Serially.kept number (codes "cancelled") is (inr (inr refl)) (no_starts (kept_line (codes "cancelled") number) trace)
-on_repeat {told = told} session key name arguments number (states.Ended reply) trace m is so =
+on_repeat {told = told} session key name arguments number states.Waiting trace m sound is so =
+    Serially.kept number (codes "waiting") is (no_reply told number m (waits_unended told.world.board number sound so)) (inl refl) (no_starts (kept_line (codes "waiting") number) trace)
+on_repeat {told = told} session key name arguments number states.Running trace m sound is so =
+    Serially.kept number (codes "running") is (no_reply told number m (runs_unended told.world.board number sound so.1)) (inr (inl refl)) (no_starts (kept_line (codes "running") number) trace)
+on_repeat {told = told} session key name arguments number states.Cancelled trace m sound is so =
+    Serially.kept number (codes "cancelled") is (no_reply told number m (none_unended told.world.board.history number so.2)) (inr (inr refl)) (no_starts (kept_line (codes "cancelled") number) trace)
+on_repeat {told = told} session key name arguments number (states.Ended reply) trace m sound is so =
     let entry = so.2 in
     Serially.repeated number reply is (subst (Among (number, reply)) (sym m.replies) (told_among told.world.board.history entry.0 number reply entry.1 entry.2 entry.3)) (no_starts (repeated_line number reply) trace)
 
@@ -303,7 +315,7 @@ on_key {told = told} {s = s} session key name arguments a new m kept (kept_call 
     let asked : Asked = record { session = session; name = name; arguments = arguments } in
     let by : Answers told.world (call_key asked key) a new = kept_call made here is in
     let again : IsRepeat s.calls session key name arguments made.number = subst (λ cs. IsRepeat cs session key name arguments made.number) (sym m.calls) (record { has = is.has; same = is.same }) in
-    stays (a_keyed_call session key name arguments) _ new m kept (on_repeat session key name arguments made.number made.state told.world.board.trace m again is.state) refl refl refl refl
+    stays (a_keyed_call session key name arguments) _ new m kept (on_repeat session key name arguments made.number made.state told.world.board.trace m kept.sound again is.state) refl refl refl refl
     (carries_on s.failing m.carries (call_key asked key) a by (λ n h. h) (λ n e. absurd (not_by_key asked key n e)))
 on_key {told = told} {s = s} session key name arguments a new m kept (not_called_key fault refused) =
     let asked : Asked = record { session = session; name = name; arguments = arguments } in

@@ -1,5 +1,5 @@
 -- What the sequential object makes of the lines of a script: each call at once, as it finishes, one after another.
-use Rattle.std.specs.Prelude.{◌≡◌, ℕ, ◌+◌, ◌⊎◌, Bool, true, false, List, [], ◌∷◌, ◌++◌, length, map, codes, Some}
+use Rattle.std.specs.Prelude.{◌≡◌, ◌≢◌, ℕ, ◌+◌, ◌⊎◌, Bool, true, false, List, [], ◌∷◌, ◌++◌, length, map, codes, Some}
 use Rattle.std.specs.List.{flat_map}
 use Rattle.std.specs.Str.Lines.{lines}
 use Rattle.value_core.specs.declared.datum.Datum.{Datum}
@@ -14,7 +14,7 @@ use Rattle.apply_core.specs.declared.reply.Failure.TheVariants as failures
 use Rattle.apply_core.specs.declared.reply.Reply.{Reply}
 use Rattle.apply_core.specs.declared.reply.Reply.TheVariants.{Done, Refused, Failed}
 use Rattle.apply_core.specs.History.{IsReplyOn, left_by}
-use Rattle.board_core.specs.Lists.{Among}
+use Rattle.board_core.specs.Lists.{Every, Among}
 use Rattle.board_core.specs.Calls.{AcceptedCall}
 use Rattle.board_core.specs.Board.{call_at}
 use Rattle.board_core.specs.Sound.{kinds_of}
@@ -56,7 +56,11 @@ pub record IsRepeat (calls : List AcceptedCall) (session key : ℕ) (name : List
   pub has : HasKey calls session key number
   pub same : IsSameCall (record { session = session; name = name; arguments = arguments }) has.call
 
--- what is said of a call that has not finished
+-- the call of this number has not finished
+abbrev pub IsUnended : List (ℕ × Reply) → ℕ → Type 0
+IsUnended replies number = Every (λ (told : ℕ × Reply). told.0 ≢ number) replies
+
+-- what is said of such a call
 abbrev pub IsKeptWord : List ℕ → Type 0
 IsKeptWord word = (word ≡ codes "waiting") ⊎ ((word ≡ codes "running") ⊎ (word ≡ codes "cancelled"))
 
@@ -77,12 +81,12 @@ pub data Serially : Said → Serial → List ℕ → Serial → Type 0 where
   called : {session : ℕ} {name : List ℕ} {arguments : List Datum} {old : Serial} {text starts : List ℕ} (call : AcceptedCall) → IsCallOf old.object session name arguments call → AreStarts starts
       → text ≡ called_line (length old.calls + 1) ++ starts → Serially (a_call session name arguments) old text (record old { calls = old.calls ++ call ∷ [] })
   not_called : {session : ℕ} {name : List ℕ} {arguments : List Datum} {old : Serial} {text : List ℕ} (fault : List ℕ) → text ≡ refused_line fault → Serially (a_call session name arguments) old text old
-  -- under the key of the session's next call it is such a call; under that of an earlier one it changes nothing, and where that has finished, tells its reply
+  -- under the key of the session's next call it is such a call; under that of an earlier one it changes nothing, and tells the reply with which that finished, or that it has not
   called_key : {session key : ℕ} {name : List ℕ} {arguments : List Datum} {old : Serial} {text starts : List ℕ} (call : AcceptedCall) → key ≡ next_key old.calls session → IsCallOf old.object session name arguments call → AreStarts starts
       → text ≡ called_line (length old.calls + 1) ++ starts → Serially (a_keyed_call session key name arguments) old text (record old { calls = old.calls ++ call ∷ [] })
   repeated : {session key : ℕ} {name : List ℕ} {arguments : List Datum} {old : Serial} {text : List ℕ} (number : ℕ) (reply : Reply) → IsRepeat old.calls session key name arguments number → Among (number, reply) old.replies
       → text ≡ repeated_line number reply → Serially (a_keyed_call session key name arguments) old text old
-  kept : {session key : ℕ} {name : List ℕ} {arguments : List Datum} {old : Serial} {text : List ℕ} (number : ℕ) (word : List ℕ) → IsRepeat old.calls session key name arguments number → IsKeptWord word
+  kept : {session key : ℕ} {name : List ℕ} {arguments : List Datum} {old : Serial} {text : List ℕ} (number : ℕ) (word : List ℕ) → IsRepeat old.calls session key name arguments number → IsUnended old.replies number → IsKeptWord word
       → text ≡ kept_line word number → Serially (a_keyed_call session key name arguments) old text old
   not_called_key : {session key : ℕ} {name : List ℕ} {arguments : List Datum} {old : Serial} {text : List ℕ} (fault : List ℕ) → text ≡ refused_line fault → Serially (a_keyed_call session key name arguments) old text old
   finished : {number : ℕ} {old : Serial} {text starts : List ℕ} (call : AcceptedCall) (reply : Reply) → call_at old.calls number ≡ Some call → IsReplyOn reply (body_of call.operation) call.arguments old.contents

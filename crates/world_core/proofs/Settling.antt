@@ -174,13 +174,13 @@ resumed_running b session = refl
 
 -- a session has a number from 1 to 1,024, or it has not
 pub outside : (session : ℕ) → (0 < session → session ≤ 1024 → ⊥) → (session ≡ 0) ⊎ (1024 < session)
-outside session no = elim (cases_lt 0 session) [
-  | inl above ↦ elim (cases_lt 1024 session) [ inl past ↦ inr past | inr within ↦ absurd (no above within) ]
+outside session never = elim (cases_lt 0 session) [
+  | inl above ↦ elim (cases_lt 1024 session) [ inl past ↦ inr past | inr within ↦ absurd (never above within) ]
   | inr zero ↦ inl (omega (arith, zero))
 ]
 
 pub within_sessions : (session : ℕ) → ((session ≡ 0) ⊎ (1024 < session) → ⊥) → (0 < session) × (session ≤ 1024)
-within_sessions session no = (
-  elim (cases_lt 0 session) [ inl above ↦ above | inr zero ↦ absurd (no (inl (omega (arith, zero)))) ],
-  elim (cases_lt 1024 session) [ inl past ↦ absurd (no (inr past)) | inr within ↦ within ],
+within_sessions session never = (
+  elim (cases_lt 0 session) [ inl above ↦ above | inr zero ↦ absurd (never (inl (omega (arith, zero)))) ],
+  elim (cases_lt 1024 session) [ inl past ↦ absurd (never (inr past)) | inr within ↦ within ],
 )
