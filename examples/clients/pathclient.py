@@ -201,8 +201,9 @@ class Object:
 
     def _kept(self, text, within):
         """Calls under the next key. Where the connection breaks, it comes back and asks again under the same key."""
-        key, is_known = self._key, False
-        for _ in range(TRIES):
+        key, is_known, tries = self._key, False, 0
+        while True:
+            tries += 1
             try:
                 return self._done(f"call #{key} {text}", within)
             except Rejected as error:
@@ -210,6 +211,8 @@ class Object:
                     raise Lost(f"the server has the call, and wrote no {error.word}") from error
                 raise
             except Lost as error:
+                if tries == TRIES:
+                    raise
                 self._drop()
                 try:
                     self._connect()
@@ -220,7 +223,6 @@ class Object:
                 is_known = self._key == key + 1
                 if not is_known and not self._key == key > 1:
                     raise Lost("the server may have been started anew") from error
-        raise Lost("the connection breaks each time")
 
     def _done(self, line, within):
         end = None if within is None else time.monotonic() + within
