@@ -1,6 +1,7 @@
 """The objects of drawn scripts: the text that the program reads, and beside it the same by hand, its paths as trees and its
 bodies as functions."""
 import pathlib
+import random
 
 from slow_world import (
     MOST,
@@ -38,6 +39,9 @@ TEXTS = ("", "a", "it's", "''", " x ", "#", "~" * 184, "m" * 247, "n" * 251, "m"
 # Places of an array of integers, at the ends of pages. Where all are 0 again a page is as others are.
 EDGES = (0, 254, 255, 255, 511, 511, 1022, 1023, 1024)
 FEW = (0, 0, 1)
+# Places around the ends of arrays of 255, 256, 511 and 1,023 integers, of pages, and of arrays of other lengths.
+SPANS = (0, 1, 199, 254, 254, 255, 256, 510, 511, 766, 767, 1022, 1023)
+LENGTHS = random.Random(1024).sample(range(200, 1025), 3)
 
 
 def example(name):
@@ -103,6 +107,59 @@ def wide_copy(c, i, j):
 def wide_both(c, x, y):
     set_element(c["v"], 0, x)
     set_element(c["v"], 1023, y)
+
+
+def spans_get(c, i, j):
+    return whole(element(c["b"], i) + element(c["e"], j))
+
+
+def spans_put(c, i, x):
+    set_element(c["c"], i, x)
+    set_element(c["e"], i, x)
+
+
+def spans_move(c, i, j):
+    set_element(c["d"], i, element(c["a"], j))
+    set_element(c["a"], j, whole(element(c["e"], i) + 1))
+    set_element(c["e"], j, element(c["d"], i))
+
+
+def spans_count(c, i):
+    return whole(len(c["a"]) + len(c["b"]) + len(c["c"]) + len(c["e"]) + element(c["d"], i))
+
+
+def spans(length):
+    """An object with arrays that fill their last page, miss it by an element, or end within it."""
+    return Object(
+        f"spans{length}",
+        f"""object spans{length};
+  path 1:([get, all], put, move) end;
+  var a : array [255] of integer;
+      b : array [256] of integer;
+      c : array [511] of integer;
+      d : array [1023] of integer;
+      e : array [{length}] of integer;
+  entry function get(i, j : integer) : integer; begin get := b[i] + e[j] end;
+  entry function all(i : integer) : integer; begin all := count(a) + count(b) + count(c) + count(e) + d[i] end;
+  entry procedure put(i, x : integer); begin c[i] := x; e[i] := x end;
+  entry procedure move(i, j : integer); begin d[i] := a[j]; a[j] := e[i] + 1; e[j] := d[i] end;
+end;
+""",
+        [Bound(1, Any(Burst(Any("get", "all")), "put", "move"))],
+        {
+            "a": Array(255, "integer"),
+            "b": Array(256, "integer"),
+            "c": Array(511, "integer"),
+            "d": Array(1023, "integer"),
+            "e": Array(length, "integer"),
+        },
+        {
+            "get": ((SPANS, SPANS), ("b", "e"), spans_get, 2),
+            "all": ((SPANS,), ("a", "b", "c", "d", "e"), spans_count),
+            "put": ((SPANS, FEW), ("c", "e"), spans_put, 3),
+            "move": ((SPANS, SPANS), ("a", "d", "e"), spans_move, 3),
+        },
+    )
 
 
 def shelves_pour(c, x):
@@ -253,6 +310,7 @@ end;
             "copy": ((EDGES, EDGES), ("v",), wide_copy, 3),
         },
     ),
+    *(spans(it) for it in LENGTHS),
     Object(
         "shelves",
         """object shelves;

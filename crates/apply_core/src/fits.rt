@@ -1,7 +1,6 @@
 //! Whether a call may have these arguments or these values.
 
 ghost use Rattle.std.specs.Prelude.{◌≡◌, ◌↔◌, IsTrue, Some, map};
-ghost use Rattle.std.specs.Int.{bit_at};
 ghost use Rattle.value_core.specs.Datum.{elem_of};
 ghost use Rattle.value_core.specs.Contents.{kind_of};
 ghost use Rattle.apply_core.specs.Fits.{ArgumentsFit, HoldsReads};

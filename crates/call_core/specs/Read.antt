@@ -1,5 +1,5 @@
 -- What was read of the parts of a call.
-use Rattle.std.specs.Prelude.{◌≡◌, ℕ, ◌<◌, List, Some, slice_get}
+use Rattle.std.specs.Prelude.{◌≡◌, ℕ, List, Some, slice_get}
 use Rattle.decl_core.specs.Bodies.{body_of}
 use Rattle.decl_core.specs.Touched.{Reads}
 use Rattle.hand_core.specs.declared.hand.Stamp.{Stamp}
@@ -15,7 +15,3 @@ PinIsRead a pins p bytes = (pages : List Stamp) × (pin_at pins p ≡ Some pages
 -- each part that a call reads was read, and what was read are the bytes under its pin
 abbrev pub AreRead : Assignment → Call → List (List ℕ) → Type 0
 AreRead a call read = (p : ℕ) → Reads (body_of call.operation).statements p → (bytes : List ℕ) × (slice_get read p ≡ Some bytes) × PinIsRead a call.pins p bytes
-
--- each part that a call reads and that stands before this one was read, and what was read are the bytes under its pin
-abbrev pub EarlierAreRead : Assignment → Call → ℕ → List (List ℕ) → Type 0
-EarlierAreRead a call part read = (p : ℕ) → Reads (body_of call.operation).statements p → p < part → (bytes : List ℕ) × (slice_get read p ≡ Some bytes) × PinIsRead a call.pins p bytes

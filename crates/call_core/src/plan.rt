@@ -1,11 +1,10 @@
 //! What a call writes of what its body changed.
 
-ghost use Rattle.std.specs.Prelude.{◌≡◌, ◌≢◌, ℕ, ◌+◌, ◌<◌, ◌≤◌, ◌++◌, ◌∷◌, [], List, IfOk, IfSome, OnOk, Option, Some, None, length, vec_capacity, slice_get, slice_set};
+ghost use Rattle.std.specs.Prelude.{◌≡◌, ◌≢◌, ℕ, ◌+◌, ◌<◌, ◌≤◌, ◌++◌, ◌∷◌, [], IfOk, IfSome, OnOk, Option, Some, None, length, vec_capacity, slice_get, slice_set};
 ghost use Rattle.std.specs.Result.{IsOk};
 ghost use Rattle.std.specs.Arc.{arc_value};
 ghost use Rattle.decl_core.specs.Bodies.{body_of};
 ghost use Rattle.decl_core.specs.Touched.{Reads};
-ghost use Rattle.judge_core.specs.declared.judge.Change.{Change as AChange};
 ghost use Rattle.judge_core.specs.Written.{WritesInOrder, parts_changed};
 ghost use Rattle.page_core.specs.declared.plan.PageWrite.{PageWrite as AWrite};
 ghost use Rattle.page_core.specs.Cut.{IsPageSize, together};

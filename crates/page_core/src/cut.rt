@@ -1,6 +1,6 @@
 //! How bytes are cut into pages.
 
-ghost use Rattle.std.specs.Prelude.{◌≡◌, ◌↔◌, ℕ, ◌<◌, ◌≤◌, ◌^◌, IsTrue, IfSome, IfNone, length, map};
+ghost use Rattle.std.specs.Prelude.{◌≡◌, ◌↔◌, ℕ, ◌<◌, ◌≤◌, ◌^◌, IsTrue, IfSome, IfNone, length};
 ghost use Rattle.page_core.specs.Cut.{IsFirstFor, IsPageSize, together, IsLength, AreFull, AreCutLengths, lengths};
 
 use hand_core::hand::Stamp;

@@ -1,6 +1,6 @@
 //! The pins of some parts of an object.
 
-ghost use Rattle.std.specs.Prelude.{◌≡◌, ◌↔◌, ℕ, ◌+◌, ◌-◌, ◌*◌, ◌<◌, ◌≤◌, ◌++◌, ◌∷◌, [], IsTrue, IfOk, IfSome, IfNone, OnOk, Option, Some, None, length, take, drop, vec_capacity, slice_get, List, ◌==◌, if◌then◌else◌};
+ghost use Rattle.std.specs.Prelude.{◌≡◌, ◌↔◌, ◌+◌, ◌-◌, ◌*◌, ◌<◌, ◌≤◌, ◌++◌, [], IsTrue, IfSome, IfNone, Option, Some, None, length, take, vec_capacity, List, ◌==◌, if◌then◌else◌};
 ghost use Rattle.page_core.specs.Cut.{together};
 ghost use Rattle.page_core.specs.PartPins.{pins_by, pin_at, pins_in, room_in, count_pages, added_if};
 ghost use Rattle.std.specs.Int.{bit_at};

@@ -1,6 +1,6 @@
 //! Which pages of a changed part are written.
 
-ghost use Rattle.std.specs.Prelude.{◌≡◌, ◌≢◌, ◌↔◌, ℕ, ◌+◌, ◌<◌, ◌≤◌, ◌++◌, ◌∷◌, [], List, IsTrue, OnOk, length, min, take, drop};
+ghost use Rattle.std.specs.Prelude.{◌≡◌, ◌↔◌, ◌+◌, ◌<◌, ◌++◌, ◌∷◌, [], IsTrue, OnOk, length, min, take, drop};
 ghost use Rattle.hand_core.specs.declared.hand.Stamp.{Stamp as AStamp};
 ghost use Rattle.page_core.specs.declared.plan.PageWrite.{PageWrite as AWrite};
 ghost use Rattle.page_core.specs.Plans.{IsPlan};

@@ -1,6 +1,6 @@
 //! The new page list of a part, written at once.
 
-ghost use Rattle.std.specs.Prelude.{◌≡◌, ℕ, ◌<◌, ◌≤◌, ◌⊎◌, List, Some, None, length, slice_get};
+ghost use Rattle.std.specs.Prelude.{◌≡◌, ℕ, ◌<◌, ◌≤◌, ◌⊎◌, Some, None, slice_get};
 ghost use Rattle.hand_core.specs.declared.hand.HandFault.TheVariants as faults;
 ghost use Rattle.hand_core.specs.declared.hand.Stamp.{Stamp as AStamp};
 ghost use Rattle.hand_core.specs.Device.{Assignment, Failed as DeviceFailed};

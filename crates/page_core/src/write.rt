@@ -1,6 +1,6 @@
 //! Pages that are written at once.
 
-ghost use Rattle.std.specs.Prelude.{◌≡◌, ℕ, ◌+◌, ◌<◌, ◌≤◌, ◌++◌, ◌∷◌, [], List, Some, None, IfOk, IfErr, length, vec_capacity, slice_set};
+ghost use Rattle.std.specs.Prelude.{◌≡◌, ◌+◌, ◌<◌, ◌≤◌, ◌++◌, ◌∷◌, [], List, Some, None, IfOk, IfErr, length, vec_capacity, slice_set};
 ghost use Rattle.hand_core.specs.declared.hand.HandFault.TheVariants as faults;
 ghost use Rattle.hand_core.specs.declared.hand.Stamp.{Stamp as AStamp};
 ghost use Rattle.hand_core.specs.Device.{Assignment, FaultCause, Holds, Failed as DeviceFailed};

@@ -1,6 +1,6 @@
 //! The parts of an object, from a shelf to a hand.
 
-ghost use Rattle.std.specs.Prelude.{◌≡◌, ◌≤◌, ◌⊎◌, ℕ, [], ◌∷◌, ◌++◌, length, map, IfOk, OnOk, IfErr};
+ghost use Rattle.std.specs.Prelude.{◌≡◌, ◌≤◌, ◌⊎◌, [], ◌∷◌, ◌++◌, length, map, IfOk, OnOk, IfErr};
 ghost use Rattle.std.specs.FinMap.{get};
 ghost use Rattle.value_core.specs.Contents.{kind_of};
 ghost use Rattle.value_core.specs.Kinds.{IsKind};

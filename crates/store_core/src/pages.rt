@@ -3,7 +3,7 @@
 ghost use Rattle.std.specs.Prelude.{◌≡◌, ◌<◌, ◌≤◌, ◌++◌, ◌∷◌, [], ℕ, List, Some, IfOk, OnOk, IfErr, length, min};
 ghost use Rattle.hand_core.specs.Device.{Assignment, FaultCause, Holds, Always, AreServed};
 ghost use Rattle.hand_core.specs.Made.{IsDeviceErr};
-ghost use Rattle.page_core.specs.Cut.{IsCut, IsPageSize};
+ghost use Rattle.page_core.specs.Cut.{IsCut};
 ghost use Rattle.page_core.specs.Bytes.{list_bytes, AreWhole};
 ghost use Rattle.store_core.specs.Pages.{AreHeld, ArePut};
 

@@ -1,14 +1,18 @@
 -- Elements that are read one after another.
-use Rattle.std.proofs.Common.{◌≡◌, ◌≢◌, ℕ, ◌+◌, ◌<◌, List, [], ◌∷◌, ◌++◌, length, sym, ap, ◌∙◌, append_assoc, arith, length-append}
-use Rattle.std.specs.Prelude.{All}
+use Rattle.std.proofs.Common.{◌≡◌, ◌≢◌, ℕ, ◌+◌, ◌<◌, List, [], ◌∷◌, ◌++◌, length, refl, sym, ap, ◌∙◌, append_assoc, arith, length-append}
+use Rattle.std.specs.Prelude.{All, map}
+use Rattle.std.specs.Int.{w32, to_be_bytes}
 use Rattle.std.specs.List.{flat_map}
 use Rattle.std.proofs.lemmas.List.{append-nil}
 use Rattle.std.proofs.lemmas.Grind.{flat_map-append}
 use Rattle.std.proofs.lemmas.List.Elements.{All-append, All-cons, All-nil}
 use Rattle.value_core.specs.declared.datum.Datum.{Datum}
+use Rattle.value_core.specs.declared.datum.Datum.TheVariants as datum
 use Rattle.value_core.specs.declared.kind.Elem.{Elem}
+use Rattle.value_core.specs.declared.kind.Elem.TheVariants as elem
+use Rattle.value_core.specs.Plain.{IsText}
 use Rattle.value_core.specs.Datum.{IsElement}
-use Rattle.value_core.specs.Spelling.{spelled_datum, SpellElements}
+use Rattle.value_core.specs.Spelling.{spelled_text, spelled_datum, SpellElements}
 use Rattle.value_core.proofs.Apart.{datum_apart, same_elements, next_element}
 
 -- one element more has been read
@@ -36,3 +40,20 @@ pub no_more : (bytes rest : List ℕ) (e : Elem) (count : ℕ) (xs : List Datum)
     → (rest ≡ [] → ⊥) → (ys : List Datum) → SpellElements bytes e count ys → ⊥
 no_more bytes rest e count xs each same parts some ys is =
     some (same_elements spelled_datum (IsElement e) (datum_apart e) xs ys rest each is.each (same ∙ sym is.many) (sym is.spelled ∙ parts)).1
+
+integer_sort : elem.Text ≡ elem.Integer → ⊥
+integer_sort is = cc
+
+-- where no four bytes stand next, no integer does
+pub no_integer : (rest : List ℕ) → ((n : ℕ) (r : List ℕ) → rest ≢ to_be_bytes w32 n ++ r) → (d : Datum) (r : List ℕ) → IsElement elem.Integer d → rest ≢ spelled_datum d ++ r
+no_integer rest none (datum.Integer n) r is = none n r
+no_integer rest none (datum.Text t) r is = absurd (integer_sort is.sort)
+
+-- where no text stands next, none does as a datum
+pub no_text : (rest : List ℕ) → ((text r : List ℕ) → IsText text → rest ≢ spelled_text text ++ r) → (d : Datum) (r : List ℕ) → IsElement elem.Text d → rest ≢ spelled_datum d ++ r
+no_text rest none (datum.Integer n) r is = absurd (integer_sort (sym is.sort))
+no_text rest none (datum.Text t) r is = none t r is.datum
+
+pub map-push : {X Y : Type 0} (make : X → Y) (xs : List X) (x : X) → map make (xs ++ x ∷ []) ≡ map make xs ++ make x ∷ []
+map-push make [] x = refl
+map-push make (y ∷ ys) x = ap (λ zs. make y ∷ zs) (map-push make ys x)

@@ -1,6 +1,6 @@
 //! The elements of an array: integers in four bytes each, texts in their rows.
 
-ghost use Rattle.std.specs.Prelude.{◌≡◌, ◌<◌, ◌++◌, ◌∷◌, [], length, replicate, slice_get, slice_set, IfOk, OnOk, OnErr};
+ghost use Rattle.std.specs.Prelude.{◌≡◌, ◌<◌, length, replicate, slice_get, slice_set, IfOk};
 ghost use Rattle.value_core.specs.Datum.{elem_of, zero_of};
 ghost use Rattle.value_core.specs.Cells.{cells_sort, cells_data};
 
@@ -17,17 +17,6 @@ pub enum Cells {
 }
 
 impl Cells {
-    /// No elements of this sort, with room for so many.
-    pub fn with_capacity(alloc: Global, sort: Elem, room: usize) -> Result<Cells, AllocError>
-        ensures sort { IfOk result (λ cells. cells_sort cells ≡ sort) }
-        ensures data { IfOk result (λ cells. cells_data cells ≡ []) }
-    {
-        match sort {
-            Elem::Integer => Ok(Cells::Integers(Vec::with_capacity(alloc, room)?)),
-            Elem::Text => Ok(Cells::Texts(Vec::with_capacity(alloc, room)?)),
-        }
-    }
-
     /// So many zeros or empty texts.
     pub fn zeros(alloc: Global, sort: Elem, count: usize) -> Result<Cells, AllocError>
         ensures sort { IfOk result (λ cells. cells_sort cells ≡ sort) }
@@ -64,8 +53,14 @@ impl Cells {
         ensures { result ≡ slice_get (cells_data self.now) place }
     {
         match self {
-            Cells::Integers(all) => all.get(place).copied().map(Datum::Integer),
-            Cells::Texts(all) => all.get(place).copied().map(Datum::Text),
+            Cells::Integers(all) => match all.get(place) {
+                Some(number) => Some(Datum::Integer(*number)),
+                None => None,
+            },
+            Cells::Texts(all) => match all.get(place) {
+                Some(text) => Some(Datum::Text(*text)),
+                None => None,
+            },
         }
     }
 
@@ -83,25 +78,6 @@ impl Cells {
             },
             Cells::Texts(all) => match datum {
                 Datum::Text(text) => all[place] = text,
-                Datum::Integer(_) => unreachable!(),
-            },
-        }
-    }
-
-    /// Adds an element behind the others.
-    pub fn push(&mut self, datum: Datum) -> Result<(), AllocError>
-        requires { elem_of datum ≡ cells_sort self.old }
-        ensures sort { cells_sort self.new ≡ cells_sort self.old }
-        ensures ok { OnOk result (cells_data self.new ≡ cells_data self.old ++ datum ∷ []) }
-        ensures err { OnErr result (cells_data self.new ≡ cells_data self.old) }
-    {
-        match self {
-            Cells::Integers(all) => match datum {
-                Datum::Integer(number) => Ok(all.push(number)?),
-                Datum::Text(_) => unreachable!(),
-            },
-            Cells::Texts(all) => match datum {
-                Datum::Text(text) => Ok(all.push(text)?),
                 Datum::Integer(_) => unreachable!(),
             },
         }

@@ -1,13 +1,15 @@
 //! Values from their bytes.
 
-ghost use Rattle.std.specs.Prelude.{◌≡◌, ◌≤◌, List, IfOk, IsErrOf, IsTrue, ◌↔◌, ◌++◌};
+ghost use Rattle.std.specs.Prelude.{◌≡◌, ◌≤◌, List, map, IfOk, IsErrOf, IsTrue, ◌↔◌, ◌++◌};
 ghost use Rattle.value_core.specs.declared.datum.Datum.{Datum};
+ghost use Rattle.value_core.specs.declared.datum.Datum.TheVariants as datum;
+ghost use Rattle.value_core.specs.declared.kind.Elem.TheVariants as elem;
 ghost use Rattle.value_core.specs.Limits.{most_elements};
 ghost use Rattle.value_core.specs.Contents.{Contents};
 ghost use Rattle.value_core.specs.Spelling.{Spells, SpellElements, SpellRows, IsAfter, header, IsCountOf, BeginsAs};
 ghost use Rattle.value_core.specs.Rows.{rows_sort, rows_map};
 ghost use Rattle.value_core.specs.TextOrder.{text_cmp};
-ghost use Rattle.std.specs.FinMap as map;
+ghost use Rattle.std.specs.FinMap.{FinMap};
 ghost use Rattle.value_core.specs.Cells.{cells_sort, cells_data};
 ghost use Rattle.value_core.specs.Queue.{queue_sort, queue_data};
 
@@ -15,7 +17,7 @@ use crate::cells::Cells;
 use crate::kind::{Elem, Kind};
 use crate::limits::MOST_ELEMENTS;
 use crate::queue::Queue;
-use crate::reader::{read_datum, read_header, read_row};
+use crate::reader::{read_datum, read_header, read_integer, read_row, read_text};
 use crate::rows::Rows;
 use crate::text::Text;
 use crate::value::{Body, Value};
@@ -51,19 +53,57 @@ fn decode_cells(alloc: Global, sort: Elem, count: usize, bytes: &[u8]) -> Result
     ensures found { IfOk result (λ cells. SpellElements bytes.now sort count (cells_data cells)) }
     ensures damaged { IsErrOf result DecodeFault.Damaged → (xs : List Datum) → SpellElements bytes.now sort count xs → ⊥ }
 {
-    let mut cells = Cells::with_capacity(alloc, sort, count)?;
+    match sort {
+        Elem::Integer => Ok(Cells::Integers(decode_integers(alloc, count, bytes)?)),
+        Elem::Text => Ok(Cells::Texts(decode_texts(alloc, count, bytes)?)),
+    }
+}
+
+// The integers, so many, that the bytes are.
+fn decode_integers(alloc: Global, count: usize, bytes: &[u8]) -> Result<Vec<u32>, DecodeFault>
+    ensures found { IfOk result (λ all. SpellElements bytes.now elem.Integer count (map datum.Integer all.items)) }
+    ensures damaged { IsErrOf result DecodeFault.Damaged → (xs : List Datum) → SpellElements bytes.now elem.Integer count xs → ⊥ }
+{
+    let mut all = Vec::with_capacity(alloc, count)?;
     let mut rest = bytes;
     for place in 0..count {
-        let Some((datum, behind)) = read_datum(sort, rest) else {
+        let Some((number, behind)) = read_integer(rest) else {
             return Err(DecodeFault::Damaged);
         };
-        cells.push(datum)?;
+        match all.push(number) {
+            Ok(()) => (),
+            Err(refused) => return Err(AllocError::from(refused).into()),
+        }
         rest = behind;
     }
     if !rest.is_empty() {
         return Err(DecodeFault::Damaged);
     }
-    Ok(cells)
+    Ok(all)
+}
+
+// The texts, so many, that the bytes are.
+fn decode_texts(alloc: Global, count: usize, bytes: &[u8]) -> Result<Vec<Text>, DecodeFault>
+    ensures found { IfOk result (λ all. SpellElements bytes.now elem.Text count (map datum.Text all.items)) }
+    ensures damaged { IsErrOf result DecodeFault.Damaged → (xs : List Datum) → SpellElements bytes.now elem.Text count xs → ⊥ }
+{
+    let mut all = Vec::with_capacity(alloc, count)?;
+    let mut rest = bytes;
+    for place in 0..count {
+        let Some(front) = read_text(rest) else {
+            return Err(DecodeFault::Damaged);
+        };
+        let (text, behind) = front;
+        match all.push(text) {
+            Ok(()) => (),
+            Err(refused) => return Err(AllocError::from(refused).into()),
+        }
+        rest = behind;
+    }
+    if !rest.is_empty() {
+        return Err(DecodeFault::Damaged);
+    }
+    Ok(all)
 }
 
 // The elements of a queue, so many, that the bytes are.
@@ -91,7 +131,7 @@ fn decode_queue(alloc: Global, sort: Elem, count: usize, bytes: &[u8]) -> Result
 fn decode_rows(alloc: Global, sort: Elem, count: usize, bytes: &[u8]) -> Result<Rows, DecodeFault>
     ensures sort { IfOk result (λ rows. rows_sort rows ≡ sort) }
     ensures found { IfOk result (λ rows. SpellRows bytes.now sort count (rows_map rows)) }
-    ensures damaged { IsErrOf result DecodeFault.Damaged → (m : map.FinMap text_cmp Datum) → SpellRows bytes.now sort count m → ⊥ }
+    ensures damaged { IsErrOf result DecodeFault.Damaged → (m : FinMap text_cmp Datum) → SpellRows bytes.now sort count m → ⊥ }
 {
     let mut rows = Rows::new(alloc, sort);
     let mut rest = bytes;

@@ -1,8 +1,9 @@
 //! The bytes of a value.
 
-ghost use Rattle.std.specs.Prelude.{◌≡◌, ◌++◌, OnOk, IfOk};
+ghost use Rattle.std.specs.Prelude.{◌≡◌, ◌++◌, map, OnOk, IfOk};
 ghost use Rattle.std.specs.List.{flat_map};
 ghost use Rattle.std.specs.Int.{w32, to_be_bytes};
+ghost use Rattle.value_core.specs.declared.datum.Datum.TheVariants as datum;
 ghost use Rattle.value_core.specs.Contents.{kind_of};
 ghost use Rattle.value_core.specs.Cells.{cells_data};
 ghost use Rattle.value_core.specs.Queue.{queue_data};
@@ -67,10 +68,26 @@ fn put_datum(out: &mut Vec<u8>, datum: &Datum) -> Result<(), AllocError>
 fn put_cells(out: &mut Vec<u8>, cells: &Cells) -> Result<(), AllocError>
     ensures { OnOk result (out.new.items ≡ out.old.items ++ flat_map spelled_datum (cells_data cells.now)) }
 {
-    for place in 0..cells.len() {
-        if let Some(datum) = cells.get(place) {
-            put_datum(out, &datum)?;
-        }
+    match cells {
+        Cells::Integers(all) => put_integers(out, all),
+        Cells::Texts(all) => put_texts(out, all),
+    }
+}
+
+fn put_integers(out: &mut Vec<u8>, all: &[u32]) -> Result<(), AllocError>
+    ensures { OnOk result (out.new.items ≡ out.old.items ++ flat_map spelled_datum (map datum.Integer all.now)) }
+{
+    for place in 0..all.len() {
+        put_integer(out, all[place])?;
+    }
+    Ok(())
+}
+
+fn put_texts(out: &mut Vec<u8>, all: &[Text]) -> Result<(), AllocError>
+    ensures { OnOk result (out.new.items ≡ out.old.items ++ flat_map spelled_datum (map datum.Text all.now)) }
+{
+    for place in 0..all.len() {
+        put_text(out, &all[place])?;
     }
     Ok(())
 }

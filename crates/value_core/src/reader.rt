@@ -26,7 +26,8 @@ pub fn read_header(bytes: &[u8]) -> Option<(u8, u16, &[u8])>
     }
 }
 
-fn read_integer(bytes: &[u8]) -> Option<(u32, &[u8])>
+/// An integer of four bytes, the highest first.
+pub fn read_integer(bytes: &[u8]) -> Option<(u32, &[u8])>
     ensures some { IfSome result (λ r. (bytes.now ≡ to_be_bytes w32 r.0 ++ r.1.now) × (r.0 < 2 ^ 32)) }
     ensures none { IfNone result ((n : ℕ) (rest : List ℕ) → bytes.now ≢ to_be_bytes w32 n ++ rest) }
 {
@@ -47,7 +48,8 @@ fn read_length(bytes: &[u8]) -> Option<(TextLength, &[u8])>
     }
 }
 
-fn read_text(bytes: &[u8]) -> Option<(Text, &[u8])>
+/// A text: its length, and its bytes.
+pub fn read_text(bytes: &[u8]) -> Option<(Text, &[u8])>
     ensures some { IfSome result (λ r. IsText r.0 × (bytes.now ≡ spelled_text r.0 ++ r.1.now)) }
     ensures none { IfNone result ((text rest : List ℕ) → IsText text → bytes.now ≢ spelled_text text ++ rest) }
 {

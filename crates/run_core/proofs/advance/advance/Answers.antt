@@ -1,5 +1,4 @@
 use Rattle.std.proofs.Common.{Some, inl, inr, ap, sym, subst}
-use Rattle.std.specs.Arc.{arc_value}
 use Rattle.call_core.specs.Tasks.{task_call}
 use Rattle.run_core.specs.declared.phase.Phase.TheVariants.{Creating, Appending, Sealing}
 use Rattle.run_core.specs.Steps.{Follows, place_in, at_end, stays}

@@ -1,4 +1,4 @@
-use Rattle.std.proofs.Common.{List, [], refl, sym, subst, ◌∙◌, arith}
+use Rattle.std.proofs.Common.{List, [], refl, sym, subst, ◌∙◌}
 use Rattle.std.specs.Arc.{arc_value}
 use Rattle.decl_core.specs.Bodies.{body_of}
 use Rattle.judge_core.specs.declared.judge.Change.{Change}

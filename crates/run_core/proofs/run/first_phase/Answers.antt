@@ -1,4 +1,4 @@
-use Rattle.std.proofs.Common.{arith, ap, length}
+use Rattle.std.proofs.Common.{arith}
 use Rattle.std.specs.Arc.{arc_value}
 use Rattle.call_core.specs.Tasks.{task_call}
 use Rattle.run_core.specs.Steps.{with_part}
