@@ -21,7 +21,6 @@ use Rattle.board_core.specs.declared.event.TraceEvent.{TraceEvent}
 use Rattle.board_core.specs.Lists.{Every, Among}
 use Rattle.board_core.specs.Calls.{AcceptedCall, RunningCall, Noted}
 use Rattle.board_core.specs.Board.{Board, call_at, joined, dismissed, released, marked, ended, entry_of}
-use Rattle.key_core.specs.Keys as keys
 use Rattle.key_core.specs.Keys.{next_key}
 use Rattle.board_core.specs.Chain.{end_of as entry_end, history_of}
 use Rattle.board_core.specs.Sound.{IsRunningIn, IsSound, kinds_of, event_number}
@@ -46,6 +45,7 @@ use Rattle.script_core.specs.Writes.{Told, IsBegun, IsKept, NamesObject, Writes}
 use Rattle.script_core.specs.Run.{IsScript}
 use Rattle.script_core.specs.Serial.{Serial, MayReply, AreStarts, IsRepeat, IsUnended, Serially, WritesSerially, IsSerialScript}
 use Rattle.script_core.proofs.Unended.{waits_unended, runs_unended, none_unended}
+use Rattle.script_core.proofs.Back.{resumed_same}
 
 -- A world came about from a new one by events in which only these calls were made to fail.
 record Carries (o : Object) (w : Scene) (failing : List ℕ) : Type 0 where
@@ -163,10 +163,6 @@ dismissed_same b n = (refl, refl, refl)
 left_same : (b : Board) (n : ℕ) → ((marked (released b n) n).history ≡ b.history) × ((marked (released b n) n).calls ≡ b.calls) × ((marked (released b n) n).object ≡ b.object)
 unfolding marked released
 left_same b n = (refl, refl, refl)
-
-resumed_same : (b : Board) (n : ℕ) → ((keys.resumed b n).history ≡ b.history) × ((keys.resumed b n).calls ≡ b.calls) × ((keys.resumed b n).object ≡ b.object)
-unfolding keys.resumed
-resumed_same b n = (refl, refl, refl)
 
 ended_history : (b : Board) (e : Noted) → (ended b e).history ≡ b.history ++ e ∷ []
 unfolding ended

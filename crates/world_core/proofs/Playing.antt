@@ -12,7 +12,7 @@ use Rattle.run_core.specs.Steps.{Place, at_read, at_page, at_create, at_append, 
 use Rattle.board_core.specs.Lists.{Every}
 use Rattle.board_core.specs.Calls.{Noted, AcceptedCall, RunningCall}
 use Rattle.board_core.specs.Board.{Board, joined, dismissed, released, marked, ended, entry_of}
-use Rattle.key_core.specs.Keys as keys
+use Rattle.key_core.proofs.Resumed.{resumed_history}
 use Rattle.board_core.proofs.Lists.{Every-at, Every-snoc, Every-map, Every-filter, Every-set}
 use Rattle.world_core.specs.declared.event.Answer.TheVariants.{Stepped}
 use Rattle.world_core.specs.declared.event.EventAnswer.{EventAnswer}
@@ -46,10 +46,6 @@ dismissed_history b n = refl
 left_history : (b : Board) (n : ℕ) → (marked (released b n) n).history ≡ b.history
 unfolding marked released
 left_history b n = refl
-
-resumed_history : (b : Board) (session : ℕ) → (keys.resumed b session).history ≡ b.history
-unfolding keys.resumed
-resumed_history b session = refl
 
 ended_history : (b : Board) (e : Noted) → (ended b e).history ≡ b.history ++ e ∷ []
 unfolding ended
@@ -90,7 +86,7 @@ step_told old new e a rest (cancelled {number = number} waits goes) = told_same 
 step_told old new e a rest (not_cancelled answer other so) = refl
 step_told old new e a rest (left {session = session} above below goes) = told_same old new rest (goes_history goes ∙ left_history old.board session)
 step_told old new e a rest (no_session none) = refl
-step_told old new e a rest (resumed {session = session} above below) = ap (λ es. map told_of es ++ rest) (resumed_history old.board session)
+step_told old new e a rest (resumed {session = session} above below) = ap (λ es. map told_of es ++ rest) (resumed_history old.board session).0
 step_told old new e a rest (not_resumed none) = refl
 step_told old new e a rest (shown values are) = refl
 step_told old new e a rest not_shown = refl
@@ -215,7 +211,7 @@ step_fair P Q old new e a more now (left {session = session} above below goes) f
 step_fair P Q old new e a more now (no_session none) fair = all_fair_owed P Q more old fair
 step_fair P Q old new e a more now (resumed {session = session} above below) fair =
     let before = all_fair_owed P Q more old fair in
-    record { entries = subst (Every (EntryFair Q)) (sym (resumed_history old.board session)) before.entries; runs = before.runs }
+    record { entries = subst (Every (EntryFair Q)) (sym (resumed_history old.board session).0) before.entries; runs = before.runs }
 step_fair P Q old new e a more now (not_resumed none) fair = all_fair_owed P Q more old fair
 step_fair P Q old new e a more now (shown values are) fair = all_fair_owed P Q more old fair
 step_fair P Q old new e a more now not_shown fair = all_fair_owed P Q more old fair
