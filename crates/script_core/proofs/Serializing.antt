@@ -35,7 +35,7 @@ use Rattle.world_core.specs.Names.{refusal_name}
 use Rattle.world_core.specs.Scene.{Scene, Standing, Goes, IsNew, call_running}
 use Rattle.world_core.specs.Plays.{Plays, HasFailedStep}
 use Rattle.world_core.specs.Laws.{FailsOnlyWithItsDevice}
-use Rattle.world_core.specs.Answers.{Answers, called, not_called, called_key, kept as kept_call, not_called_key, stepped, no_step, step_not_running, finished, not_done, finish_not_running, cancelled, not_cancelled, left, no_session, resumed, not_resumed, shown, not_shown}
+use Rattle.world_core.specs.Answers.{Answers, called, not_called, called_key, not_called_key, stepped, no_step, step_not_running, finished, not_done, finish_not_running, cancelled, not_cancelled, left, no_session, resumed, not_resumed, shown, not_shown}
 use Rattle.script_text.specs.Said.{Said, a_call, a_keyed_call, a_step, all_steps, a_finish, a_cancel, a_drop, a_resume, a_show, a_trace}
 use Rattle.script_text.specs.Answers.{called_line, refused_line, kept_line, repeated_line, started_line, shown_lines}
 use Rattle.script_core.specs.Does.{Does, Happens, IsEvent, IsTold, StepsMade, none_yet, one_more, answer_lines, repeat_line, started_lines, one_event, all_stepped, not_stepped, traced}
@@ -307,9 +307,9 @@ on_key {o = o} {told = told} {s = s} session key name arguments a new m kept (ca
           (same_replies told.world new s.replies m.replies (goes_history goes ∙ joined_history told.world.board accepted))
           (carries_on s.failing m.carries (call_key asked key) a by (λ n h. h) (λ n is. absurd (not_by_key asked key n is))),
     )
-on_key {told = told} {s = s} session key name arguments a new m kept (kept_call made here is) =
+on_key {told = told} {s = s} session key name arguments a new m kept (Answers.kept made here is) =
     let asked : Asked = record { session = session; name = name; arguments = arguments } in
-    let by : Answers told.world (call_key asked key) a new = kept_call made here is in
+    let by : Answers told.world (call_key asked key) a new = Answers.kept made here is in
     let again : IsRepeat s.calls session key name arguments made.number = subst (λ cs. IsRepeat cs session key name arguments made.number) (sym m.calls) (record { has = is.has; same = is.same }) in
     stays (a_keyed_call session key name arguments) _ new m kept (on_repeat session key name arguments made.number made.state told.world.board.trace m kept.sound again is.state) refl refl refl refl
     (carries_on s.failing m.carries (call_key asked key) a by (λ n h. h) (λ n e. absurd (not_by_key asked key n e)))

@@ -19,7 +19,7 @@ use Rattle.world_core.specs.declared.event.EventAnswer.{EventAnswer}
 use Rattle.world_core.specs.declared.event.Event.{Event}
 use Rattle.world_core.specs.Events.{WorldEvent, step, event_of}
 use Rattle.world_core.specs.Scene.{Scene, Standing, Goes, IsNew, AreBegun, call_running}
-use Rattle.world_core.specs.Answers.{Answers, Moves, called, not_called, called_key, kept, not_called_key, stepped, no_step, step_not_running, finished, not_done, finish_not_running, cancelled, not_cancelled, left, no_session, resumed, not_resumed, shown, not_shown}
+use Rattle.world_core.specs.Answers.{Answers, Moves, called, not_called, called_key, not_called_key, stepped, no_step, step_not_running, finished, not_done, finish_not_running, cancelled, not_cancelled, left, no_session, resumed, not_resumed, shown, not_shown}
 use Rattle.world_core.specs.Plays.{Plays, if_ended, finishes, IsFailedStep, HasFailedStep}
 use Rattle.world_core.proofs.Places.{map_snoc}
 
@@ -72,7 +72,7 @@ step_told : (old new : Scene) (e : WorldEvent) (a : EventAnswer) (rest : List (�
 step_told old new e a rest (called accepted taken goes) = told_same old new rest (goes_history goes ∙ joined_history old.board accepted)
 step_told old new e a rest (not_called fault refused) = refl
 step_told old new e a rest (called_key accepted next taken goes) = told_same old new rest (goes_history goes ∙ joined_history old.board accepted)
-step_told old new e a rest (kept made here is) = refl
+step_told old new e a rest (Answers.kept made here is) = refl
 step_told old new e a rest (not_called_key fault refused) = refl
 step_told old new e a rest (stepped k run after files there going moves) = refl
 step_told old new e a rest (no_step k run there done) = refl
@@ -182,7 +182,7 @@ step_fair P Q old new e a more now (not_called fault refused) fair = all_fair_ow
 step_fair P Q old new e a more now (called_key accepted next taken goes) fair =
     let before = all_fair_owed P Q more old fair in
     goes_fair Q goes (subst (Every (EntryFair Q)) (sym (joined_history old.board accepted)) before.entries) before.runs
-step_fair P Q old new e a more now (kept made here is) fair = all_fair_owed P Q more old fair
+step_fair P Q old new e a more now (Answers.kept made here is) fair = all_fair_owed P Q more old fair
 step_fair P Q old new e a more now (not_called_key fault refused) fair = all_fair_owed P Q more old fair
 step_fair P Q old new e a more now (stepped {number = number} {works = works} k run after files there going moves) fair =
     let before = all_fair_owed P Q more old fair in
