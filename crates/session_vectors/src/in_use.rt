@@ -229,7 +229,10 @@ fn runs<R: Abort + Wait + Clock>(
     office.complete_in_place(rt, &mut seat, &mut outcome).is_ok()
 }
 
-const BEHIND: &[(u64, &[u8])] = &[(1, b"open turns as ann\ncall #1 a\ncall #2 a\ncall #2 a\nquit\n")];
+const BEHIND: &[(u64, &[u8])] = &[
+    (1, b"open turns as ann\ncall #1 a\ncall #2 a\ncall #2 a\n"),
+    (6, b"quit\n"),
+];
 
 // Whether a session over these lines writes this, while a call of another session runs.
 fn follows<R: Threads + Wait + Clock + Sync>(
