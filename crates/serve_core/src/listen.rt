@@ -17,7 +17,7 @@ use std::sync::{Mutex, Wait};
 use std::thread;
 use std::thread::Threads;
 use std::time::{Clock, Duration};
-use talk_core::bell::Bell;
+use hear_core::bell::Bell;
 use talk_core::fault::SessionFault;
 use talk_core::patient::Patient;
 

@@ -15,7 +15,7 @@ use std::process::Abort;
 use std::sync::Wait;
 use std::thread::Threads;
 use std::time::Clock;
-use talk_core::bell::Bell;
+use hear_core::bell::Bell;
 
 const CALLED: &[u8] = b"open cell\ncall put 7\ncall put 8\ncall get\nquit\n";
 

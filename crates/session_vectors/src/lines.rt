@@ -11,7 +11,7 @@ use std::process::Abort;
 use std::sync::Wait;
 use std::thread::Threads;
 use std::time::Clock;
-use talk_core::bell::Bell;
+use hear_core::bell::Bell;
 use talk_core::fault::SessionFault;
 
 /// The array `[0]`.

@@ -2,7 +2,7 @@
 
 use std::alloc::Global;
 use std::io::{self, Write};
-use talk_core::bell::Bell;
+use hear_core::bell::Bell;
 use talk_core::patient::{LAST_PAUSES, MOST_PAUSES, Patient};
 
 // A writer that takes nothing so often, and then one byte a write.

@@ -13,7 +13,7 @@ use std::sync::{Arc, Wait};
 use std::thread::Threads;
 use std::time::Clock;
 use std::{io, thread};
-use talk_core::bell::Bell;
+use hear_core::bell::Bell;
 
 // The queue `<>`.
 pub const EMPTY: &[u8] = b"\x01\x03\x00\x00";
