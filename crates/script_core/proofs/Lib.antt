@@ -3,3 +3,4 @@ pub mod Telling
 pub mod Whole
 pub mod Serializing
 pub mod Unended
+pub mod Back

@@ -21,7 +21,6 @@ use Rattle.board_core.specs.declared.event.TraceEvent.{TraceEvent}
 use Rattle.board_core.specs.Lists.{Every, Among}
 use Rattle.board_core.specs.Calls.{AcceptedCall, RunningCall, Noted}
 use Rattle.board_core.specs.Board.{Board, call_at, joined, dismissed, released, marked, ended, entry_of}
-use Rattle.key_core.specs.Keys as keys
 use Rattle.key_core.specs.Keys.{next_key}
 use Rattle.board_core.specs.Chain.{end_of as entry_end, history_of}
 use Rattle.board_core.specs.Sound.{IsRunningIn, IsSound, kinds_of, event_number}
@@ -36,7 +35,7 @@ use Rattle.world_core.specs.Names.{refusal_name}
 use Rattle.world_core.specs.Scene.{Scene, Standing, Goes, IsNew, call_running}
 use Rattle.world_core.specs.Plays.{Plays, HasFailedStep}
 use Rattle.world_core.specs.Laws.{FailsOnlyWithItsDevice}
-use Rattle.world_core.specs.Answers.{Answers, called, not_called, called_key, kept as kept_call, not_called_key, stepped, no_step, step_not_running, finished, not_done, finish_not_running, cancelled, not_cancelled, left, no_session, resumed, not_resumed, shown, not_shown}
+use Rattle.world_core.specs.Answers.{Answers, called, not_called, called_key, not_called_key, stepped, no_step, step_not_running, finished, not_done, finish_not_running, cancelled, not_cancelled, left, no_session, resumed, not_resumed, shown, not_shown}
 use Rattle.script_text.specs.Said.{Said, a_call, a_keyed_call, a_step, all_steps, a_finish, a_cancel, a_drop, a_resume, a_show, a_trace}
 use Rattle.script_text.specs.Answers.{called_line, refused_line, kept_line, repeated_line, started_line, shown_lines}
 use Rattle.script_core.specs.Does.{Does, Happens, IsEvent, IsTold, StepsMade, none_yet, one_more, answer_lines, repeat_line, started_lines, one_event, all_stepped, not_stepped, traced}
@@ -46,6 +45,7 @@ use Rattle.script_core.specs.Writes.{Told, IsBegun, IsKept, NamesObject, Writes}
 use Rattle.script_core.specs.Run.{IsScript}
 use Rattle.script_core.specs.Serial.{Serial, MayReply, AreStarts, IsRepeat, IsUnended, Serially, WritesSerially, IsSerialScript}
 use Rattle.script_core.proofs.Unended.{waits_unended, runs_unended, none_unended}
+use Rattle.script_core.proofs.Back.{resumed_same}
 
 -- A world came about from a new one by events in which only these calls were made to fail.
 record Carries (o : Object) (w : Scene) (failing : List ℕ) : Type 0 where
@@ -163,10 +163,6 @@ dismissed_same b n = (refl, refl, refl)
 left_same : (b : Board) (n : ℕ) → ((marked (released b n) n).history ≡ b.history) × ((marked (released b n) n).calls ≡ b.calls) × ((marked (released b n) n).object ≡ b.object)
 unfolding marked released
 left_same b n = (refl, refl, refl)
-
-resumed_same : (b : Board) (n : ℕ) → ((keys.resumed b n).history ≡ b.history) × ((keys.resumed b n).calls ≡ b.calls) × ((keys.resumed b n).object ≡ b.object)
-unfolding keys.resumed
-resumed_same b n = (refl, refl, refl)
 
 ended_history : (b : Board) (e : Noted) → (ended b e).history ≡ b.history ++ e ∷ []
 unfolding ended
@@ -311,9 +307,9 @@ on_key {o = o} {told = told} {s = s} session key name arguments a new m kept (ca
           (same_replies told.world new s.replies m.replies (goes_history goes ∙ joined_history told.world.board accepted))
           (carries_on s.failing m.carries (call_key asked key) a by (λ n h. h) (λ n is. absurd (not_by_key asked key n is))),
     )
-on_key {told = told} {s = s} session key name arguments a new m kept (kept_call made here is) =
+on_key {told = told} {s = s} session key name arguments a new m kept (Answers.kept made here is) =
     let asked : Asked = record { session = session; name = name; arguments = arguments } in
-    let by : Answers told.world (call_key asked key) a new = kept_call made here is in
+    let by : Answers told.world (call_key asked key) a new = Answers.kept made here is in
     let again : IsRepeat s.calls session key name arguments made.number = subst (λ cs. IsRepeat cs session key name arguments made.number) (sym m.calls) (record { has = is.has; same = is.same }) in
     stays (a_keyed_call session key name arguments) _ new m kept (on_repeat session key name arguments made.number made.state told.world.board.trace m kept.sound again is.state) refl refl refl refl
     (carries_on s.failing m.carries (call_key asked key) a by (λ n h. h) (λ n e. absurd (not_by_key asked key n e)))

@@ -3,7 +3,6 @@ use Rattle.std.proofs.Common.{◌≡◌, ℕ, Bool, true, false, ◌==◌, List,
 use Rattle.std.specs.Prelude.{Some, codes}
 use Rattle.std.specs.Str.{bytes_eq}
 use Rattle.std.proofs.lemmas.Slice.Eq.{bytes_eq-Decides}
-use Rattle.value_core.specs.declared.datum.Datum.{Datum}
 use Rattle.path_tree.specs.Identifier.{IsIdentifier, IsLetter}
 use Rattle.std.proofs.lemmas.Bool.Decides.{Decides-eqb, eqb_tells}
 use Rattle.word_core.specs.Words.{Word, bare, quoted}
