@@ -73,6 +73,7 @@ impl Room {
         args: &[Datum],
     ) -> Result<Resubmitted, KeyedFault>
         requires here { IsGone self.old.board seat.old.session → ⊥ }
+        requires sound { IsSound self.old.board }
         ensures told { Resubmits self.new.board (record { session = seat.old.session; name = op.now; arguments = args.now }) (next_key self.old.board.calls seat.old.session) result }
         ensures board { SubmitsKeyed self.old.board (record { session = seat.old.session; name = op.now; arguments = args.now }) (next_key self.old.board.calls seat.old.session) (answer_of result) self.new.board }
         ensures given { KeepsSeats self.old self.new }

@@ -1,6 +1,6 @@
 //! Seats that are given out under a name, and parked.
 
-ghost use Rattle.std.specs.Prelude.{◌≡◌, ◌<◌, ◌≤◌, length, IfOk, IfErr, Some, slice_get};
+ghost use Rattle.std.specs.Prelude.{◌≡◌, ◌<◌, ◌≤◌, IfOk, IfErr, Some, slice_get};
 ghost use Rattle.seat_core.specs.declared.clients.Client.{Client as AClient};
 ghost use Rattle.seat_core.specs.Clients.{IsOut};
 ghost use Rattle.office_core.specs.Named.{GivesNamed, IsNew, Parks};
@@ -48,7 +48,7 @@ impl Room {
 
     // The seat of the client at this place, where it is parked. Its session is back.
     fn seat_again(&mut self, place: usize) -> Result<Seat, NameFault>
-        requires { place < length self.old.clients }
+        requires { (c : AClient) × (slice_get self.old.clients place ≡ Some c) }
         ensures gives { (c : AClient) → slice_get self.old.clients place ≡ Some c → GivesNamed self.old c.name result self.new }
         ensures within { IfOk result (λ seat. (0 < seat.session) × (seat.session ≤ 1024)) }
     {
