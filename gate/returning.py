@@ -350,7 +350,7 @@ class Wanderer(threading.Thread):
 
     def __init__(self, seed, number, server):
         super().__init__(daemon=True)
-        self.random, self.server, self.name = random.Random(seed * 1000 + number), server, f"w{number}"
+        self.random, self.server, self.client = random.Random(seed * 1000 + number), server, f"w{number}"
         self.made = self.random.choice(OBJECTS)
         self.calls, self.lasts, self.wrong = [], {}, None
 
@@ -362,14 +362,14 @@ class Wanderer(threading.Thread):
         try:
             for turn in range(3):
                 it = self.server.client()
-                self.ask_for_all(it, it.open(self.made.name, self.name))
+                self.ask_for_all(it, it.open(self.made.name, self.client))
                 if turn == 2:
                     it.quit()
                     return
                 self.talk(it)
                 it.cut(self.random.choice(CUTS))
         except (Wrong, EOFError, OSError) as error:
-            self.wrong = f"{self.made.name}, {self.name}: {type(error).__name__} {error}"
+            self.wrong = f"{self.made.name}, {self.client}: {type(error).__name__} {error}"
 
     def ask_for_all(self, it, key):
         """Asks for each call once more, but for those that were not taken; a call that was told has to be there."""
@@ -420,7 +420,7 @@ def drawn(seed):
             it.start()
         for it in [*wanderers, *others]:
             it.join(3 * SECONDS)
-        wrong = [it.wrong for it in wanderers if it.wrong] + [f"{it.name} goes on" for it in wanderers if it.is_alive()]
+        wrong = [it.wrong for it in wanderers if it.wrong] + [f"{it.client} goes on" for it in wanderers if it.is_alive()]
         if wrong:
             raise Wrong("; ".join(wrong))
         server.end()

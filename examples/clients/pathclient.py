@@ -121,7 +121,7 @@ class Object:
             try:
                 self._socket, self._rest = socket.create_connection(self._place, timeout=max(self._wait, 1)), b""
                 self._socket.setsockopt(socket.IPPROTO_TCP, socket.TCP_NODELAY, 1)
-                answer = self._opened(max(end, time.monotonic() + 1))
+                answer = self._opened(end)
                 break
             except (OSError, Lost) as error:
                 self._drop()
@@ -139,7 +139,7 @@ class Object:
         while True:
             self._send(self._opens)
             # A server that has taken all its connections leaves this one unanswered.
-            answer = self._line(end)
+            answer = self._line(max(end, time.monotonic() + 1))
             if answer is None:
                 raise Lost("no answer")
             if answer != "no InUse" or time.monotonic() >= end:
