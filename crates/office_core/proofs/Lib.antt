@@ -1,3 +1,4 @@
 pub mod Found
 pub mod Law
+pub mod Keying
 pub mod Sending

@@ -1,12 +1,14 @@
 -- When a room is closed.
-use Rattle.std.specs.Prelude.{◌≡◌, ℕ, ◌+◌, ◌-◌, ◌<◌, ◌≤◌, ◌==◌, List, [], ◌∷◌, length, sum_by, slice_get, Some, Result, Ok, Err, if◌then◌else◌}
+use Rattle.std.specs.Prelude.{◌≡◌, ℕ, ◌+◌, ◌-◌, ◌<◌, List, ◌++◌, length, slice_get, Some, Result, Ok, Err}
 use Rattle.board_core.specs.declared.receipt.Receipt.{Receipt}
 use Rattle.board_core.specs.Lists.{Every}
 use Rattle.board_core.specs.Calls.{Noted}
 use Rattle.board_core.specs.Board.{Board}
 use Rattle.board_core.specs.Outcomes.{IsEntryOf}
 use Rattle.slip_core.specs.Slips.{Told, StandsIn}
-use Rattle.office_core.specs.declared.seat.Seat.{Seat}
+use Rattle.seat_core.specs.declared.seat.Seat.{Seat}
+use Rattle.seat_core.specs.Seats.{AreSeats}
+use Rattle.seat_core.specs.Clients.{parked_of}
 use Rattle.office_core.specs.declared.room.CloseFault.{CloseFault}
 use Rattle.office_core.specs.declared.room.CloseFault.TheVariants.{Outstanding, SeatMissing, Mismatch}
 use Rattle.office_core.specs.declared.room.CloseRefused.{CloseRefused}
@@ -17,23 +19,9 @@ use Rattle.office_core.specs.Rooms.{RoomState}
 abbrev pub IsIdle : Board → Type 0
 IsIdle b = length b.waiting + length b.running ≡ 0
 
--- how many receipts a seat had
-abbrev pub count_of : Seat → ℕ
-count_of seat = seat.count
-
--- how many seats are of a session
-abbrev pub times : ℕ → List Seat → ℕ
-times session [] = 0
-times session (seat ∷ seats) = (if seat.session == session then 1 else 0) + times session seats
-
--- the seats are those of the sessions given out, each once, and their counts add up to so many entries
-pub record AreSeats (given : ℕ) (entries : ℕ) (seats : List Seat) : Type 0 where
-  pub all : length seats ≡ given
-  pub each : (session : ℕ) → 0 < session → session ≤ given → times session seats ≡ 1
-  pub counts : sum_by count_of seats ≡ entries
-
+-- those of a room, with the seats that are parked there
 abbrev pub AreSeatsOf : RoomState → List Seat → Type 0
-AreSeatsOf r seats = AreSeats r.given (length r.board.history) seats
+AreSeatsOf r seats = AreSeats r.given (length r.board.history) (parked_of r.clients ++ seats)
 
 -- a receipt tells of the entry at its place
 abbrev pub Stands : List Noted → Receipt → Type 0

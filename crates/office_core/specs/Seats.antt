@@ -5,24 +5,13 @@ use Rattle.run_core.specs.Outcomes.{TellsSame}
 use Rattle.board_core.specs.declared.receipt.Receipt.{Receipt}
 use Rattle.desk_core.specs.Answers.{Finishes, IsStranger, receipt_by}
 use Rattle.desk_core.specs.declared.answer.Finished.{Finished}
-use Rattle.office_core.specs.declared.seat.Seat.{Seat}
+use Rattle.seat_core.specs.declared.seat.Seat.{Seat}
+use Rattle.seat_core.specs.Seats.{Advances}
 use Rattle.office_core.specs.declared.seat.NotTaken.{NotTaken}
 use Rattle.office_core.specs.declared.seat.NotTaken.TheVariants.{Front as missed, Stranger as unknown}
 use Rattle.office_core.specs.declared.seat.CompleteFault.{CompleteFault}
 use Rattle.office_core.specs.declared.seat.CompleteFault.TheVariants.{Front, Stranger}
-use Rattle.office_core.specs.Rooms.{RoomState}
-
--- a seat of this session that has seen no place and had no receipt
-pub record IsFresh (session : ℕ) (seat : Seat) : Type 0 where
-  pub of : seat.session ≡ session
-  pub seen : seat.seen ≡ 0
-  pub count : seat.count ≡ 0
-
--- a seat has seen this place, and counts one receipt more
-pub record Advances (old : Seat) (place : ℕ) (new : Seat) : Type 0 where
-  pub session : new.session ≡ old.session
-  pub seen : new.seen ≡ place
-  pub count : new.count ≡ old.count + 1
+use Rattle.office_core.specs.Rooms.{RoomState, KeepsSeats}
 
 -- What a `complete` tells of an outcome and of the seat: a receipt whose outcome tells the same, at a place past all that the seat had seen; or the outcome back, and the seat as it was.
 abbrev pub Receives : Seat → Outcome → Result Receipt CompleteFault → Seat → Type 0
@@ -47,12 +36,12 @@ IsAhead r seat = seat.seen < length r.board.history + 1
 
 -- What a `complete` makes of the room: what `finish` makes of the desk's board, where the next place is past all that the seat has seen; else it is as it was.
 abbrev pub Completes : RoomState → Seat → Outcome → Result Receipt CompleteFault → RoomState → Type 0
-Completes old seat o (Ok r) new = IsAhead old seat × Finishes old.board o r new.board × (new.given ≡ old.given)
+Completes old seat o (Ok r) new = IsAhead old seat × Finishes old.board o r new.board × KeepsSeats old new
 Completes old seat o (Err (Front seen found back)) new = (found ≡ length old.board.history + 1) × (found ≤ seat.seen) × (new ≡ old)
 Completes old seat o (Err (Stranger back)) new = IsAhead old seat × IsStranger old.board o × (new ≡ old)
 
 -- The same of an outcome that stays where it lies.
 abbrev pub CompletesInPlace : RoomState → Seat → Outcome → Result Finished NotTaken → Outcome → RoomState → Type 0
-CompletesInPlace old seat o (Ok f) after new = IsAhead old seat × Finishes old.board o (receipt_by f after) new.board × (new.given ≡ old.given)
+CompletesInPlace old seat o (Ok f) after new = IsAhead old seat × Finishes old.board o (receipt_by f after) new.board × KeepsSeats old new
 CompletesInPlace old seat o (Err (missed seen found)) after new = (found ≡ length old.board.history + 1) × (found ≤ seat.seen) × (new ≡ old)
 CompletesInPlace old seat o (Err unknown) after new = IsAhead old seat × IsStranger old.board o × (new ≡ old)

@@ -15,7 +15,7 @@ use Rattle.office_core.specs.declared.seat.Started.{Started}
 use Rattle.office_core.specs.declared.seat.Started.TheVariants as started
 use Rattle.office_core.specs.declared.seat.Tried.{Tried}
 use Rattle.office_core.specs.declared.seat.Tried.TheVariants.{Ticket, Cancelled, Waiting, Stranger}
-use Rattle.office_core.specs.Rooms.{RoomState}
+use Rattle.office_core.specs.Rooms.{RoomState, KeepsSeats}
 
 abbrev pub submitted_operation : Submitted → Operation
 submitted_operation s = (arc_value s.call).operation
@@ -58,7 +58,7 @@ IsStartOf s (started.Stranger back) = back ≡ s
 
 -- what a look for a start makes of the room: what `collect` makes of the desk's board, where the call of that number is of the submission
 abbrev pub Tries : RoomState → Submitted → Tried → RoomState → Type 0
-Tries old s (Ticket t) new = IsOf old.board s × Collects old.board s.number (collected.Ticket t) new.board × (new.given ≡ old.given)
-Tries old s Cancelled new = IsOf old.board s × Collects old.board s.number collected.Cancelled new.board × (new.given ≡ old.given)
-Tries old s (Waiting back) new = IsOf old.board s × Collects old.board s.number collected.Waiting new.board × (new.given ≡ old.given)
+Tries old s (Ticket t) new = IsOf old.board s × Collects old.board s.number (collected.Ticket t) new.board × KeepsSeats old new
+Tries old s Cancelled new = IsOf old.board s × Collects old.board s.number collected.Cancelled new.board × KeepsSeats old new
+Tries old s (Waiting back) new = IsOf old.board s × Collects old.board s.number collected.Waiting new.board × KeepsSeats old new
 Tries old s (Stranger back) new = (IsOf old.board s → Collects old.board s.number collected.Unknown new.board) × (new ≡ old)

@@ -9,12 +9,13 @@ ghost use Rattle.office_core.specs.Closing.{Closes, ClosesBySlips};
 
 use crate::late::Late;
 use crate::room::{CloseRefused, Closed, Room, SeatsFull, with_outcome};
-use crate::seat::{CompleteFault, NotTaken, Seat, Started, Submitted, Tried};
+use crate::seat::{CompleteFault, NotTaken, Started, Submitted, Tried};
 use board_core::event::TraceEvent;
 use board_core::receipt::Receipt;
 use desk_core::answer::{Cancelled, Finished, SubmitFault};
 use desk_core::desk::Desk;
 use run_core::outcome::Outcome;
+use seat_core::seat::Seat;
 use slip_core::slip::Slip;
 use std::alloc::{AllocError, Global};
 use std::hint::spin_loop;
@@ -65,7 +66,7 @@ pub struct Office {
 }
 
 // The bed of a session.
-fn bed_of(session: u32) -> usize
+pub(crate) fn bed_of(session: u32) -> usize
     ensures { result < 64 }
 {
     session as usize % BEDS
@@ -82,7 +83,7 @@ fn bed_for(desk: &Desk, number: u32) -> usize
 }
 
 // The beds of the sessions whose calls started since the trace was so long, a bit each. The room notes these starts.
-fn started(room: &mut Room, before: usize) -> u64 {
+pub(crate) fn started(room: &mut Room, before: usize) -> u64 {
     let mut beds = 0u64;
     for place in before..room.desk().trace().len() {
         if let Some(TraceEvent::Start(number)) = room.desk().trace().get(place) {
@@ -141,7 +142,7 @@ impl Office {
     }
 
     // The room, once no other thread has it.
-    fn enter<R: Wait>(&self, rt: &R) -> MutexGuard<'_, Box<Room>> {
+    pub(crate) fn enter<R: Wait>(&self, rt: &R) -> MutexGuard<'_, Box<Room>> {
         for _ in 0..LOOKS {
             if let Some(room) = self.room.try_lock() {
                 return room;
@@ -208,7 +209,7 @@ impl Office {
     }
 
     // Wakes who sleeps in these beds.
-    fn wake(&self, beds: u64) {
+    pub(crate) fn wake(&self, beds: u64) {
         if beds == 0 {
             return;
         }

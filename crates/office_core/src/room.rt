@@ -1,26 +1,29 @@
 //! What lies under the lock.
 
-ghost use Rattle.std.specs.Prelude.{◌≡◌, ◌+◌, ◌≤◌, ◌<◌, length, IfOk, IfErr, IfSome, IfNone, Ok, Err};
+ghost use Rattle.std.specs.Prelude.{◌≡◌, ◌+◌, ◌≤◌, ◌<◌, length, IfOk, IfErr, IfSome, IfNone, Ok, Err, []};
 ghost use Rattle.board_core.specs.Board.{opened, Rests};
 ghost use Rattle.board_core.specs.Sound.{IsSound};
 ghost use Rattle.desk_core.specs.Answers.{Cancels};
 ghost use Rattle.board_core.specs.Started.{Settles};
 ghost use Rattle.board_core.specs.Board.{released, marked};
 ghost use Rattle.std.specs.Prelude.{◌⊎◌};
-ghost use Rattle.office_core.specs.Rooms.{Submits};
+ghost use Rattle.office_core.specs.Rooms.{KeepsSeats, Submits};
 ghost use Rattle.office_core.specs.Submissions.{Asks, IsOf, Tells, Tries};
-ghost use Rattle.office_core.specs.Seats.{IsFresh, Advances, Receives, ReceivesInPlace, Completes, CompletesInPlace, fault_with};
+ghost use Rattle.seat_core.specs.Seats.{IsFresh};
+ghost use Rattle.office_core.specs.Seats.{Receives, ReceivesInPlace, Completes, CompletesInPlace, fault_with};
 ghost use Rattle.office_core.specs.Closing.{Closes, ClosesBySlips, IsIdle, AreSeatsOf, IsOpen};
 
 use crate::find::{first_mismatch, first_mismatched_slip, is_of};
-use crate::seat::{CompleteFault, NotTaken, Seat, Submitted, Tried};
-use crate::seats::are_seats;
+use crate::seat::{CompleteFault, NotTaken, Submitted, Tried};
 use board_core::receipt::Receipt;
 use desk_core::answer::{Cancelled, Collected, Finished, SubmitFault};
 use desk_core::desk::Desk;
 use exclude_core::analyse::Accepted;
 use page_core::pins::Pins;
 use run_core::outcome::Outcome;
+use seat_core::clients::Clients;
+use seat_core::seat::Seat;
+use seat_core::seats::are_seats;
 use slip_core::slip::Slip;
 use std::alloc::{AllocError, Global};
 use std::marker::Model;
@@ -30,14 +33,15 @@ use value_core::datum::Datum;
 /// The most sessions that a room gives out.
 pub const MOST_SESSIONS: u32 = 1024;
 
-/// A desk, and how many sessions were given out.
+/// A desk, how many sessions were given out, and the names under which some of them were.
 ///
-/// A contract sees it as a board and that number. The board is that of a desk: what holds of each such board
+/// A contract sees it as a board, that number and the names. The board is that of a desk: what holds of each such board
 /// (`IsSound`, `Rests`) holds of it, as [`Room::desk`] says.
 #[derive(Drop)]
 pub struct Room {
-    desk: Desk,
-    given: u32,
+    pub(crate) desk: Desk,
+    pub(crate) given: u32,
+    pub(crate) clients: Clients,
     // Which call runs that others wait for. No clause hangs on it.
     turns: Turns,
 }
@@ -45,16 +49,18 @@ pub struct Room {
 impl Model for Room {
     ghost use Rattle.office_core.specs.Rooms.{RoomState};
     ghost use Rattle.desk_core.specs.contracts.desk.Desk as d;
+    ghost use Rattle.seat_core.specs.contracts.clients.Clients as k;
+    ghost use Rattle.seat_core.specs.Clients.{AreClients};
     ghost use Rattle.std.specs.Prelude.{◌≤◌};
     ghost use Rattle.std.specs.Coded.{codes};
 
     ghost Value = { RoomState };
 
-    ghost coded = { Prim.hlevel (codes, d.the_row.coded) };
+    ghost coded = { Prim.hlevel (codes, d.the_row.coded, k.the_row.coded) };
 
-    ghost view = { λ r. record { board = r.desk; given = r.given } };
+    ghost view = { λ r. record { board = r.desk; given = r.given; clients = r.clients } };
 
-    ghost invariant = { λ r. r.given ≤ 1024 };
+    ghost invariant = { λ r. (r.given ≤ 1024) × AreClients r.given r.clients };
 }
 
 /// All sessions are given out.
@@ -69,7 +75,7 @@ pub struct SeatsFull {
 pub enum CloseFault {
     /// A call waits or runs.
     Outstanding,
-    /// The seats are not those of the sessions given out, each once, or their counts do not add up to the
+    /// The seats, with those that are parked here, are not those of the sessions given out, each once, or their counts do not add up to the
     /// history's length.
     SeatMissing,
     /// The receipt or slip of this index, from 0, the first such one, does not tell of the entry at its place.
@@ -89,29 +95,6 @@ pub struct CloseRefused {
 pub struct Closed {
     /// The desk.
     pub desk: Desk,
-}
-
-// A seat that has seen nothing.
-fn new_seat(session: u32) -> Seat
-    ensures { IsFresh session result }
-{
-    Seat {
-        session,
-        seen: 0,
-        count: 0,
-    }
-}
-
-// The seat that has seen this place, and counts one receipt more.
-fn seat_after(seat: &Seat, place: usize) -> Seat
-    requires { seat.now.seen < place }
-    ensures { Advances seat.now place result }
-{
-    Seat {
-        session: seat.session,
-        seen: place,
-        count: seat.count + 1,
-    }
 }
 
 // Takes apart a submission that has been answered.
@@ -138,13 +121,14 @@ impl Room {
     /// refused.
     pub fn open(alloc: Global, accepted: Accepted, pins: Pins) -> Result<Room, AllocError>
         requires { length pins ≡ length accepted.parts.items }
-        ensures { IfOk result (λ r. r ≡ record { board = opened accepted pins; given = 0 }) }
+        ensures { IfOk result (λ r. r ≡ record { board = opened accepted pins; given = 0; clients = [] }) }
     {
         let turns = Turns::new(&accepted);
         let desk = Desk::open(alloc, accepted, pins)?;
         Ok(Room {
             desk,
             given: 0,
+            clients: Clients::new(alloc),
             turns,
         })
     }
@@ -159,17 +143,19 @@ impl Room {
         &self.desk
     }
 
-    /// The next session, from 1 to 1,024. The error is that there is none left, and tells how many were given out; nothing is changed.
+    /// The next session, from 1 to 1,024, under no name. The error is that there is none left, and tells how many were given out; nothing is
+    /// changed.
     pub fn seat(&mut self) -> Result<Seat, SeatsFull>
         ensures ok { IfOk result (λ seat. IsFresh (self.old.given + 1) seat × (self.old.given < 1024) × (self.new.given ≡ self.old.given + 1)) }
         ensures full { IfErr result (λ e. (e.given ≡ self.old.given) × (1024 ≤ e.given) × (self.new.given ≡ self.old.given)) }
         ensures board { self.new.board ≡ self.old.board }
+        ensures clients { self.new.clients ≡ self.old.clients }
     {
         if self.given >= MOST_SESSIONS {
             return Err(SeatsFull { given: self.given });
         }
         self.given += 1;
-        Ok(new_seat(self.given))
+        Ok(Seat::new(self.given))
     }
 
     /// Takes a call of this seat's session, as the desk's `submit` does. The errors are those of `submit`, in its
@@ -184,10 +170,10 @@ impl Room {
         ensures board { IfOk result (λ s. Submits self.old.board (record { session = seat.old.session; name = op.now; arguments = args.now }) (Ok s.number) self.new.board) }
         ensures accepted { IfOk result (λ s. IsOf self.new.board s) }
         ensures refused { IfErr result (λ fault. Submits self.old.board (record { session = seat.old.session; name = op.now; arguments = args.now }) (Err fault) self.new.board) }
-        ensures given { self.new.given ≡ self.old.given }
+        ensures given { KeepsSeats self.old self.new }
         ensures seat { seat.new ≡ seat.old }
     {
-        match self.desk.submit_and_share(seat.session, op, args) {
+        match self.desk.submit_and_share(seat.session(), op, args) {
             Ok((number, call)) => return Ok(Submitted { number, call }),
             Err(fault) => return Err(fault),
         }
@@ -254,14 +240,14 @@ impl Room {
         ensures room { CompletesInPlace self.old seat.old outcome.old result outcome.new self.new }
     {
         let found = self.desk.history().len() + 1;
-        let seen = seat.seen;
+        let seen = seat.seen();
         if found <= seen {
             return Err(NotTaken::Front { seen, found });
         }
         let Some(finished) = self.desk.finish_in_place(outcome) else {
             return Err(NotTaken::Stranger);
         };
-        *seat = seat_after(seat, finished.place);
+        *seat = seat.after(finished.place);
         Ok(finished)
     }
 
@@ -297,16 +283,17 @@ impl Room {
     /// Takes a waiting call out, as the desk's `cancel` does. It takes no memory.
     pub fn cancel(&mut self, number: u32) -> Cancelled
         ensures board { Cancels self.old.board number result self.new.board }
-        ensures given { self.new.given ≡ self.old.given }
+        ensures given { KeepsSeats self.old self.new }
     {
         self.desk.cancel(number)
     }
 
-    /// A session leaves, as by the desk's `disconnect`. It takes no memory.
+    /// A session leaves, as by the desk's `disconnect`: that of a name is back once its seat was parked and is given out again. It takes no
+    /// memory.
     pub fn leave(&mut self, session: u32)
         ensures left { 0 < session → session ≤ 1024 → Settles (marked (released self.old.board session) session) self.new.board }
         ensures none { (session ≡ 0) ⊎ (1024 < session) → self.new.board ≡ self.old.board }
-        ensures given { self.new.given ≡ self.old.given }
+        ensures given { KeepsSeats self.old self.new }
     {
         self.desk.disconnect(session);
     }
@@ -319,7 +306,7 @@ impl Room {
         if !self.desk.is_idle() {
             return Some(CloseFault::Outstanding);
         }
-        if !are_seats(seats, self.given, self.desk.history().len()) {
+        if !are_seats(&self.clients, seats, self.given, self.desk.history().len()) {
             return Some(CloseFault::SeatMissing);
         }
         None
@@ -332,13 +319,14 @@ impl Room {
         let Room {
             desk,
             given: _,
+            clients: _,
             turns: _,
         } = self;
         Closed { desk }
     }
 
-    /// Ends the work: where no call waits or runs, the seats are those of the sessions given out, each once, their
-    /// counts add up to the history's length, and each receipt tells of the entry at its place. It takes no memory.
+    /// Ends the work: where no call waits or runs, the seats, with those that are parked here, are those of the sessions given out, each once,
+    /// their counts add up to the history's length, and each receipt tells of the entry at its place. It takes no memory.
     ///
     /// The errors hand room and seats back, with the first cause of [`CloseFault`] that applies.
     pub fn close(self, seats: Vec<Seat>, receipts: &[Receipt]) -> Result<Closed, CloseRefused>

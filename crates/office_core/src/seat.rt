@@ -1,30 +1,12 @@
-//! Seats, submissions and their answers.
+//! Submissions and their answers.
 
-ghost use Rattle.std.specs.Prelude.{◌≡◌, ◌≤◌};
+ghost use Rattle.std.specs.Prelude.{◌≡◌};
 
 use board_core::call::Call;
 use call_core::ticket::Ticket;
 use run_core::outcome::Outcome;
+pub use seat_core::seat::Seat;
 use std::sync::Arc;
-
-/// A session that was given out: the greatest place of the history that it has seen, and how many receipts it had.
-#[derive(Debug, Drop)]
-pub struct Seat {
-    pub(crate) session: u32,
-    pub(crate) seen: usize,
-    pub(crate) count: usize,
-    // each receipt was of a place of its own
-    ghost few: { count ≤ seen },
-}
-
-impl Seat {
-    /// Its session, from 1 to 1,024.
-    pub fn session(&self) -> u32
-        ensures { result ≡ self.now.session }
-    {
-        self.session
-    }
-}
 
 /// An accepted call that is waited for. It has to be spent, by a wait for its start.
 pub struct Submitted {

@@ -1,6 +1,7 @@
 //! When a room and an office are closed.
 
-use crate::make::{finish, page, room, stuck, turn};
+use crate::make::{finish, page, room, room_of, stuck, turn};
+use crate::named::{name, outcome_of};
 use apply_core::reply::Reply;
 use board_core::entry::Entry;
 use board_core::receipt::{NotedOutcome, Receipt};
@@ -199,4 +200,99 @@ fn a_call_that_runs_keeps_an_office_open(rt: HostRuntime) {
         0,
     );
     assert!(rt; room.desk().runs(1) && seats.is_empty());
+}
+
+// Parks the seat of a name behind a `put 7`, and answers the receipt.
+fn put_and_park<R: Abort + Wait>(
+    rt: &R,
+    alloc: Global,
+    room: &mut Room,
+    hand: &mut MemHand,
+    bytes: &[u8],
+) -> Receipt {
+    let mut seat = room
+        .seat_named(&name(rt, alloc, bytes))
+        .expect(rt, "a seat");
+    let receipt = turn(rt, alloc, room, &mut seat, hand, 7).expect(rt, "a receipt");
+    room.park(seat).ok().expect(rt, "to park");
+    receipt
+}
+
+#[test]
+fn parked_seats_are_counted_where_a_room_closes(rt: HostRuntime) {
+    let alloc = rt.alloc();
+    let mut hand = MemHand::new(alloc);
+    let mut room = room(&rt, alloc, &mut hand);
+    let own = one(
+        &rt,
+        alloc,
+        put_and_park(&rt, alloc, &mut room, &mut hand, b"ann"),
+    );
+    let foreign = one(&rt, alloc, foreign(&rt, alloc));
+    let seat = room.seat().expect(&rt, "a seat");
+    // The seat without a name is missing; then the parked one is out.
+    let (mut room, mut seats) = refused(
+        &rt,
+        room.close(Vec::new(alloc), &own),
+        CloseFault::SeatMissing,
+        1,
+    );
+    seats.push(seat).expect(&rt, "memory");
+    let ann = room
+        .seat_named(&name(&rt, alloc, b"ann"))
+        .expect(&rt, "a seat");
+    assert!(rt; ann.session() == 1 && ann.count() == 1);
+    let (mut room, mut seats) = refused(&rt, room.close(seats, &own), CloseFault::SeatMissing, 1);
+    // A seat that is parked is handed in, too: each session has one seat.
+    room.park(ann).ok().expect(&rt, "to park");
+    let mut other = room_of(alloc, room.desk().pins()).expect(&rt, "a room");
+    seats
+        .push(other.seat().expect(&rt, "a seat"))
+        .expect(&rt, "memory");
+    let (room, mut seats) = refused(&rt, room.close(seats, &own), CloseFault::SeatMissing, 1);
+    let twice = seats.pop().expect(&rt, "a seat");
+    assert!(rt; twice.session() == 1 && seats.len() == 1);
+    let why = CloseFault::Mismatch {
+        receipt: 0,
+        place: 1,
+    };
+    let (room, seats) = refused(&rt, room.close(seats, &foreign), why, 1);
+    assert!(rt; room.close(seats, &own).is_ok());
+}
+
+#[test]
+fn an_office_closes_with_parked_seats_alone(rt: HostRuntime) {
+    let alloc = rt.alloc();
+    let mut hand = MemHand::new(alloc);
+    let mut room = room(&rt, alloc, &mut hand);
+    let pins = room.desk().pins();
+    let receipt = put_and_park(&rt, alloc, &mut room, &mut hand, b"ann");
+    let own = slip(&rt, alloc, receipt, 7);
+    let office = Office::open(alloc, room).expect(&rt, "memory");
+    assert!(rt; is_closed(office.close_by_slips(Vec::new(alloc), &own), pins));
+}
+
+// A call of a name that runs comes before a seat that is missing.
+#[test]
+fn a_running_call_of_a_name_keeps_a_room_open(rt: HostRuntime) {
+    let alloc = rt.alloc();
+    let mut hand = MemHand::new(alloc);
+    let mut room = room(&rt, alloc, &mut hand);
+    let mut ann = room
+        .seat_named(&name(&rt, alloc, b"ann"))
+        .expect(&rt, "a seat");
+    let submitted = room.submit(&mut ann, "get", &[]).ok().expect(&rt, "a call");
+    let outcome = outcome_of(&rt, alloc, &mut room, &mut hand, submitted).expect(&rt, "an outcome");
+    let (mut room, seats) = refused(
+        &rt,
+        room.close(Vec::new(alloc), &[]),
+        CloseFault::Outstanding,
+        0,
+    );
+    room.complete(&mut ann, outcome)
+        .ok()
+        .expect(&rt, "a receipt");
+    let (mut room, seats) = refused(&rt, room.close(seats, &[]), CloseFault::SeatMissing, 1);
+    room.park(ann).ok().expect(&rt, "to park");
+    assert!(rt; room.close(seats, &[]).is_ok());
 }

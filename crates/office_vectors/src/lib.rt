@@ -4,10 +4,14 @@
 #[cfg(test)]
 mod closing;
 #[cfg(test)]
+mod keyed;
+#[cfg(test)]
 mod make;
 #[cfg(test)]
 mod many;
 #[cfg(test)]
 mod meeting;
+#[cfg(test)]
+mod named;
 #[cfg(test)]
 mod refused;

@@ -14,8 +14,8 @@ use std::thread;
 // After so many turns nobody comes any more.
 const MOST_TURNS: u64 = 100_000_000;
 
-// Turns until the word has this value, and tells whether it had it in time.
-fn meets(word: &AtomicU64, value: u64) -> bool {
+/// Turns until the word has this value, and tells whether it had it in time.
+pub fn meets(word: &AtomicU64, value: u64) -> bool {
     for _ in 0..MOST_TURNS {
         if word.load(Ordering::SeqCst) == value {
             return true;

@@ -1,15 +1,20 @@
 //! Rooms and offices where a growth of memory is refused: a refused submission leaves the room as it was.
 //!
 //! `gate/refuse_memory` runs each test whose name begins with `refused_` with the first, the second, .. growth
-//! refused. With no growth refused they are happy paths.
+//! refused, and each whose name begins with `starved_` with all growths refused between its two marks. With no growth
+//! refused they are happy paths.
 
-use crate::make::{pins, room_of, stuck};
-use desk_core::answer::SubmitFault;
+use crate::make::{pins, room_of, stuck, turn};
+use apply_core::reply::Reply;
+use desk_core::answer::{CallState, Kept, KeyedFault, SubmitFault};
 use device_core::memory::MemHand;
+use office_core::keyed::Resubmitted;
+use office_core::named::NameFault;
 use office_core::office::Office;
 use office_core::room::Room;
 use office_core::seat::{Seat, Submitted, Tried};
 use page_core::pins::Pins;
+use path_tree::name::Name;
 use run_core::perform::perform;
 use run_core::run::Run;
 use std::alloc::Global;
@@ -93,4 +98,162 @@ fn refused_open_and_submit(rt: HostRuntime) {
     assert!(rt;
         is_taken(&rt, rt.alloc(), &mut room, &mut hand, &mut seat, 1) && room.desk().runs(1)
     );
+}
+
+// The name that these bytes spell, where there is memory for it at the first or at the second try.
+fn name_twice(rt: &impl Abort, alloc: Global, bytes: &[u8]) -> Name {
+    let read = match Name::read(alloc, bytes) {
+        Ok(read) => read,
+        Err(_) => Name::read(alloc, bytes).expect(rt, "memory"),
+    };
+    read.expect(rt, "a name")
+}
+
+// The seat of a name, at the first or at the second try.
+fn seat_twice(room: &mut Room, name: &Name) -> Option<Seat> {
+    match room.seat_named(name) {
+        Ok(seat) => Some(seat),
+        Err(NameFault::Memory) => room.seat_named(name).ok(),
+        Err(_) => None,
+    }
+}
+
+// Whether new names get the sessions in order, so that a refusal takes none. Their seats are parked.
+fn are_seated(rt: &impl Abort, alloc: Global, room: &mut Room) -> bool {
+    let mut session = 0;
+    for letter in b'a'..b'k' {
+        let name = name_twice(rt, alloc, &[letter]);
+        session += 1;
+        match seat_twice(room, &name) {
+            Some(seat) => {
+                if seat.session() != session || room.park(seat).is_err() {
+                    return false;
+                }
+            }
+            None => return false,
+        }
+    }
+    true
+}
+
+// Whether a seat's `put 7` under this key gets this number and starts, at the first or at the second try, and a refusal takes no key.
+fn is_taken_under<R: Wait>(
+    rt: &R,
+    alloc: Global,
+    room: &mut Room,
+    hand: &mut MemHand,
+    seat: &mut Seat,
+    key: u32,
+    number: u32,
+) -> bool {
+    match room.submit_keyed(seat, key, "put", &[Datum::Integer(7)]) {
+        Ok(Resubmitted::New(submitted)) => starts(rt, alloc, room, hand, submitted, number),
+        Ok(Resubmitted::Kept(_)) => false,
+        Err(fault) => {
+            if fault != KeyedFault::Submit(SubmitFault::Memory) || room.next_key(seat) != key {
+                return false;
+            }
+            match room.submit_keyed(seat, key, "put", &[Datum::Integer(7)]) {
+                Ok(Resubmitted::New(submitted)) => starts(rt, alloc, room, hand, submitted, number),
+                Ok(Resubmitted::Kept(_)) => false,
+                Err(_) => false,
+            }
+        }
+    }
+}
+
+#[test]
+fn refused_names_and_calls_under_keys(rt: HostRuntime) {
+    let mut hand = MemHand::new(rt.alloc());
+    let pins = pins_twice(&rt, &mut hand);
+    let mut room = room_twice(&rt, rt.alloc(), pins);
+    assert!(rt; are_seated(&rt, rt.alloc(), &mut room));
+    let mut seat = room
+        .seat_named(&name_twice(&rt, rt.alloc(), b"c"))
+        .expect(&rt, "a seat");
+    assert!(rt;
+        seat.session() == 3
+            && is_taken_under(&rt, rt.alloc(), &mut room, &mut hand, &mut seat, 1, 1)
+    );
+}
+
+// A growth of this many bytes says that each one behind it is to be refused, and a growth of one more that none is.
+const MARK: usize = 1_000_003;
+
+// Whether memory is refused now.
+fn is_starved(alloc: Global) -> bool {
+    Vec::<u8>::with_capacity(alloc, 64).is_err()
+}
+
+// Makes a growth of so many bytes.
+fn grow(rt: &impl Abort, alloc: Global, bytes: usize) {
+    let room: Vec<u8> = Vec::with_capacity(alloc, bytes).expect(rt, "memory");
+    assert!(rt; room.is_empty());
+}
+
+// Whether a call under a key is answered by what became of the `put 7` of this number.
+fn is_kept<R: Wait>(rt: &R, room: &mut Room, seat: &mut Seat, key: u32, number: u32) -> bool {
+    let state = CallState::Ended(Reply::Done(None));
+    match room.submit_keyed(seat, key, "put", &[Datum::Integer(7)]) {
+        Ok(Resubmitted::New(submitted)) => stuck(rt, submitted),
+        Ok(Resubmitted::Kept(kept)) => kept == Kept { number, state },
+        Err(_) => false,
+    }
+}
+
+// A seat is parked and given out again, its call is told of, and neither a new name nor a new call gets memory.
+fn goes_on<R: Wait>(rt: &R, room: &mut Room, seat: Seat, own: &Name, new: &Name) -> bool {
+    if room.park(seat).is_err() {
+        return false;
+    }
+    let Ok(mut seat) = room.seat_named(own) else {
+        return false;
+    };
+    if room.next_key(&seat) != 2 || !is_kept(rt, room, &mut seat, 1, 1) {
+        return false;
+    }
+    let refused = match room.submit_keyed(&mut seat, 2, "get", &[]) {
+        Ok(Resubmitted::New(submitted)) => stuck(rt, submitted),
+        Ok(Resubmitted::Kept(_)) => false,
+        Err(fault) => fault == KeyedFault::Submit(SubmitFault::Memory),
+    };
+    let nameless = room.seat_named(new).err() == Some(NameFault::Memory);
+    refused && nameless && room.park(seat).is_ok()
+}
+
+// The same with memory: a new name gets a session.
+fn goes_on_fed<R: Wait>(rt: &R, room: &mut Room, seat: Seat, own: &Name, new: &Name) -> bool {
+    if room.park(seat).is_err() {
+        return false;
+    }
+    let Ok(mut seat) = room.seat_named(own) else {
+        return false;
+    };
+    let kept = is_kept(rt, room, &mut seat, 1, 1);
+    let Ok(other) = room.seat_named(new) else {
+        return false;
+    };
+    kept && room.park(other).is_ok() && room.park(seat).is_ok()
+}
+
+#[test]
+fn starved_seats_are_parked_and_given_again(rt: HostRuntime) {
+    let alloc = rt.alloc();
+    let mut hand = MemHand::new(alloc);
+    let pins = pins_twice(&rt, &mut hand);
+    let mut room = room_twice(&rt, alloc, pins);
+    let (own, new) = (
+        name_twice(&rt, alloc, b"ann"),
+        name_twice(&rt, alloc, b"bob"),
+    );
+    let mut seat = room.seat_named(&own).expect(&rt, "a seat");
+    turn(&rt, alloc, &mut room, &mut seat, &mut hand, 7).expect(&rt, "a receipt");
+    grow(&rt, alloc, MARK);
+    let goes_on = if is_starved(alloc) {
+        goes_on(&rt, &mut room, seat, &own, &new)
+    } else {
+        goes_on_fed(&rt, &mut room, seat, &own, &new)
+    };
+    grow(&rt, alloc, MARK + 1);
+    assert!(rt; goes_on && room.close(Vec::new(alloc), &[]).is_ok());
 }

@@ -1,0 +1,264 @@
+//! Calls under a key, in a room and in an office.
+
+use crate::make::{finish, room, stuck, turn};
+use crate::meeting::meets;
+use crate::named::{is_cancelled, name, outcome_of};
+use apply_core::reply::Reply;
+use desk_core::answer::{CallState, Kept, KeyedFault, SubmitFault};
+use device_core::memory::MemHand;
+use office_core::keyed::Resubmitted;
+use office_core::named::{NameFault, ParkFault};
+use office_core::office::Office;
+use office_core::room::Room;
+use office_core::seat::{Seat, Started, Submitted};
+use run_core::perform::perform;
+use run_core::run::Run;
+use std::alloc::Global;
+use std::sync::atomic::{AtomicU64, Ordering};
+use std::sync::{Mutex, Wait};
+use std::thread;
+use value_core::datum::Datum;
+
+// The most calls that wait or run.
+const MOST_OPEN: usize = 256;
+
+// The submission that a call under a key is answered.
+fn taken(answer: Result<Resubmitted, KeyedFault>) -> Option<Submitted> {
+    match answer {
+        Ok(Resubmitted::New(submitted)) => Some(submitted),
+        Ok(Resubmitted::Kept(_)) => None,
+        Err(_) => None,
+    }
+}
+
+// Whether a call under a key is answered by what became of the call of this number.
+fn is_kept<R: Wait>(
+    rt: &R,
+    answer: Result<Resubmitted, KeyedFault>,
+    number: u32,
+    state: CallState,
+) -> bool {
+    match answer {
+        Ok(Resubmitted::New(submitted)) => {
+            stuck(rt, submitted);
+            false
+        }
+        Ok(Resubmitted::Kept(kept)) => kept == Kept { number, state },
+        Err(_) => false,
+    }
+}
+
+// Whether a call under a key is refused so.
+fn is_refused<R: Wait>(rt: &R, answer: Result<Resubmitted, KeyedFault>, why: KeyedFault) -> bool {
+    match answer {
+        Ok(Resubmitted::New(submitted)) => {
+            stuck(rt, submitted);
+            false
+        }
+        Ok(Resubmitted::Kept(_)) => false,
+        Err(fault) => fault == why,
+    }
+}
+
+#[test]
+fn a_call_under_an_old_key_is_told_what_became_of_it(rt: HostRuntime) {
+    let alloc = rt.alloc();
+    let mut hand = MemHand::new(alloc);
+    let mut room = room(&rt, alloc, &mut hand);
+    let mut ann = room
+        .seat_named(&name(&rt, alloc, b"ann"))
+        .expect(&rt, "a seat");
+    let mut bob = room.seat().expect(&rt, "a seat");
+    let first = taken(room.submit_keyed(&mut ann, 1, "put", &[Datum::Integer(7)])).expect(
+        &rt, "a call",
+    );
+    assert!(rt; first.number() == 1 && room.next_key(&ann) == 2 && room.next_key(&bob) == 1);
+    let running = room.submit_keyed(&mut ann, 1, "put", &[Datum::Integer(7)]);
+    assert!(rt; is_kept(&rt, running, 1, CallState::Running));
+    let second = taken(room.submit_keyed(&mut bob, 1, "put", &[Datum::Integer(7)])).expect(
+        &rt, "a call",
+    );
+    assert!(rt; second.number() == 2);
+    // The name of the operation may be in any case.
+    let waiting = room.submit_keyed(&mut bob, 1, "PUT", &[Datum::Integer(7)]);
+    assert!(rt; is_kept(&rt, waiting, 2, CallState::Waiting));
+    room.cancel(2);
+    let cancelled = room.submit_keyed(&mut bob, 1, "put", &[Datum::Integer(7)]);
+    assert!(rt; is_kept(&rt, cancelled, 2, CallState::Cancelled));
+    let told = is_cancelled(&rt, alloc, &mut room, &mut hand, second);
+    assert!(rt; told);
+    let outcome = outcome_of(&rt, alloc, &mut room, &mut hand, first).expect(&rt, "an outcome");
+    room.complete(&mut ann, outcome)
+        .ok()
+        .expect(&rt, "a receipt");
+    let done = CallState::Ended(Reply::Done(None));
+    let ended = room.submit_keyed(&mut ann, 1, "put", &[Datum::Integer(7)]);
+    assert!(rt; is_kept(&rt, ended, 1, done));
+    // One more call, and the first key still tells of the first one.
+    let third = taken(room.submit_keyed(&mut ann, 2, "get", &[])).expect(&rt, "a call");
+    let outcome = outcome_of(&rt, alloc, &mut room, &mut hand, third).expect(&rt, "an outcome");
+    room.complete(&mut ann, outcome)
+        .ok()
+        .expect(&rt, "a receipt");
+    let ended = room.submit_keyed(&mut ann, 1, "put", &[Datum::Integer(7)]);
+    assert!(rt; is_kept(&rt, ended, 1, done));
+    let seven = CallState::Ended(Reply::Done(Some(Datum::Integer(7))));
+    let ended = room.submit_keyed(&mut ann, 2, "get", &[]);
+    assert!(rt; is_kept(&rt, ended, 3, seven) && room.next_key(&ann) == 3);
+    assert!(rt; room.desk().history().len() == 2 && room.desk().is_idle());
+}
+
+#[test]
+fn a_call_under_a_key_is_refused(rt: HostRuntime) {
+    let alloc = rt.alloc();
+    let mut hand = MemHand::new(alloc);
+    let mut room = room(&rt, alloc, &mut hand);
+    let mut seat = room.seat().expect(&rt, "a seat");
+    turn(&rt, alloc, &mut room, &mut seat, &mut hand, 7).expect(&rt, "a receipt");
+    let nothing = room.submit_keyed(&mut seat, 0, "put", &[Datum::Integer(7)]);
+    assert!(rt; is_refused(&rt, nothing, KeyedFault::BadKey));
+    let past = room.submit_keyed(&mut seat, 3, "put", &[Datum::Integer(7)]);
+    assert!(rt; is_refused(&rt, past, KeyedFault::BadKey));
+    let other = room.submit_keyed(&mut seat, 1, "put", &[Datum::Integer(8)]);
+    assert!(rt; is_refused(&rt, other, KeyedFault::KeyReused));
+    let other = room.submit_keyed(&mut seat, 1, "get", &[]);
+    assert!(rt; is_refused(&rt, other, KeyedFault::KeyReused));
+    let unknown = room.submit_keyed(&mut seat, 1, "take", &[]);
+    assert!(rt; is_refused(&rt, unknown, KeyedFault::KeyReused));
+    let unknown = room.submit_keyed(&mut seat, 2, "take", &[]);
+    assert!(rt; is_refused(&rt, unknown, KeyedFault::Submit(SubmitFault::UnknownOp)));
+    let bad = room.submit_keyed(&mut seat, 2, "put", &[]);
+    assert!(rt; is_refused(&rt, bad, KeyedFault::Submit(SubmitFault::BadArgs)));
+    let submitted = taken(room.submit_keyed(&mut seat, 2, "get", &[])).expect(&rt, "a call");
+    let busy = room.submit_keyed(&mut seat, 3, "get", &[]);
+    assert!(rt; is_refused(&rt, busy, KeyedFault::Submit(SubmitFault::SessionBusy)));
+    let outcome = outcome_of(&rt, alloc, &mut room, &mut hand, submitted).expect(&rt, "an outcome");
+    room.complete(&mut seat, outcome)
+        .ok()
+        .expect(&rt, "a receipt");
+    assert!(rt; room.next_key(&seat) == 3);
+    room.leave(seat.session());
+    let gone = room.submit_keyed(&mut seat, 1, "put", &[Datum::Integer(7)]);
+    assert!(rt; is_refused(&rt, gone, KeyedFault::Gone));
+    let gone = room.submit_keyed(&mut seat, 0, "put", &[Datum::Integer(7)]);
+    assert!(rt; is_refused(&rt, gone, KeyedFault::Gone) && room.next_key(&seat) == 3);
+}
+
+// Whether so many sessions each start a call of `get`, which runs on.
+fn fill<R: Wait>(rt: &R, alloc: Global, room: &mut Room, hand: &mut MemHand) -> bool {
+    for _ in 0..MOST_OPEN {
+        let Ok(mut seat) = room.seat() else {
+            return false;
+        };
+        let Ok(submitted) = room.submit(&mut seat, "get", &[]) else {
+            return false;
+        };
+        // Its outcome is lost.
+        if outcome_of(rt, alloc, room, hand, submitted).is_none() {
+            return false;
+        }
+    }
+    true
+}
+
+#[test]
+fn a_session_is_back_while_256_calls_run(rt: HostRuntime) {
+    let alloc = rt.alloc();
+    let mut hand = MemHand::new(alloc);
+    let mut room = room(&rt, alloc, &mut hand);
+    let ann = name(&rt, alloc, b"ann");
+    let mut seat = room.seat_named(&ann).expect(&rt, "a seat");
+    turn(&rt, alloc, &mut room, &mut seat, &mut hand, 7).expect(&rt, "a receipt");
+    room.park(seat).ok().expect(&rt, "to park");
+    assert!(rt; fill(&rt, alloc, &mut room, &mut hand));
+    let mut seat = room.seat_named(&ann).expect(&rt, "a seat");
+    let ended = room.submit_keyed(&mut seat, 1, "put", &[Datum::Integer(7)]);
+    assert!(rt; is_kept(&rt, ended, 1, CallState::Ended(Reply::Done(None))));
+    let full = room.submit_keyed(&mut seat, 2, "get", &[]);
+    assert!(rt; is_refused(&rt, full, KeyedFault::Submit(SubmitFault::Full)));
+    assert!(rt; room.next_key(&seat) == 2);
+    room.park(seat).ok().expect(&rt, "to park");
+    assert!(rt; room.desk().runs(2) && room.desk().runs(257));
+}
+
+// A call of the seat that lies here, and a wait for its start: whether it was cancelled.
+fn call_and_wait<R: Wait>(
+    rt: &R,
+    office: &Office,
+    alloc: Global,
+    hand: &mut MemHand,
+    lies: &Mutex<Option<Seat>>,
+    word: &AtomicU64,
+) -> bool {
+    let Some(mut seat) = lies.lock(rt).take() else {
+        return false;
+    };
+    let answer = office.submit_keyed(rt, &mut seat, 1, "put", &[Datum::Integer(7)]);
+    *lies.lock(rt) = Some(seat);
+    word.store(1, Ordering::SeqCst);
+    match answer {
+        Ok(Resubmitted::New(submitted)) => match office.await_start(rt, submitted) {
+            Started::Ticket(ticket) => {
+                perform(Run::new(alloc, ticket), hand);
+                false
+            }
+            Started::Cancelled => true,
+            Started::Stranger(back) => stuck(rt, back),
+        },
+        Ok(Resubmitted::Kept(_)) => false,
+        Err(_) => false,
+    }
+}
+
+// Parks that seat once its call is made.
+fn park_once<R: Wait>(
+    rt: &R,
+    office: &Office,
+    lies: &Mutex<Option<Seat>>,
+    word: &AtomicU64,
+) -> bool {
+    let met = meets(word, 1);
+    match lies.lock(rt).take() {
+        Some(seat) => office.park(rt, seat).is_ok() && met,
+        None => false,
+    }
+}
+
+#[test]
+fn an_office_parks_and_tells_who_waits(rt: HostRuntime) {
+    let alloc = rt.alloc();
+    let mut hand = MemHand::new(alloc);
+    let office = Office::open(alloc, room(&rt, alloc, &mut hand)).expect(&rt, "memory");
+    let (ann, bob) = (name(&rt, alloc, b"ann"), name(&rt, alloc, b"bob"));
+    let mut first = office.seat_named(&rt, &ann).expect(&rt, "a seat");
+    let second = office.seat_named(&rt, &bob).expect(&rt, "a seat");
+    let in_use = office.seat_named(&rt, &ann).err();
+    assert!(rt; in_use == Some(NameFault::InUse));
+    let runs = taken(office.submit_keyed(&rt, &mut first, 1, "put", &[Datum::Integer(7)])).expect(
+        &rt, "a call",
+    );
+    let first = match office.park(&rt, first) {
+        Ok(()) => panic!(rt; "parked"),
+        Err((seat, fault)) => {
+            assert!(rt; fault == ParkFault::Running);
+            seat
+        }
+    };
+    let mut other = MemHand::new(alloc);
+    let (lies, word) = (Mutex::new(Some(second)), AtomicU64::new(0));
+    let (told, parked) = thread::join(
+        &rt,
+        || call_and_wait(&rt, &office, alloc, &mut other, &lies, &word),
+        || park_once(&rt, &office, &lies, &word),
+    );
+    assert!(rt; told && parked);
+    let mut first = first;
+    finish(&rt, alloc, &office, &mut first, &mut hand, runs).expect(&rt, "a receipt");
+    let second = office.seat_named(&rt, &bob).expect(&rt, "a seat");
+    let kept = office.kept(&rt, &second, 1, "put", &[Datum::Integer(7)]);
+    let state = CallState::Cancelled;
+    assert!(rt; kept == Ok(Some(Kept { number: 2, state })) && office.next_key(&rt, &second) == 2);
+    let again = office.submit_keyed(&rt, &mut first, 1, "put", &[Datum::Integer(7)]);
+    assert!(rt; is_kept(&rt, again, 1, CallState::Ended(Reply::Done(None))));
+    assert!(rt; office.next_key(&rt, &first) == 2);
+}

@@ -1,0 +1,2 @@
+pub mod Parked
+pub mod Naming
