@@ -4,8 +4,9 @@
  * build: cc -O2 -pthread -o load load.c
  *
  * Each connection of a group opens the object and makes CALLS calls, which go round its list; the next connection begins one
- * further in the list. A `#` is a number that no other call of the group has: a put of what is there already writes nothing. Then it
- * prints `calls N seconds S processor P`, the processor time of this program, and says `quit` when its standard input ends. Ends
+ * further in the list. A `#` is a number that no other call of the group has: a put of what is there already writes nothing. A CALL
+ * behind `!` is made under its key; behind `!!` it is the first call of its connection, asked for again. An OBJECT behind `!` is opened by
+ * a name. Then it prints `calls N seconds S processor P`, the processor time of this program, and says `quit` when its standard input ends. Ends
  * with 1 where a call was not done.
  */
 #include <arpa/inet.h>
@@ -68,12 +69,30 @@ static void say(struct connection *it, const char *word, const char *text)
 /* Makes the next call: its text with a number of its own in place of a `#`. */
 static void call(struct connection *it, int made)
 {
-    const char *kind = it->kind[(it->begin + made) % it->kinds], *mark = strchr(kind, '#');
-    char text[256];
+    const char *kind = it->kind[(it->begin + made) % it->kinds], *words = kind + strspn(kind, "!"), *mark = strchr(words, '#');
+    int key = kind[0] != '!' ? 0 : kind[1] == '!' ? 1 : made + 1;
+    char text[256] = "";
+    size_t front = 0;
 
+    if (key)
+        front = (size_t)snprintf(text, sizeof text, "#%d ", key);
     if (mark)
-        snprintf(text, sizeof text, "%.*s%d%s", (int)(mark - kind), kind, it->begin * 1000000 + made + 1, mark + 1);
-    say(it, "call ", mark ? text : kind);
+        snprintf(text + front, sizeof text - front, "%.*s%d%s", (int)(mark - words), words, it->begin * 1000000 + made + 1, mark + 1);
+    else
+        snprintf(text + front, sizeof text - front, "%s", words);
+    say(it, "call ", text);
+}
+
+/* Opens the object, by the name `nK` where it is the K-th connection of a group with names. */
+static void open_object(struct connection *it)
+{
+    char text[128];
+
+    if (it->object[0] == '!')
+        snprintf(text, sizeof text, "%s as n%d", it->object + 1, it->begin);
+    say(it, "open ", it->object[0] == '!' ? text : it->object);
+    if (!hears(it, "opened "))
+        fail("the object was not opened");
 }
 
 static void *talk(void *argument)
@@ -88,13 +107,11 @@ static void *talk(void *argument)
     if (connect(it->socket, (struct sockaddr *)&server, sizeof server) != 0)
         fail("no connection");
     setsockopt(it->socket, IPPROTO_TCP, TCP_NODELAY, &one, sizeof one);
-    say(it, "open ", it->object);
-    if (!hears(it, "opened "))
-        fail("the object was not opened");
+    open_object(it);
     pthread_barrier_wait(&ready);
     for (int made = 0; made < it->calls; made++) {
         call(it, made);
-        if (!hears(it, "accepted ") || !hears(it, "done "))
+        if (!(it->kind[0][1] == '!' && made ? hears(it, "repeat done ") : hears(it, "accepted ") && hears(it, "done ")))
             fail("a call was not done");
     }
     pthread_barrier_wait(&ready);

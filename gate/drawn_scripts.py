@@ -9,6 +9,10 @@ SESSIONS = (0, 1, 2, 3, 4, 5, 6, 1024, 1025, 2000)
 UNKNOWN = ("pop", "v", "cell", "end", "get_", "path", "x1")
 REMARKS = ("#", "# it's a remark", "#call s1 get", "  # show", "# 'open")
 BLANKS = ("", " ", "     ")
+# Lines that say nothing, and look like those of sessions that come back.
+BAD_RETURNS = ("resume", "resume 1", "resume s1 2", "Resume s1", "resume s1 #1", "call s1 #", "call s1 # get", "call s1 #x get",
+               "call s1 #1", "call s1 #1 7", "call s1 #4294967296 get", "call s1 # 1 get", "call #1 s1 get", "call s1 get #1",
+               "call s1 ##1 get", "call s1 #-1 get", "call s1 1 get", "call s1 '#1' get")
 
 
 class Drawer:
@@ -46,6 +50,8 @@ class Script:
         self.made = OBJECTS[seed % len(OBJECTS)]
         self.world = World(self.made)
         self.lines, self.answers, self.status = [], [], 0
+        # Lines that say nothing, of which one ends a script of so many.
+        self.bad_lines, self.bad_in = BAD_LINES, 12
         # How lines end, or none where each ends as it likes; and whether the last one lacks its end.
         self.ends = self.draw.of((b"\n", b"\n", b"\r\n", None))
         self.is_open = self.draw.one_in(4)
@@ -102,8 +108,11 @@ class Script:
         at = self.draw.below(len(arguments))
         return [*arguments[:at], "7" if isinstance(arguments[at], int) else 7, *arguments[at + 1 :]]
 
+    def texts(self, arguments):
+        return [self.number(it) if isinstance(it, int) else written(it) for it in arguments]
+
     def add_call(self, session, op, arguments):
-        texts = [self.number(it) if isinstance(it, int) else written(it) for it in arguments]
+        texts = self.texts(arguments)
         answer = self.world.call(session, op, arguments)
         self.add(["call", "s" + self.number(session), op, *texts], answer)
 
@@ -176,10 +185,10 @@ class Script:
     def draw_lines(self):
         self.open()
         count = self.draw.of((self.draw.below(12), self.draw.below(60), 40 + self.draw.below(160)))
-        bad = self.draw.below(count + 1) if self.draw.one_in(12) else None
+        bad = self.draw.below(count + 1) if self.draw.one_in(self.bad_in) else None
         for at in range(count):
             if at == bad:
-                self.lines.append(self.draw.of(BAD_LINES))
+                self.lines.append(self.draw.of(self.bad_lines))
                 self.answers.append(f"bad line {len(self.lines)}")
                 self.status = 1
                 self.lines += ["show", "trace"]
@@ -211,24 +220,135 @@ class InTurn(Script):
                 break
             op, number = self.operation(able), number + 1
             arguments = self.arguments(op)
-            texts = [self.number(it) if isinstance(it, int) else written(it) for it in arguments]
-            self.add(["call", f"s{1 + self.draw.below(6)}", self.cased(op), *texts], [])
             ending, contents = self.made.applied(op, arguments, contents)
-            self.add(["steps", str(number)], [])
-            self.add(["finish", str(number)], [finish_line(number, ending)])
+            self.add_turn(number, op, arguments, ending)
             trace += [("start", op), ("end", op)]
             if self.draw.one_in(4):
                 self.add(["show"], shown_lines(self.made, contents))
         self.add(["show"], shown_lines(self.made, contents))
 
+    def add_turn(self, number, op, arguments, ending):
+        """A call from its beginning to its end."""
+        texts = self.texts(arguments)
+        self.add(["call", f"s{1 + self.draw.below(6)}", self.cased(op), *texts], [])
+        self.add_end(number, ending)
+
+    def add_end(self, number, ending):
+        self.add(["steps", str(number)], [])
+        self.add(["finish", str(number)], [finish_line(number, ending)])
+
     def judged(self, answer):
-        shows = tuple(f"{name} = " for name in self.made.parts)
-        kept = [it for it in answer.splitlines(keepends=True) if it.startswith(("done ", "refused ", "failed ", *shows))]
+        told = ("done ", "refused ", "failed ", "repeat ", *(f"{name} = " for name in self.made.parts))
+        kept = [it for it in answer.splitlines(keepends=True) if it.startswith(told)]
         return "".join(kept)
 
 
+class Returning(Script):
+    """A drawn script in which sessions come back, and calls have keys."""
+
+    def __init__(self, seed):
+        super().__init__(seed)
+        self.bad_lines, self.bad_in = BAD_RETURNS, 4
+
+    def draw_line(self):
+        kind = self.draw.weighted({"other": 24, "new": 12, "again": 11, "wrong": 3, "fail": 3, "drop": 4, "resume": 4})
+        if kind == "other":
+            super().draw_line()
+        elif kind == "new":
+            self.draw_new()
+        elif kind == "again":
+            self.draw_again()
+        elif kind == "wrong":
+            self.draw_wrong_key()
+        elif kind == "fail":
+            number = self.step_number()
+            self.add(["step", self.number(number), "fail"], self.world.step(number, False))
+        elif kind == "drop":
+            session = self.draw.of([it.session for it in self.world.calls] or SESSIONS)
+            self.add(["drop", "s" + self.number(session)], self.world.drop(session))
+        else:
+            gone = sorted(self.world.gone)
+            session = self.draw.of(gone if gone and not self.draw.one_in(4) else SESSIONS)
+            self.add(["resume", "s" + self.number(session)], self.world.resume(session))
+
+    def add_keyed(self, session, key, op, arguments):
+        answer = self.world.keyed_call(session, key, op, arguments)
+        words = ["call", "s" + self.number(session), "#" + self.number(key), self.cased(op)]
+        self.add([*words, *self.texts(arguments)], answer)
+
+    def key_of(self, session, number):
+        """The place of a call among the calls of its session; that of the next one where no call has this number yet."""
+        return sum(it.session == session for it in self.world.calls[: number - 1]) + 1
+
+    def next_key(self, session):
+        return self.key_of(session, len(self.world.calls) + 1)
+
+    def draw_new(self):
+        """A call under the next key of its session."""
+        op, session = self.operation(self.made.operations), self.session()
+        arguments = self.arguments(op)
+        if self.draw.one_in(12):
+            arguments = self.wrong(arguments)
+        if self.draw.one_in(12):
+            op = self.draw.of(UNKNOWN)
+        self.add_keyed(session, self.next_key(session), op, arguments)
+
+    def draw_again(self):
+        """An accepted call once more, mostly as it was: one of those that stand alike."""
+        if not self.world.calls:
+            self.draw_new()
+            return
+        alike = {}
+        for number, it in enumerate(self.world.calls, 1):
+            alike.setdefault(it.ending[0] if it.ending else it.state, []).append(number)
+        number = self.draw.of(alike[self.draw.of(sorted(alike))])
+        call = self.world.calls[number - 1]
+        op, arguments = call.op, call.arguments
+        if self.draw.one_in(6):
+            op, arguments = self.draw.of(((op, self.wrong(arguments)), (self.draw.of(UNKNOWN), arguments),
+                                          (self.operation(self.made.operations), arguments)))
+        self.add_keyed(call.session, self.key_of(call.session, number), op, arguments)
+
+    def draw_wrong_key(self):
+        """A key that no call of the session has, and that is not the next one."""
+        op, session = self.operation(self.made.operations), self.session()
+        after = self.next_key(session) + 1
+        key = self.draw.of((0, after, after, after + self.draw.below(9), 65536, 65537, MOST))
+        self.add_keyed(session, key, op, self.arguments(op))
+
+
+class InTurnAgain(InTurn):
+    """A script in turn in which calls have keys, sessions come back, and calls that were done are asked for again: each
+    answer to that is their finish line, which follows from the sequential object alone."""
+
+    def __init__(self, seed):
+        super().__init__(seed)
+        self.done = {}
+
+    def add_turn(self, number, op, arguments, ending):
+        session = 1 + self.draw.below(6)
+        done = self.done.setdefault(session, [])
+        if self.draw.one_in(3):
+            self.add(["drop", f"s{session}"], [])
+            self.add(["resume", f"s{session}"], [])
+        key = [f"#{len(done) + 1}"] if self.draw.one_in(2) else []
+        self.add(["call", f"s{session}", *key, self.cased(op), *self.texts(arguments)], [])
+        self.add_end(number, ending)
+        done.append((number, op, arguments, ending))
+        for _ in range(self.draw.below(3)):
+            session = self.draw.of(sorted(self.done))
+            at = self.draw.below(len(self.done[session]))
+            number, op, arguments, ending = self.done[session][at]
+            words = ["call", f"s{session}", f"#{at + 1}", self.cased(op), *self.texts(arguments)]
+            self.add(words, ["repeat " + finish_line(number, ending)])
+
+
+FIRST_RETURN = 331
+
+
 def script_of(seed):
-    """The script of a seed: one of seven is in turn."""
-    script = (InTurn if seed % 7 == 3 else Script)(seed)
+    """The script of a seed: one of seven is in turn. From a seed on sessions come back, and calls have keys."""
+    kinds = (Script, InTurn) if seed < FIRST_RETURN else (Returning, InTurnAgain)
+    script = kinds[seed % 7 == 3](seed)
     script.draw_lines()
     return script

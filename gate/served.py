@@ -10,6 +10,7 @@ TOP = pathlib.Path(__file__).resolve().parent.parent
 PROGRAM = TOP / "crates" / "pathserve" / "out" / "pathserve"
 SECONDS = 60
 LAST_LINE = re.compile(r"(done|refused|failed|cancelled) (\d+)(?: (.*))?")
+OPENED = re.compile(r"opened (\w+)(?: next (\d+))?")
 # Ports that the system gives to no connection of its own accord, in an order of this process.
 PORTS = iter(random.sample(range(10_000, 32_000), 22_000))
 TURN = threading.Lock()
@@ -51,11 +52,11 @@ def has_ended(process):
 
 
 class Told:
-    """What one connection was told: the object that it opened, and how each of its calls ended. A call has to end before the
-    next one is accepted, or anything else is answered but a cancel."""
+    """What one connection was told: the object that it opened and its next key there, and how each of its calls ended. A call has
+    to end before the next one is accepted, or anything else is answered but a cancel; and a repeat has to say what was said before."""
 
     def __init__(self):
-        self.object, self.ends, self.wrong, self.call = None, {}, [], None
+        self.object, self.key, self.ends, self.wrong, self.call = None, None, {}, [], None
 
     def hear(self, line):
         """Keeps what a line tells."""
@@ -68,10 +69,14 @@ class Told:
         elif line != "no LineTooLong" and not line.startswith("cancel "):
             if self.call:
                 self.wrong.append(f"{line!r} was told before call {self.call} ended")
-            if line.startswith("opened "):
-                self.object = line.removeprefix("opened ")
+            if found := OPENED.fullmatch(line):
+                self.object, self.key = found[1], found[2] and int(found[2])
             if line.startswith("accepted "):
                 self.call = int(line.removeprefix("accepted "))
+            if found := LAST_LINE.fullmatch(line.removeprefix("repeat ")):
+                said = found[1] + (f" {found[3]}" if found[3] is not None else "")
+                if self.ends.setdefault(int(found[2]), said) != said:
+                    self.wrong.append(f"{line!r} was told of what was told as {self.ends[int(found[2])]!r}")
 
 
 def ended_calls(trace):

@@ -316,9 +316,11 @@ class Run:
 
 
 class Call:
+    """An accepted call: it waits, runs, has ended with `ending`, or was cancelled."""
+
     def __init__(self, session, op, arguments):
         self.session, self.op, self.arguments = session, op, arguments
-        self.state, self.run = "waiting", None
+        self.state, self.run, self.ending = "waiting", None, None
 
 
 class World:
@@ -359,9 +361,12 @@ class World:
                 refused.add(call.op)
         return lines
 
+    def is_gone(self, session):
+        return not 1 <= session <= 1024 or session in self.gone
+
     def call(self, session, op, arguments):
         operation = self.made.operations.get(op.lower())
-        if not 1 <= session <= 1024 or session in self.gone:
+        if self.is_gone(session):
             return ["no Gone"]
         if operation is None:
             return ["no UnknownOp"]
@@ -371,6 +376,36 @@ class World:
             return ["no SessionBusy"]
         self.calls.append(Call(session, op.lower(), arguments))
         return [f"call {len(self.calls)}", *self.admitted()]
+
+    def keys(self, session):
+        """The numbers of the session's accepted calls, cancelled ones too: the key of a call is its place among them, from 1."""
+        return [number for number, it in enumerate(self.calls, 1) if it.session == session]
+
+    def keyed_call(self, session, key, op, arguments):
+        """A call by its key: the next key is that of a new call, an earlier one asks again for the call that has it."""
+        numbers = self.keys(session)
+        if self.is_gone(session):
+            return ["no Gone"]
+        if not 1 <= key <= len(numbers) + 1:
+            return ["no BadKey"]
+        if key == len(numbers) + 1:
+            return self.call(session, op, arguments)
+        call = self.calls[numbers[key - 1] - 1]
+        if (call.op, call.arguments) != (op.lower(), arguments):
+            return ["no KeyReused"]
+        return [f"repeat {self.state_line(numbers[key - 1])}"]
+
+    def state_line(self, number):
+        """How a call stands: its finish line, where it has ended."""
+        call = self.calls[number - 1]
+        return finish_line(number, call.ending) if call.state == "ended" else f"{call.state} {number}"
+
+    def resume(self, session):
+        """A session that left is there again. Nothing starts, since nothing of what waits is its own."""
+        if not 1 <= session <= 1024:
+            return ["no NoSession"]
+        self.gone.discard(session)
+        return [f"resume s{session}"]
 
     def running(self, number):
         call = self.call_of(number)
@@ -401,7 +436,7 @@ class World:
         if run.needs:
             return ["no NotDone"]
         call = self.calls[number - 1]
-        call.state = "ended"
+        call.state, call.ending = "ended", run.ending
         self.trace.append(("end", number, run.ending))
         self.published.update(run.changed)
         self.fold(call, run.ending)
@@ -427,7 +462,7 @@ class World:
             return [f"cancel {number} Unknown"]
         if call.state != "waiting":
             return [f"cancel {number} {'Running' if call.state == 'running' else 'Ended'}"]
-        call.state = "ended"
+        call.state = "cancelled"
         return [f"cancel {number} Cancelled", *self.admitted()]
 
     def drop(self, session):
@@ -436,7 +471,7 @@ class World:
         self.gone.add(session)
         for call in self.calls:
             if call.session == session and call.state == "waiting":
-                call.state = "ended"
+                call.state = "cancelled"
         return [f"drop s{session}", *self.admitted()]
 
     def show(self):

@@ -16,8 +16,14 @@ A call waits until the paths of the object let it start, which may be never. `bo
 has it cancelled where it still waits after 5 seconds. `call` is also for operations whose names a method here has.
 
 What can come in place of a reply is told by the exceptions below, which are all a CallError. Where a connection was
-lost, the next call makes a new one, which is a new session. No call is sent a second time: the server cannot tell a
-call that was sent again from a second one.
+lost, the next call makes a new one.
+
+    Object(7000, "phone_book", client="ann")
+
+is the session of this name. No other program may use the name at the same time. Each of its calls has a key, so where
+the connection breaks the Object comes back, and asks again under the key: a call that was done is answered, and not
+done a second time. Without a name a new connection is a new session, and no call is sent a second time: the server
+cannot tell a call that was sent again from a second one.
 """
 import re
 import socket
@@ -27,6 +33,8 @@ import time
 NAME = re.compile(r"[A-Za-z][A-Za-z0-9_]{0,63}", re.ASCII)
 # The longest line that a server writes has some 600 bytes.
 LONGEST = 4096
+# How often a call is asked again whose connection breaks each time.
+TRIES = 10
 
 
 class CallError(Exception):
@@ -47,12 +55,13 @@ class Failed(CallError):
 
 
 class Cancelled(CallError):
-    """The call waited, and was cancelled: by somebody, by `within`, or by the end of the server."""
+    """The call waited, and was cancelled: by somebody, by `within`, by the end of the server, or, in a session with a name,
+    when its connection broke."""
 
 
 class Rejected(CallError):
     """The server did not take the call, or did not open the object; `word` says why: `UnknownOp`, `BadArgs`,
-    `NoObject` .."""
+    `NoObject`, `InUse` (another connection has the name of the client) .."""
 
 
 class NoServer(CallError):
@@ -61,7 +70,8 @@ class NoServer(CallError):
 
 class Lost(CallError):
     """The connection broke before the call's last line came. Nobody knows whether the call was done, but for the
-    trace."""
+    trace. A session with a name says so only where it cannot ask again: no server answers, or one that was started
+    anew and knows nothing of it."""
 
 
 ENDS = {"refused": Refused, "failed": Failed, "cancelled": Cancelled}
@@ -92,10 +102,13 @@ def named(name):
 class Object:
     """A session of an object."""
 
-    def __init__(self, port, name, host="127.0.0.1", wait=10.0):
+    def __init__(self, port, name, host="127.0.0.1", wait=10.0, client=None):
         """Opens the object `name` of the server at this port, which is tried for `wait` seconds before NoServer is
-        raised."""
-        self._place, self._name, self._wait = (host, port), named(name), wait
+        raised. With `client` it is the session of this name, and its calls have keys."""
+        self._place, self._wait = (host, port), wait
+        self._opens = f"open {named(name)}" + (f" as {named(client)}" if client is not None else "")
+        # The key of the next call, in a session with a name.
+        self._key = None if client is None else 0
         self._socket, self._rest, self._lock = None, b"", threading.Lock()
         with self._lock:
             self._connect()
@@ -108,11 +121,7 @@ class Object:
             try:
                 self._socket, self._rest = socket.create_connection(self._place, timeout=max(self._wait, 1)), b""
                 self._socket.setsockopt(socket.IPPROTO_TCP, socket.TCP_NODELAY, 1)
-                self._send(f"open {self._name}")
-                # A server that has taken all its connections leaves this one unanswered.
-                answer = self._line(max(end, time.monotonic() + 1))
-                if answer is None:
-                    raise Lost("no answer")
+                answer = self._opened(end)
                 break
             except (OSError, Lost) as error:
                 self._drop()
@@ -122,6 +131,20 @@ class Object:
         if not answer.startswith("opened "):
             self._drop()
             raise Rejected(answer.removeprefix("no "))
+        if self._key is not None:
+            self._key = int(answer.rpartition(" next ")[2])
+
+    def _opened(self, end):
+        """The answer to `open`. While a session of this name has not ended, it is said again over the same connection."""
+        while True:
+            self._send(self._opens)
+            # A server that has taken all its connections leaves this one unanswered.
+            answer = self._line(max(end, time.monotonic() + 1))
+            if answer is None:
+                raise Lost("no answer")
+            if answer != "no InUse" or time.monotonic() >= end:
+                return answer
+            time.sleep(0.02)
 
     def _drop(self):
         if self._socket is not None:
@@ -163,12 +186,12 @@ class Object:
     def call(self, operation, *arguments, within=None):
         """Calls an operation, and waits until the call has ended: for its reply, or for what is raised in place of
         it."""
-        line = " ".join(["call", named(operation), *map(written, arguments)])
+        text = " ".join([named(operation), *map(written, arguments)])
         with self._lock:
             if self._socket is None:
                 self._connect()
             try:
-                return self._done(line, within)
+                return self._done(f"call {text}", within) if self._key is None else self._kept(text, within)
             except (Refused, Failed, Cancelled, Rejected):
                 raise
             except BaseException:
@@ -176,9 +199,36 @@ class Object:
                 self._drop()
                 raise
 
+    def _kept(self, text, within):
+        """Calls under the next key. Where the connection breaks, it comes back and asks again under the same key."""
+        key, is_known, tries = self._key, False, 0
+        while True:
+            tries += 1
+            try:
+                return self._done(f"call #{key} {text}", within)
+            except Rejected as error:
+                if is_known:
+                    raise Lost(f"the server has the call, and wrote no {error.word}") from error
+                raise
+            except Lost as error:
+                if tries == TRIES:
+                    raise
+                self._drop()
+                try:
+                    self._connect()
+                except (NoServer, Rejected):
+                    raise error from None
+                # Either the server has the call, or all that were before it. (Where there is none before it, a server
+                # that was started anew says that too.)
+                is_known = self._key == key + 1
+                if not is_known and not self._key == key > 1:
+                    raise Lost("the server may have been started anew") from error
+
     def _done(self, line, within):
         end = None if within is None else time.monotonic() + within
         answer = self._ask(line)
+        if answer.startswith("repeat "):
+            return self._reply(answer.removeprefix("repeat "))
         kind, number, *_ = answer.split(" ") + [""]
         if kind != "accepted":
             if answer == "no LineTooLong":
@@ -186,6 +236,8 @@ class Object:
             if kind != "no":
                 raise Lost(f"the server wrote {answer!r}")
             raise Rejected(number)
+        if self._key is not None:
+            self._key += 1
         last = self._line(end)
         if last is None:
             self._send(f"cancel {number}")
@@ -193,8 +245,14 @@ class Object:
             # other.
             lines = [self._line(), self._line()]
             last = next((it for it in lines if not it.startswith("cancel ")), "")
-        kind, told, *rest = last.split(" ", 2) + ["", ""]
-        if told != number or kind not in ("done", *ENDS):
+        if last.split(" ")[1:2] != [number]:
+            raise Lost(f"the server wrote {last!r}")
+        return self._reply(last)
+
+    def _reply(self, last):
+        """What the last line of a call says."""
+        kind, _, *rest = last.split(" ", 2) + ["", ""]
+        if kind not in ("done", *ENDS):
             raise Lost(f"the server wrote {last!r}")
         if kind == "done":
             return read(rest[0]) if rest[0] else None

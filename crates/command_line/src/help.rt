@@ -98,12 +98,14 @@ pub const RUN_MORE: &str =
 happens next. Writes the answer to each line to standard output before it waits for more.
 
   call sK OP ARG ..  session K calls an operation      call N, or no FAULT
+  call sK #J OP ..   the same, under key J             call N, or repeat and what became of the call of key J
   step N ok          the run of call N makes a step    step N NEED ok
   step N fail        its device fails at that step     step N NEED failed
   steps N            it makes the steps that are left  steps N K
   finish N           its result is published           done N, done N VALUE, refused N WORD, failed N CAUSE
   cancel N           call N is called off if it waits  cancel N Cancelled, Running, Ended or Unknown
   drop sK            session K leaves                  drop sK
+  resume sK          session K is back                 resume sK
   show               what the parts hold               PART = VALUE, a line a part
   trace              all that happened so far          its lines
 
@@ -204,7 +206,8 @@ Where an object is refused, or a saved value is damaged, a line says so, and not
 time has DIR. With --stop-with-input it ends in order when standard input ends; ./pathserve of the repository does that
 on SIGINT, SIGTERM and SIGHUP. A kill loses what was not saved.
 
-A client says `open NAME`, `call OP ARG ..`, `cancel N` and `quit`, a line each; docs/SERVING.md has the answers.
+A client says `open NAME`, `call OP ARG ..`, `cancel N` and `quit`, a line each; docs/SERVING.md has the answers. One that
+said `open NAME as CLIENT` can come back after its connection broke, and ask again for a call: `call #1 OP ARG ..`.
 
 Example: in another terminal, while this one waits.
 

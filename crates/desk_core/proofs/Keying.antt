@@ -1,5 +1,5 @@
 -- Calls under keys.
-use Rattle.std.proofs.Common.{◌≡◌, ℕ, inl, inr, Some, refl, sym, ◌∙◌, ap, subst, arith}
+use Rattle.std.proofs.Common.{◌≡◌, ℕ, inl, inr, refl, sym, ◌∙◌, ap, subst, arith}
 use Rattle.std.specs.Prelude.{Ok, Err}
 use Rattle.std.proofs.lemmas.Option.{same_Some}
 use Rattle.board_core.specs.Calls.{AcceptedCall}

@@ -8,6 +8,7 @@ use Rattle.board_core.specs.declared.event.TraceEvent.TheVariants.{Start, End}
 use Rattle.board_core.specs.Calls.{AcceptedCall, WaitingCall, RunningCall, Noted}
 use Rattle.hand_core.specs.declared.hand.Stamp.{Stamp}
 use Rattle.run_core.specs.Outcomes.{if_done}
+use Rattle.key_core.specs.Keys.{resumed}
 use Rattle.board_core.specs.Board.{Board, most_sessions, opened, joined, dismissed, released, taken_at, marked, started, ended, published, read_pins}
 
 pub started_is : (b : Board) (w : WaitingCall) (trace : List TraceEvent) (waiting : List WaitingCall) (running : List RunningCall)
@@ -42,6 +43,10 @@ opened_is object pins e1 e2 e3 e4 e5 e6 = rw (e1, e2, e3, e4, e5, e6) refl
 pub marked_is : (b : Board) (session : ℕ) (left : List Bool) → left ≡ slice_set b.left (session - 1) true → let made : Board = record b { left = left } in made ≡ marked b session
 unfolding marked
 marked_is b session left e = rw e refl
+
+pub resumed_is : (b : Board) (session : ℕ) (left : List Bool) → left ≡ slice_set b.left (session - 1) false → let made : Board = record b { left = left } in made ≡ resumed b session
+unfolding resumed
+resumed_is b session left e = rw e refl
 
 pub released_is : (b : Board) (session : ℕ) (waiting : List WaitingCall) → waiting ≡ filter (λ w. not (w.call.session == session)) b.waiting
     → let made : Board = record b { waiting = waiting } in made ≡ released b session

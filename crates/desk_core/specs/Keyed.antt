@@ -12,8 +12,6 @@ use Rattle.desk_core.specs.declared.answer.CallState.TheVariants.{Waiting, Runni
 use Rattle.desk_core.specs.declared.answer.Kept.{Kept}
 use Rattle.desk_core.specs.declared.answer.Keyed.{Keyed}
 use Rattle.desk_core.specs.declared.answer.Keyed.TheVariants as keyed
-use Rattle.desk_core.specs.declared.answer.SubmitFault.{SubmitFault}
-use Rattle.desk_core.specs.declared.answer.SubmitFault.TheVariants as faults
 use Rattle.desk_core.specs.Answers.{Asked, HasName, IsGone, IsTaken, IsRefused, waits_in, runs_in, ended_in}
 
 -- a call is of the operation of the name that is asked, in any case, with the arguments that are asked

@@ -6,6 +6,8 @@ mod desks;
 #[cfg(test)]
 mod devices;
 #[cfg(test)]
+mod keys;
+#[cfg(test)]
 mod make;
 #[cfg(test)]
 mod parts;

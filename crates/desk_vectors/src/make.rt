@@ -106,7 +106,8 @@ fn mix(sum: u64, more: u64) -> u64 {
     sum.wrapping_mul(1_000_003).wrapping_add(more)
 }
 
-/// A number that tells how much happened on a desk, its pins, and which of its first 40 calls wait and run.
+/// A number that tells how much happened on a desk, its pins, which of its first 40 calls wait and run, and the next
+/// keys of its first 40 sessions.
 pub fn look(desk: &Desk) -> u64 {
     let mut sum = mix(desk.trace().len() as u64, desk.history().len() as u64);
     for list in desk.pins().as_slice() {
@@ -117,6 +118,7 @@ pub fn look(desk: &Desk) -> u64 {
     for number in 0..41 {
         let open = u64::from(desk.waits(number)) + 2 * u64::from(desk.runs(number));
         sum = mix(sum, open);
+        sum = mix(sum, u64::from(desk.next_key(number)));
     }
     sum
 }

@@ -9,7 +9,7 @@ use crate::desks::are_files;
 use crate::make::{CELL, ZERO, look, outcome_of};
 use apply_core::reply::{Failure, Reply};
 use decl_read::read::read_objects;
-use desk_core::answer::{Cancelled, SubmitFault};
+use desk_core::answer::{CallState, Cancelled, Kept, Keyed, KeyedFault, SubmitFault};
 use desk_core::desk::Desk;
 use device_core::memory::MemHand;
 use device_core::once::OnceHand;
@@ -86,6 +86,25 @@ pub fn are_taken(desk: &mut Desk, below: u32) -> bool {
     true
 }
 
+// Whether a session's `put 7` under its next key gets a number at the first or at the second try, and a refusal takes no
+// key.
+fn is_taken_keyed(desk: &mut Desk, session: u32, key: u32, number: u32) -> bool {
+    let before = look(desk);
+    let first = desk.submit_keyed(session, key, "put", &[Datum::Integer(7)]);
+    if first == Err(KeyedFault::Submit(SubmitFault::Memory)) {
+        let is_same = look(desk) == before && desk.next_key(session) == key;
+        let again = desk.submit_keyed(session, key, "put", &[Datum::Integer(7)]);
+        return is_same && again == Ok(Keyed::New(number));
+    }
+    first == Ok(Keyed::New(number))
+}
+
+// Whether a session's `put 7` under this key is told as the call of this number, of which this became.
+fn is_told(desk: &mut Desk, session: u32, key: u32, number: u32, state: CallState) -> bool {
+    let answer = desk.submit_keyed(session, key, "put", &[Datum::Integer(7)]);
+    answer == Ok(Keyed::Kept(Kept { number, state }))
+}
+
 // Whether the calls below this number finish one after the other, each done or failed.
 fn finish(alloc: Global, desk: &mut Desk, hand: &mut MemHand, below: u32) -> bool {
     for number in 1..below {
@@ -107,6 +126,21 @@ fn refused_open_and_submit(rt: HostRuntime) {
     assert!(rt; are_taken(&mut desk, 40) && finish(rt.alloc(), &mut desk, &mut hand, 40));
 }
 
+// Session 1 makes calls under its keys, of which each ends.
+#[test]
+fn refused_calls_under_keys(rt: HostRuntime) {
+    let mut hand = MemHand::new(rt.alloc());
+    let pins = pins_twice(&rt, &mut hand);
+    let mut desk = desk_twice(&rt, rt.alloc(), pins);
+    for key in 1..20 {
+        assert!(rt; is_taken_keyed(&mut desk, 1, key, key));
+        assert!(rt; is_told(&mut desk, 1, key, key, CallState::Running));
+        let outcome = outcome_of(rt.alloc(), &mut desk, &mut hand, key).expect(&rt, "a ticket");
+        let state = CallState::Ended(*outcome.reply());
+        assert!(rt; desk.finish(outcome).is_ok() && is_told(&mut desk, 1, key, key, state));
+    }
+}
+
 // A growth of this many bytes says that each one behind it is to be refused, and a growth of one more that none is.
 const MARK: usize = 1_000_003;
 
@@ -119,6 +153,18 @@ fn is_starved(alloc: Global) -> bool {
 fn grow(rt: &impl Abort, alloc: Global, bytes: usize) {
     let room: Vec<u8> = Vec::with_capacity(alloc, bytes).expect(rt, "memory");
     assert!(rt; room.is_empty());
+}
+
+// Sessions 3 and 5 are back, and calls under keys are told: call 1 has ended, call 3 runs, call 4 waits, and call 5 is
+// cancelled.
+fn tells_keys(desk: &mut Desk) -> bool {
+    desk.resume(3)
+        && desk.resume(5)
+        && desk.next_key(5) == 2
+        && is_told(desk, 1, 1, 1, CallState::Ended(Reply::Done(None)))
+        && is_told(desk, 3, 1, 3, CallState::Running)
+        && is_told(desk, 4, 1, 4, CallState::Waiting)
+        && is_told(desk, 5, 1, 5, CallState::Cancelled)
 }
 
 // Call 1 ends, whose outcome is there; call 2 starts, and fails where there is no memory; session 3 leaves while
@@ -137,6 +183,9 @@ fn goes_on(alloc: Global, desk: &mut Desk, hand: &mut MemHand, first: Outcome) -
     }
     desk.disconnect(3);
     desk.disconnect(5);
+    if !tells_keys(desk) {
+        return false;
+    }
     let is_cancelled = desk.cancel(4) == Cancelled::Cancelled && !desk.waits(5);
     let has_none = outcome_of(alloc, desk, hand, 4).is_none();
     let refused = desk.submit(6, "get", &[]) == Err(SubmitFault::Memory);

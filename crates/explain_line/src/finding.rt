@@ -48,13 +48,13 @@ pub fn push_finding(
     push_said(out, page, finding.span, finding.said, only(&word))
 }
 
-/// The words of a sentence that has one.
+/// The words of a sentence that has one: `#` stands for itself there.
 pub fn only(first: &[u8]) -> Words<'_> {
     Words {
         first,
         second: b"",
         third: b"",
-        fourth: b"",
+        fourth: b"#",
     }
 }
 

@@ -9,17 +9,37 @@ use explain_line::line_words::LineWords;
 use line_core::words::is_same_word;
 use note_core::said::{Said, say};
 use path_tree::name::is_identifier;
-use word_core::number::session_of;
+use word_core::number::{integer_of, session_of};
 
 // What is wrong with a line that begins with `call`.
 fn wrong_call_line(words: &LineWords<'_>) -> Option<Finding> {
     if let Some(found) = wrong_session(words, 1) {
         return Some(found);
     }
-    if let Some(found) = wrong_name(words, 2, is_identifier(words.bare(2))) {
+    let Some(key) = words.bare(2).strip_prefix(b"#") else {
+        return wrong_operation(words, 2);
+    };
+    if let Some(found) = wrong_key(words, integer_of(key).is_some()) {
         return Some(found);
     }
-    wrong_data(words, 3)
+    wrong_operation(words, 3)
+}
+
+// What is wrong with the key of a call, which begins with `#`.
+fn wrong_key(words: &LineWords<'_>, is_right: bool) -> Option<Finding> {
+    let wrong = say(
+        "`%` is not the key of a call",
+        "a key is `#` and a number: `#1` for the first call of the session, `#2` for its second one and so on",
+    );
+    wrong_word(words, 2, is_right, wrong, wrong)
+}
+
+// What is wrong with an operation, which is the word of this number, and its arguments.
+fn wrong_operation(words: &LineWords<'_>, number: usize) -> Option<Finding> {
+    if let Some(found) = wrong_name(words, number, is_identifier(words.bare(number))) {
+        return Some(found);
+    }
+    wrong_data(words, number.saturating_add(1))
 }
 
 // What is wrong with a line that begins with `step`.
@@ -52,7 +72,7 @@ fn wrong_line(verb: Verb, words: &LineWords<'_>) -> Option<Finding> {
             Some(found) => Some(found),
             None => surplus(words, 2, verb.form()),
         },
-        Verb::Drop => match wrong_session(words, 1) {
+        Verb::Drop | Verb::Resume => match wrong_session(words, 1) {
             Some(found) => Some(found),
             None => surplus(words, 2, verb.form()),
         },
@@ -89,6 +109,7 @@ fn of_answer(word: &[u8]) -> Option<Said> {
         || is_same_word(word, b"done")
         || is_same_word(word, b"refused")
         || is_same_word(word, b"failed")
+        || is_same_word(word, b"repeat")
         || is_same_word(word, b"no")
         || is_same_word(word, b"bad")
     {
@@ -122,7 +143,7 @@ fn of_first_word(words: &LineWords<'_>, object: &Object) -> Said {
     }
     say(
         "no line of a script begins with `%`",
-        "the lines are `call sK OP ARG ..`, `step N ok`, `step N fail`, `steps N`, `finish N`, `cancel N`, `drop sK`, `show` and `trace`",
+        "the lines are `call sK OP ARG ..`, `call sK #J OP ARG ..`, `step N ok`, `step N fail`, `steps N`, `finish N`, `cancel N`, `drop sK`, `resume sK`, `show` and `trace`",
     )
 }
 

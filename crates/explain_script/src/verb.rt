@@ -11,6 +11,7 @@ pub(crate) enum Verb {
     Finish,
     Cancel,
     Drop,
+    Resume,
     Show,
     Trace,
 }
@@ -25,6 +26,7 @@ impl Verb {
             Verb::Finish => b"finish",
             Verb::Cancel => b"cancel",
             Verb::Drop => b"drop",
+            Verb::Resume => b"resume",
             Verb::Show => b"show",
             Verb::Trace => b"trace",
         }
@@ -39,6 +41,7 @@ impl Verb {
             Verb::Finish => "the line is `finish N`, as in `finish 1`",
             Verb::Cancel => "the line is `cancel N`, as in `cancel 1`",
             Verb::Drop => "the line is `drop sK`, as in `drop s1`",
+            Verb::Resume => "the line is `resume sK`, as in `resume s1`",
             Verb::Show => "the line is `show`, and nothing else",
             Verb::Trace => "the line is `trace`, and nothing else",
         }
@@ -54,13 +57,14 @@ fn verb_number(number: usize) -> Verb {
         3 => Verb::Finish,
         4 => Verb::Cancel,
         5 => Verb::Drop,
-        6 => Verb::Show,
+        6 => Verb::Resume,
+        7 => Verb::Show,
         _ => Verb::Trace,
     }
 }
 
 // How many there are.
-const VERBS: usize = 8;
+const VERBS: usize = 9;
 
 /// The verb that this word is.
 pub(crate) fn verb_of(word: &[u8]) -> Option<Verb> {

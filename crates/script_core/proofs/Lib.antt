@@ -2,3 +2,5 @@ pub mod Naming
 pub mod Telling
 pub mod Whole
 pub mod Serializing
+pub mod Unended
+pub mod Back

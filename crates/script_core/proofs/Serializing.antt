@@ -1,6 +1,7 @@
 -- What a script writes is what the sequential object gives.
 use Rattle.std.proofs.Common.{◌≡◌, ◌≢◌, ℕ, ◌+◌, ◌-◌, ◌⊎◌, inl, inr, Bool, true, false, List, [], ◌∷◌, ◌++◌, length, map, drop, Some, refl, sym, ◌∙◌, ap, subst, arith}
 use Rattle.std.proofs.lemmas.List.{append-nil, drop_all}
+use Rattle.std.specs.Prelude.{codes}
 use Rattle.std.specs.List.{flat_map}
 use Rattle.std.specs.Str.Lines.{lines}
 use Rattle.value_core.specs.declared.datum.Datum.{Datum}
@@ -20,25 +21,31 @@ use Rattle.board_core.specs.declared.event.TraceEvent.{TraceEvent}
 use Rattle.board_core.specs.Lists.{Every, Among}
 use Rattle.board_core.specs.Calls.{AcceptedCall, RunningCall, Noted}
 use Rattle.board_core.specs.Board.{Board, call_at, joined, dismissed, released, marked, ended, entry_of}
+use Rattle.key_core.specs.Keys.{next_key}
 use Rattle.board_core.specs.Chain.{end_of as entry_end, history_of}
-use Rattle.board_core.specs.Sound.{IsRunningIn, kinds_of, event_number}
+use Rattle.board_core.specs.Sound.{IsRunningIn, IsSound, kinds_of, event_number}
+use Rattle.desk_core.specs.declared.answer.CallState.{CallState}
+use Rattle.desk_core.specs.declared.answer.CallState.TheVariants as states
 use Rattle.desk_core.specs.Answers.{Asked, IsNamedAt}
-use Rattle.world_core.specs.Events.{WorldEvent, call, step, finish, cancel, leave, look}
+use Rattle.desk_core.specs.Keyed.{IsStateOf}
+use Rattle.world_core.specs.Events.{WorldEvent, call, call_key, step, finish, cancel, leave, resume, look}
 use Rattle.world_core.specs.declared.event.Refusal.TheVariants as refusals
 use Rattle.world_core.specs.declared.event.EventAnswer.{EventAnswer}
 use Rattle.world_core.specs.Names.{refusal_name}
 use Rattle.world_core.specs.Scene.{Scene, Standing, Goes, IsNew, call_running}
 use Rattle.world_core.specs.Plays.{Plays, HasFailedStep}
 use Rattle.world_core.specs.Laws.{FailsOnlyWithItsDevice}
-use Rattle.world_core.specs.Answers.{Answers, called, not_called, stepped, no_step, step_not_running, finished, not_done, finish_not_running, cancelled, not_cancelled, left, no_session, shown, not_shown}
-use Rattle.script_text.specs.Said.{Said, a_call, a_step, all_steps, a_finish, a_cancel, a_drop, a_show, a_trace}
-use Rattle.script_text.specs.Answers.{called_line, refused_line, started_line, shown_lines}
-use Rattle.script_core.specs.Does.{Does, Happens, IsEvent, IsTold, StepsMade, none_yet, one_more, answer_lines, started_lines, one_event, all_stepped, not_stepped, traced}
+use Rattle.world_core.specs.Answers.{Answers, called, not_called, called_key, not_called_key, stepped, no_step, step_not_running, finished, not_done, finish_not_running, cancelled, not_cancelled, left, no_session, resumed, not_resumed, shown, not_shown}
+use Rattle.script_text.specs.Said.{Said, a_call, a_keyed_call, a_step, all_steps, a_finish, a_cancel, a_drop, a_resume, a_show, a_trace}
+use Rattle.script_text.specs.Answers.{called_line, refused_line, kept_line, repeated_line, started_line, shown_lines}
+use Rattle.script_core.specs.Does.{Does, Happens, IsEvent, IsTold, StepsMade, none_yet, one_more, answer_lines, repeat_line, started_lines, one_event, all_stepped, not_stepped, traced}
 use Rattle.script_core.specs.declared.script.ScriptEnd.{ScriptEnd}
 use Rattle.script_core.specs.declared.script.ScriptEnd.TheVariants.{Whole, BadLine}
 use Rattle.script_core.specs.Writes.{Told, IsBegun, IsKept, NamesObject, Writes}
 use Rattle.script_core.specs.Run.{IsScript}
-use Rattle.script_core.specs.Serial.{Serial, MayReply, AreStarts, Serially, WritesSerially, IsSerialScript}
+use Rattle.script_core.specs.Serial.{Serial, MayReply, AreStarts, IsRepeat, IsUnended, Serially, WritesSerially, IsSerialScript}
+use Rattle.script_core.proofs.Unended.{waits_unended, runs_unended, none_unended}
+use Rattle.script_core.proofs.Back.{resumed_same}
 
 -- A world came about from a new one by events in which only these calls were made to fail.
 record Carries (o : Object) (w : Scene) (failing : List ℕ) : Type 0 where
@@ -87,12 +94,17 @@ carries_on {w = w} {new = new} later c e a answer more owed = record {
     either_owed n (inl h) = more n (c.failed n h)
     either_owed n (inr h) = owed n h
 
+-- an entry, as its finish is told
+abbrev told_of : Noted → ℕ × Reply
+told_of e = (e.number, e.reply)
+
 -- What the sequential object has is that of a world.
 record Matches (o : Object) (told : Told) (s : Serial) : Type 0 where
   named : s.named ≡ told.named
   object : s.object ≡ told.world.board.object
   calls : s.calls ≡ told.world.board.calls
   contents : s.contents ≡ leads_to (history_of told.world.board.history) told.world.opening
+  replies : s.replies ≡ map told_of told.world.board.history
   running : Every (λ (r : RunningCall). call_at told.world.board.calls r.number ≡ Some r.call) told.world.board.running
   carries : Carries o told.world s.failing
 
@@ -111,12 +123,13 @@ every_last P (y ∷ ys) x all = every_last P ys x all.1
 
 -- the world of a line, once it is left so: its board has the same object, these calls, and what the contents are
 matches_next : {o : Object} {told : Told} {s : Serial} (new : Scene) (next : Serial) → Matches o told s → IsKept new → next.named ≡ s.named → next.object ≡ s.object → new.board.object ≡ told.world.board.object
-    → next.calls ≡ new.board.calls → next.contents ≡ leads_to (history_of new.board.history) new.opening → Carries o new next.failing → Matches o (record told { world = new }) next
-matches_next new next m kept named object same calls contents carries = record {
+    → next.calls ≡ new.board.calls → next.contents ≡ leads_to (history_of new.board.history) new.opening → next.replies ≡ map told_of new.board.history → Carries o new next.failing → Matches o (record told { world = new }) next
+matches_next new next m kept named object same calls contents replies carries = record {
   named = named ∙ m.named;
   object = object ∙ m.object ∙ sym same;
   calls = calls;
   contents = contents;
+  replies = replies;
   running = every_running new.board new.board.running kept.sound.counted.runs;
   carries = carries;
 }
@@ -163,6 +176,21 @@ history_snoc : (entries : List Noted) (e : Noted) → history_of (entries ++ e �
 history_snoc [] e = refl
 history_snoc (d ∷ entries) e = ap (λ xs. entry_end d ∷ xs) (history_snoc entries e)
 
+-- a finish is one reply more
+told_snoc : (entries : List Noted) (e : Noted) (number : ℕ) → e.number ≡ number → map told_of (entries ++ e ∷ []) ≡ map told_of entries ++ (number, e.reply) ∷ []
+told_snoc [] e number is = ap (λ n. (n, e.reply) ∷ []) is
+told_snoc (d ∷ entries) e number is = ap (λ xs. told_of d ∷ xs) (told_snoc entries e number is)
+
+-- the replies are those that they were
+same_replies : (old new : Scene) (told : List (ℕ × Reply)) → told ≡ map told_of old.board.history → new.board.history ≡ old.board.history → told ≡ map told_of new.board.history
+same_replies old new told is history = is ∙ ap (map told_of) (sym history)
+
+-- an entry was told as its finish
+told_among : (entries : List Noted) (e : Noted) (number : ℕ) (reply : Reply) → Among e entries → e.number ≡ number → e.reply ≡ reply → Among (number, reply) (map told_of entries)
+told_among [] e number reply there is_number is_reply = absurd there
+told_among (d ∷ entries) e number reply (inl same) is_number is_reply = inl (ap told_of same ∙ ap (λ n. (n, e.reply)) is_number ∙ ap (λ r. (number, r)) is_reply)
+told_among (d ∷ entries) e number reply (inr later) is_number is_reply = inr (told_among entries e number reply later is_number is_reply)
+
 -- the contents are where they were
 same_contents : (old new : Scene) (contents : List Contents) → contents ≡ leads_to (history_of old.board.history) old.opening → new.board.history ≡ old.board.history → new.opening ≡ old.opening
     → contents ≡ leads_to (history_of new.board.history) new.opening
@@ -184,6 +212,9 @@ no_starts line trace = ap (λ events. line ++ flat_map (λ e. started_line (even
 not_by_call : (asked : Asked) (n : ℕ) → call asked ≡ step n false → ⊥
 not_by_call asked n is = cc
 
+not_by_key : (asked : Asked) (key n : ℕ) → call_key asked key ≡ step n false → ⊥
+not_by_key asked key n is = cc
+
 not_by_step : (m n : ℕ) → step m true ≡ step n false → ⊥
 not_by_step m n is = cc
 
@@ -199,6 +230,9 @@ not_by_cancel m n is = cc
 not_by_leave : (m n : ℕ) → leave m ≡ step n false → ⊥
 not_by_leave m n is = cc
 
+not_by_resume : (m n : ℕ) → resume m ≡ step n false → ⊥
+not_by_resume m n is = cc
+
 not_by_look : (n : ℕ) → look ≡ step n false → ⊥
 not_by_look n is = cc
 
@@ -210,7 +244,7 @@ Next o told s said text new = (next : Serial) × Serially said s text next × Ma
 stays : {o : Object} {told : Told} {s : Serial} (said : Said) (text : List ℕ) (new : Scene) → Matches o told s → IsKept new → Serially said s text s → new.board.object ≡ told.world.board.object
     → new.board.calls ≡ told.world.board.calls → new.board.history ≡ told.world.board.history → new.opening ≡ told.world.opening → Carries o new s.failing → Next o told s said text new
 stays {told = told} {s = s} said text new m kept serially object calls history opening carries =
-    (s, serially, matches_next new s m kept refl refl object (m.calls ∙ sym calls) (same_contents told.world new s.contents m.contents history opening) carries)
+    (s, serially, matches_next new s m kept refl refl object (m.calls ∙ sym calls) (same_contents told.world new s.contents m.contents history opening) (same_replies told.world new s.replies m.replies history) carries)
 
 on_call : {o : Object} {told : Told} {s : Serial} (session : ℕ) (name : List ℕ) (arguments : List Datum) (a : EventAnswer) (new : Scene) → Matches o told s → IsKept new
     → Answers told.world (call (record { session = session; name = name; arguments = arguments })) a new
@@ -226,12 +260,64 @@ on_call {o = o} {told = told} {s = s} session name arguments a new m kept (calle
       matches_next new (record s { calls = s.calls ++ accepted ∷ [] }) m kept refl refl (goes_object goes ∙ joined_object told.world.board accepted)
           (ap (λ (cs : List AcceptedCall). cs ++ accepted ∷ []) m.calls ∙ sym calls)
           (same_contents told.world new s.contents m.contents (goes_history goes ∙ joined_history told.world.board accepted) goes.opening)
+          (same_replies told.world new s.replies m.replies (goes_history goes ∙ joined_history told.world.board accepted))
           (carries_on s.failing m.carries (call (record { session = session; name = name; arguments = arguments })) a by (λ n h. h) (λ n is. absurd (not_by_call (record { session = session; name = name; arguments = arguments }) n is))),
     )
 on_call {o = o} {told = told} {s = s} session name arguments a new m kept (not_called fault refused) =
     let by : Answers told.world (call (record { session = session; name = name; arguments = arguments })) a new = not_called fault refused in
     stays (a_call session name arguments) _ new m kept (Serially.not_called (refusal_name (refusals.Submit fault)) (no_starts (refused_line (refusal_name (refusals.Submit fault))) told.world.board.trace)) refl refl refl refl
     (carries_on s.failing m.carries (call (record { session = session; name = name; arguments = arguments })) a by (λ n h. h) (λ n is. absurd (not_by_call (record { session = session; name = name; arguments = arguments }) n is)))
+
+-- a call that has not finished has no reply
+no_reply : {o : Object} {s : Serial} (told : Told) (number : ℕ) → Matches o told s → Every (λ (e : Noted). e.number ≢ number) told.world.board.history → IsUnended s.replies number
+no_reply told number m none = subst (λ rs. IsUnended rs number) (sym m.replies) (in_order told.world.board.history none)
+  where
+    in_order : (entries : List Noted) → Every (λ (e : Noted). e.number ≢ number) entries → IsUnended (map told_of entries) number
+    in_order [] none = tt
+    in_order (e ∷ entries) none = (none.0, in_order entries none.1)
+
+-- a call that was made before is told as what became of it
+on_repeat : {o : Object} {told : Told} {s : Serial} (session key : ℕ) (name : List ℕ) (arguments : List Datum) (number : ℕ) (state : CallState) (trace : List TraceEvent) → Matches o told s → IsSound told.world.board
+    → IsRepeat s.calls session key name arguments number → IsStateOf told.world.board number state → Serially (a_keyed_call session key name arguments) s (repeat_line number state ++ started_lines 0 trace) s
+on_repeat {told = told} session key name arguments number states.Waiting trace m sound is so =
+    Serially.kept number (codes "waiting") is (no_reply told number m (waits_unended told.world.board number sound so)) (inl refl) (no_starts (kept_line (codes "waiting") number) trace)
+on_repeat {told = told} session key name arguments number states.Running trace m sound is so =
+    Serially.kept number (codes "running") is (no_reply told number m (runs_unended told.world.board number sound so.1)) (inr (inl refl)) (no_starts (kept_line (codes "running") number) trace)
+on_repeat {told = told} session key name arguments number states.Cancelled trace m sound is so =
+    Serially.kept number (codes "cancelled") is (no_reply told number m (none_unended told.world.board.history number so.2)) (inr (inr refl)) (no_starts (kept_line (codes "cancelled") number) trace)
+on_repeat {told = told} session key name arguments number (states.Ended reply) trace m sound is so =
+    let entry = so.2 in
+    Serially.repeated number reply is (subst (Among (number, reply)) (sym m.replies) (told_among told.world.board.history entry.0 number reply entry.1 entry.2 entry.3)) (no_starts (repeated_line number reply) trace)
+
+on_key : {o : Object} {told : Told} {s : Serial} (session key : ℕ) (name : List ℕ) (arguments : List Datum) (a : EventAnswer) (new : Scene) → Matches o told s → IsKept new
+    → Answers told.world (call_key (record { session = session; name = name; arguments = arguments }) key) a new
+    → Next o told s (a_keyed_call session key name arguments) (answer_lines new.board.object 0 a.answer ++ started_lines a.starts new.board.trace) new
+on_key {o = o} {told = told} {s = s} session key name arguments a new m kept (called_key {starts = starts} accepted next taken goes) =
+    let asked : Asked = record { session = session; name = name; arguments = arguments } in
+    let by : Answers told.world (call_key asked key) a new = called_key accepted next taken goes in
+    let calls : new.board.calls ≡ told.world.board.calls ++ accepted ∷ [] = goes_calls goes ∙ joined_calls told.world.board accepted in (
+      record s { calls = s.calls ++ accepted ∷ [] },
+      Serially.called_key accepted (next ∙ ap (λ cs. next_key cs session) (sym m.calls))
+          (record { caller = taken.asked.session; named = subst (λ x. IsNamedAt x accepted.op accepted.operation name) (sym m.object) taken.asked.named; given = taken.asked.arguments })
+          (are_starts starts new.board.trace)
+          (ap (λ (cs : List AcceptedCall). called_line (length cs + 1) ++ started_lines starts new.board.trace) (sym m.calls)),
+      matches_next new (record s { calls = s.calls ++ accepted ∷ [] }) m kept refl refl (goes_object goes ∙ joined_object told.world.board accepted)
+          (ap (λ (cs : List AcceptedCall). cs ++ accepted ∷ []) m.calls ∙ sym calls)
+          (same_contents told.world new s.contents m.contents (goes_history goes ∙ joined_history told.world.board accepted) goes.opening)
+          (same_replies told.world new s.replies m.replies (goes_history goes ∙ joined_history told.world.board accepted))
+          (carries_on s.failing m.carries (call_key asked key) a by (λ n h. h) (λ n is. absurd (not_by_key asked key n is))),
+    )
+on_key {told = told} {s = s} session key name arguments a new m kept (Answers.kept made here is) =
+    let asked : Asked = record { session = session; name = name; arguments = arguments } in
+    let by : Answers told.world (call_key asked key) a new = Answers.kept made here is in
+    let again : IsRepeat s.calls session key name arguments made.number = subst (λ cs. IsRepeat cs session key name arguments made.number) (sym m.calls) (record { has = is.has; same = is.same }) in
+    stays (a_keyed_call session key name arguments) _ new m kept (on_repeat session key name arguments made.number made.state told.world.board.trace m kept.sound again is.state) refl refl refl refl
+    (carries_on s.failing m.carries (call_key asked key) a by (λ n h. h) (λ n e. absurd (not_by_key asked key n e)))
+on_key {told = told} {s = s} session key name arguments a new m kept (not_called_key fault refused) =
+    let asked : Asked = record { session = session; name = name; arguments = arguments } in
+    let by : Answers told.world (call_key asked key) a new = not_called_key fault refused in
+    stays (a_keyed_call session key name arguments) _ new m kept (Serially.not_called_key (refusal_name (refusals.Keyed fault)) (no_starts (refused_line (refusal_name (refusals.Keyed fault))) told.world.board.trace)) refl refl refl refl
+    (carries_on s.failing m.carries (call_key asked key) a by (λ n h. h) (λ n is. absurd (not_by_key asked key n is)))
 
 -- a step changes neither the board nor the opening values
 step_same : (old new : Scene) (number : ℕ) (works : Bool) (a : EventAnswer) → Answers old (step number works) a new → (new.board ≡ old.board) × (new.opening ≡ old.opening)
@@ -282,7 +368,9 @@ on_finish {o = o} {told = told} {s = s} number a new legal_by leads_by fails m k
     let damage : (e : Noted) → Type 0 = λ e. e.reply ≢ replies.Failed failures.Damaged in
     let owed : reply ≡ replies.Failed failures.Device → Among number s.failing = λ e. subst (λ n. Among n s.failing) is_number (carries.failed r.number (every_last device b.history noted (subst (Every device) history fair.0) e)) in
     let sound : reply ≢ replies.Failed failures.Damaged = every_last damage b.history noted (subst (Every damage) history fair.1) in
-    let next : Serial = record s { contents = left_by reply (body_of r.call.operation) r.call.arguments s.contents } in
+    let next : Serial = record s { contents = left_by reply (body_of r.call.operation) r.call.arguments s.contents; replies = s.replies ++ (number, reply) ∷ [] } in
+    let told_so : next.replies ≡ map told_of new.board.history =
+    ap (λ (rs : List (ℕ × Reply)). rs ++ (number, reply) ∷ []) m.replies ∙ sym (told_snoc b.history noted number is_number) ∙ ap (map told_of) (sym history) in
     let found : call_at s.calls number ≡ Some r.call = ap (λ (cs : List AcceptedCall). call_at cs number) m.calls ∙ subst (λ n. call_at b.calls n ≡ Some r.call) is_number (every_among (λ (x : RunningCall). call_at b.calls x.number ≡ Some x.call) b.running r m.running among) in
     let contents : next.contents ≡ leads_to (history_of new.board.history) new.opening =
     ap (λ c. left_by reply (body_of r.call.operation) r.call.arguments c) m.contents
@@ -291,7 +379,7 @@ on_finish {o = o} {told = told} {s = s} number a new legal_by leads_by fails m k
     ∙ ap (λ c. leads_to (history_of new.board.history) c) (sym goes.opening) in (
       next,
       Serially.finished r.call reply found (subst (λ c. IsReplyOn reply (body_of r.call.operation) r.call.arguments c) (sym m.contents) right) (may_reply s.failing number reply owed sound) (are_starts starts new.board.trace) refl,
-      matches_next new next m kept refl refl (goes_object goes ∙ (ended_same b noted).1) (m.calls ∙ sym (goes_calls goes ∙ (ended_same b noted).0)) contents carries,
+      matches_next new next m kept refl refl (goes_object goes ∙ (ended_same b noted).1) (m.calls ∙ sym (goes_calls goes ∙ (ended_same b noted).0)) contents told_so carries,
     )
 on_finish {told = told} {s = s} number a new legal_by leads_by fails m kept (not_done k run there going) =
     let by : Answers told.world (finish number) a new = not_done k run there going in
@@ -324,6 +412,17 @@ on_leave {told = told} {s = s} session text a new m kept (no_session none) =
     let by : Answers told.world (leave session) a new = no_session none in
     stays (a_drop session) text new m kept Serially.leaves refl refl refl refl (carries_on s.failing m.carries (leave session) a by (λ n h. h) (λ n e. absurd (not_by_leave session n e)))
 
+on_resume : {o : Object} {told : Told} {s : Serial} (session : ℕ) (text : List ℕ) (a : EventAnswer) (new : Scene) → Matches o told s → IsKept new → Answers told.world (resume session) a new
+    → Next o told s (a_resume session) text new
+on_resume {told = told} {s = s} session text a new m kept (resumed above below) =
+    let by : Answers told.world (resume session) a new = resumed above below in
+    let same = resumed_same told.world.board session in
+    stays (a_resume session) text new m kept Serially.is_back same.2 same.1 same.0 refl
+    (carries_on s.failing m.carries (resume session) a by (λ n h. h) (λ n e. absurd (not_by_resume session n e)))
+on_resume {told = told} {s = s} session text a new m kept (not_resumed none) =
+    let by : Answers told.world (resume session) a new = not_resumed none in
+    stays (a_resume session) text new m kept Serially.is_back refl refl refl refl (carries_on s.failing m.carries (resume session) a by (λ n h. h) (λ n e. absurd (not_by_resume session n e)))
+
 on_look : {o : Object} {told : Told} {s : Serial} (a : EventAnswer) (new : Scene) → Matches o told s → IsKept new → IsTold a.answer → Answers told.world look a new
     → Next o told s a_show (answer_lines new.board.object 0 a.answer ++ started_lines a.starts new.board.trace) new
 on_look {told = told} {s = s} a new m kept is_told (shown values are) =
@@ -347,10 +446,12 @@ on_steps {o = o} {first = first} {failing = failing} number c count last (one_mo
 on_event : {o : Object} {told : Told} {s : Serial} (said : Said) (event : WorldEvent) (number : ℕ) (a : EventAnswer) (new : Scene) → LegalByOne → LeadsByOne → FailsOnlyWithItsDevice → Matches o told s → IsKept new
     → IsEvent said event number → Answers told.world event a new → IsTold a.answer → Next o told s said (answer_lines new.board.object number a.answer ++ started_lines a.starts new.board.trace) new
 on_event said event number a new legal_by leads_by fails m kept (IsEvent.calls {session = session} {name = name} {arguments = arguments}) by is_told = on_call session name arguments a new m kept by
+on_event said event number a new legal_by leads_by fails m kept (IsEvent.calls_by {session = session} {key = key} {name = name} {arguments = arguments}) by is_told = on_key session key name arguments a new m kept by
 on_event said event number a new legal_by leads_by fails m kept (IsEvent.steps {works = works}) by is_told = on_step number works _ a new m kept by
 on_event said event number a new legal_by leads_by fails m kept IsEvent.finishes by is_told = on_finish number a new legal_by leads_by fails m kept by
 on_event said event number a new legal_by leads_by fails m kept IsEvent.cancels_it by is_told = on_cancel number _ a new m kept by
 on_event said event number a new legal_by leads_by fails m kept IsEvent.leaves by is_told = on_leave number _ a new m kept by
+on_event said event number a new legal_by leads_by fails m kept IsEvent.is_back by is_told = on_resume number _ a new m kept by
 on_event said event number a new legal_by leads_by fails m kept IsEvent.looks by is_told = on_look a new m kept is_told by
 
 on_happening : {o : Object} {told : Told} {s : Serial} (said : Said) (event : WorldEvent) (number : ℕ) (text : List ℕ) (new : Scene) → LegalByOne → LeadsByOne → FailsOnlyWithItsDevice → Matches o told s → IsKept new
@@ -374,7 +475,7 @@ on_said {s = s} said text new legal_by leads_by fails m kept traced = stays a_tr
 on_line : {o : Object} (told : Told) (s : Serial) (number : ℕ) (line text : List ℕ) (goes : Bool) (new : Told) → LegalByOne → LeadsByOne → FailsOnlyWithItsDevice → Matches o told s → Writes told number line text goes new
     → (next : Serial) × WritesSerially s number line text goes next × Matches o new next
 on_line told s number line text goes new legal_by leads_by fails m (Writes.named before is) =
-    (record s { named = true }, WritesSerially.named (m.named ∙ before) (subst (λ x. NamesObject x line) (sym m.object) is), record { named = refl; object = m.object; calls = m.calls; contents = m.contents; running = m.running; carries = m.carries })
+    (record s { named = true }, WritesSerially.named (m.named ∙ before) (subst (λ x. NamesObject x line) (sym m.object) is), record { named = refl; object = m.object; calls = m.calls; contents = m.contents; replies = m.replies; running = m.running; carries = m.carries })
 on_line told s number line text goes new legal_by leads_by fails m (Writes.not_named before is_not) = (s, WritesSerially.not_named (m.named ∙ before) (λ h. is_not (subst (λ x. NamesObject x line) m.object h)), m)
 on_line told s number line text goes new legal_by leads_by fails m (Writes.skipped named is) = (s, WritesSerially.skipped (m.named ∙ named) is, m)
 on_line told s number line text goes new legal_by leads_by fails m (Writes.done {new = world} said named not_skipped says does kept) =
@@ -392,7 +493,7 @@ on_lines told s number (line ∷ more) text new legal_by leads_by fails m (first
 
 -- before the first line
 abbrev first_of : Object → Serial
-first_of o = record { named = false; object = o; calls = []; contents = map opening_of (kinds_of o); failing = [] }
+first_of o = record { named = false; object = o; calls = []; contents = map opening_of (kinds_of o); replies = []; failing = [] }
 
 begins_so : (o : Object) (told : Told) → IsBegun o told → Matches o told (first_of o)
 begins_so o told begun = record {
@@ -400,6 +501,7 @@ begins_so o told begun = record {
   object = sym (ap (λ (b : Board). b.object) begun.world.board);
   calls = sym (ap (λ (b : Board). b.calls) begun.world.board);
   contents = sym begun.world.opening ∙ ap (λ (b : Board). leads_to (history_of b.history) told.world.opening) (sym begun.world.board);
+  replies = ap (λ (b : Board). map told_of b.history) (sym begun.world.board);
   running = subst (λ (b : Board). Every (λ (r : RunningCall). call_at b.calls r.number ≡ Some r.call) b.running) (sym begun.world.board) tt;
   carries = record { start = told.world; begins = begun.world; events = []; told = []; plays = refl; failed = λ n h. absurd h };
 }
@@ -407,8 +509,8 @@ begins_so o told begun = record {
 pub all_serial : LegalByOne → LeadsByOne → FailsOnlyWithItsDevice → (o : Object) (text : List ℕ) (end : ScriptEnd) (written : List ℕ) → IsScript o text end written → IsSerialScript o text end written
 all_serial legal_by leads_by fails o text Whole written (start, begun, told, runs) =
     let all = on_lines start (first_of o) 1 (lines text) written told legal_by leads_by fails (begins_so o start begun) runs in
-    (first_of o, record { named = refl; object = refl; calls = refl; contents = refl; failing = refl }, all.0, all.1)
+    (first_of o, record { named = refl; object = refl; calls = refl; contents = refl; replies = refl; failing = refl }, all.0, all.1)
 all_serial legal_by leads_by fails o text (BadLine k) written (start, begun, before, line, after, told, place, cut, (first, last, mid, runs, gives, made)) =
     let all = on_lines start (first_of o) 1 before first mid legal_by leads_by fails (begins_so o start begun) runs in
     let end = on_line mid all.0 (1 + length before) line last false told legal_by leads_by fails all.2 gives in
-    (first_of o, record { named = refl; object = refl; calls = refl; contents = refl; failing = refl }, before, line, after, end.0, place, cut, (first, last, all.0, all.1, end.1, made))
+    (first_of o, record { named = refl; object = refl; calls = refl; contents = refl; replies = refl; failing = refl }, before, line, after, end.0, place, cut, (first, last, all.0, all.1, end.1, made))

@@ -11,21 +11,24 @@ use Rattle.trace_core.specs.Text.{trace_text}
 use Rattle.board_core.specs.declared.event.TraceEvent.{TraceEvent}
 use Rattle.board_core.specs.Sound.{event_number}
 use Rattle.desk_core.specs.declared.answer.SubmitFault.TheVariants as faults
+use Rattle.desk_core.specs.declared.answer.KeyedFault.TheVariants as keyed
+use Rattle.desk_core.specs.declared.answer.CallState.{CallState}
+use Rattle.desk_core.specs.declared.answer.CallState.TheVariants as states
 use Rattle.desk_core.specs.declared.answer.Cancelled.{Cancelled}
 use Rattle.desk_core.specs.declared.answer.Cancelled.TheVariants as cancels
 use Rattle.desk_core.specs.Answers.{runs_in}
 use Rattle.desk_core.specs.Told.{lines_told}
 use Rattle.world_core.specs.declared.event.Refusal.{Refusal}
-use Rattle.world_core.specs.declared.event.Refusal.TheVariants.{Submit, NotRunning, NoStep, Memory}
+use Rattle.world_core.specs.declared.event.Refusal.TheVariants.{Submit, Keyed, NotRunning, NoStep, Memory}
 use Rattle.world_core.specs.declared.event.Answer.{Answer}
-use Rattle.world_core.specs.declared.event.Answer.TheVariants.{Number, Stepped, Ended, Cancel, Dropped, Shown, Refused}
+use Rattle.world_core.specs.declared.event.Answer.TheVariants.{Number, Stepped, Ended, Cancel, Dropped, Resumed, Kept, Shown, Refused}
 use Rattle.world_core.specs.declared.event.EventAnswer.{EventAnswer}
 use Rattle.world_core.specs.Names.{refusal_name}
-use Rattle.world_core.specs.Events.{WorldEvent, call, step, finish, cancel, leave, look}
+use Rattle.world_core.specs.Events.{WorldEvent, call, call_key, step, finish, cancel, leave, resume, look}
 use Rattle.world_core.specs.Scene.{Scene}
 use Rattle.world_core.specs.Answers.{Answers}
-use Rattle.script_text.specs.Said.{Said, a_call, a_step, all_steps, a_finish, a_cancel, a_drop, a_show, a_trace}
-use Rattle.script_text.specs.Answers.{called_line, refused_line, stepped_line, all_stepped_line, finished_line, cancelled_line, dropped_line, started_line, shown_lines}
+use Rattle.script_text.specs.Said.{Said, a_call, a_keyed_call, a_step, all_steps, a_finish, a_cancel, a_drop, a_resume, a_show, a_trace}
+use Rattle.script_text.specs.Answers.{called_line, refused_line, stepped_line, all_stepped_line, finished_line, cancelled_line, dropped_line, resumed_line, kept_line, repeated_line, started_line, shown_lines}
 
 -- a step that failed, for whatever cause, is told as failed
 abbrev pub has_gone : StepAnswer → Bool
@@ -40,6 +43,13 @@ cancel_name cancels.Running = codes "Running"
 cancel_name cancels.Ended = codes "Ended"
 cancel_name cancels.Unknown = codes "Unknown"
 
+-- what became of the call of this number, which was made before under the same key
+abbrev pub repeat_line : ℕ → CallState → List ℕ
+repeat_line number states.Waiting = kept_line (codes "waiting") number
+repeat_line number states.Running = kept_line (codes "running") number
+repeat_line number states.Cancelled = kept_line (codes "cancelled") number
+repeat_line number (states.Ended reply) = repeated_line number reply
+
 -- the lines that tell an answer to an event of this call or session, over this object
 abbrev pub answer_lines : Object → ℕ → Answer → List ℕ
 answer_lines o number (Number given) = called_line given
@@ -47,6 +57,8 @@ answer_lines o number (Stepped need went) = stepped_line number need (has_gone w
 answer_lines o number (Ended reply) = finished_line number reply
 answer_lines o number (Cancel became) = cancelled_line number (cancel_name became)
 answer_lines o number Dropped = dropped_line number
+answer_lines o number Resumed = resumed_line number
+answer_lines o number (Kept made) = repeat_line made.number made.state
 answer_lines o number (Shown values) = shown_lines (object_of o).parts values.items
 answer_lines o number (Refused refusal) = refused_line (refusal_name refusal)
 
@@ -54,6 +66,7 @@ answer_lines o number (Refused refusal) = refused_line (refusal_name refusal)
 pub record IsNoWant (refusal : Refusal) : Type 0 where
   pub event : refusal ≢ Memory
   pub submit : refusal ≢ Submit faults.Memory
+  pub keyed : refusal ≢ Keyed (keyed.Submit faults.Memory)
 
 -- an answer is told, and a want of memory is not
 abbrev pub IsTold : Answer → Type 0
@@ -66,10 +79,12 @@ started_lines starts trace = flat_map (λ e. started_line (event_number e)) (dro
 -- the event that a line says, and the call or the session that it speaks of; a call has no number yet
 pub data IsEvent : Said → WorldEvent → ℕ → Type 0 where
   calls : {session : ℕ} {name : List ℕ} {arguments : List Datum} → IsEvent (a_call session name arguments) (call (record { session = session; name = name; arguments = arguments })) 0
+  calls_by : {session key : ℕ} {name : List ℕ} {arguments : List Datum} → IsEvent (a_keyed_call session key name arguments) (call_key (record { session = session; name = name; arguments = arguments }) key) 0
   steps : {number : ℕ} {works : Bool} → IsEvent (a_step number works) (step number works) number
   finishes : {number : ℕ} → IsEvent (a_finish number) (finish number) number
   cancels_it : {number : ℕ} → IsEvent (a_cancel number) (cancel number) number
   leaves : {session : ℕ} → IsEvent (a_drop session) (leave session) session
+  is_back : {session : ℕ} → IsEvent (a_resume session) (resume session) session
   looks : IsEvent a_show look 0
 
 -- an event of this call or session happens: its answer, and a line for each call that it started

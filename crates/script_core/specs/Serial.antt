@@ -1,5 +1,5 @@
 -- What the sequential object makes of the lines of a script: each call at once, as it finishes, one after another.
-use Rattle.std.specs.Prelude.{◌≡◌, ℕ, ◌+◌, Bool, true, false, List, [], ◌∷◌, ◌++◌, length, map, Some}
+use Rattle.std.specs.Prelude.{◌≡◌, ◌≢◌, ℕ, ◌+◌, ◌⊎◌, Bool, true, false, List, [], ◌∷◌, ◌++◌, length, map, codes, Some}
 use Rattle.std.specs.List.{flat_map}
 use Rattle.std.specs.Str.Lines.{lines}
 use Rattle.value_core.specs.declared.datum.Datum.{Datum}
@@ -14,23 +14,26 @@ use Rattle.apply_core.specs.declared.reply.Failure.TheVariants as failures
 use Rattle.apply_core.specs.declared.reply.Reply.{Reply}
 use Rattle.apply_core.specs.declared.reply.Reply.TheVariants.{Done, Refused, Failed}
 use Rattle.apply_core.specs.History.{IsReplyOn, left_by}
-use Rattle.board_core.specs.Lists.{Among}
+use Rattle.board_core.specs.Lists.{Every, Among}
 use Rattle.board_core.specs.Calls.{AcceptedCall}
 use Rattle.board_core.specs.Board.{call_at}
 use Rattle.board_core.specs.Sound.{kinds_of}
+use Rattle.key_core.specs.Keys.{HasKey, next_key}
 use Rattle.desk_core.specs.Answers.{IsNamedAt}
-use Rattle.script_text.specs.Said.{Said, a_call, a_step, all_steps, a_finish, a_cancel, a_drop, a_show, a_trace, said_of, IsSkipped}
-use Rattle.script_text.specs.Answers.{called_line, refused_line, finished_line, started_line, shown_lines, bad_line}
+use Rattle.desk_core.specs.Keyed.{IsSameCall}
+use Rattle.script_text.specs.Said.{Said, a_call, a_keyed_call, a_step, all_steps, a_finish, a_cancel, a_drop, a_resume, a_show, a_trace, said_of, IsSkipped}
+use Rattle.script_text.specs.Answers.{called_line, refused_line, finished_line, kept_line, repeated_line, started_line, shown_lines, bad_line}
 use Rattle.script_core.specs.declared.script.ScriptEnd.{ScriptEnd}
 use Rattle.script_core.specs.declared.script.ScriptEnd.TheVariants.{Whole, BadLine}
 use Rattle.script_core.specs.Writes.{NamesObject}
 
--- Whether the first line has named the object, the calls that were given numbers, from 1, the values of the parts, and the calls of which a step was to fail.
+-- Whether the first line has named the object, the calls that were given numbers, from 1, the values of the parts, the calls that have finished, each with its reply, and those of which a step was to fail.
 pub record Serial : Type 0 where
   pub named : Bool
   pub object : Object
   pub calls : List AcceptedCall
   pub contents : List Contents
+  pub replies : List (ℕ × Reply)
   pub failing : List ℕ
 
 -- before the first line each part has its opening value
@@ -39,6 +42,7 @@ pub record IsFirst (o : Object) (s : Serial) : Type 0 where
   pub object : s.object ≡ o
   pub calls : s.calls ≡ []
   pub contents : s.contents ≡ map opening_of (kinds_of o)
+  pub replies : s.replies ≡ []
   pub failing : s.failing ≡ []
 
 -- a call of this session, whose operation is the object's of this name
@@ -46,6 +50,19 @@ pub record IsCallOf (o : Object) (session : ℕ) (name : List ℕ) (arguments : 
   pub caller : call.session ≡ session
   pub named : IsNamedAt o call.op call.operation name
   pub given : call.arguments ≡ arguments
+
+-- of the calls so far the one of this number is the session's of this key, and it is of the operation of this name, in any case, with these arguments
+pub record IsRepeat (calls : List AcceptedCall) (session key : ℕ) (name : List ℕ) (arguments : List Datum) (number : ℕ) : Type 0 where
+  pub has : HasKey calls session key number
+  pub same : IsSameCall (record { session = session; name = name; arguments = arguments }) has.call
+
+-- the call of this number has not finished
+abbrev pub IsUnended : List (ℕ × Reply) → ℕ → Type 0
+IsUnended replies number = Every (λ (told : ℕ × Reply). told.0 ≢ number) replies
+
+-- what is said of such a call
+abbrev pub IsKeptWord : List ℕ → Type 0
+IsKeptWord word = (word ≡ codes "waiting") ⊎ ((word ≡ codes "running") ⊎ (word ≡ codes "cancelled"))
 
 -- a call fails for the device only where a step of it was to fail, and never since a part is damaged; for want of memory it may
 abbrev pub MayReply : List ℕ → ℕ → Reply → Type 0
@@ -64,9 +81,17 @@ pub data Serially : Said → Serial → List ℕ → Serial → Type 0 where
   called : {session : ℕ} {name : List ℕ} {arguments : List Datum} {old : Serial} {text starts : List ℕ} (call : AcceptedCall) → IsCallOf old.object session name arguments call → AreStarts starts
       → text ≡ called_line (length old.calls + 1) ++ starts → Serially (a_call session name arguments) old text (record old { calls = old.calls ++ call ∷ [] })
   not_called : {session : ℕ} {name : List ℕ} {arguments : List Datum} {old : Serial} {text : List ℕ} (fault : List ℕ) → text ≡ refused_line fault → Serially (a_call session name arguments) old text old
+  -- under the key of the session's next call it is such a call; under that of an earlier one it changes nothing, and tells the reply with which that finished, or that it has not
+  called_key : {session key : ℕ} {name : List ℕ} {arguments : List Datum} {old : Serial} {text starts : List ℕ} (call : AcceptedCall) → key ≡ next_key old.calls session → IsCallOf old.object session name arguments call → AreStarts starts
+      → text ≡ called_line (length old.calls + 1) ++ starts → Serially (a_keyed_call session key name arguments) old text (record old { calls = old.calls ++ call ∷ [] })
+  repeated : {session key : ℕ} {name : List ℕ} {arguments : List Datum} {old : Serial} {text : List ℕ} (number : ℕ) (reply : Reply) → IsRepeat old.calls session key name arguments number → Among (number, reply) old.replies
+      → text ≡ repeated_line number reply → Serially (a_keyed_call session key name arguments) old text old
+  kept : {session key : ℕ} {name : List ℕ} {arguments : List Datum} {old : Serial} {text : List ℕ} (number : ℕ) (word : List ℕ) → IsRepeat old.calls session key name arguments number → IsUnended old.replies number → IsKeptWord word
+      → text ≡ kept_line word number → Serially (a_keyed_call session key name arguments) old text old
+  not_called_key : {session key : ℕ} {name : List ℕ} {arguments : List Datum} {old : Serial} {text : List ℕ} (fault : List ℕ) → text ≡ refused_line fault → Serially (a_keyed_call session key name arguments) old text old
   finished : {number : ℕ} {old : Serial} {text starts : List ℕ} (call : AcceptedCall) (reply : Reply) → call_at old.calls number ≡ Some call → IsReplyOn reply (body_of call.operation) call.arguments old.contents
       → MayReply old.failing number reply → AreStarts starts → text ≡ finished_line number reply ++ starts
-      → Serially (a_finish number) old text (record old { contents = left_by reply (body_of call.operation) call.arguments old.contents })
+      → Serially (a_finish number) old text (record old { contents = left_by reply (body_of call.operation) call.arguments old.contents; replies = old.replies ++ (number, reply) ∷ [] })
   not_finished : {number : ℕ} {old : Serial} {text : List ℕ} (why : List ℕ) → text ≡ refused_line why → Serially (a_finish number) old text old
   shown : {old : Serial} {text : List ℕ} → text ≡ shown_lines (object_of old.object).parts old.contents → Serially a_show old text old
   -- what else a line says changes nothing for the sequential object, and is not told by it
@@ -75,6 +100,7 @@ pub data Serially : Said → Serial → List ℕ → Serial → Type 0 where
   to_end : {number : ℕ} {old : Serial} {text : List ℕ} → Serially (all_steps number) old text old
   cancels_it : {number : ℕ} {old : Serial} {text : List ℕ} → Serially (a_cancel number) old text old
   leaves : {session : ℕ} {old : Serial} {text : List ℕ} → Serially (a_drop session) old text old
+  is_back : {session : ℕ} {old : Serial} {text : List ℕ} → Serially (a_resume session) old text old
   traced : {old : Serial} {text : List ℕ} → Serially a_trace old text old
 
 -- the answer to the line of this number: its text, whether the script goes on, and what holds then

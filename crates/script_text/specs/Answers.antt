@@ -52,6 +52,18 @@ cancelled_line number answer = line_of (bare (codes "cancel") ∷ bare (decimal 
 abbrev pub dropped_line : ℕ → List ℕ
 dropped_line session = line_of (bare (codes "drop") ∷ session_word session ∷ [])
 
+-- `resume sK`
+abbrev pub resumed_line : ℕ → List ℕ
+resumed_line session = line_of (bare (codes "resume") ∷ session_word session ∷ [])
+
+-- `repeat STATE N`: the call that was made before waits, runs or was cancelled
+abbrev pub kept_line : List ℕ → ℕ → List ℕ
+kept_line state number = line_of (bare (codes "repeat") ∷ bare state ∷ bare (decimal number) ∷ [])
+
+-- `repeat ` and how it finished
+abbrev pub repeated_line : ℕ → Reply → List ℕ
+repeated_line number reply = codes "repeat " ++ finished_line number reply
+
 -- `started N`
 abbrev pub started_line : ℕ → List ℕ
 started_line number = line_of (bare (codes "started") ∷ bare (decimal number) ∷ [])

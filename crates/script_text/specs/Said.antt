@@ -1,5 +1,5 @@
 -- What a line of a script says.
-use Rattle.std.specs.Prelude.{◌≡◌, ℕ, Bool, true, false, List, [], ◌∷◌, Option, Some, None, codes, if◌then◌else◌}
+use Rattle.std.specs.Prelude.{◌≡◌, ◌==◌, ℕ, Bool, true, false, List, [], ◌∷◌, Option, Some, None, codes, if◌then◌else◌}
 use Rattle.std.specs.Str.{bytes_eq}
 use Rattle.value_core.specs.declared.datum.Datum.{Datum}
 use Rattle.line_core.specs.Words.{drop_spaces}
@@ -7,23 +7,40 @@ use Rattle.word_core.specs.Words.{Word}
 use Rattle.word_core.specs.Data.{◌>>=◌, integer_of, session_of, data_of, bare_of, only_bare, only_integer, at_end}
 use Rattle.script_text.specs.Identifier.{identifier_of}
 
--- a session calls an operation, by its name as it is written, with arguments; one step of a call, which works or fails;
--- its steps to the end; its finish; its cancel; a session leaves; the values of the parts; the trace
+-- a session calls an operation, by its name as it is written, with arguments; the same under a key; one step of a call, which works or fails;
+-- its steps to the end; its finish; its cancel; a session leaves, or is back; the values of the parts; the trace
 pub data Said : Type 0 where
   a_call : ℕ → List ℕ → List Datum → Said
+  a_keyed_call : ℕ → ℕ → List ℕ → List Datum → Said
   a_step : ℕ → Bool → Said
   all_steps : ℕ → Said
   a_finish : ℕ → Said
   a_cancel : ℕ → Said
   a_drop : ℕ → Said
+  a_resume : ℕ → Said
   a_show : Said
   a_trace : Said
 
--- behind `call`: `sK OP ARG ..`, where OP is an identifier
+-- behind `call sK`, by this word, where it is an identifier: `ARG ..`
+abbrev pub named_said : ℕ → List ℕ → List Word → Option Said
+named_said session word words = identifier_of word >>= λ name. data_of words >>= λ arguments. Some (a_call session name arguments)
+
+-- behind `call sK #J`, by this word, where it is an identifier: `ARG ..`
+abbrev pub keyed_said : ℕ → ℕ → List ℕ → List Word → Option Said
+keyed_said session key word words = identifier_of word >>= λ name. data_of words >>= λ arguments. Some (a_keyed_call session key name arguments)
+
+-- behind `call sK #` and these digits: `OP ARG ..`
+abbrev pub digits_said : ℕ → List ℕ → List Word → Option Said
+digits_said session digits words = integer_of digits >>= λ key. bare_of words >>= λ first. keyed_said session key first.0 first.1
+
+-- behind `call sK`, by this word: an operation, or `#J`
+abbrev pub call_by : ℕ → List ℕ → List Word → Option Said
+call_by session [] words = None
+call_by session (b ∷ bytes) words = if b == 35 then digits_said session bytes words else named_said session (b ∷ bytes) words
+
+-- behind `call`: `sK OP ARG ..` or `sK #J OP ARG ..`
 abbrev pub call_said : List Word → Option Said
-call_said words =
-    bare_of words >>= λ first. session_of first.0 >>= λ session. bare_of first.1 >>= λ second. identifier_of second.0 >>= λ name.
-    data_of second.1 >>= λ arguments. Some (a_call session name arguments)
+call_said words = bare_of words >>= λ first. session_of first.0 >>= λ session. bare_of first.1 >>= λ second. call_by session second.0 second.1
 
 -- whether a step works
 abbrev pub works_of : List ℕ → Option Bool
@@ -42,6 +59,10 @@ numbered said words = only_integer words >>= λ number. Some (said number)
 abbrev pub drop_said : List Word → Option Said
 drop_said words = only_bare words >>= λ word. session_of word >>= λ session. Some (a_drop session)
 
+-- behind `resume`: `sK`
+abbrev pub resume_said : List Word → Option Said
+resume_said words = only_bare words >>= λ word. session_of word >>= λ session. Some (a_resume session)
+
 -- behind this first word
 abbrev pub said_by : List ℕ → List Word → Option Said
 said_by verb words =
@@ -51,6 +72,7 @@ said_by verb words =
     else if bytes_eq verb (codes "finish") then numbered a_finish words
     else if bytes_eq verb (codes "cancel") then numbered a_cancel words
     else if bytes_eq verb (codes "drop") then drop_said words
+    else if bytes_eq verb (codes "resume") then resume_said words
     else if bytes_eq verb (codes "show") then at_end words a_show
     else if bytes_eq verb (codes "trace") then at_end words a_trace
     else None

@@ -128,6 +128,42 @@ pub fn push_dropped(out: &mut Vec<u8>, session: u32) -> Result<(), AllocError>
     )
 }
 
+/// Adds `resume sK`: the session is back.
+pub fn push_resumed(out: &mut Vec<u8>, session: u32) -> Result<(), AllocError>
+    ensures { OnOk result (out.new.items ≡ out.old.items ++ answers.resumed_line session) }
+{
+    push_line(
+        out,
+        &[
+            Written::Bare(b"resume"),
+            Written::Session(u64::from(session)),
+        ],
+    )
+}
+
+/// Adds `repeat STATE N`: the call of this number was made before, under the same key, and this became of it.
+pub fn push_kept(out: &mut Vec<u8>, state: &str, number: u32) -> Result<(), AllocError>
+    ensures { OnOk result (out.new.items ≡ out.old.items ++ answers.kept_line state.now number) }
+{
+    push_line(
+        out,
+        &[
+            Written::Bare(b"repeat"),
+            Written::Bare(state.as_bytes()),
+            Written::Integer(u64::from(number)),
+        ],
+    )
+}
+
+/// Adds `repeat ` and how the call of this number ended.
+pub fn push_repeated(out: &mut Vec<u8>, number: u32, reply: &Reply) -> Result<(), AllocError>
+    ensures { OnOk result (out.new.items ≡ out.old.items ++ answers.repeated_line number reply.now) }
+{
+    out.extend_from_slice(b"repeat ")?;
+    push_finished(out, number, reply)?;
+    Ok(())
+}
+
 /// Adds `started N`: the call of this number started.
 pub fn push_started(out: &mut Vec<u8>, number: u32) -> Result<(), AllocError>
     ensures { OnOk result (out.new.items ≡ out.old.items ++ answers.started_line number) }

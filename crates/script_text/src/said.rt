@@ -3,7 +3,7 @@
 ghost use Rattle.std.specs.Prelude.{◌≡◌, ◌↔◌, IfOk, IsTrue, option_map};
 ghost use Rattle.word_core.specs.View.{words_of as words_in};
 ghost use Rattle.word_core.specs.Data.{at_end};
-ghost use Rattle.script_text.specs.Said.{IsSkipped, said_of as said_of_words, said_by as said_in, call_said as call_in, works_of as works_in, step_said as step_in, drop_said as drop_in, numbered, all_steps, a_finish, a_cancel, a_show, a_trace};
+ghost use Rattle.script_text.specs.Said.{IsSkipped, said_of as said_of_words, said_by as said_in, call_said as call_in, call_by as call_by_in, named_said as named_in, digits_said as digits_in, keyed_said as keyed_in, resume_said as resume_in, works_of as works_in, step_said as step_in, drop_said as drop_in, numbered, all_steps, a_finish, a_cancel, a_show, a_trace};
 ghost use Rattle.script_text.specs.View.{said_view, IsReadOf};
 
 use crate::operation::identifier_of;
@@ -19,6 +19,8 @@ use word_core::words::{bare_of, data_of, only_bare, only_integer, words_of};
 pub enum Said<'a> {
     /// `call sK OP ARG ..`: the session, the name of the operation as it is written, an identifier, and the arguments.
     Call(u32, &'a str, Vec<Datum>),
+    /// `call sK #J OP ARG ..`: the same, with the key before the operation.
+    CallKey(u32, u32, &'a str, Vec<Datum>),
     /// `step N ok` and `step N fail`: the call, and whether the device call of the step is to work.
     Step(u32, bool),
     /// `steps N`.
@@ -29,6 +31,8 @@ pub enum Said<'a> {
     Cancel(u32),
     /// `drop sK`.
     Drop(u32),
+    /// `resume sK`.
+    Resume(u32),
     /// `show`.
     Show,
     /// `trace`.
@@ -98,6 +102,9 @@ fn said_by<'a>(
     if is_same_word(verb, b"drop") {
         return Ok(drop_said(words));
     }
+    if is_same_word(verb, b"resume") {
+        return Ok(resume_said(words));
+    }
     if is_same_word(verb, b"show") {
         return Ok(show_said(words));
     }
@@ -116,14 +123,76 @@ fn call_said<'a>(alloc: Global, words: &[Word<'a>]) -> Result<Option<Said<'a>>, 
     let Some(session) = session_of(session) else {
         return Ok(None);
     };
-    let Some((name, rest)) = bare_of(rest) else {
+    let Some((word, rest)) = bare_of(rest) else {
         return Ok(None);
     };
-    let Some(name) = identifier_of(name) else {
+    call_by(alloc, session, word, rest)
+}
+
+// What a call of this session says by this word and those behind it.
+fn call_by<'a>(
+    alloc: Global,
+    session: u32,
+    word: &'a [u8],
+    words: &[Word<'a>],
+) -> Result<Option<Said<'a>>, AllocError>
+    ensures { IfOk result (λ found. option_map said_view found ≡ call_by_in session word.now (words_in words.now)) }
+{
+    match word {
+        [] => Ok(None),
+        [b'#', digits @ ..] => digits_said(alloc, session, digits, words),
+        _ => named_said(alloc, session, word, words),
+    }
+}
+
+fn named_said<'a>(
+    alloc: Global,
+    session: u32,
+    word: &'a [u8],
+    words: &[Word<'a>],
+) -> Result<Option<Said<'a>>, AllocError>
+    ensures { IfOk result (λ found. option_map said_view found ≡ named_in session word.now (words_in words.now)) }
+{
+    let Some(name) = identifier_of(word) else {
         return Ok(None);
     };
-    match data_of(alloc, rest)? {
+    match data_of(alloc, words)? {
         Some(arguments) => Ok(Some(Said::Call(session, name, arguments))),
+        None => Ok(None),
+    }
+}
+
+fn digits_said<'a>(
+    alloc: Global,
+    session: u32,
+    digits: &[u8],
+    words: &[Word<'a>],
+) -> Result<Option<Said<'a>>, AllocError>
+    ensures { IfOk result (λ found. option_map said_view found ≡ digits_in session digits.now (words_in words.now)) }
+{
+    let Some(key) = integer_of(digits) else {
+        return Ok(None);
+    };
+    let Some((word, rest)) = bare_of(words) else {
+        return Ok(None);
+    };
+    keyed_said(alloc, session, key, word, rest)
+}
+
+fn keyed_said<'a>(
+    alloc: Global,
+    session: u32,
+    key: u32,
+    word: &'a [u8],
+    words: &[Word<'a>],
+) -> Result<Option<Said<'a>>, AllocError>
+    ensures { IfOk result (λ found. option_map said_view found ≡ keyed_in session key word.now (words_in words.now)) }
+{
+    let Some(name) = identifier_of(word) else {
+        return Ok(None);
+    };
+    match data_of(alloc, words)? {
+        Some(arguments) => Ok(Some(Said::CallKey(session, key, name, arguments))),
         None => Ok(None),
     }
 }
@@ -176,6 +245,13 @@ fn drop_said<'a>(words: &[Word<'a>]) -> Option<Said<'a>>
 {
     let session = session_of(only_bare(words)?)?;
     Some(Said::Drop(session))
+}
+
+fn resume_said<'a>(words: &[Word<'a>]) -> Option<Said<'a>>
+    ensures { option_map said_view result ≡ resume_in (words_in words.now) }
+{
+    let session = session_of(only_bare(words)?)?;
+    Some(Said::Resume(session))
 }
 
 fn show_said<'a>(words: &[Word<'a>]) -> Option<Said<'a>>

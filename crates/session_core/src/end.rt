@@ -3,9 +3,10 @@
 ghost use Rattle.std.specs.Prelude.{◌≡◌, ◌↔◌, IsTrue, List, ℕ, Option};
 ghost use Rattle.talk_core.specs.Written.{IsNoteOf, AreNoted, IsWritten, HasWritten, heard_fault as heard_in, or_memory as or_memory_in, told_fault};
 
+use hear_core::fault::HearFault;
 use office_core::seat::Seat;
 use slip_core::slip::Slip;
-use talk_core::fault::{HearFault, SessionFault};
+use talk_core::fault::SessionFault;
 use talk_core::note::Note;
 use talk_core::output::Health;
 
@@ -14,7 +15,7 @@ use talk_core::output::Health;
 pub struct SessionEnd<W: Drop, H: Drop> {
     /// The object that was opened, by its place among the offices.
     pub object: Option<usize>,
-    /// The seat there.
+    /// The seat there, but that of a client that has a name: it is parked.
     pub seat: Option<Seat>,
     /// What the receipts of its calls tell, in order.
     pub receipts: Vec<Slip>,

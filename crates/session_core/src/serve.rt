@@ -5,11 +5,16 @@ ghost use Rattle.talk_core.specs.Truth.{Keeps, AreTrue};
 ghost use Rattle.talk_core.specs.Written.{IsWritten, HasWritten};
 
 use crate::end::{SessionEnd, conclude};
+use crate::entered::parked;
 use crate::listen::listen;
 use crate::order::Offices;
 use crate::sender::send;
 use crate::work::{Worked, work};
 use hand_core::hand::Hand;
+use hear_core::bell::{Bell, UntilBell};
+use hear_core::ear::Ear;
+use hear_core::reading::Reading;
+use hear_core::relay::Relay;
 use std::alloc::Global;
 use std::io::{Read, Write};
 use std::marker::Brand;
@@ -17,17 +22,16 @@ use std::sync::Wait;
 use std::thread;
 use std::thread::Threads;
 use std::time::Clock;
-use talk_core::bell::{Bell, UntilBell};
-use talk_core::ear::Ear;
 use talk_core::fault::SessionFault;
 use talk_core::mouth::Mouth;
 use talk_core::note::Note;
 use talk_core::output::{Health, Start};
-use talk_core::reading::Reading;
-use talk_core::relay::Relay;
 
-// What a session hands back, by what was written and what its first thread left.
-fn ended<W: Drop, H: Drop>(
+// What a session hands back, by what was written and what its first thread left. All its threads have ended, so that none of them takes the
+// session of a client out that has come back.
+fn ended<R: Wait, W: Drop, H: Drop, O: Offices>(
+    rt: &R,
+    offices: &O,
     writer: W,
     notes: &[Note],
     health: Health,
@@ -48,10 +52,7 @@ fn ended<W: Drop, H: Drop>(
         fault: met,
     } = worked;
     let fault = conclude(&receipts, notes, health, met);
-    let (object, seat) = match seat {
-        Some((at, seat)) => (Some(at), Some(seat)),
-        None => (None, None),
-    };
+    let (object, seat) = parked(rt, offices, seat);
     SessionEnd {
         object,
         seat,
@@ -148,7 +149,7 @@ fn serve_from<
         },
     );
     let (writer, notes, health) = mouth.into_parts();
-    ended(writer, &notes, health, worked)
+    ended(rt, offices, writer, &notes, health, worked)
 }
 
 /// Serves one session: the calling thread reads lines and does what they ask for; while a call waits for more than some
@@ -157,7 +158,8 @@ fn serve_from<
 ///
 /// The session ends by `quit`, at the end of its input, when the bell has rung, or by a fault, which `fault` tells. But by `quit` it
 /// leaves its object, also behind a `quit` that stands behind a waiting call: the waiting call is cancelled, calls not yet
-/// submitted are answered `no Gone`, a running call is completed. A read that is interrupted or whose time runs out is no
+/// submitted are answered `no Gone`, a running call is completed. Once all its threads have ended, the seat of a client that has a name is
+/// parked, and the client may come back. A read that is interrupted or whose time runs out is no
 /// fault. Where `quit` was read behind a waiting call, and where the bell has rung, the end comes with the next read that returns, so a reader
 /// whose reads never time out may hold it up; so may a writer whose writes never do. What stands behind the last line end is done only where it
 /// harms nobody: a call is answered `no Gone`, a cancel `no BadLine`. Where no second thread can be made, nothing is read while a call waits,

@@ -3,27 +3,34 @@
 ghost use Rattle.std.specs.Prelude.{◌≡◌, ◌<◌, ◌++◌, ◌∷◌, [], IsTrue, IfOk, IfSome};
 ghost use Rattle.std.specs.Vec.{vec_len, vec_capacity};
 ghost use Rattle.hand_core.specs.Device.{Assignment};
+ghost use Rattle.board_core.specs.Board.{Board};
+ghost use Rattle.board_core.specs.Sound.{IsSound};
 ghost use Rattle.call_core.specs.Tickets.{ticket_call};
 ghost use Rattle.run_core.specs.Outcomes.{outcome_call, TellsSame};
 ghost use Rattle.slip_core.specs.Rooms.{IsMade};
+ghost use Rattle.desk_core.specs.Keyed.{IsStateOf};
 ghost use Rattle.slip_core.specs.Slips.{told_by};
 ghost use Rattle.office_core.specs.declared.seat.Submitted.{Submitted as Ask};
 ghost use Rattle.office_core.specs.Submissions.{Asks, Tells, IsTicketOf};
 ghost use Rattle.talk_core.specs.Truth.{Keeps, AreTrue, OutcomeIsTrue};
 
+use crate::entered::{Entered, NotEntered, seat_at};
 use crate::listen::leave;
 use crate::order::Offices;
 use call_core::ticket::Ticket;
-use desk_core::answer::{Finished, SubmitFault};
+use desk_core::answer::{CallState, Finished, Kept, SubmitFault};
 use hand_core::hand::{Hand, Stamp};
 use hand_core::retire::retire_all;
+use hear_core::ear::Heard;
+use hear_core::fault::HearFault;
+use hear_core::reading::Reading;
 use office_core::late::Late;
 use office_core::office::Office;
 use office_core::seat::{Seat, Started, Submitted, Tried};
 use path_tree::name::Name;
 use run_core::at_once::run_at_once;
 use run_core::outcome::Outcome;
-use session_text::line::{Line, Refusal};
+use session_text::line::{Line, Refusal, Unended};
 use session_text::session::Action;
 use slip_core::room::SlipRoom;
 use slip_core::slip::Slip;
@@ -32,11 +39,8 @@ use std::io::{Read, Write};
 use std::sync::Wait;
 use std::time::{Clock, Duration};
 use std::{mem, str};
-use talk_core::ear::Heard;
-use talk_core::fault::HearFault;
 use talk_core::mouth::Mouth;
 use talk_core::output::Start;
-use talk_core::reading::Reading;
 use talk_core::room::make_room_in;
 use value_core::datum::Datum;
 
@@ -48,7 +52,7 @@ const BRIEF: u64 = 10;
 #[derive(Drop)]
 pub(crate) struct Worked<H: Drop> {
     pub(crate) hand: H,
-    pub(crate) seat: Option<(usize, Seat)>,
+    pub(crate) seat: Option<Entered>,
     pub(crate) receipts: Vec<Slip>,
     // memory for the next of them
     pub(crate) room: SlipRoom,
@@ -338,6 +342,47 @@ fn serve_at<R: Wait + Clock, I: Read + Drop, W: Write + Drop, H: Hand + Drop, J:
     put_off(&mut worked.hand, free, &mut worked.free);
 }
 
+// Says what became of a call that was made before.
+fn say_kept<R: Wait, W: Write + Drop, J: Start>(rt: &R, mouth: &Mouth<W, J>, kept: &Kept)
+    requires { (b : Board) × IsSound b × IsStateOf b kept.now.number kept.now.state }
+{
+    match &kept.state {
+        CallState::Waiting => say(rt, mouth, Line::Kept(kept.number, Unended::Waiting)),
+        CallState::Running => say(rt, mouth, Line::Kept(kept.number, Unended::Running)),
+        CallState::Cancelled => say(rt, mouth, Line::Kept(kept.number, Unended::Cancelled)),
+        CallState::Ended(reply) => {
+            let _said = mouth.say_repeated(rt, kept.number, reply);
+        }
+    }
+}
+
+// Whether a call is to be made: it has no key, or that of its session's next call. Any other is answered here, before there is room for a call and
+// whosever turn it is.
+fn is_new<R: Wait, W: Write + Drop, J: Start>(
+    rt: &R,
+    office: &Office,
+    mouth: &Mouth<W, J>,
+    seat: &Seat,
+    key: Option<u32>,
+    op: &str,
+    args: &[Datum],
+) -> bool {
+    let Some(key) = key else {
+        return true;
+    };
+    match office.kept(rt, seat, key, op, args) {
+        Ok(None) => true,
+        Ok(Some(kept)) => {
+            say_kept(rt, mouth, &kept);
+            false
+        }
+        Err(fault) => {
+            say(rt, mouth, Line::Unkeyed(fault));
+            false
+        }
+    }
+}
+
 // One call of the object that is opened.
 fn serve_call<
     R: Wait + Clock,
@@ -353,6 +398,7 @@ fn serve_call<
     mouth: &Mouth<W, J>,
     reading: &mut Reading<'_, I>,
     worked: &mut Worked<H>,
+    key: Option<u32>,
     op: &Name,
     args: &[Datum],
 )
@@ -362,50 +408,50 @@ fn serve_call<
     let Ok(op) = str::from_utf8(op.as_bytes()) else {
         return;
     };
-    let Some((at, seat)) = worked.seat.take() else {
+    let Some(entered) = worked.seat.take() else {
         return;
     };
-    let mut seat = seat;
-    if let Some(office) = offices.office(at) {
-        serve_at(
-            rt, alloc, office, mouth, reading, &mut seat, worked, op, args,
-        );
+    let mut entered = entered;
+    if let Some(office) = offices.office(entered.at) {
+        if is_new(rt, office, mouth, &entered.seat, key, op, args) {
+            serve_at(
+                rt,
+                alloc,
+                office,
+                mouth,
+                reading,
+                &mut entered.seat,
+                worked,
+                op,
+                args,
+            );
+        }
     }
-    worked.seat = Some((at, seat));
+    worked.seat = Some(entered);
 }
 
-// Opens an object, and gives the line that says why not.
-fn seat_at<R: Wait, O: Offices>(rt: &R, offices: &O, name: &Name) -> Result<(usize, Seat), Line> {
-    let Some(at) = offices.place_of(name) else {
-        return Err(Line::Refused(Refusal::NoObject));
-    };
-    let Some(office) = offices.office(at) else {
-        return Err(Line::Refused(Refusal::NoObject));
-    };
-    match office.seat(rt) {
-        Ok(seat) => Ok((at, seat)),
-        Err(_) => Err(Line::Refused(Refusal::Full)),
-    }
-}
-
-// The same for this session.
+// Opens an object for this session, which goes on or, where memory is refused, leaves.
 fn enter<R: Wait, I: Read + Drop, W: Write + Drop, J: Start, O: Offices>(
     rt: &R,
     offices: &O,
     mouth: &Mouth<W, J>,
     reading: &mut Reading<'_, I>,
+    seat: &mut Option<Entered>,
     name: &Name,
-) -> Option<(usize, Seat)> {
-    match seat_at(rt, offices, name) {
-        Ok((at, seat)) => {
-            reading.set_opened(at, seat.session());
-            let _said = mouth.say_opened(rt, name);
-            Some((at, seat))
+    client: &Option<Name>,
+) -> Goes {
+    match seat_at(rt, offices, name, client) {
+        Ok((entered, next)) => {
+            reading.set_opened(entered.at, entered.seat.session());
+            let _said = mouth.say_opened(rt, name, next);
+            *seat = Some(entered);
+            Goes::On
         }
-        Err(line) => {
-            say(rt, mouth, line);
-            None
+        Err(NotEntered::Refused(refusal)) => {
+            say(rt, mouth, Line::Refused(refusal));
+            Goes::On
         }
+        Err(NotEntered::Memory) => Goes::Leaves(Some(HearFault::Memory)),
     }
 }
 
@@ -414,11 +460,11 @@ fn cancel<R: Wait, W: Write + Drop, J: Start, O: Offices>(
     rt: &R,
     offices: &O,
     mouth: &Mouth<W, J>,
-    seat: &Option<(usize, Seat)>,
+    seat: &Option<Entered>,
     number: u32,
 ) {
-    if let Some((at, _)) = seat {
-        if let Some(office) = offices.office(*at) {
+    if let Some(entered) = seat {
+        if let Some(office) = offices.office(entered.at) {
             let answer = office.cancel(rt, number);
             say(rt, mouth, Line::Cancel(number, answer));
         }
@@ -450,14 +496,20 @@ fn act<R: Wait + Clock, I: Read + Drop, W: Write + Drop, H: Hand + Drop, J: Star
     ensures told { AreTrue H.agrees worked.old.hand worked.old.receipts.items → AreTrue H.agrees worked.new.hand worked.new.receipts.items }
 {
     match action {
-        Action::Open(name) => {
-            if let Some(entered) = enter(rt, offices, mouth, reading, &name) {
-                worked.seat = Some(entered);
-            }
+        Action::Open(name, client) => {
+            return enter(
+                rt,
+                offices,
+                mouth,
+                reading,
+                &mut worked.seat,
+                &name,
+                &client,
+            );
         }
-        Action::Call(op, args) => {
+        Action::Call(key, op, args) => {
             leave_if_stopped(rt, offices, reading);
-            serve_call(rt, alloc, offices, mouth, reading, worked, &op, &args)
+            serve_call(rt, alloc, offices, mouth, reading, worked, key, &op, &args)
         }
         Action::Cancel(number) => cancel(rt, offices, mouth, &worked.seat, number),
         Action::Quit => {

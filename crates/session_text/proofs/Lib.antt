@@ -1,3 +1,4 @@
 pub mod Names
+pub mod Reserved
 pub mod Asking
 pub mod Reading

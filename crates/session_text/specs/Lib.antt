@@ -1,3 +1,4 @@
+pub mod Reserved
 pub mod Requests
 pub mod View
 pub mod Table

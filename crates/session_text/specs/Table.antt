@@ -8,10 +8,10 @@ use Rattle.session_text.specs.View.{IsRequest}
 
 -- what is done for a request, by whether an object is opened
 abbrev pub Does : Bool → Request → Action → Type 0
-Does true (opens name) action = action ≡ actions.Answer refusals.Opened
-Does false (opens name) (actions.Open n) = n ≡ name
-Does true (calls op args) (actions.Call o v) = (o ≡ op) × (v.items ≡ args)
-Does false (calls op args) action = action ≡ actions.Answer refusals.NotOpen
+Does true (opens name client) action = action ≡ actions.Answer refusals.Opened
+Does false (opens name client) (actions.Open n c) = (n ≡ name) × (c ≡ client)
+Does true (calls key op args) (actions.Call k o v) = (k ≡ key) × (o ≡ op) × (v.items ≡ args)
+Does false (calls key op args) action = action ≡ actions.Answer refusals.NotOpen
 Does true (cancels n) action = action ≡ actions.Cancel n
 Does false (cancels n) action = action ≡ actions.Answer refusals.NotOpen
 Does b quits action = action ≡ actions.Quit
@@ -26,7 +26,7 @@ Takes opened line action =
 -- what is done for the last request of a session where no line end stands behind it: what was read may be the front of a longer line, so no call is done
 -- and none cancelled, while to open an object and to end harm nobody
 abbrev pub DoesLast : Bool → Request → Action → Type 0
-DoesLast true (calls op args) action = action ≡ actions.Answer refusals.Gone
+DoesLast true (calls key op args) action = action ≡ actions.Answer refusals.Gone
 DoesLast true (cancels n) action = action ≡ actions.Answer refusals.BadLine
 DoesLast b q action = Does b q action
 

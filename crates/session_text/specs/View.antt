@@ -6,8 +6,8 @@ use Rattle.session_text.specs.declared.request.Request.TheVariants as request
 use Rattle.session_text.specs.Requests as lines
 
 abbrev pub request_view : Request → lines.Request
-request_view (request.Open name) = lines.opens name
-request_view (request.Call name arguments) = lines.calls name arguments.items
+request_view (request.Open name client) = lines.opens name client
+request_view (request.Call key name arguments) = lines.calls key name arguments.items
 request_view (request.Cancel number) = lines.cancels number
 request_view request.Quit = lines.quits
 

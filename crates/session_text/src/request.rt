@@ -3,12 +3,14 @@
 ghost use Rattle.std.specs.Prelude.{◌≡◌, IfOk};
 ghost use Rattle.word_core.specs.Data.{at_end};
 ghost use Rattle.line_read.specs.Reads.{Reads};
-ghost use Rattle.session_text.specs.Requests.{name_of as name_in, open_request as open_in, call_request as call_in, cancel_request as cancel_in, call_behind, quits, request_by as request_in};
+ghost use Rattle.session_text.specs.Reserved.{is_reserved as is_reserved_in};
+ghost use Rattle.session_text.specs.Requests.{name_of as name_in, free_name_of as free_name_in, open_request as open_in, open_named as open_named_in, open_behind as open_behind_in, as_behind, client_behind, call_request as call_in, call_by as call_by_in, keyed_behind, digits_behind, cancel_request as cancel_in, call_behind, quits, request_by as request_in};
 ghost use Rattle.session_text.specs.View.{request_view, IsReadOf};
 
 use line_core::words::is_same_word;
 use line_read::arguments::data_of;
 use line_read::front::{is_blank, next_bare, only_bare};
+use path_tree::lex::word::reserved;
 use path_tree::name::Name;
 use std::alloc::{AllocError, Global};
 use value_core::datum::Datum;
@@ -17,10 +19,10 @@ use word_core::number::integer_of;
 /// What a line of a session asks for.
 #[derive(Drop)]
 pub enum Request {
-    /// `open NAME`: the name of the object.
-    Open(Name),
-    /// `call OP ARG ..`: the name of the operation, and the arguments.
-    Call(Name, Vec<Datum>),
+    /// `open NAME` or `open NAME as CLIENT`: the name of the object, and that of the client where it gives one.
+    Open(Name, Option<Name>),
+    /// `call OP ARG ..` or `call #J OP ARG ..`: the key where one is given, the name of the operation, and the arguments.
+    Call(Option<u32>, Name, Vec<Datum>),
     /// `cancel N`.
     Cancel(u32),
     /// `quit`.
@@ -66,12 +68,83 @@ fn name_of(alloc: Global, bytes: &[u8]) -> Result<Option<Name>, AllocError>
     Ok(name)
 }
 
+// Whether these bytes are a reserved word.
+fn is_reserved(bytes: &[u8]) -> bool
+    ensures { result ≡ is_reserved_in bytes.now }
+{
+    if bytes.is_empty() {
+        return false;
+    }
+    match reserved(bytes) {
+        Some(_) => true,
+        None => false,
+    }
+}
+
+// The name that these bytes spell, where they are an identifier that is no reserved word.
+fn free_name_of(alloc: Global, bytes: &[u8]) -> Result<Option<Name>, AllocError>
+    ensures { IfOk result (λ found. found ≡ free_name_in bytes.now) }
+{
+    if is_reserved(bytes) {
+        return Ok(None);
+    }
+    name_of(alloc, bytes)
+}
+
 fn open_request(alloc: Global, line: &[u8]) -> Result<Option<Request>, AllocError>
     ensures { IfOk result (Reads open_in request_view line.now) }
 {
+    match next_bare(line) {
+        Some((word, rest)) => open_named(alloc, word, rest),
+        None => Ok(None),
+    }
+}
+
+// The object that this word names is opened, by the words behind it.
+fn open_named(alloc: Global, word: &[u8], line: &[u8]) -> Result<Option<Request>, AllocError>
+    ensures { IfOk result (Reads (open_named_in word.now) request_view line.now) }
+{
+    match name_of(alloc, word)? {
+        Some(name) => open_behind(alloc, name, line),
+        None => Ok(None),
+    }
+}
+
+// The object of this name is opened, by the words behind it.
+fn open_behind(alloc: Global, name: Name, line: &[u8]) -> Result<Option<Request>, AllocError>
+    ensures { IfOk result (Reads (open_behind_in name) request_view line.now) }
+{
+    if is_blank(line) {
+        return Ok(Some(Request::Open(name, None)));
+    }
+    match next_bare(line) {
+        Some((word, rest)) => open_as(alloc, name, word, rest),
+        None => Ok(None),
+    }
+}
+
+// The same behind this word, which is `as`.
+fn open_as(
+    alloc: Global,
+    name: Name,
+    word: &[u8],
+    line: &[u8],
+) -> Result<Option<Request>, AllocError>
+    ensures { IfOk result (Reads (as_behind name word.now) request_view line.now) }
+{
+    if !is_same_word(word, b"as") {
+        return Ok(None);
+    }
+    open_for(alloc, name, line)
+}
+
+// The same for the client that the one word names.
+fn open_for(alloc: Global, name: Name, line: &[u8]) -> Result<Option<Request>, AllocError>
+    ensures { IfOk result (Reads (client_behind name) request_view line.now) }
+{
     match only_bare(line) {
-        Some(word) => match name_of(alloc, word)? {
-            Some(name) => Ok(Some(Request::Open(name))),
+        Some(word) => match free_name_of(alloc, word)? {
+            Some(client) => Ok(Some(Request::Open(name, Some(client)))),
             None => Ok(None),
         },
         None => Ok(None),
@@ -82,18 +155,53 @@ fn call_request(alloc: Global, line: &[u8]) -> Result<Option<Request>, AllocErro
     ensures { IfOk result (Reads call_in request_view line.now) }
 {
     match next_bare(line) {
-        Some((word, rest)) => call_named(alloc, word, rest),
+        Some((word, rest)) => call_by(alloc, word, rest),
+        None => Ok(None),
+    }
+}
+
+// A call of the operation that this word names, or under the key that it tells, with the words behind it.
+fn call_by(alloc: Global, word: &[u8], line: &[u8]) -> Result<Option<Request>, AllocError>
+    ensures { IfOk result (Reads (call_by_in word.now) request_view line.now) }
+{
+    match word {
+        [] => Ok(None),
+        [b'#', digits @ ..] => call_under(alloc, digits, line),
+        _ => call_named(alloc, None, word, line),
+    }
+}
+
+// A call under the key that these digits tell.
+fn call_under(alloc: Global, digits: &[u8], line: &[u8]) -> Result<Option<Request>, AllocError>
+    ensures { IfOk result (Reads (digits_behind digits.now) request_view line.now) }
+{
+    match integer_of(digits) {
+        Some(key) => call_keyed(alloc, key, line),
+        None => Ok(None),
+    }
+}
+
+fn call_keyed(alloc: Global, key: u32, line: &[u8]) -> Result<Option<Request>, AllocError>
+    ensures { IfOk result (Reads (keyed_behind key) request_view line.now) }
+{
+    match next_bare(line) {
+        Some((word, rest)) => call_named(alloc, Some(key), word, rest),
         None => Ok(None),
     }
 }
 
 // A call of the operation that this word names, with the words behind it.
-fn call_named(alloc: Global, word: &[u8], line: &[u8]) -> Result<Option<Request>, AllocError>
-    ensures { IfOk result (Reads (call_behind word.now) request_view line.now) }
+fn call_named(
+    alloc: Global,
+    key: Option<u32>,
+    word: &[u8],
+    line: &[u8],
+) -> Result<Option<Request>, AllocError>
+    ensures { IfOk result (Reads (call_behind key word.now) request_view line.now) }
 {
     match name_of(alloc, word)? {
         Some(name) => match data_of(alloc, line)? {
-            Some(arguments) => Ok(Some(Request::Call(name, arguments))),
+            Some(arguments) => Ok(Some(Request::Call(key, name, arguments))),
             None => Ok(None),
         },
         None => Ok(None),

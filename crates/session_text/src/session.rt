@@ -13,10 +13,10 @@ use value_core::datum::Datum;
 /// What is done for a line.
 #[derive(Drop)]
 pub enum Action {
-    /// An object of this name is to be opened.
-    Open(Name),
-    /// A call of this operation is to be submitted, with these arguments.
-    Call(Name, Vec<Datum>),
+    /// An object of this name is to be opened, for a client that has a name or none.
+    Open(Name, Option<Name>),
+    /// A call of this operation is to be submitted, under a key or none, with these arguments.
+    Call(Option<u32>, Name, Vec<Datum>),
     /// The call of this number is to be cancelled.
     Cancel(u32),
     /// The session ends, behind its calls.
@@ -85,13 +85,13 @@ fn done_for(is_open: bool, request: Request) -> Action
     ensures { Does is_open (request_view request) result }
 {
     match request {
-        Request::Open(name) => if is_open {
+        Request::Open(name, client) => if is_open {
             Action::Answer(Refusal::Opened)
         } else {
-            Action::Open(name)
+            Action::Open(name, client)
         },
-        Request::Call(name, arguments) => if is_open {
-            Action::Call(name, arguments)
+        Request::Call(key, name, arguments) => if is_open {
+            Action::Call(key, name, arguments)
         } else {
             Action::Answer(Refusal::NotOpen)
         },
@@ -109,12 +109,12 @@ fn done_last(is_open: bool, request: Request) -> Action
     ensures { DoesLast is_open (request_view request) result }
 {
     match request {
-        Request::Open(name) => if is_open {
+        Request::Open(name, client) => if is_open {
             Action::Answer(Refusal::Opened)
         } else {
-            Action::Open(name)
+            Action::Open(name, client)
         },
-        Request::Call(_, _) => if is_open {
+        Request::Call(_, _, _) => if is_open {
             Action::Answer(Refusal::Gone)
         } else {
             Action::Answer(Refusal::NotOpen)

@@ -2,14 +2,20 @@
 #![tactic(auto)]
 
 #[cfg(test)]
+mod again;
+#[cfg(test)]
 mod deaf;
 #[cfg(test)]
 mod devices;
+#[cfg(test)]
+mod in_use;
 #[cfg(test)]
 mod lines;
 #[cfg(test)]
 mod make;
 #[cfg(test)]
 mod patience;
+#[cfg(test)]
+mod refused;
 #[cfg(test)]
 mod waiting;

@@ -58,14 +58,19 @@ fn room_of(alloc: Global, text: &[u8], part: &[u8], hand: &mut MemHand) -> Optio
     Some((name, room))
 }
 
-/// The office of the object of a text, whose one part is spelled so, and the hand that its file is on.
-pub fn offices(rt: &impl Abort, alloc: Global, text: &[u8], part: &[u8]) -> (Vec<Named>, MemHand) {
+/// The office of the object of a text, whose one part is spelled so, and the hand that its file is on, where there is memory for them.
+pub fn offices_of(alloc: Global, text: &[u8], part: &[u8]) -> Option<(Vec<Named>, MemHand)> {
     let mut hand = MemHand::new(alloc);
-    let (name, room) = room_of(alloc, text, part, &mut hand).expect(rt, "a room");
-    let office = Office::open(alloc, room).expect(rt, "memory");
+    let (name, room) = room_of(alloc, text, part, &mut hand)?;
+    let office = Office::open(alloc, room).ok()?;
     let mut all = Vec::new(alloc);
-    all.push(Named { name, office }).expect(rt, "memory");
-    (all, hand)
+    all.push(Named { name, office }).ok()?;
+    Some((all, hand))
+}
+
+/// The same, where there is memory.
+pub fn offices(rt: &impl Abort, alloc: Global, text: &[u8], part: &[u8]) -> (Vec<Named>, MemHand) {
+    offices_of(alloc, text, part).expect(rt, "an office")
 }
 
 /// A reader that gives so many bytes a read, and fails at the end or not.

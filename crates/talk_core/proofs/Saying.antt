@@ -13,12 +13,12 @@ use Rattle.session_text.specs.declared.line.Line.TheVariants as lines
 use Rattle.session_text.specs.declared.line.Refusal.{Refusal}
 use Rattle.session_text.specs.declared.line.Refusal.TheVariants as refusals
 use Rattle.session_text.specs.Requests.{Request, opens, calls, cancels, quits}
-use Rattle.session_text.specs.Answers.{Said, opened, ended, told, said_text, MayAnswer}
+use Rattle.session_text.specs.Answers.{Said, opened, ended, repeated, told, said_text, MayAnswer}
 use Rattle.talk_core.specs.declared.note.Note.{Note}
 use Rattle.talk_core.specs.declared.output.Health.{Health}
 use Rattle.talk_core.specs.declared.output.Health.TheVariants.{Fine, NoMemory, Broken}
-use Rattle.talk_core.specs.declared.fault.HearFault.{HearFault}
-use Rattle.talk_core.specs.declared.fault.HearFault.TheVariants as hears
+use Rattle.hear_core.specs.declared.fault.HearFault.{HearFault}
+use Rattle.hear_core.specs.declared.fault.HearFault.TheVariants as hears
 use Rattle.talk_core.specs.Notes.{note_at}
 use Rattle.talk_core.specs.Written.{note_of, notes_of, lines_text, IsWhole, IsCut, IsHeld, IsWritten, Adds, HandsOver, Sends, IsNoted, AreNoted, IsTold, IsOfSession, AreOfSession, WroteLines, WroteFront, HasWritten, heard_fault, or_memory, told_fault}
 
@@ -153,10 +153,11 @@ refused_line : (refusal : Refusal) → (q : Option Request) × MayAnswer q (told
 refused_line refusals.BadLine = (None, tt)
 refused_line refusals.LineTooLong = (None, tt)
 refused_line refusals.NotOpen = (Some (cancels 0), tt)
-refused_line refusals.Opened = (Some (opens []), tt)
-refused_line refusals.NoObject = (Some (opens []), tt)
-refused_line refusals.Full = (Some (opens []), tt)
-refused_line refusals.Gone = (Some (calls [] []), tt)
+refused_line refusals.Opened = (Some (opens [] None), tt)
+refused_line refusals.NoObject = (Some (opens [] None), tt)
+refused_line refusals.InUse = (Some (opens [] (Some [])), tt)
+refused_line refusals.Full = (Some (opens [] None), tt)
+refused_line refusals.Gone = (Some (calls None [] []), tt)
 
 told_by : (receipts : List Told) (n : ℕ) (r : Reply) → IsNoted receipts (note_at n r) → IsTold receipts n r
 told_by [] n r h = h
@@ -165,12 +166,16 @@ told_by (x ∷ receipts) n r (inr h) = inr (told_by receipts n r h)
 
 -- a line whose notes are of receipts is of the session
 line_of_session : (receipts : List Told) (line : Said) → AreNoted receipts (note_of line) → IsOfSession receipts line
-line_of_session receipts (opened name) h = inl (Some (opens name), refl)
+line_of_session receipts (opened name None) h = inl (Some (opens name None), refl)
+line_of_session receipts (opened name (Some key)) h = inl (Some (opens name (Some [])), refl)
 line_of_session receipts (ended n r) h = inr (n, r, refl, told_by receipts n r h.0)
+line_of_session receipts (repeated n r) h = inl (Some (calls (Some 0) [] []), tt)
 line_of_session receipts (told (lines.Refused refusal)) h = inl (refused_line refusal)
-line_of_session receipts (told (lines.Unsubmitted fault)) h = inl (Some (calls [] []), tt)
-line_of_session receipts (told (lines.Accepted n)) h = inl (Some (calls [] []), tt)
-line_of_session receipts (told (lines.Withdrawn n)) h = inl (Some (calls [] []), tt)
+line_of_session receipts (told (lines.Unsubmitted fault)) h = inl (Some (calls None [] []), tt)
+line_of_session receipts (told (lines.Unkeyed fault)) h = inl (Some (calls (Some 0) [] []), tt)
+line_of_session receipts (told (lines.Accepted n)) h = inl (Some (calls None [] []), tt)
+line_of_session receipts (told (lines.Kept n state)) h = inl (Some (calls (Some 0) [] []), tt)
+line_of_session receipts (told (lines.Withdrawn n)) h = inl (Some (calls None [] []), tt)
 line_of_session receipts (told (lines.Cancel n answer)) h = inl (Some (cancels n), refl)
 line_of_session receipts (told lines.Bye) h = inl (Some quits, tt)
 

@@ -6,20 +6,21 @@ use Rattle.apply_core.specs.declared.reply.Reply.{Reply}
 use Rattle.board_core.specs.Lists.{Every}
 use Rattle.slip_core.specs.Slips.{Told}
 use Rattle.session_text.specs.Requests.{Request}
-use Rattle.session_text.specs.Answers.{Said, opened, ended, told, said_text, MayAnswer}
+use Rattle.session_text.specs.Answers.{Said, opened, ended, repeated, told, said_text, MayAnswer}
 use Rattle.talk_core.specs.declared.note.Note.{Note}
 use Rattle.talk_core.specs.declared.output.Health.{Health}
 use Rattle.talk_core.specs.declared.output.Health.TheVariants.{Fine, NoMemory, Broken}
 use Rattle.talk_core.specs.declared.fault.SessionFault.{SessionFault}
 use Rattle.talk_core.specs.declared.fault.SessionFault.TheVariants as faults
-use Rattle.talk_core.specs.declared.fault.HearFault.{HearFault}
-use Rattle.talk_core.specs.declared.fault.HearFault.TheVariants as hears
+use Rattle.hear_core.specs.declared.fault.HearFault.{HearFault}
+use Rattle.hear_core.specs.declared.fault.HearFault.TheVariants as hears
 use Rattle.talk_core.specs.Notes.{note_at}
 
 -- the note of a line: its number and reply, where it is the last line of a receipt
 abbrev pub note_of : Said → List Note
-note_of (opened name) = []
+note_of (opened name next) = []
 note_of (ended n reply) = note_at n reply ∷ []
+note_of (repeated n reply) = []
 note_of (told line) = []
 
 abbrev pub notes_of : List Said → List Note

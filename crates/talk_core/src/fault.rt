@@ -14,14 +14,3 @@ pub enum SessionFault {
     /// The last line of a call that was written is of no receipt.
     LogMixed,
 }
-
-/// What the reading thread met.
-#[derive(Clone, Copy, Debug, PartialEq, Eq)]
-pub enum HearFault {
-    /// A line has more than 4,096 bytes.
-    LineTooLong,
-    /// A read failed.
-    ReadFault,
-    /// Memory was refused.
-    Memory,
-}

@@ -1,7 +1,7 @@
 //! The lines of a session that are held back.
 
 ghost use Rattle.std.specs.Prelude.{◌≡◌, [], ℕ, List};
-ghost use Rattle.session_text.specs.Answers.{opened, ended, told};
+ghost use Rattle.session_text.specs.Answers.{opened, ended, repeated, told};
 ghost use Rattle.talk_core.specs.declared.note.Note.{Note};
 ghost use Rattle.talk_core.specs.Written.{IsHeld, Adds, HandsOver};
 
@@ -9,7 +9,7 @@ use crate::note::{Note, add_note};
 use crate::room::make_room_for;
 use apply_core::reply::Reply;
 use path_tree::name::Name;
-use session_text::line::{Line, push_ended, push_line, push_opened};
+use session_text::line::{Line, push_ended, push_line, push_opened, push_repeated};
 use std::alloc::Global;
 use std::marker::Model;
 use std::mem;
@@ -53,12 +53,23 @@ fn add_line(held: &mut Vec<u8>, text: &mut Vec<u8>, line: Line) -> bool
     held.extend_from_slice(text.as_slice()).is_ok()
 }
 
-// Holds `opened NAME` back.
-fn add_opened(held: &mut Vec<u8>, text: &mut Vec<u8>, name: &Name) -> bool
-    ensures { (notes : List Note) → Adds held.old.items held.new.items notes notes (opened name.now) result }
+// Holds `opened NAME` back, with the next key where one is told.
+fn add_opened(held: &mut Vec<u8>, text: &mut Vec<u8>, name: &Name, next: Option<u32>) -> bool
+    ensures { (notes : List Note) → Adds held.old.items held.new.items notes notes (opened name.now next) result }
 {
     text.clear();
-    if push_opened(text, name).is_err() {
+    if push_opened(text, name, next).is_err() {
+        return false;
+    }
+    held.extend_from_slice(text.as_slice()).is_ok()
+}
+
+// Holds the last line of a call back that was made before. It is not noted: its receipt is of another session, or of this one at its time.
+fn add_repeated(held: &mut Vec<u8>, text: &mut Vec<u8>, number: u32, reply: &Reply) -> bool
+    ensures { (notes : List Note) → Adds held.old.items held.new.items notes notes (repeated number reply.now) result }
+{
+    text.clear();
+    if push_repeated(text, number, reply).is_err() {
         return false;
     }
     held.extend_from_slice(text.as_slice()).is_ok()
@@ -191,12 +202,24 @@ impl Held {
         true
     }
 
-    /// The same for `opened NAME`.
-    pub fn say_opened(&mut self, name: &Name) -> bool {
+    /// The same for the last line of a call that was made before. It is not noted.
+    pub fn say_repeated(&mut self, number: u32, reply: &Reply) -> bool {
         if self.lost {
             return false;
         }
-        if !add_opened(&mut self.text, &mut self.line, name) {
+        if !add_repeated(&mut self.text, &mut self.line, number, reply) {
+            self.lost = true;
+            return false;
+        }
+        true
+    }
+
+    /// The same for `opened NAME`, with the next key where one is told.
+    pub fn say_opened(&mut self, name: &Name, next: Option<u32>) -> bool {
+        if self.lost {
+            return false;
+        }
+        if !add_opened(&mut self.text, &mut self.line, name, next) {
             self.lost = true;
             return false;
         }

@@ -5,6 +5,7 @@
 
 ghost use Rattle.std.specs.Prelude.{◌≡◌, ℕ, List, Option};
 ghost use Rattle.talk_core.specs.declared.note.Note.{Note};
+ghost use Rattle.talk_core.specs.Repeats.{WasNoted};
 ghost use Rattle.talk_core.specs.Written.{IsWritten};
 
 use crate::held::Held;
@@ -83,9 +84,16 @@ impl<W: Write + Drop, J: Start> Mouth<W, J> {
         self.held.lock(rt).say_ended(number, reply)
     }
 
-    /// The same for `opened NAME`.
-    pub fn say_opened<R: Wait>(&self, rt: &R, name: &Name) -> bool {
-        self.held.lock(rt).say_opened(name)
+    /// The same for the last line of a call that was made before. It is not noted: its receipt is of another session, or was told before.
+    pub fn say_repeated<R: Wait>(&self, rt: &R, number: u32, reply: &Reply) -> bool
+        requires { WasNoted number reply.now }
+    {
+        self.held.lock(rt).say_repeated(number, reply)
+    }
+
+    /// The same for `opened NAME`, with the next key where one is told.
+    pub fn say_opened<R: Wait>(&self, rt: &R, name: &Name, next: Option<u32>) -> bool {
+        self.held.lock(rt).say_opened(name, next)
     }
 
     /// Sends the lines that are held back, and waits until the writer has taken them. It answers whether all lines so far were sent.

@@ -1,7 +1,7 @@
 //! A writer that does not wait for ever.
 
-use crate::bell::Bell;
-use crate::reader::is_pause;
+use hear_core::bell::Bell;
+use hear_core::reader::is_pause;
 use std::io::{self, Write};
 
 /// How often a write may take nothing, one after the other, before it fails.

@@ -12,13 +12,14 @@ use Rattle.run_core.specs.Steps.{Place, at_read, at_page, at_create, at_append, 
 use Rattle.board_core.specs.Lists.{Every}
 use Rattle.board_core.specs.Calls.{Noted, AcceptedCall, RunningCall}
 use Rattle.board_core.specs.Board.{Board, joined, dismissed, released, marked, ended, entry_of}
+use Rattle.key_core.proofs.Resumed.{resumed_history}
 use Rattle.board_core.proofs.Lists.{Every-at, Every-snoc, Every-map, Every-filter, Every-set}
 use Rattle.world_core.specs.declared.event.Answer.TheVariants.{Stepped}
 use Rattle.world_core.specs.declared.event.EventAnswer.{EventAnswer}
 use Rattle.world_core.specs.declared.event.Event.{Event}
 use Rattle.world_core.specs.Events.{WorldEvent, step, event_of}
 use Rattle.world_core.specs.Scene.{Scene, Standing, Goes, IsNew, AreBegun, call_running}
-use Rattle.world_core.specs.Answers.{Answers, Moves, called, not_called, stepped, no_step, step_not_running, finished, not_done, finish_not_running, cancelled, not_cancelled, left, no_session, shown, not_shown}
+use Rattle.world_core.specs.Answers.{Answers, Moves, called, not_called, called_key, not_called_key, stepped, no_step, step_not_running, finished, not_done, finish_not_running, cancelled, not_cancelled, left, no_session, resumed, not_resumed, shown, not_shown}
 use Rattle.world_core.specs.Plays.{Plays, if_ended, finishes, IsFailedStep, HasFailedStep}
 use Rattle.world_core.proofs.Places.{map_snoc}
 
@@ -70,6 +71,9 @@ number_of r run number is there = sym (ap (λ (c : Call). c.number) is) ∙ ther
 step_told : (old new : Scene) (e : WorldEvent) (a : EventAnswer) (rest : List (ℕ × Reply)) → Answers old e a new → map told_of new.board.history ++ rest ≡ map told_of old.board.history ++ if_ended e a.answer rest
 step_told old new e a rest (called accepted taken goes) = told_same old new rest (goes_history goes ∙ joined_history old.board accepted)
 step_told old new e a rest (not_called fault refused) = refl
+step_told old new e a rest (called_key accepted next taken goes) = told_same old new rest (goes_history goes ∙ joined_history old.board accepted)
+step_told old new e a rest (Answers.kept made here is) = refl
+step_told old new e a rest (not_called_key fault refused) = refl
 step_told old new e a rest (stepped k run after files there going moves) = refl
 step_told old new e a rest (no_step k run there done) = refl
 step_told old new e a rest (step_not_running none) = refl
@@ -82,6 +86,8 @@ step_told old new e a rest (cancelled {number = number} waits goes) = told_same 
 step_told old new e a rest (not_cancelled answer other so) = refl
 step_told old new e a rest (left {session = session} above below goes) = told_same old new rest (goes_history goes ∙ left_history old.board session)
 step_told old new e a rest (no_session none) = refl
+step_told old new e a rest (resumed {session = session} above below) = ap (λ es. map told_of es ++ rest) (resumed_history old.board session).0
+step_told old new e a rest (not_resumed none) = refl
 step_told old new e a rest (shown values are) = refl
 step_told old new e a rest not_shown = refl
 
@@ -173,6 +179,11 @@ step_fair P Q old new e a more now (called accepted taken goes) fair =
     let before = all_fair_owed P Q more old fair in
     goes_fair Q goes (subst (Every (EntryFair Q)) (sym (joined_history old.board accepted)) before.entries) before.runs
 step_fair P Q old new e a more now (not_called fault refused) fair = all_fair_owed P Q more old fair
+step_fair P Q old new e a more now (called_key accepted next taken goes) fair =
+    let before = all_fair_owed P Q more old fair in
+    goes_fair Q goes (subst (Every (EntryFair Q)) (sym (joined_history old.board accepted)) before.entries) before.runs
+step_fair P Q old new e a more now (Answers.kept made here is) fair = all_fair_owed P Q more old fair
+step_fair P Q old new e a more now (not_called_key fault refused) fair = all_fair_owed P Q more old fair
 step_fair P Q old new e a more now (stepped {number = number} {works = works} k run after files there going moves) fair =
     let before = all_fair_owed P Q more old fair in
     record {
@@ -198,6 +209,10 @@ step_fair P Q old new e a more now (left {session = session} above below goes) f
     let before = all_fair_owed P Q more old fair in
     goes_fair Q goes (subst (Every (EntryFair Q)) (sym (left_history old.board session)) before.entries) before.runs
 step_fair P Q old new e a more now (no_session none) fair = all_fair_owed P Q more old fair
+step_fair P Q old new e a more now (resumed {session = session} above below) fair =
+    let before = all_fair_owed P Q more old fair in
+    record { entries = subst (Every (EntryFair Q)) (sym (resumed_history old.board session).0) before.entries; runs = before.runs }
+step_fair P Q old new e a more now (not_resumed none) fair = all_fair_owed P Q more old fair
 step_fair P Q old new e a more now (shown values are) fair = all_fair_owed P Q more old fair
 step_fair P Q old new e a more now not_shown fair = all_fair_owed P Q more old fair
 

@@ -1,5 +1,7 @@
 -- What an event leaves, where admission follows.
-use Rattle.std.proofs.Common.{◌≡◌, ℕ, true, false, List, [], ◌∷◌, ◌++◌, length, refl, sym, ◌∙◌, ap, subst, arith, take, drop, map, length-append}
+use Rattle.std.proofs.Common.{◌≡◌, ℕ, ◌<◌, ◌≤◌, ◌⊎◌, inl, inr, true, false, List, [], ◌∷◌, ◌++◌, length, refl, sym, ◌∙◌, ap, subst, arith, take, drop, map, length-append}
+use Rattle.std.proofs.lemmas.Bool.{cases_lt}
+use Rattle.std.specs.Prelude.{Err}
 use Rattle.value_core.specs.Contents.{Contents}
 use Rattle.device_core.specs.declared.file.File.{File}
 use Rattle.hand_core.specs.declared.hand.Stamp.{Stamp}
@@ -12,12 +14,16 @@ use Rattle.board_core.specs.declared.event.TraceEvent.TheVariants.{Start}
 use Rattle.board_core.specs.Lists.{Every, EachPair}
 use Rattle.board_core.specs.Calls.{AcceptedCall, RunningCall, WaitingCall}
 use Rattle.board_core.specs.Board.{Board, Rests, joined, dismissed, released, marked}
+use Rattle.key_core.specs.Keys.{resumed}
 use Rattle.board_core.specs.Started.{Settles, HasStarted, run_of}
 use Rattle.board_core.specs.Chain.{ShowContents, IsTrueEntry}
 use Rattle.board_core.specs.Sound.{IsSound, kinds_of}
 use Rattle.desk_core.specs.declared.answer.Cancelled.{Cancelled}
 use Rattle.desk_core.specs.declared.answer.Cancelled.TheVariants as cancels
-use Rattle.desk_core.specs.Answers.{Cancels}
+use Rattle.desk_core.specs.Answers.{Asked, Cancels}
+use Rattle.desk_core.specs.Keyed.{SubmitsKeyed}
+use Rattle.desk_core.specs.declared.answer.KeyedFault.{KeyedFault}
+use Rattle.desk_core.specs.declared.answer.KeyedFault.TheVariants as faults
 use Rattle.world_core.specs.declared.slot.Slot.{Slot}
 use Rattle.world_core.specs.declared.stage.Stage.{Stage}
 use Rattle.world_core.specs.Scene.{Scene, Standing, AreBegun, Goes, call_running, collected}
@@ -148,3 +154,44 @@ not_dismissed b after n cancels.Cancelled is none = absurd (none refl)
 not_dismissed b after n cancels.Running is none = is.2
 not_dismissed b after n cancels.Ended is none = is.3
 not_dismissed b after n cancels.Unknown is none = is.3
+
+-- a call under a key that is refused changes nothing
+pub refused_key : (b after : Board) (a : Asked) (key : ℕ) (fault : KeyedFault) → SubmitsKeyed b a key (Err fault) after → (after ≡ b) × SubmitsKeyed b a key (Err fault) b
+refused_key b after a key faults.Gone is = (is.1, is.0, refl)
+refused_key b after a key faults.BadKey is = (is.2, is.0, is.1, refl)
+refused_key b after a key faults.KeyReused is = (is.2, is.0, is.1, refl)
+refused_key b after a key (faults.Submit fault) is = (is.3, is.0, is.1, is.2, refl)
+
+-- What is kept of a world depends on the marks of the sessions that left by the board's soundness alone.
+pub resumed_kept : (b : Board) (session : ℕ) (files : List File) (runs : List Slot) (values : List Contents) → IsSound (resumed b session) → IsKept b files runs values → IsKept (resumed b session) files runs values
+unfolding resumed
+resumed_kept b session files runs values sound kept = record {
+  sound = sound;
+  few = kept.few;
+  taken = kept.taken;
+  left = kept.left;
+  calls = kept.calls;
+  ready = kept.ready;
+  apart = kept.apart;
+  served = kept.served;
+  short = kept.short;
+  opening = kept.opening;
+  entries = kept.entries;
+}
+
+pub resumed_running : (b : Board) (session : ℕ) → (resumed b session).running ≡ b.running
+unfolding resumed
+resumed_running b session = refl
+
+-- a session has a number from 1 to 1,024, or it has not
+pub outside : (session : ℕ) → (0 < session → session ≤ 1024 → ⊥) → (session ≡ 0) ⊎ (1024 < session)
+outside session never = elim (cases_lt 0 session) [
+  | inl above ↦ elim (cases_lt 1024 session) [ inl past ↦ inr past | inr within ↦ absurd (never above within) ]
+  | inr zero ↦ inl (omega (arith, zero))
+]
+
+pub within_sessions : (session : ℕ) → ((session ≡ 0) ⊎ (1024 < session) → ⊥) → (0 < session) × (session ≤ 1024)
+within_sessions session never = (
+  elim (cases_lt 0 session) [ inl above ↦ above | inr zero ↦ absurd (never (inl (omega (arith, zero)))) ],
+  elim (cases_lt 1024 session) [ inl past ↦ absurd (never (inr past)) | inr within ↦ within ],
+)

@@ -1,5 +1,5 @@
 -- What a world answers to events, and what each of them leaves.
-use Rattle.std.specs.Prelude.{◌≡◌, ◌≢◌, ℕ, ◌+◌, ◌≤◌, ◌<◌, ◌⊎◌, ◌==◌, not, Bool, true, false, List, length, filter, slice_set, Some}
+use Rattle.std.specs.Prelude.{◌≡◌, ◌≢◌, ℕ, ◌+◌, ◌≤◌, ◌<◌, ◌⊎◌, ◌==◌, not, Bool, true, false, List, length, filter, slice_set, Some, Err}
 use Rattle.std.specs.Global.{Vec}
 use Rattle.value_core.specs.Contents.{Contents}
 use Rattle.hand_core.specs.declared.hand.Stamp.{Stamp}
@@ -17,15 +17,20 @@ use Rattle.board_core.specs.Lists.{Among}
 use Rattle.board_core.specs.Calls.{AcceptedCall, RunningCall}
 use Rattle.board_core.specs.Board.{joined, dismissed, released, marked, ended, entry_of}
 use Rattle.board_core.specs.Chain.{history_of}
+use Rattle.key_core.specs.Keys as keys
+use Rattle.key_core.specs.Keys.{next_key}
 use Rattle.desk_core.specs.declared.answer.SubmitFault.{SubmitFault}
+use Rattle.desk_core.specs.declared.answer.KeyedFault.{KeyedFault}
+use Rattle.desk_core.specs.declared.answer.Kept.{Kept as KeptCall}
 use Rattle.desk_core.specs.declared.answer.Cancelled.{Cancelled}
 use Rattle.desk_core.specs.declared.answer.Cancelled.TheVariants as cancels
-use Rattle.desk_core.specs.Answers.{Asked, IsTaken, IsRefused, Cancels, waits_in, runs_in}
-use Rattle.world_core.specs.declared.event.Refusal.TheVariants.{Submit, NotRunning, NoStep, NotDone, NoSession, Memory}
+use Rattle.desk_core.specs.Answers.{Asked, IsGone, IsTaken, IsRefused, Cancels, waits_in, runs_in}
+use Rattle.desk_core.specs.Keyed.{IsKeptCall, SubmitsKeyed}
+use Rattle.world_core.specs.declared.event.Refusal.TheVariants.{Submit, Keyed, NotRunning, NoStep, NotDone, NoSession, Memory}
 use Rattle.world_core.specs.declared.event.Answer.{Answer}
-use Rattle.world_core.specs.declared.event.Answer.TheVariants.{Number, Stepped, Ended, Cancel, Dropped, Shown, Refused}
+use Rattle.world_core.specs.declared.event.Answer.TheVariants.{Number, Stepped, Ended, Cancel, Dropped, Resumed, Kept, Shown, Refused}
 use Rattle.world_core.specs.declared.event.EventAnswer.{EventAnswer}
-use Rattle.world_core.specs.Events.{WorldEvent, call, step, finish, cancel, leave, look}
+use Rattle.world_core.specs.Events.{WorldEvent, call, call_key, step, finish, cancel, leave, resume, look}
 use Rattle.world_core.specs.Scene.{Scene, Standing, AgreesWith, Goes, IsRunAt, call_running}
 use Rattle.world_core.specs.Work.{work_at}
 
@@ -52,6 +57,11 @@ pub data Answers (old : Scene) : WorldEvent → EventAnswer → Scene → Type 0
   called : {asked : Asked} {starts : ℕ} {new : Scene} (accepted : AcceptedCall) → IsTaken old.board asked accepted → Goes old (joined old.board accepted) old.runs starts new
       → Answers old (call asked) (with_starts (Number (length old.board.calls + 1)) starts) new
   not_called : {asked : Asked} (fault : SubmitFault) → IsRefused old.board asked fault → Answers old (call asked) (with_starts (Refused (Submit fault)) 0) old
+  -- under the key of the session's next call it is such a call; under that of an earlier one it tells what became of that one, and changes nothing
+  called_key : {asked : Asked} {key starts : ℕ} {new : Scene} (accepted : AcceptedCall) → key ≡ next_key old.board.calls asked.session → IsTaken old.board asked accepted → Goes old (joined old.board accepted) old.runs starts new
+      → Answers old (call_key asked key) (with_starts (Number (length old.board.calls + 1)) starts) new
+  kept : {asked : Asked} {key : ℕ} (call : KeptCall) → (IsGone old.board asked.session → ⊥) → IsKeptCall old.board asked key call → Answers old (call_key asked key) (with_starts (Kept call) 0) old
+  not_called_key : {asked : Asked} {key : ℕ} (fault : KeyedFault) → SubmitsKeyed old.board asked key (Err fault) old.board → Answers old (call_key asked key) (with_starts (Refused (Keyed fault)) 0) old
   -- a step is one step of that call's run
   stepped : {number : ℕ} {works : Bool} (k : ℕ) (run : Standing) (after : Place) (files : List File) → IsRunAt old.runs k number run → need_at run.place ≢ needs.Done → Moves run works after
       → Answers old (step number works) (with_starts (Stepped (need_at run.place) (step_answer (ending_at run.place) (ending_at after))) 0)
@@ -70,6 +80,9 @@ pub data Answers (old : Scene) : WorldEvent → EventAnswer → Scene → Type 0
   -- a session leaves: its waiting call is cancelled, its running call goes on
   left : {session starts : ℕ} {new : Scene} → 0 < session → session ≤ 1024 → Goes old (marked (released old.board session) session) old.runs starts new → Answers old (leave session) (with_starts Dropped starts) new
   no_session : {session : ℕ} → (session ≡ 0) ⊎ (1024 < session) → Answers old (leave session) (with_starts (Refused NoSession) 0) old
+  -- a session is back: it no longer counts as one that left, and nothing else changes
+  resumed : {session : ℕ} → 0 < session → session ≤ 1024 → Answers old (resume session) (with_starts Resumed 0) (record old { board = keys.resumed old.board session })
+  not_resumed : {session : ℕ} → (session ≡ 0) ⊎ (1024 < session) → Answers old (resume session) (with_starts (Refused NoSession) 0) old
   -- the contents after the history so far
   shown : (values : Vec Contents) → values.items ≡ leads_to (history_of old.board.history) old.opening → Answers old look (with_starts (Shown values) 0) old
   not_shown : Answers old look (with_starts (Refused Memory) 0) old

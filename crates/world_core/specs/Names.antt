@@ -2,8 +2,10 @@
 use Rattle.std.specs.Prelude.{ℕ, List, codes}
 use Rattle.desk_core.specs.declared.answer.SubmitFault.{SubmitFault}
 use Rattle.desk_core.specs.declared.answer.SubmitFault.TheVariants as faults
+use Rattle.desk_core.specs.declared.answer.KeyedFault.{KeyedFault}
+use Rattle.desk_core.specs.declared.answer.KeyedFault.TheVariants as keyed
 use Rattle.world_core.specs.declared.event.Refusal.{Refusal}
-use Rattle.world_core.specs.declared.event.Refusal.TheVariants.{Submit, NotRunning, NoStep, NotDone, NoSession, Memory}
+use Rattle.world_core.specs.declared.event.Refusal.TheVariants.{Submit, Keyed, NotRunning, NoStep, NotDone, NoSession, Memory}
 
 abbrev pub fault_name : SubmitFault → List ℕ
 fault_name faults.Gone = codes "Gone"
@@ -14,8 +16,15 @@ fault_name faults.Full = codes "Full"
 fault_name faults.HistoryFull = codes "HistoryFull"
 fault_name faults.Memory = codes "Memory"
 
+abbrev pub keyed_name : KeyedFault → List ℕ
+keyed_name keyed.Gone = codes "Gone"
+keyed_name keyed.BadKey = codes "BadKey"
+keyed_name keyed.KeyReused = codes "KeyReused"
+keyed_name (keyed.Submit fault) = fault_name fault
+
 abbrev pub refusal_name : Refusal → List ℕ
 refusal_name (Submit fault) = fault_name fault
+refusal_name (Keyed fault) = keyed_name fault
 refusal_name NotRunning = codes "NotRunning"
 refusal_name NoStep = codes "NoStep"
 refusal_name NotDone = codes "NotDone"

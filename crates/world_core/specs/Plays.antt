@@ -5,9 +5,9 @@ use Rattle.apply_core.specs.declared.need.Need.{Need}
 use Rattle.run_core.specs.declared.step.StepAnswer.TheVariants as steps
 use Rattle.hand_core.specs.declared.hand.HandFault.TheVariants as faults
 use Rattle.world_core.specs.declared.event.Answer.{Answer}
-use Rattle.world_core.specs.declared.event.Answer.TheVariants.{Number, Stepped, Ended, Cancel, Dropped, Shown, Refused}
+use Rattle.world_core.specs.declared.event.Answer.TheVariants.{Number, Stepped, Ended, Cancel, Dropped, Resumed, Kept, Shown, Refused}
 use Rattle.world_core.specs.declared.event.EventAnswer.{EventAnswer}
-use Rattle.world_core.specs.Events.{WorldEvent, call, step, finish, cancel, leave, look}
+use Rattle.world_core.specs.Events.{WorldEvent, call, call_key, step, finish, cancel, leave, resume, look}
 use Rattle.world_core.specs.Scene.{Scene}
 use Rattle.world_core.specs.Answers.{Answers}
 
@@ -25,12 +25,16 @@ if_ended (finish number) (Number n) more = more
 if_ended (finish number) (Stepped need answer) more = more
 if_ended (finish number) (Cancel answer) more = more
 if_ended (finish number) Dropped more = more
+if_ended (finish number) Resumed more = more
+if_ended (finish number) (Kept call) more = more
 if_ended (finish number) (Shown values) more = more
 if_ended (finish number) (Refused refusal) more = more
 if_ended (call asked) answer more = more
+if_ended (call_key asked key) answer more = more
 if_ended (step number works) answer more = more
 if_ended (cancel number) answer more = more
 if_ended (leave session) answer more = more
+if_ended (resume session) answer more = more
 if_ended look answer more = more
 
 -- the calls that finished in these events, in order, each with the reply that it was given

@@ -1,11 +1,11 @@
 //! What may happen in a world, and what it answers.
 
 ghost use Rattle.std.specs.Prelude.{◌≡◌};
-ghost use Rattle.world_core.specs.Names.{refusal_name};
+ghost use Rattle.world_core.specs.Names.{fault_name, keyed_name, refusal_name};
 
 use apply_core::need::Need;
 use apply_core::reply::Reply;
-use desk_core::answer::{Cancelled, SubmitFault};
+use desk_core::answer::{Cancelled, Kept, KeyedFault, SubmitFault};
 use run_core::step::StepAnswer;
 use value_core::datum::Datum;
 use value_core::value::Value;
@@ -15,6 +15,8 @@ use value_core::value::Value;
 pub enum Event<'a> {
     /// A session calls the operation of this name, in any case, with these arguments.
     Call(u32, &'a str, &'a [Datum]),
+    /// A session, by its first number, does so under the key that the second one is.
+    CallKey(u32, u32, &'a str, &'a [Datum]),
     /// The run of the call of this number makes its next step, which works or fails for the device.
     Step(u32, bool),
     /// The call of this number finishes.
@@ -23,6 +25,8 @@ pub enum Event<'a> {
     Cancel(u32),
     /// A session leaves.
     Drop(u32),
+    /// A session is back.
+    Resume(u32),
     /// The contents are asked for.
     Show,
 }
@@ -32,6 +36,8 @@ pub enum Event<'a> {
 pub enum Refusal {
     /// A call is refused by the desk, or for want of memory.
     Submit(SubmitFault),
+    /// A call under a key is refused by the desk, or for want of memory.
+    Keyed(KeyedFault),
     /// No call of this number runs.
     NotRunning,
     /// The run has ended: it has no step.
@@ -44,19 +50,41 @@ pub enum Refusal {
     Memory,
 }
 
+// The name of a fault of a call.
+fn fault_name(fault: SubmitFault) -> &'static str
+    ensures { result.now ≡ fault_name fault }
+{
+    match fault {
+        SubmitFault::Gone => "Gone",
+        SubmitFault::UnknownOp => "UnknownOp",
+        SubmitFault::BadArgs => "BadArgs",
+        SubmitFault::SessionBusy => "SessionBusy",
+        SubmitFault::Full => "Full",
+        SubmitFault::HistoryFull => "HistoryFull",
+        SubmitFault::Memory => "Memory",
+    }
+}
+
+// The name of a fault of a call under a key.
+fn keyed_name(fault: KeyedFault) -> &'static str
+    ensures { result.now ≡ keyed_name fault }
+{
+    match fault {
+        KeyedFault::Gone => "Gone",
+        KeyedFault::BadKey => "BadKey",
+        KeyedFault::KeyReused => "KeyReused",
+        KeyedFault::Submit(fault) => fault_name(fault),
+    }
+}
+
 impl Refusal {
     /// Its name, as in `NotRunning`.
     pub fn name(&self) -> &'static str
         ensures { result.now ≡ refusal_name self.now }
     {
         match self {
-            Refusal::Submit(SubmitFault::Gone) => "Gone",
-            Refusal::Submit(SubmitFault::UnknownOp) => "UnknownOp",
-            Refusal::Submit(SubmitFault::BadArgs) => "BadArgs",
-            Refusal::Submit(SubmitFault::SessionBusy) => "SessionBusy",
-            Refusal::Submit(SubmitFault::Full) => "Full",
-            Refusal::Submit(SubmitFault::HistoryFull) => "HistoryFull",
-            Refusal::Submit(SubmitFault::Memory) => "Memory",
+            Refusal::Submit(fault) => fault_name(*fault),
+            Refusal::Keyed(fault) => keyed_name(*fault),
             Refusal::NotRunning => "NotRunning",
             Refusal::NoStep => "NoStep",
             Refusal::NotDone => "NotDone",
@@ -71,6 +99,8 @@ impl Refusal {
 pub enum Answer {
     /// The call was accepted, with this number.
     Number(u32),
+    /// The session made the call before, under this number, and this became of it. Nothing was changed.
+    Kept(Kept),
     /// The run made its step: the device call that it needed, and how that went.
     Stepped(Need, StepAnswer),
     /// The call has finished, with this reply.
@@ -79,6 +109,8 @@ pub enum Answer {
     Cancel(Cancelled),
     /// The session has left.
     Dropped,
+    /// The session is back.
+    Resumed,
     /// The published contents, part by part.
     Shown(Vec<Value>),
     /// The event was refused, and changed nothing.

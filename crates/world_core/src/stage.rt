@@ -17,7 +17,7 @@ ghost use Rattle.board_core.specs.Board.{taken_at, Rests};
 ghost use Rattle.board_core.specs.Started.{run_of};
 ghost use Rattle.board_core.specs.Chain.{history_of};
 ghost use Rattle.world_core.specs.declared.slot.Slot.{Slot as ASlot};
-ghost use Rattle.world_core.specs.Events.{call as calls, step as steps, finish as finishes, cancel as cancels, leave as leaves, look as looks};
+ghost use Rattle.world_core.specs.Events.{call as calls, call_key as calls_by, step as steps, finish as finishes, cancel as cancels, leave as leaves, resume as resumes, look as looks};
 ghost use Rattle.world_core.specs.Scene.{Standing, AreBegun, collected, call_running};
 ghost use Rattle.world_core.specs.Answers.{Answers};
 ghost use Rattle.world_core.specs.Kept.{IsKept, IsStaged, HasNew, standing_of, scene_of};
@@ -29,7 +29,7 @@ use crate::slot::Slot;
 use apply_core::need::Need;
 use board_core::event::TraceEvent;
 use board_core::laws::{chained_are_legal, truth_is_noted};
-use desk_core::answer::{Cancelled, Collected};
+use desk_core::answer::{Cancelled, Collected, Keyed};
 use desk_core::desk::Desk;
 use device_core::fuse::FuseHand;
 use device_core::memory::MemHand;
@@ -182,6 +182,34 @@ impl Stage {
         }
     }
 
+    // A session calls under a key.
+    pub(crate) fn call_key(
+        &mut self,
+        session: u32,
+        key: u32,
+        op: &str,
+        args: &[Datum],
+    ) -> EventAnswer
+        requires staged { IsStaged self.old }
+        ensures answers { Answers (scene_of self.old) (calls_by (record { session = session; name = op.now; arguments = args.now }) key) result (scene_of self.new) }
+        ensures staged { IsStaged self.new }
+        ensures rests { Rests self.old.desk → Rests self.new.desk }
+    {
+        let before = self.desk.trace().len();
+        match self.desk.submit_keyed(session, key, op, args) {
+            Ok(Keyed::New(number)) => {
+                self.desk.history();
+                let starts = self.begin(before);
+                EventAnswer {
+                    answer: Answer::Number(number),
+                    starts,
+                }
+            }
+            Ok(Keyed::Kept(kept)) => only(Answer::Kept(kept)),
+            Err(fault) => only(Answer::Refused(Refusal::Keyed(fault))),
+        }
+    }
+
     // A run makes a step.
     pub(crate) fn step(&mut self, number: u32, works: bool) -> EventAnswer
         requires staged { IsStaged self.old }
@@ -292,6 +320,21 @@ impl Stage {
             answer: Answer::Dropped,
             starts,
         }
+    }
+
+    // A session is back.
+    pub(crate) fn resume(&mut self, session: u32) -> EventAnswer
+        requires staged { IsStaged self.old }
+        ensures answers { Answers (scene_of self.old) (resumes session) result (scene_of self.new) }
+        ensures staged { IsStaged self.new }
+        ensures rests { Rests self.old.desk → Rests self.new.desk }
+    {
+        if !self.desk.resume(session) {
+            return only(Answer::Refused(Refusal::NoSession));
+        }
+        // The board is sound.
+        self.desk.history();
+        only(Answer::Resumed)
     }
 
     // The contents under the published pins.

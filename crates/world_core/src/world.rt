@@ -76,10 +76,12 @@ impl World {
     {
         match event {
             Event::Call(session, op, args) => self.stage.call(session, op, args),
+            Event::CallKey(session, key, op, args) => self.stage.call_key(session, key, op, args),
             Event::Step(number, works) => self.stage.step(number, works),
             Event::Finish(number) => self.stage.finish(number),
             Event::Cancel(number) => self.stage.cancel(number),
             Event::Drop(session) => self.stage.leave(session),
+            Event::Resume(session) => self.stage.resume(session),
             Event::Show => self.stage.look(),
         }
     }

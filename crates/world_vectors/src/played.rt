@@ -43,12 +43,21 @@ fn events_are_played_in_order(rt: HostRuntime) {
         Event::Finish(3),
         Event::Cancel(3),
         Event::Drop(3),
+        Event::CallKey(3, 1, "get", &[]),
+        Event::Resume(3),
+        Event::CallKey(3, 1, "get", &[]),
+        Event::CallKey(3, 2, "Get", &[]),
+        Event::Step(4, true),
+        Event::Finish(4),
+        Event::CallKey(3, 2, "get", &[]),
+        Event::CallKey(1, 1, "put", &[Datum::Integer(7)]),
     ];
     let world = World::play(alloc, accepted(&rt, alloc, CELL), &events).expect(&rt, "memory");
-    assert!(&rt; world.desk().history().len() == 3);
+    assert!(&rt; world.desk().history().len() == 4);
     assert!(&rt; reply_at(&world, 0) == Some(Reply::Done(None)));
     assert!(&rt; reply_at(&world, 1) == Some(Reply::Done(Some(Datum::Integer(7)))));
     assert!(&rt; reply_at(&world, 2) == Some(Reply::Failed(Failure::Device)));
+    assert!(&rt; reply_at(&world, 3) == Some(Reply::Done(Some(Datum::Integer(7)))));
     let desk = world.end();
     assert!(&rt; desk.is_idle());
 }

@@ -8,17 +8,17 @@ ghost use Rattle.script_text.specs.Said.{all_steps, a_trace};
 ghost use Rattle.script_text.specs.View.{said_view};
 ghost use Rattle.world_core.specs.Names.{refusal_name};
 ghost use Rattle.world_core.specs.Events.{event_of};
-ghost use Rattle.script_core.specs.Does.{Does, Happens, IsNoWant, IsTold, answer_lines, cancel_name, has_gone};
+ghost use Rattle.script_core.specs.Does.{Does, Happens, IsNoWant, IsTold, answer_lines, cancel_name, has_gone, repeat_line};
 
 use crate::script::steps::step_to_end;
 use board_core::event::TraceEvent;
 use decl_core::object::Object;
-use desk_core::answer::{Cancelled, SubmitFault};
+use desk_core::answer::{CallState, Cancelled, Kept, KeyedFault, SubmitFault};
 use desk_core::desk::Desk;
 use run_core::step::StepAnswer;
 use script_text::answers::{
-    push_all_stepped, push_called, push_cancelled, push_dropped, push_finished, push_refused,
-    push_shown, push_started, push_stepped,
+    push_all_stepped, push_called, push_cancelled, push_dropped, push_finished, push_kept,
+    push_refused, push_repeated, push_resumed, push_shown, push_started, push_stepped,
 };
 use script_text::said::Said;
 use std::alloc::{AllocError, Global};
@@ -50,8 +50,22 @@ fn push_refusal(out: &mut Vec<u8>, refusal: Refusal) -> Result<(), AllocError>
     ensures memory { OnOk result (IsNoWant refusal) }
 {
     match refusal {
-        Refusal::Submit(SubmitFault::Memory) | Refusal::Memory => Err(AllocError),
+        Refusal::Submit(SubmitFault::Memory)
+        | Refusal::Keyed(KeyedFault::Submit(SubmitFault::Memory))
+        | Refusal::Memory => Err(AllocError),
         _ => push_refused(out, refusal.name()),
+    }
+}
+
+// Adds the line of a call that was made before under the same key.
+fn push_repeat(out: &mut Vec<u8>, kept: Kept) -> Result<(), AllocError>
+    ensures { OnOk result (out.new.items ≡ out.old.items ++ repeat_line kept.number kept.state) }
+{
+    match kept.state {
+        CallState::Waiting => push_kept(out, "waiting", kept.number),
+        CallState::Running => push_kept(out, "running", kept.number),
+        CallState::Cancelled => push_kept(out, "cancelled", kept.number),
+        CallState::Ended(reply) => push_repeated(out, kept.number, &reply),
     }
 }
 
@@ -72,6 +86,8 @@ fn push_answer(
         Answer::Ended(reply) => push_finished(out, number, reply),
         Answer::Cancel(became) => push_cancelled(out, number, cancel_name(*became)),
         Answer::Dropped => push_dropped(out, number),
+        Answer::Resumed => push_resumed(out, number),
+        Answer::Kept(kept) => push_repeat(out, *kept),
         Answer::Shown(values) => push_shown(alloc, out, object, values),
         Answer::Refused(refusal) => push_refusal(out, *refusal),
     }
@@ -151,6 +167,10 @@ pub fn answer_said(
         Said::Call(session, op, arguments) => {
             tell_event(alloc, world, Event::Call(session, op, &arguments), 0, out)
         }
+        Said::CallKey(session, key, op, arguments) => {
+            let event = Event::CallKey(session, key, op, &arguments);
+            tell_event(alloc, world, event, 0, out)
+        }
         Said::Step(number, works) => {
             tell_event(alloc, world, Event::Step(number, works), number, out)
         }
@@ -158,6 +178,7 @@ pub fn answer_said(
         Said::Finish(number) => tell_event(alloc, world, Event::Finish(number), number, out),
         Said::Cancel(number) => tell_event(alloc, world, Event::Cancel(number), number, out),
         Said::Drop(session) => tell_event(alloc, world, Event::Drop(session), session, out),
+        Said::Resume(session) => tell_event(alloc, world, Event::Resume(session), session, out),
         Said::Show => tell_event(alloc, world, Event::Show, 0, out),
         Said::Trace => tell_trace(world, out),
     }

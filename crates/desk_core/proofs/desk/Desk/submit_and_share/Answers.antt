@@ -8,12 +8,16 @@ use Rattle.desk_core.specs.Answers.{Asked, IsTaken, IsRefused}
 use Rattle.desk_core.specs.declared.answer.SubmitFault.TheVariants.{Memory}
 use Rattle.board_core.specs.Started.{Settles}
 use Rattle.board_core.proofs.Admission.{rests_after, joined_history, settled}
+use Rattle.desk_core.proofs.Sessions.{session_there}
 use Rattle.desk_core.proofs.desk.Desk.submit_and_share.Goals as goal
 
 pub join-requires-clause-place : goal.join-requires-clause-place
 join-requires-clause-place c =
     let taken = c.in-Ok.ensures.taken in
     omega (arith, slice_get_within (bodies c.self.inside.roster.object) c.in-Ok.place taken.0 taken.1.asked.named.there, length-map c.self.inside.roster.object.operations.items (λ x. arc_value x))
+
+pub join-requires-clause-session : goal.join-requires-clause-session
+join-requires-clause-session c = session_there c.self.inside.roster c.args.session c.in-Ok.ensures.taken.1.here
 
 pub invariant_of-self : goal.invariant_of-self
 invariant_of-self c = rests_after _ _ c.admit.ensures

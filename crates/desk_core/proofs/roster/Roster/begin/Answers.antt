@@ -43,6 +43,7 @@ invariant_of-self c =
     record {
       marks = subst (Every (IsMarkIn (length c.self.inside.history.items))) (sym c.note_start.ensures.items) (Every-snoc (IsMarkIn (length c.self.inside.history.items)) all (marks.Start c.asked_at-number.result.0) c.self.invariant.marks tt);
       places = c.self.invariant.places;
+      index = c.self.invariant.index;
       sound = subst IsSound (sym made) (sound-started b w sound next);
       stands = subst (StandsFor c.start.new.self n (paths_of b)) (sym (ap past_of made ∙ past_started b w at.call)) after;
       room = record {

@@ -28,6 +28,7 @@ invariant_of-self c =
     record {
       marks = c.self.invariant.marks;
       places = c.self.invariant.places;
+      index = c.self.invariant.index;
       sound = subst IsSound (sym made) (sound-taken b c.args.place r c.self.invariant.sound is);
       stands = c.self.invariant.stands;
       room = record {

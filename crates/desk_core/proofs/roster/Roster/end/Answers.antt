@@ -101,6 +101,7 @@ invariant_of-self c =
       marks = subst (λ hs. Every (IsMarkIn (length hs)) c.note_end.new.marks.items) (sym history) (subst (Every (IsMarkIn (length (b.history ++ e ∷ [])))) (sym all) (marks_end b.history e c.self.inside.marks.items c.self.invariant.marks));
       places = subst (λ hs. ArePlaces hs count (slice_set ps (c.running_at-number.result.0 - 1) c.len-2.result)) (sym history)
           (subst (λ k. ArePlaces (b.history ++ e ∷ []) count (slice_set ps (k - 1) c.len-2.result)) (sym asked.0) (places_ended b.history e count ps c.len-2.result c.self.invariant.places number.0 last));
+      index = c.self.invariant.index;
       sound = subst IsSound (sym made) (sound-ended b r c.args.reply.now c.args.kept sound runs c.requires.there.2);
       stands = subst (StandsFor c.finish.new.self n (paths_of b)) (sym (ap past_of made ∙ past_ended b e r.call at.call)) after;
       room = record {

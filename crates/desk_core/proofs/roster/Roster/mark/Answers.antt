@@ -10,6 +10,7 @@ pub invariant_of-self : goal.invariant_of-self
 invariant_of-self c = record {
   marks = c.self.invariant.marks;
   places = c.self.invariant.places;
+  index = c.self.invariant.index;
   sound = subst IsSound (sym (marked_is (board_of c.self.inside) c.args.session _ refl)) (sound-marked (board_of c.self.inside) c.args.session c.self.invariant.sound);
   stands = c.self.invariant.stands;
   room = record { marks = c.self.invariant.room.marks; history = c.self.invariant.room.history; running = c.self.invariant.room.running };

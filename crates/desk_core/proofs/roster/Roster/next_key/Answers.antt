@@ -1,4 +1,4 @@
-use Rattle.std.proofs.Common.{◌≡◌, ◌+◌, ◌≤◌, ◌∙◌, ap, arith, length}
+use Rattle.std.proofs.Common.{◌≡◌, ◌+◌, ◌∙◌, ap, arith}
 use Rattle.board_core.specs.Board.{Board}
 use Rattle.key_core.specs.Keys.{count_by, next_key}
 use Rattle.desk_core.specs.Kept.{board_of}

@@ -17,6 +17,7 @@ invariant_of-self c =
     record {
       marks = c.self.invariant.marks;
       places = c.self.invariant.places;
+      index = c.self.invariant.index;
       sound = subst IsSound (sym made) (sound-released b c.args.session c.self.invariant.sound);
       stands = c.self.invariant.stands;
       room = record {

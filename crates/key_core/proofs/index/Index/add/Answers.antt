@@ -1,4 +1,4 @@
-use Rattle.std.proofs.Common.{rules, ◌≡◌, ◌∙◌, ℕ, ap, sym, subst, arith, ◌-◌, ◌<◌, length, map, Some, ◌∷◌, ◌++◌, []}
+use Rattle.std.proofs.Common.{rules, ◌∙◌, ap, arith, ◌-◌, ◌<◌, length, ◌∷◌, ◌++◌, []}
 use Rattle.std.specs.Prelude.{slice_get, slice_set}
 use Rattle.key_core.proofs.Indexing.{row_more, row_same}
 use Rattle.key_core.proofs.index.Index.add.Goals as goal

@@ -1,0 +1,154 @@
+#!/usr/bin/env python3
+"""Measures what keys and names cost a server: calls under keys beside plain ones, calls that are asked for again, and memory.
+
+usage: bench/keys.py [--program FILE] [--before FILE] [--runs N] [--calls N]
+
+Per load: calls a second in N runs (7 where it is not given) of up to N calls (16,000), plain and under keys in turn, so that both meet
+what else the machine does; the medians, and how much longer a call takes under a key: the ratio of the medians, and the median of
+the ratios of two runs that followed each other. Then the memory that is resident after 48,000 calls of 16 connections; with --before
+also that of an earlier program, which knows no keys. And how long `open NAME as CLIENT` takes where so many names are there as a
+server has connections. The folders are made where TMPDIR says; it needs `cc`. The load runs on the same machine. It is no part of the
+gate.
+"""
+import argparse
+import pathlib
+import re
+import socket
+import statistics
+import subprocess
+import tempfile
+import time
+
+TOP = pathlib.Path(__file__).resolve().parent.parent
+PROGRAM = TOP / "crates" / "pathserve" / "out" / "pathserve"
+CELL = """object cell;
+  path 1:([get], put) end;
+  var v : array [1] of integer;
+  entry function get : integer; begin get := v[0] end;
+  entry procedure put(x : integer); begin v[0] := x end;
+end;
+"""
+# Of each load its title, how many connections it has, and its call.
+LOADS = (("get, 1 connection", 1, "get"), ("put, 1 connection", 1, "put #"), ("get, 16 connections", 16, "get"),
+         ("put, 16 connections", 16, "put #"))
+# The calls of a connection at most.
+MOST = 3_000
+
+
+def free_port():
+    with socket.socket() as it:
+        it.bind(("127.0.0.1", 0))
+        return it.getsockname()[1]
+
+
+class Served:
+    """A server of the cell, and a load on it."""
+
+    def __init__(self, program, sessions):
+        self.folder = tempfile.TemporaryDirectory(prefix="keys-")
+        objects, place, self.port = pathlib.Path(self.folder.name) / "objects", pathlib.Path(self.folder.name) / "place", free_port()
+        place.mkdir()
+        objects.write_text(CELL, encoding="ascii")
+        words = [program, "serve", objects, place, str(self.port), "--sessions", str(sessions)]
+        self.ran = subprocess.Popen(words, stdout=subprocess.PIPE, text=True)
+        if not self.ran.stdout.readline().startswith("listening"):
+            raise SystemExit("the server does not listen")
+
+    def __enter__(self):
+        return self
+
+    def __exit__(self, *_):
+        self.ran.kill()
+        self.ran.communicate()
+        self.folder.cleanup()
+
+    def resident(self):
+        """The memory that is resident, in MiB."""
+        status = pathlib.Path(f"/proc/{self.ran.pid}/status").read_text(encoding="ascii")
+        return int(re.search(r"VmRSS:\s+(\d+) kB", status)[1]) / 1024
+
+    def load(self, load, group):
+        """Calls a second of a load, and what is resident when its last call is done."""
+        with subprocess.Popen([load, str(self.port), group], stdin=subprocess.PIPE, stdout=subprocess.PIPE, text=True) as it:
+            words = it.stdout.readline().split()
+            if not words:
+                raise SystemExit("a call was not done")
+            resident = self.resident()
+            it.stdin.close()
+        return int(words[1]) / float(words[3]), resident
+
+
+def rate(program, load, connections, kinds, calls, name="cell"):
+    with Served(program, connections) as it:
+        return it.load(load, f"{name}:{connections}:{min(calls // connections, MOST)}:{kinds}")[0]
+
+
+def compare(options, load):
+    for title, connections, call in LOADS:
+        calls = min(options.calls, MOST * connections)
+        plain, keyed, again, ratios = [], [], [], []
+        for _ in range(options.runs):
+            plain.append(rate(options.program, load, connections, call, calls))
+            keyed.append(rate(options.program, load, connections, f"!{call}", calls, "!cell"))
+            ratios.append(plain[-1] / keyed[-1])
+            if call == "get":
+                again.append(rate(options.program, load, connections, f"!!{call}", calls, "!cell"))
+        middle = statistics.median(plain), statistics.median(keyed)
+        print(f"{title}: plain {middle[0]:,.0f} a second, under keys {middle[1]:,.0f}: {middle[0] / middle[1]:.3f} times as long, "
+              f"by pairs {statistics.median(ratios):.3f} ({min(ratios):.3f} to {max(ratios):.3f})", flush=True)
+        if again:
+            print(f"{title}: asked for again {statistics.median(again):,.0f} a second", flush=True)
+
+
+def memory(options, load):
+    """The memory of 48,000 calls of 16 connections."""
+    kinds = [("plain", options.program, "cell", ""), ("under keys", options.program, "!cell", "!")]
+    kinds += [("before", options.before, "cell", "")] if options.before else []
+    for call in ("get", "put #"):
+        for title, program, name, mark in kinds:
+            found = []
+            for _ in range(3):
+                with Served(program, 16) as it:
+                    found.append(it.load(load, f"{name}:16:{MOST}:{mark}{call}")[1])
+            print(f"memory of 48,000 calls of {call.split()[0]}, {title}: {statistics.median(found):.2f} MiB "
+                  f"({min(found):.2f} to {max(found):.2f})", flush=True)
+
+
+def opening(options):
+    """How long the last of 64 connections waits for the answer to its `open`, with 62 names there."""
+    found = []
+    for _ in range(options.runs):
+        with Served(options.program, 64) as it:
+            all_of = []
+            for number in range(63):
+                all_of.append(socket.create_connection(("127.0.0.1", it.port)))
+                all_of[-1].sendall(f"open cell as n{number}\n".encode())
+                all_of[-1].recv(100)
+            last = socket.create_connection(("127.0.0.1", it.port))
+            time.sleep(0.05)
+            began = time.perf_counter()
+            last.sendall(b"open cell as last\n")
+            last.recv(100)
+            found.append(1e6 * (time.perf_counter() - began))
+            for each in [*all_of, last]:
+                each.close()
+    print(f"`open cell as last` beside 63 names: {statistics.median(found):.0f} microseconds ({min(found):.0f} to {max(found):.0f})")
+
+
+def main():
+    asks = argparse.ArgumentParser(description=__doc__, formatter_class=argparse.RawDescriptionHelpFormatter)
+    asks.add_argument("--program", default=PROGRAM, metavar="FILE")
+    asks.add_argument("--before", metavar="FILE")
+    asks.add_argument("--runs", type=int, default=7, metavar="N")
+    asks.add_argument("--calls", type=int, default=16_000, metavar="N")
+    options = asks.parse_args()
+    with tempfile.TemporaryDirectory() as folder:
+        load = pathlib.Path(folder) / "load"
+        subprocess.run(["cc", "-O2", "-pthread", "-o", load, pathlib.Path(__file__).parent / "load.c"], check=True)
+        compare(options, load)
+        memory(options, load)
+        opening(options)
+
+
+if __name__ == "__main__":
+    main()

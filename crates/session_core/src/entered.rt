@@ -1,0 +1,102 @@
+//! The object that a session has opened, and its seat there.
+//!
+//! A client that has a name gets the seat of that name each time that it opens the object, and its session goes on where it left. Any other gets a
+//! seat of its own.
+
+use crate::order::Offices;
+use office_core::named::NameFault;
+use office_core::office::Office;
+use office_core::seat::Seat;
+use path_tree::name::Name;
+use session_text::line::Refusal;
+use std::sync::Wait;
+
+/// The object that is opened.
+#[derive(Drop)]
+pub(crate) struct Entered {
+    /// Its place among the offices.
+    pub(crate) at: usize,
+    pub(crate) seat: Seat,
+    /// Whether the seat is that of a client that has a name.
+    pub(crate) is_named: bool,
+}
+
+/// Why an object is not opened.
+#[derive(Clone, Copy, Debug, PartialEq, Eq)]
+pub(crate) enum NotEntered {
+    /// It is answered so.
+    Refused(Refusal),
+    /// There is no memory for the name of the client.
+    Memory,
+}
+
+// The seat of a client at an office: its own, where it has a name.
+fn seat_of<R: Wait>(rt: &R, office: &Office, client: &Option<Name>) -> Result<Seat, NotEntered> {
+    let Some(client) = client else {
+        return match office.seat(rt) {
+            Ok(seat) => Ok(seat),
+            Err(_) => Err(NotEntered::Refused(Refusal::Full)),
+        };
+    };
+    match office.seat_named(rt, client) {
+        Ok(seat) => Ok(seat),
+        Err(NameFault::InUse) => Err(NotEntered::Refused(Refusal::InUse)),
+        Err(NameFault::SeatsFull) => Err(NotEntered::Refused(Refusal::Full)),
+        Err(NameFault::Memory) => Err(NotEntered::Memory),
+    }
+}
+
+// The key of the next call of this seat's session, where the seat is that of a client that has a name.
+fn next_key<R: Wait>(rt: &R, office: &Office, seat: &Seat, is_named: bool) -> Option<u32> {
+    if is_named {
+        Some(office.next_key(rt, seat))
+    } else {
+        None
+    }
+}
+
+/// Opens an object, and gives the next key that is told.
+pub(crate) fn seat_at<R: Wait, O: Offices>(
+    rt: &R,
+    offices: &O,
+    name: &Name,
+    client: &Option<Name>,
+) -> Result<(Entered, Option<u32>), NotEntered> {
+    let Some(at) = offices.place_of(name) else {
+        return Err(NotEntered::Refused(Refusal::NoObject));
+    };
+    let Some(office) = offices.office(at) else {
+        return Err(NotEntered::Refused(Refusal::NoObject));
+    };
+    match seat_of(rt, office, client) {
+        Ok(seat) => {
+            let is_named = client.is_some();
+            let next = next_key(rt, office, &seat, is_named);
+            Ok((Entered { at, seat, is_named }, next))
+        }
+        Err(why) => Err(why),
+    }
+}
+
+/// Parks the seat of a client that has a name, so that its next session finds it there, and gives the object and the seat that is left: that of a
+/// client that has none, or one that the office does not take.
+pub(crate) fn parked<R: Wait, O: Offices>(
+    rt: &R,
+    offices: &O,
+    seat: Option<Entered>,
+) -> (Option<usize>, Option<Seat>) {
+    let Some(entered) = seat else {
+        return (None, None);
+    };
+    let Entered { at, seat, is_named } = entered;
+    if !is_named {
+        return (Some(at), Some(seat));
+    }
+    let Some(office) = offices.office(at) else {
+        return (Some(at), Some(seat));
+    };
+    match office.park(rt, seat) {
+        Ok(()) => (Some(at), None),
+        Err((seat, _)) => (Some(at), Some(seat)),
+    }
+}
