@@ -412,7 +412,7 @@ def cancel_all(server, name, wanderers):
 
 def drawn(seed):
     """Clients by name that are cut at drawn places while others cancel what waits."""
-    count = 18
+    count = (64 - len(OBJECTS)) // 3
     with Served("".join(it.text for it in OBJECTS), 3 * count + len(OBJECTS)) as server:
         wanderers = [Wanderer(seed, number, server) for number in range(count)]
         others = [threading.Thread(target=cancel_all, args=(server, it.name, wanderers), daemon=True) for it in OBJECTS]
