@@ -24,19 +24,12 @@ const FAILED: Reply = Reply::Failed(Failure::Device);
 #[derive(Clone, Copy)]
 struct Ask(u32, u32, &'static str, Option<u32>);
 
-// What a desk answers to a call under a key. What it knows of the key beforehand has to agree with that.
-fn answer_to(desk: &mut Desk, asked: Ask) -> Option<Answer> {
-    let Ask(session, key, op, argument) = asked;
-    let mut args = [Datum::Integer(0)];
-    let mut count = 0;
-    if let Some(argument) = argument {
-        args[0] = Datum::Integer(argument);
-        count = 1;
-    }
-    let known = desk.kept(session, key, op, &args[..count]);
+// What a desk answers to a call of a session under a key. What it knows of the key beforehand has to agree with that.
+fn answer_of(desk: &mut Desk, session: u32, key: u32, op: &str, args: &[Datum]) -> Option<Answer> {
+    let known = desk.kept(session, key, op, args);
     let before = look(desk);
     let next = desk.next_key(session);
-    let answer = desk.submit_keyed(session, key, op, &args[..count]);
+    let answer = desk.submit_keyed(session, key, op, args);
     let agrees = match answer {
         Ok(Keyed::New(_)) => known == Ok(None) && desk.next_key(session) == next.saturating_add(1),
         Ok(Keyed::Kept(kept)) => known == Ok(Some(kept)) && look(desk) == before,
@@ -44,6 +37,15 @@ fn answer_to(desk: &mut Desk, asked: Ask) -> Option<Answer> {
         Err(fault) => known == Err(fault) && look(desk) == before,
     };
     if agrees { Some(answer) } else { None }
+}
+
+// What a desk answers to a call under a key.
+fn answer_to(desk: &mut Desk, asked: Ask) -> Option<Answer> {
+    let Ask(session, key, op, argument) = asked;
+    match argument {
+        Some(argument) => answer_of(desk, session, key, op, &[Datum::Integer(argument)]),
+        None => answer_of(desk, session, key, op, &[]),
+    }
 }
 
 // Whether a call under a key gets this number.

@@ -46,6 +46,20 @@ fn takes_none_for_another(desk: &mut Desk) -> bool {
         && desk.trace().len() == 130_561
 }
 
+// Whether a full desk tells of calls under their keys, and refuses the next ones.
+fn tells_keys_where_it_is_full(desk: &mut Desk) -> bool {
+    let args = [Datum::Integer(7)];
+    let waits = Keyed::Kept(Kept {
+        number: 65_536,
+        state: CallState::Waiting,
+    });
+    desk.submit_keyed(256, 1, "put", &args) == Ok(waits)
+        && desk.submit_keyed(256, 2, "put", &args) == Err(KeyedFault::Submit(SessionBusy))
+        && desk.submit_keyed(257, 1, "put", &args) == Err(KeyedFault::Submit(Full))
+        && desk.submit_keyed(257, 2, "put", &args) == Err(KeyedFault::BadKey)
+        && desk.next_key(256) == 2
+}
+
 // Whether a desk that has no number left tells of calls under their keys, and refuses the next ones.
 fn tells_keys_at_the_end(desk: &mut Desk) -> bool {
     let args = [Datum::Integer(7)];
@@ -74,6 +88,7 @@ fn each_of_65536_numbers_is_given_once(rt: HostRuntime) {
     let pins = pinned(&rt, &mut hand, &[ZERO]);
     let mut desk = desk_of(&rt, rt.alloc(), CELL, pins);
     assert!(rt; has_turns(rt.alloc(), &mut desk, &mut hand, 65_280));
-    assert!(rt; are_taken(&mut desk, 256, 65_280) && takes_none_for_another(&mut desk));
+    assert!(rt; are_taken(&mut desk, 256, 65_280) && tells_keys_where_it_is_full(&mut desk));
+    assert!(rt; takes_none_for_another(&mut desk));
     assert!(rt; tells_keys_at_the_end(&mut desk));
 }

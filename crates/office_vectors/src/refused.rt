@@ -120,17 +120,14 @@ fn seat_twice(room: &mut Room, name: &Name) -> Option<Seat> {
 
 // Whether new names get the sessions in order, so that a refusal takes none. Their seats are parked.
 fn are_seated(rt: &impl Abort, alloc: Global, room: &mut Room) -> bool {
-    let mut session = 0;
     for letter in b'a'..b'k' {
         let name = name_twice(rt, alloc, &[letter]);
-        session += 1;
-        match seat_twice(room, &name) {
-            Some(seat) => {
-                if seat.session() != session || room.park(seat).is_err() {
-                    return false;
-                }
-            }
-            None => return false,
+        let Some(seat) = seat_twice(room, &name) else {
+            return false;
+        };
+        let is_next = seat.session() == u32::from(letter - b'a') + 1;
+        if !is_next || room.park(seat).is_err() {
+            return false;
         }
     }
     true

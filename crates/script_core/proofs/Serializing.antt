@@ -337,6 +337,7 @@ on_step {told = told} {s = s} number false text a new m kept by =
       Serially.to_fail,
       matches_next new (record s { failing = number ∷ s.failing }) m kept refl refl (ap (λ (b : Board). b.object) same.0) (m.calls ∙ sym (ap (λ (b : Board). b.calls) same.0))
           (same_contents told.world new s.contents m.contents (ap (λ (b : Board). b.history) same.0) same.1)
+          (same_replies told.world new s.replies m.replies (ap (λ (b : Board). b.history) same.0))
           (carries_on (number ∷ s.failing) m.carries (step number false) a by (λ n h. inr h) (λ n is. inl (by_step number n is))),
     )
 

@@ -1,10 +1,10 @@
 //! Where connections come from.
 
+use hear_core::bell::Bell;
 use std::io;
 use std::net::{Shutdown, TcpListener, TcpStream};
 use std::os::fd::OwnedFd;
 use std::sync::atomic::{AtomicBool, AtomicUsize, Ordering};
-use hear_core::bell::Bell;
 
 /// Where connections come from.
 pub trait Door {

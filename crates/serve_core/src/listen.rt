@@ -4,6 +4,7 @@ use crate::gate::Door;
 use ahead_core::ahead::Ends;
 use crossbeam_channel::Receiver;
 use hand_core::hand::Hand;
+use hear_core::bell::Bell;
 use keep_core::trouble::fault_of;
 use line_core::LinesFault;
 use office_core::seat::Seat;
@@ -17,7 +18,6 @@ use std::sync::{Mutex, Wait};
 use std::thread;
 use std::thread::Threads;
 use std::time::{Clock, Duration};
-use hear_core::bell::Bell;
 use talk_core::fault::SessionFault;
 use talk_core::patient::Patient;
 

@@ -3,9 +3,9 @@
 ghost use Rattle.std.specs.Prelude.{◌≡◌, ◌↔◌, IsTrue, List, ℕ, Option};
 ghost use Rattle.talk_core.specs.Written.{IsNoteOf, AreNoted, IsWritten, HasWritten, heard_fault as heard_in, or_memory as or_memory_in, told_fault};
 
+use hear_core::fault::HearFault;
 use office_core::seat::Seat;
 use slip_core::slip::Slip;
-use hear_core::fault::HearFault;
 use talk_core::fault::SessionFault;
 use talk_core::note::Note;
 use talk_core::output::Health;

@@ -31,11 +31,7 @@ pub(crate) enum NotEntered {
 }
 
 // The seat of a client at an office: its own, where it has a name.
-fn seat_of<R: Wait>(
-    rt: &R,
-    office: &Office,
-    client: &Option<Name>,
-) -> Result<Seat, NotEntered> {
+fn seat_of<R: Wait>(rt: &R, office: &Office, client: &Option<Name>) -> Result<Seat, NotEntered> {
     let Some(client) = client else {
         return match office.seat(rt) {
             Ok(seat) => Ok(seat),

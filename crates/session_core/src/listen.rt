@@ -2,16 +2,16 @@
 
 use crate::order::Offices;
 use crossbeam_channel::Receiver;
+use hear_core::ear::{Ear, Heard};
+use hear_core::fault::HearFault;
+use hear_core::relay::Relay;
 use session_text::line::{Line, Refusal};
 use session_text::session::Action;
 use std::alloc::Global;
 use std::io::{Read, Write};
 use std::sync::Wait;
-use hear_core::ear::{Ear, Heard};
-use hear_core::fault::HearFault;
 use talk_core::mouth::Mouth;
 use talk_core::output::Start;
-use hear_core::relay::Relay;
 
 // Writes a line at once.
 fn tell<R: Wait, W: Write + Drop, J: Start>(rt: &R, mouth: &Mouth<W, J>, line: Line) -> bool {

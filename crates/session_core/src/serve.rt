@@ -11,6 +11,10 @@ use crate::order::Offices;
 use crate::sender::send;
 use crate::work::{Worked, work};
 use hand_core::hand::Hand;
+use hear_core::bell::{Bell, UntilBell};
+use hear_core::ear::Ear;
+use hear_core::reading::Reading;
+use hear_core::relay::Relay;
 use std::alloc::Global;
 use std::io::{Read, Write};
 use std::marker::Brand;
@@ -18,14 +22,10 @@ use std::sync::Wait;
 use std::thread;
 use std::thread::Threads;
 use std::time::Clock;
-use hear_core::bell::{Bell, UntilBell};
-use hear_core::ear::Ear;
 use talk_core::fault::SessionFault;
 use talk_core::mouth::Mouth;
 use talk_core::note::Note;
 use talk_core::output::{Health, Start};
-use hear_core::reading::Reading;
-use hear_core::relay::Relay;
 
 // What a session hands back, by what was written and what its first thread left. All its threads have ended, so that none of them takes the
 // session of a client out that has come back.

@@ -3,9 +3,12 @@
 ghost use Rattle.std.specs.Prelude.{◌≡◌, ◌<◌, ◌++◌, ◌∷◌, [], IsTrue, IfOk, IfSome};
 ghost use Rattle.std.specs.Vec.{vec_len, vec_capacity};
 ghost use Rattle.hand_core.specs.Device.{Assignment};
+ghost use Rattle.board_core.specs.Board.{Board};
+ghost use Rattle.board_core.specs.Sound.{IsSound};
 ghost use Rattle.call_core.specs.Tickets.{ticket_call};
 ghost use Rattle.run_core.specs.Outcomes.{outcome_call, TellsSame};
 ghost use Rattle.slip_core.specs.Rooms.{IsMade};
+ghost use Rattle.desk_core.specs.Keyed.{IsStateOf};
 ghost use Rattle.slip_core.specs.Slips.{told_by};
 ghost use Rattle.office_core.specs.declared.seat.Submitted.{Submitted as Ask};
 ghost use Rattle.office_core.specs.Submissions.{Asks, Tells, IsTicketOf};
@@ -18,6 +21,9 @@ use call_core::ticket::Ticket;
 use desk_core::answer::{CallState, Finished, Kept, SubmitFault};
 use hand_core::hand::{Hand, Stamp};
 use hand_core::retire::retire_all;
+use hear_core::ear::Heard;
+use hear_core::fault::HearFault;
+use hear_core::reading::Reading;
 use office_core::late::Late;
 use office_core::office::Office;
 use office_core::seat::{Seat, Started, Submitted, Tried};
@@ -33,11 +39,8 @@ use std::io::{Read, Write};
 use std::sync::Wait;
 use std::time::{Clock, Duration};
 use std::{mem, str};
-use hear_core::ear::Heard;
-use hear_core::fault::HearFault;
 use talk_core::mouth::Mouth;
 use talk_core::output::Start;
-use hear_core::reading::Reading;
 use talk_core::room::make_room_in;
 use value_core::datum::Datum;
 
@@ -340,7 +343,9 @@ fn serve_at<R: Wait + Clock, I: Read + Drop, W: Write + Drop, H: Hand + Drop, J:
 }
 
 // Says what became of a call that was made before.
-fn say_kept<R: Wait, W: Write + Drop, J: Start>(rt: &R, mouth: &Mouth<W, J>, kept: &Kept) {
+fn say_kept<R: Wait, W: Write + Drop, J: Start>(rt: &R, mouth: &Mouth<W, J>, kept: &Kept)
+    requires { (b : Board) × IsSound b × IsStateOf b kept.now.number kept.now.state }
+{
     match &kept.state {
         CallState::Waiting => say(rt, mouth, Line::Kept(kept.number, Unended::Waiting)),
         CallState::Running => say(rt, mouth, Line::Kept(kept.number, Unended::Running)),
@@ -410,7 +415,15 @@ fn serve_call<
     if let Some(office) = offices.office(entered.at) {
         if is_new(rt, office, mouth, &entered.seat, key, op, args) {
             serve_at(
-                rt, alloc, office, mouth, reading, &mut entered.seat, worked, op, args,
+                rt,
+                alloc,
+                office,
+                mouth,
+                reading,
+                &mut entered.seat,
+                worked,
+                op,
+                args,
             );
         }
     }
@@ -485,7 +498,13 @@ fn act<R: Wait + Clock, I: Read + Drop, W: Write + Drop, H: Hand + Drop, J: Star
     match action {
         Action::Open(name, client) => {
             return enter(
-                rt, offices, mouth, reading, &mut worked.seat, &name, &client,
+                rt,
+                offices,
+                mouth,
+                reading,
+                &mut worked.seat,
+                &name,
+                &client,
             );
         }
         Action::Call(key, op, args) => {

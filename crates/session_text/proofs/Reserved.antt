@@ -1,11 +1,11 @@
 -- Reserved words.
-use Rattle.std.proofs.Common.{◌≡◌, ◌≢◌, ℕ, ◌<◌, ◌≤◌, ◌⊎◌, inl, inr, Bool, true, false, ◌||◌, List, [], ◌∷◌, refl, sym, ◌∙◌, ap, subst, arith}
+use Rattle.std.proofs.Common.{◌≡◌, ◌≢◌, ℕ, ◌⊎◌, inl, inr, Bool, true, false, ◌||◌, List, [], ◌∷◌, refl, ◌∙◌, ap, subst, arith}
 use Rattle.std.specs.List.{list_any}
 use Rattle.std.specs.Str.{bytes_eq, str_to_ascii_lowercase}
 use Rattle.std.proofs.lemmas.Slice.Eq.{bytes_eq-Decides}
 use Rattle.path_tree.specs.declared.token.Symbol.{Symbol}
 use Rattle.path_tree.specs.declared.token.Symbol.TheVariants as symbols
-use Rattle.path_tree.specs.Lexeme.{symbol_text, symbol_number}
+use Rattle.path_tree.specs.Lexeme.{symbol_text}
 use Rattle.path_tree.specs.Tokens.{IsReserved}
 use Rattle.session_text.specs.Reserved.{reserved_words, is_reserved}
 

@@ -9,7 +9,9 @@ ghost use Rattle.session_text.specs.Lines as lines;
 use apply_core::reply::Reply;
 use desk_core::answer::{Cancelled, KeyedFault, SubmitFault};
 use path_tree::name::Name;
-use script_text::answers::{push_cancelled, push_finished, push_kept, push_refused, push_repeated as push_repeated_line};
+use script_text::answers::{
+    push_cancelled, push_finished, push_kept, push_refused, push_repeated as push_repeated_line,
+};
 use std::alloc::AllocError;
 use word_core::line::push_line as push_words_line;
 use word_core::word::Written;

@@ -124,7 +124,12 @@ fn open_behind(alloc: Global, name: Name, line: &[u8]) -> Result<Option<Request>
 }
 
 // The same behind this word, which is `as`.
-fn open_as(alloc: Global, name: Name, word: &[u8], line: &[u8]) -> Result<Option<Request>, AllocError>
+fn open_as(
+    alloc: Global,
+    name: Name,
+    word: &[u8],
+    line: &[u8],
+) -> Result<Option<Request>, AllocError>
     ensures { IfOk result (Reads (as_behind name word.now) request_view line.now) }
 {
     if !is_same_word(word, b"as") {

@@ -227,7 +227,16 @@ fn breaks_off<R: Abort + Threads + Wait + Clock + Sync>(
         seats: Vec::new(alloc),
         slips: Vec::new(alloc),
     };
-    let end = visit(rt, alloc, &all, hand, &ASKS[..bytes.min(ASKS.len())], step, fails, takes);
+    let end = visit(
+        rt,
+        alloc,
+        &all,
+        hand,
+        &ASKS[..bytes.min(ASKS.len())],
+        step,
+        fails,
+        takes,
+    );
     let (_, _, hand) = kept(rt, &mut left, end);
     assert!(rt; left.slips.len() == usize::from(is_done));
     let answers = if is_done { DONE_BEFORE } else { DONE_NOW };
@@ -279,7 +288,15 @@ fn a_call_that_failed_is_not_run_again(rt: HostRuntime) {
         b"open cell as ann\ncall #1 put 7\ncall #2 get\nquit\n",
         b"opened cell next 2\nrepeat failed 1 device\naccepted 2\ndone 2 0\nbye\n",
     );
-    let _hand = told(&rt, alloc, &all, hand.into_inner(), &mut left, 4096, &second);
+    let _hand = told(
+        &rt,
+        alloc,
+        &all,
+        hand.into_inner(),
+        &mut left,
+        4096,
+        &second,
+    );
     let Left { seats, slips } = left;
     assert!(rt; slips.len() == 2 && is_closed(all, seats, &slips));
 }

@@ -3,6 +3,7 @@
 use crate::make::{BUFFER, offices};
 use crate::waiting::{Counted, EMPTY, Gate, await_lines};
 use device_core::memory::MemHand;
+use hear_core::bell::Bell;
 use session_core::order::Named;
 use session_core::serve::serve_session;
 use std::alloc::Global;
@@ -13,7 +14,6 @@ use std::sync::{Arc, Wait};
 use std::thread;
 use std::thread::Threads;
 use std::time::Clock;
-use hear_core::bell::Bell;
 
 // An object whose `b` comes after an `a`, and which does nothing with its part, so that any hand performs its calls.
 pub const TURNS: &[u8] = b"object turns;

@@ -7,6 +7,7 @@ use device_core::memory::MemHand;
 use device_core::once::OnceHand;
 use hand_core::hand::{Hand, Stamp};
 use hand_core::whole::fetch;
+use hear_core::bell::Bell;
 use session_core::end::SessionEnd;
 use session_core::order::Named;
 use session_core::serve::serve_session;
@@ -15,7 +16,6 @@ use std::process::Abort;
 use std::sync::Wait;
 use std::thread::Threads;
 use std::time::Clock;
-use hear_core::bell::Bell;
 
 const CALLED: &[u8] = b"open cell\ncall put 7\ncall put 8\ncall get\nquit\n";
 

@@ -57,8 +57,18 @@ fn is_out<R: Threads + Wait + Clock + Sync + Abort>(
     name: &Name,
 ) -> MemHand {
     let seat = office.seat_named(rt, name).expect(rt, "a seat");
-    assert!(rt; office.seat_named(rt, name).is_err_and(|fault| fault == NameFault::InUse));
-    let (bytes, hand) = visit(rt, alloc, all, hand, b"open cell as ann\ncall #1 get\nquit\n");
+    assert!(rt;
+        office
+            .seat_named(rt, name)
+            .is_err_and(|fault| fault == NameFault::InUse)
+    );
+    let (bytes, hand) = visit(
+        rt,
+        alloc,
+        all,
+        hand,
+        b"open cell as ann\ncall #1 get\nquit\n",
+    );
     assert!(rt; bytes.as_slice() == b"no InUse\nno NotOpen\nbye\n".as_slice());
     assert!(rt; office.park(rt, seat).is_ok());
     hand
@@ -68,10 +78,18 @@ fn is_out<R: Threads + Wait + Clock + Sync + Abort>(
 fn a_name_is_given_out_once_at_a_time(rt: HostRuntime) {
     let alloc = rt.alloc();
     let (all, hand) = offices(&rt, alloc, CELL, ZERO);
-    let name = Name::read(alloc, b"Ann").expect(&rt, "memory").expect(&rt, "a name");
+    let name = Name::read(alloc, b"Ann")
+        .expect(&rt, "memory")
+        .expect(&rt, "a name");
     let named = all.first().expect(&rt, "an office");
     let hand = is_out(&rt, alloc, &all, &named.office, hand, &name);
-    let (bytes, _) = visit(&rt, alloc, &all, hand, b"open cell as ann\ncall #1 get\nquit\n");
+    let (bytes, _) = visit(
+        &rt,
+        alloc,
+        &all,
+        hand,
+        b"open cell as ann\ncall #1 get\nquit\n",
+    );
     assert!(rt; bytes.as_slice() == b"opened cell next 1\naccepted 1\ndone 1 0\nbye\n".as_slice());
 }
 
@@ -156,7 +174,9 @@ fn quits<R: Threads + Wait + Clock + Sync>(
 fn a_name_is_in_use_until_the_input_ends(rt: HostRuntime) {
     let alloc = rt.alloc();
     let (all, hand) = offices(&rt, alloc, BUFFER, EMPTY);
-    let name = Name::read(alloc, b"ann").expect(&rt, "memory").expect(&rt, "a name");
+    let name = Name::read(alloc, b"ann")
+        .expect(&rt, "memory")
+        .expect(&rt, "a name");
     let written = Arc::new(alloc, AtomicU64::new(0)).expect(&rt, "memory");
     let asked = Arc::new(alloc, AtomicU64::new(0)).expect(&rt, "memory");
     let may_end = Arc::new(alloc, AtomicU64::new(0)).expect(&rt, "memory");
@@ -189,7 +209,9 @@ fn a_name_is_in_use_until_the_input_ends(rt: HostRuntime) {
 
 // The ticket of a call of `a`, which starts at once.
 fn begun<R: Abort + Wait + Clock>(rt: &R, office: &Office, seat: &mut Seat) -> Ticket {
-    let (_, tried) = office.submit_and_try(rt, seat, "a", &[]).expect(rt, "a call");
+    let (_, tried) = office
+        .submit_and_try(rt, seat, "a", &[])
+        .expect(rt, "a call");
     let ticket = match tried {
         Tried::Ticket(ticket) => Some(ticket),
         Tried::Cancelled => None,
@@ -226,7 +248,9 @@ fn runs<R: Abort + Wait + Clock>(
     await_lines(written, 4);
     let mut hand = MemHand::new(alloc);
     let mut outcome = run_at_once(alloc, ticket, &mut hand);
-    office.complete_in_place(rt, &mut seat, &mut outcome).is_ok()
+    office
+        .complete_in_place(rt, &mut seat, &mut outcome)
+        .is_ok()
 }
 
 const BEHIND: &[(u64, &[u8])] = &[
@@ -254,7 +278,13 @@ fn follows<R: Threads + Wait + Clock + Sync>(
 fn a_call_under_a_key_stands_behind_a_running_one(rt: HostRuntime) {
     let alloc = rt.alloc();
     let (all, hand) = offices(&rt, alloc, TURNS, ZERO);
-    let (bytes, hand) = visit(&rt, alloc, &all, hand, b"open turns as ann\ncall #1 a\nquit\n");
+    let (bytes, hand) = visit(
+        &rt,
+        alloc,
+        &all,
+        hand,
+        b"open turns as ann\ncall #1 a\nquit\n",
+    );
     assert!(rt; bytes.as_slice() == b"opened turns next 1\naccepted 1\ndone 1\nbye\n".as_slice());
     let named = all.first().expect(&rt, "an office");
     let seat = named.office.seat(&rt).expect(&rt, "a seat");

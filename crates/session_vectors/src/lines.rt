@@ -1,6 +1,7 @@
 //! What a session answers, and how it ends.
 
 use crate::make::{CELL, Pieces, Short, offices};
+use hear_core::bell::Bell;
 use office_core::office::Office;
 use office_core::seat::Seat;
 use session_core::order::Named;
@@ -11,7 +12,6 @@ use std::process::Abort;
 use std::sync::Wait;
 use std::thread::Threads;
 use std::time::Clock;
-use hear_core::bell::Bell;
 use talk_core::fault::SessionFault;
 
 /// The array `[0]`.

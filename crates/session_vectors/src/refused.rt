@@ -83,7 +83,15 @@ fn comes<R: Abort + Threads + Wait + Clock + Sync>(
         writer,
         hand,
         fault,
-    } = serve_session(rt, alloc, Text { rest: ASKS }, writer, &Bell::new(), all, hand);
+    } = serve_session(
+        rt,
+        alloc,
+        Text { rest: ASKS },
+        writer,
+        &Bell::new(),
+        all,
+        hand,
+    );
     let mut receipts = receipts;
     assert!(rt; seat.is_none() && slips.append(&mut receipts).is_ok());
     assert!(rt; fault.is_none() || fault == Some(SessionFault::Memory));

@@ -2,6 +2,7 @@
 
 use crate::make::{BUFFER, offices};
 use device_core::memory::MemHand;
+use hear_core::bell::Bell;
 use session_core::end::SessionEnd;
 use session_core::order::Named;
 use session_core::serve::serve_session;
@@ -13,7 +14,6 @@ use std::sync::{Arc, Wait};
 use std::thread::Threads;
 use std::time::Clock;
 use std::{io, thread};
-use hear_core::bell::Bell;
 
 // The queue `<>`.
 pub const EMPTY: &[u8] = b"\x01\x03\x00\x00";

@@ -1,3 +1,4 @@
 pub mod Notes
+pub mod Repeats
 pub mod Written
 pub mod Truth

@@ -54,12 +54,7 @@ fn add_line(held: &mut Vec<u8>, text: &mut Vec<u8>, line: Line) -> bool
 }
 
 // Holds `opened NAME` back, with the next key where one is told.
-fn add_opened(
-    held: &mut Vec<u8>,
-    text: &mut Vec<u8>,
-    name: &Name,
-    next: Option<u32>,
-) -> bool
+fn add_opened(held: &mut Vec<u8>, text: &mut Vec<u8>, name: &Name, next: Option<u32>) -> bool
     ensures { (notes : List Note) → Adds held.old.items held.new.items notes notes (opened name.now next) result }
 {
     text.clear();

@@ -5,6 +5,7 @@
 
 ghost use Rattle.std.specs.Prelude.{◌≡◌, ℕ, List, Option};
 ghost use Rattle.talk_core.specs.declared.note.Note.{Note};
+ghost use Rattle.talk_core.specs.Repeats.{WasNoted};
 ghost use Rattle.talk_core.specs.Written.{IsWritten};
 
 use crate::held::Held;
@@ -83,8 +84,10 @@ impl<W: Write + Drop, J: Start> Mouth<W, J> {
         self.held.lock(rt).say_ended(number, reply)
     }
 
-    /// The same for the last line of a call that was made before. It is not noted.
-    pub fn say_repeated<R: Wait>(&self, rt: &R, number: u32, reply: &Reply) -> bool {
+    /// The same for the last line of a call that was made before. It is not noted: its receipt is of another session, or was told before.
+    pub fn say_repeated<R: Wait>(&self, rt: &R, number: u32, reply: &Reply) -> bool
+        requires { WasNoted number reply.now }
+    {
         self.held.lock(rt).say_repeated(number, reply)
     }
 

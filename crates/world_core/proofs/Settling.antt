@@ -157,10 +157,10 @@ not_dismissed b after n cancels.Unknown is none = is.3
 
 -- a call under a key that is refused changes nothing
 pub refused_key : (b after : Board) (a : Asked) (key : ℕ) (fault : KeyedFault) → SubmitsKeyed b a key (Err fault) after → (after ≡ b) × SubmitsKeyed b a key (Err fault) b
-refused_key b after a key faults.Gone is = (is.1, is.0, refl)
-refused_key b after a key faults.BadKey is = (is.2, is.0, is.1, refl)
-refused_key b after a key faults.KeyReused is = (is.2, is.0, is.1, refl)
-refused_key b after a key (faults.Submit fault) is = (is.3, is.0, is.1, is.2, refl)
+refused_key b after a key faults.Gone is = (is.1, (is.0, refl))
+refused_key b after a key faults.BadKey is = (is.2, (is.0, is.1, refl))
+refused_key b after a key faults.KeyReused is = (is.2, (is.0, is.1, refl))
+refused_key b after a key (faults.Submit fault) is = (is.3, (is.0, is.1, is.2, refl))
 
 -- What is kept of a world depends on the marks of the sessions that left by the board's soundness alone.
 pub resumed_kept : (b : Board) (session : ℕ) (files : List File) (runs : List Slot) (values : List Contents) → IsSound (resumed b session) → IsKept b files runs values → IsKept (resumed b session) files runs values

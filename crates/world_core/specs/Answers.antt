@@ -60,7 +60,7 @@ pub data Answers (old : Scene) : WorldEvent → EventAnswer → Scene → Type 0
   -- under the key of the session's next call it is such a call; under that of an earlier one it tells what became of that one, and changes nothing
   called_key : {asked : Asked} {key starts : ℕ} {new : Scene} (accepted : AcceptedCall) → key ≡ next_key old.board.calls asked.session → IsTaken old.board asked accepted → Goes old (joined old.board accepted) old.runs starts new
       → Answers old (call_key asked key) (with_starts (Number (length old.board.calls + 1)) starts) new
-  kept : {asked : Asked} {key : ℕ} (call : KeptCall) → (IsGone old.board asked.session → ⊥) → IsKeptCall old.board asked key call → Answers old (call_key asked key) (with_starts (Kept call) 0) old
+  kept : {asked : Asked} {key : ℕ} (made : KeptCall) → (IsGone old.board asked.session → ⊥) → IsKeptCall old.board asked key made → Answers old (call_key asked key) (with_starts (Kept made) 0) old
   not_called_key : {asked : Asked} {key : ℕ} (fault : KeyedFault) → SubmitsKeyed old.board asked key (Err fault) old.board → Answers old (call_key asked key) (with_starts (Refused (Keyed fault)) 0) old
   -- a step is one step of that call's run
   stepped : {number : ℕ} {works : Bool} (k : ℕ) (run : Standing) (after : Place) (files : List File) → IsRunAt old.runs k number run → need_at run.place ≢ needs.Done → Moves run works after

@@ -1,5 +1,5 @@
 use Rattle.std.proofs.Common.{sym}
-use Rattle.session_text.proofs.Reserved.{not_reserved, reserved_is}
+use Rattle.session_text.proofs.Reserved.{not_reserved}
 use Rattle.session_text.proofs.request.is_reserved.Goals as goal
 
 pub returns-in-None : goal.returns-in-None

@@ -21,7 +21,7 @@ begin-starts-requires-clause-kept c =
     let asked : Asked = record { session = c.args.session; name = c.args.op.now; arguments = c.args.args.now } in
     let found : SubmitsKeyed old.desk asked c.args.key (Ok (keyed.New c.in-Ok-New.number)) c.submit_keyed.new.self =
     subst (λ r. SubmitsKeyed old.desk asked c.args.key r c.submit_keyed.new.self) (c.in-Ok-New.is ∙ ap (λ (k : Keyed). Ok k) c.in-Ok-New.field-0-is) c.submit_keyed.ensures.board in
-    event_kept old.desk (joined old.desk found.2) _ _ _ _ (joined_between old.desk found.2) found.4 c.requires.staged.kept c.requires.staged.all c.history.ensures.sound
+    event_kept old.desk (joined old.desk found.2.0) _ _ _ _ (joined_between old.desk found.2.0) found.2.2 c.requires.staged.kept c.requires.staged.all c.history.ensures.sound
 
 pub begin-starts-requires-clause-new : goal.begin-starts-requires-clause-new
 begin-starts-requires-clause-new c =
@@ -29,7 +29,7 @@ begin-starts-requires-clause-new c =
     let asked : Asked = record { session = c.args.session; name = c.args.op.now; arguments = c.args.args.now } in
     let found : SubmitsKeyed old.desk asked c.args.key (Ok (keyed.New c.in-Ok-New.number)) c.submit_keyed.new.self =
     subst (λ r. SubmitsKeyed old.desk asked c.args.key r c.submit_keyed.new.self) (c.in-Ok-New.is ∙ ap (λ (k : Keyed). Ok k) c.in-Ok-New.field-0-is) c.submit_keyed.ensures.board in
-    (found.4.ones, event_new old.desk (joined old.desk found.2) _ _ _ (joined_between old.desk found.2) found.4 c.requires.staged.all (c.len-before.ensures ∙ ap (λ (b : Board). length b.trace) c.trace.ensures))
+    (found.2.2.ones, event_new old.desk (joined old.desk found.2.0) _ _ _ (joined_between old.desk found.2.0) found.2.2 c.requires.staged.all (c.len-before.ensures ∙ ap (λ (b : Board). length b.trace) c.trace.ensures))
 
 pub returns-in-Ok-New-clause-answers : goal.returns-in-Ok-New-clause-answers
 returns-in-Ok-New-clause-answers c =
@@ -37,9 +37,9 @@ returns-in-Ok-New-clause-answers c =
     let asked : Asked = record { session = c.args.session; name = c.args.op.now; arguments = c.args.args.now } in
     let found : SubmitsKeyed old.desk asked c.args.key (Ok (keyed.New c.in-Ok-New.number)) c.submit_keyed.new.self =
     subst (λ r. SubmitsKeyed old.desk asked c.args.key r c.submit_keyed.new.self) (c.in-Ok-New.is ∙ ap (λ (k : Keyed). Ok k) c.in-Ok-New.field-0-is) c.submit_keyed.ensures.board in
-    let has = event_new old.desk (joined old.desk found.2) c.submit_keyed.new.self (length old.runs.items) c.len-before.result (joined_between old.desk found.2) found.4 c.requires.staged.all (c.len-before.ensures ∙ ap (λ (b : Board). length b.trace) c.trace.ensures) in
-    let goes = event_goes old c.begin-starts.new.self _ _ old.runs.items _ _ found.4 has c.begin-starts.ensures.staged c.begin-starts.ensures.desk c.begin-starts.ensures.starts c.begin-starts.ensures.files c.begin-starts.ensures.opening in
-    subst (λ n. Answers (scene_of old) (call_key asked c.args.key) (with_starts (Number n) c.begin-starts.result) (scene_of c.begin-starts.new.self)) (sym found.1) (called_key found.2 found.0 found.3 goes)
+    let has = event_new old.desk (joined old.desk found.2.0) c.submit_keyed.new.self (length old.runs.items) c.len-before.result (joined_between old.desk found.2.0) found.2.2 c.requires.staged.all (c.len-before.ensures ∙ ap (λ (b : Board). length b.trace) c.trace.ensures) in
+    let goes = event_goes old c.begin-starts.new.self _ _ old.runs.items _ _ found.2.2 has c.begin-starts.ensures.staged c.begin-starts.ensures.desk c.begin-starts.ensures.starts c.begin-starts.ensures.files c.begin-starts.ensures.opening in
+    subst (λ n. Answers (scene_of old) (call_key asked c.args.key) (with_starts (Number n) c.begin-starts.result) (scene_of c.begin-starts.new.self)) (sym found.1) (called_key found.2.0 found.0 found.2.1 goes)
 
 pub returns-in-Ok-Kept-clause-answers : goal.returns-in-Ok-Kept-clause-answers
 returns-in-Ok-Kept-clause-answers c =
