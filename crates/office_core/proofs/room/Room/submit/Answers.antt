@@ -17,7 +17,7 @@ returns-in-Ok-clause-board c =
     let board : c.self.inside.desk ≡ c.args.self.now.board = ap (λ (r : RoomState). r.board) c.self.view_is in
     subst
     (λ (n : ℕ). (c.in-Ok.number ≡ length c.args.self.now.board.calls + 1)
-        × ((call : AcceptedCall) × IsTaken c.args.self.now.board (asked n) call × Settles (joined c.args.self.now.board call) c.submit_and_share.new.self))
+    × ((call : AcceptedCall) × IsTaken c.args.self.now.board (asked n) call × Settles (joined c.args.self.now.board call) c.submit_and_share.new.self))
     c.session.ensures
     (subst
     (λ (b : Board). (c.in-Ok.number ≡ length b.calls + 1) × ((call : AcceptedCall) × IsTaken b (asked c.session.result) call × Settles (joined b call) c.submit_and_share.new.self))
