@@ -30,7 +30,7 @@ class Connection:
         """The next line. One that was cut is none."""
         line = self.lines.readline()
         if not line.endswith("\n"):
-            raise Gone
+            raise Gone("it is gone")
         return line.rstrip("\n")
 
     def ask(self, line):
@@ -52,9 +52,9 @@ def opened(port, line):
             # Until the server has seen that the connection before this one is broken, the name is in use.
             while (answer := it.ask(line)) == "no InUse" and time.monotonic() < end:
                 time.sleep(0.02)
-        except (Gone, OSError):
+        except (Gone, OSError) as error:
             if time.monotonic() >= end:
-                raise Gone from None
+                raise Gone(error) from None
             time.sleep(0.1)
             continue
         words = answer.split(" ")
@@ -79,8 +79,8 @@ def main(words):
     port, line, calls = int(words[0]), f"open {words[1]} as {words[2]}", words[3:]
     try:
         it, key = opened(port, line)
-    except Gone:
-        print("client: there is no server", file=sys.stderr)
+    except Gone as error:
+        print(f"client: there is no server: {error}", file=sys.stderr)
         return 3
     if it is None:
         print(key, file=sys.stderr)
