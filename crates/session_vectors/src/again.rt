@@ -317,16 +317,11 @@ fn a_name_keeps_its_seat_where_all_are_given_out(rt: HostRuntime) {
         seats: Vec::new(alloc),
         slips: Vec::new(alloc),
     };
-    let [first, second] = [
-        (
-            b"open cell as ann\nquit\n".as_slice(),
-            b"opened cell next 1\nbye\n".as_slice(),
-        ),
-        (
-            b"open cell as bob\nopen cell\nopen cell as ann\ncall #1 get\nquit\n".as_slice(),
-            b"no Full\nno Full\nopened cell next 1\naccepted 1\ndone 1 0\nbye\n".as_slice(),
-        ),
-    ];
+    let first: Visit = (b"open cell as ann\nquit\n", b"opened cell next 1\nbye\n");
+    let second: Visit = (
+        b"open cell as bob\nopen cell\nopen cell as ann\ncall #1 get\nquit\n",
+        b"no Full\nno Full\nopened cell next 1\naccepted 1\ndone 1 0\nbye\n",
+    );
     let hand = told(&rt, alloc, &all, hand, &mut left, 4096, &first);
     let named = all.first().expect(&rt, "an office");
     fills(&rt, &named.office, 2);

@@ -17,8 +17,7 @@ returns-in-Ticket-clause-room c =
     let board : c.self.inside.desk ≡ c.args.self.now.board = ap (λ (r : RoomState). r.board) c.self.view_is in (
       c.requires,
       subst (λ b. Collects b s.number (collected.Ticket c.in-Ticket.ticket) c.collect.new.self) board c.in-Ticket.ensures.board,
-      ap (λ (r : RoomState). r.given) c.self.view_is,
-      ap (λ (r : RoomState). r.clients) c.self.view_is,
+      (ap (λ (r : RoomState). r.given) c.self.view_is, ap (λ (r : RoomState). r.clients) c.self.view_is),
     )
 
 pub returns-in-Waiting-clause-room : goal.returns-in-Waiting-clause-room
@@ -27,8 +26,7 @@ returns-in-Waiting-clause-room c =
     let board : c.self.inside.desk ≡ c.args.self.now.board = ap (λ (r : RoomState). r.board) c.self.view_is in (
       c.requires,
       subst (λ b. Collects b s.number collected.Waiting c.collect.new.self) board c.in-Waiting.ensures.board,
-      ap (λ (r : RoomState). r.given) c.self.view_is,
-      ap (λ (r : RoomState). r.clients) c.self.view_is,
+      (ap (λ (r : RoomState). r.given) c.self.view_is, ap (λ (r : RoomState). r.clients) c.self.view_is),
     )
 
 pub returns-in-Cancelled-clause-room : goal.returns-in-Cancelled-clause-room
@@ -37,6 +35,5 @@ returns-in-Cancelled-clause-room c =
     let board : c.self.inside.desk ≡ c.args.self.now.board = ap (λ (r : RoomState). r.board) c.self.view_is in (
       c.requires,
       subst (λ b. Collects b s.number collected.Cancelled c.collect.new.self) board c.in-Cancelled.ensures.board,
-      ap (λ (r : RoomState). r.given) c.self.view_is,
-      ap (λ (r : RoomState). r.clients) c.self.view_is,
+      (ap (λ (r : RoomState). r.given) c.self.view_is, ap (λ (r : RoomState). r.clients) c.self.view_is),
     )
