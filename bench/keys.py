@@ -5,7 +5,8 @@ usage: bench/keys.py [--program FILE] [--before FILE] [--runs N] [--calls N]
 
 Per load: calls a second in N runs (7 where it is not given) of up to N calls (16,000), plain and under keys in turn, so that both meet
 what else the machine does; the medians, and how much longer a call takes under a key: the ratio of the medians, and the median of
-the ratios of two runs that followed each other. Then the memory that is resident after 48,000 calls of 16 connections; with --before
+the ratios of two runs that followed each other. The same of the processor time that a call takes of the server, on which other work
+of the machine tells less. Then the memory that is resident after 48,000 calls of 16 connections; with --before
 also that of an earlier program, which knows no keys. And how long `open NAME as CLIENT` takes where so many names are there as a
 server has connections. The folders are made where TMPDIR says; it needs `cc`. The load runs on the same machine. It is no part of the
 gate.
@@ -67,37 +68,60 @@ class Served:
         status = pathlib.Path(f"/proc/{self.ran.pid}/status").read_text(encoding="ascii")
         return int(re.search(r"VmRSS:\s+(\d+) kB", status)[1]) / 1024
 
+    def processor(self):
+        """The processor time of its threads so far, in microseconds."""
+        tasks = pathlib.Path(f"/proc/{self.ran.pid}/task").glob("*/schedstat")
+        return sum(int(it.read_text(encoding="ascii").split()[0]) for it in tasks) / 1000
+
     def load(self, load, group):
-        """Calls a second of a load, and what is resident when its last call is done."""
+        """Calls a second of a load, the processor time of the server for each, in microseconds, and what is resident when its last
+        call is done."""
+        used = self.processor()
         with subprocess.Popen([load, str(self.port), group], stdin=subprocess.PIPE, stdout=subprocess.PIPE, text=True) as it:
             words = it.stdout.readline().split()
             if not words:
                 raise SystemExit("a call was not done")
-            resident = self.resident()
+            used, resident = self.processor() - used, self.resident()
             it.stdin.close()
-        return int(words[1]) / float(words[3]), resident
+        return int(words[1]) / float(words[3]), used / int(words[1]), resident
 
 
-def rate(program, load, connections, kinds, calls, name="cell"):
+class Pairs:
+    """Two figures of each of some runs that followed each other."""
+
+    def __init__(self, found):
+        self.found = found
+
+    def said(self, over):
+        """The medians, and how much more the second one is: `over` says what of two figures is their ratio."""
+        first, second = (statistics.median(it[at] for it in self.found) for at in (0, 1))
+        ratios = sorted(over(*it) for it in self.found)
+        return (f"{first:,.1f} plain, {second:,.1f} under keys: {over(first, second):.3f} times, by pairs {statistics.median(ratios):.3f} "
+                f"({ratios[0]:.3f} to {ratios[-1]:.3f})")
+
+
+def measured(program, load, connections, kinds, calls, name="cell"):
+    """Calls a second, and microseconds of the server's processor time for each."""
     with Served(program, connections) as it:
-        return it.load(load, f"{name}:{connections}:{min(calls // connections, MOST)}:{kinds}")[0]
+        return it.load(load, f"{name}:{connections}:{min(calls // connections, MOST)}:{kinds}")[:2]
 
 
 def compare(options, load):
     for title, connections, call in LOADS:
         calls = min(options.calls, MOST * connections)
-        plain, keyed, again, ratios = [], [], [], []
-        for _ in range(options.runs):
-            plain.append(rate(options.program, load, connections, call, calls))
-            keyed.append(rate(options.program, load, connections, f"!{call}", calls, "!cell"))
-            ratios.append(plain[-1] / keyed[-1])
+        runs, again = [], []
+        for turn in range(options.runs):
+            kinds = [(call, "cell"), (f"!{call}", "!cell")]
+            # (each is the first one as often as the other)
+            found = [measured(options.program, load, connections, *it[:1], calls, it[1]) for it in (kinds if turn % 2 else kinds[::-1])]
+            runs.append(found if turn % 2 else found[::-1])
             if call == "get":
-                again.append(rate(options.program, load, connections, f"!!{call}", calls, "!cell"))
-        middle = statistics.median(plain), statistics.median(keyed)
-        print(f"{title}: plain {middle[0]:,.0f} a second, under keys {middle[1]:,.0f}: {middle[0] / middle[1]:.3f} times as long, "
-              f"by pairs {statistics.median(ratios):.3f} ({min(ratios):.3f} to {max(ratios):.3f})", flush=True)
+                again.append(measured(options.program, load, connections, f"!!{call}", calls, "!cell"))
+        print(f"{title}, calls a second: {Pairs([[it[0] for it in run] for run in runs]).said(lambda a, b: a / b)}", flush=True)
+        print(f"{title}, processor time: {Pairs([[it[1] for it in run] for run in runs]).said(lambda a, b: b / a)}", flush=True)
         if again:
-            print(f"{title}: asked for again {statistics.median(again):,.0f} a second", flush=True)
+            rate, used = (statistics.median(it[at] for it in again) for at in (0, 1))
+            print(f"{title}, asked for again: {rate:,.1f} a second, processor time {used:.1f}", flush=True)
 
 
 def memory(options, load):
@@ -109,7 +133,7 @@ def memory(options, load):
             found = []
             for _ in range(3):
                 with Served(program, 16) as it:
-                    found.append(it.load(load, f"{name}:16:{MOST}:{mark}{call}")[1])
+                    found.append(it.load(load, f"{name}:16:{MOST}:{mark}{call}")[2])
             print(f"memory of 48,000 calls of {call.split()[0]}, {title}: {statistics.median(found):.2f} MiB "
                   f"({min(found):.2f} to {max(found):.2f})", flush=True)
 
