@@ -345,6 +345,83 @@ def stopped():
             it.it.close()
 
 
+def together(work, count):
+    """Does some work so often at the same time, by its number. It raises what is wrong with one of them."""
+    wrong = []
+
+    def attempt(number):
+        try:
+            work(number)
+        except (Wrong, EOFError, OSError) as error:
+            wrong.append(f"{number}: {type(error).__name__} {error}")
+
+    threads = [threading.Thread(target=attempt, args=(it,), daemon=True) for it in range(count)]
+    for it in threads:
+        it.start()
+    for it in threads:
+        it.join(3 * SECONDS)
+    if wrong or any(it.is_alive() for it in threads):
+        raise Wrong("; ".join(wrong) or "one goes on")
+
+
+def one_name_for_all():
+    """Clients that share a name, and come for it at the same time: one has it at a time, and each call has a key of its own."""
+    count, turns = 16, 4
+    keys = []
+    with Served(METER, count * turns) as server:
+
+        def work(number):
+            for turn in range(turns):
+                it = server.client()
+                key = it.open("meter", "ann")
+                check(it.call(key, "add 5"), (True, f"done {key} {5 * key}"))
+                keys.append(key)
+                if (number + turn) % 2:
+                    it.quit()
+                else:
+                    it.cut(CUTS[number % 3])
+
+        together(work, count)
+        check(sorted(keys), list(range(1, count * turns + 1)))
+        check(server.end(), {"meter": count * turns})
+
+
+def stopped_meanwhile():
+    """A server that is stopped while clients by name call, are cut and come back."""
+    count, turns = 8, 8
+    with Served(METER, count * turns, "--stop-with-input") as server:
+
+        def work(number):
+            done = 0
+            for turn in range(turns):
+                try:
+                    it = server.client()
+                    line = it.ask(f"open meter as n{number}")
+                    while line == "no InUse":
+                        time.sleep(0.001)
+                        line = it.ask(f"open meter as n{number}")
+                    check(line.startswith("opened meter next "), True)
+                    key = int(line.split()[3])
+                    check(key > done, True)
+                    line = it.ask(f"call #{key} add 5")
+                    if line.startswith("accepted "):
+                        check(it.line().startswith("done "), True)
+                        done = key
+                    else:
+                        check(line, "no Gone")
+                    it.cut(CUTS[turn % 3])
+                except (EOFError, OSError):
+                    return
+                time.sleep(0.02)
+
+        stop = threading.Timer(0.2, server.ran.stdin.close)
+        stop.start()
+        together(work, count)
+        stop.join()
+        server.ran.stdin = None
+        server.end()
+
+
 class Wanderer(threading.Thread):
     """A client that is cut at a place that is drawn, three times, and asks again for all that it called."""
 
@@ -434,7 +511,9 @@ TRIALS = {
     **{f"cut while a call waits, which {it}": (cut_waiting, it) for it in CUTS},
     "two connections with one name": (two_at_once,),
     "32 names at once, which come back": (names_at_once,),
+    "16 clients that share a name": (one_name_for_all,),
     "a server that is stopped while seats are parked": (stopped,),
+    "a server that is stopped while clients come back": (stopped_meanwhile,),
     "clients by name that are cut at drawn places, seed 1": (drawn, 1),
     "clients by name that are cut at drawn places, seed 2": (drawn, 2),
 }

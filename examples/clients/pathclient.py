@@ -55,8 +55,8 @@ class Failed(CallError):
 
 
 class Cancelled(CallError):
-    """The call waited, and was cancelled: by somebody, by `within`, by the end of the server, or, in a session with a name,
-    when its connection broke."""
+    """The call waited, and was cancelled: by somebody, by `within`, by the end of the server, or, in a session with a
+    name, when its connection broke."""
 
 
 class Rejected(CallError):
@@ -135,7 +135,8 @@ class Object:
             self._key = int(answer.rpartition(" next ")[2])
 
     def _opened(self, end):
-        """The answer to `open`. While a session of this name has not ended, it is said again over the same connection."""
+        """The answer to `open`. While a session of this name has not ended, it is said again over the same
+        connection."""
         while True:
             self._send(self._opens)
             # A server that has taken all its connections leaves this one unanswered.

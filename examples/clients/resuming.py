@@ -1,6 +1,6 @@
 #!/usr/bin/env python3
-"""Calls operations of an object as a client that has a name, and prints how each call ended. Where the connection breaks,
-it comes back and asks again: a call that was done is not done a second time.
+"""Calls operations of an object as a client that has a name, and prints how each call ended. Where the connection
+breaks, it comes back and asks again: a call that was done is not done a second time.
 
 usage: resuming.py PORT OBJECT NAME CALL ..    (a CALL is an operation with its arguments, as in "put 7")
 
@@ -86,8 +86,8 @@ def main(words):
         print(key, file=sys.stderr)
         return 1
     for call in calls:
-        # Key and call are all that there is to keep until the last line is here. (A client that may be killed itself keeps
-        # them in a file, and asks again when it is started.)
+        # Key and call are all that there is to keep until the last line is here. (A client that may be killed itself
+        # keeps them in a file, and asks again when it is started.)
         found = key
         while True:
             try:
@@ -99,8 +99,8 @@ def main(words):
                 it, found = opened(port, line)
             except Gone:
                 it = None
-            # The server has either this call or all before it. (Before the first one there are none, so of that one a server
-            # that was started anew would say the same.)
+            # The server has either this call or all before it. (Before the first one there are none, so of that one a
+            # server that was started anew would say the same.)
             if it is None or not (found == key + 1 or found == key > 1):
                 return unknown(call)
         if found > key and answer.startswith("no "):

@@ -24,19 +24,36 @@ const FAILED: Reply = Reply::Failed(Failure::Device);
 #[derive(Clone, Copy)]
 struct Ask(u32, u32, &'static str, Option<u32>);
 
-// What a desk answers to a call of a session under a key. What it knows of the key beforehand has to agree with that.
+// Whether what is known of a key fits what a call under it is answered.
+fn fits(known: &Result<Option<Kept>, KeyedFault>, answer: &Answer) -> bool {
+    match answer {
+        Ok(Keyed::New(_)) => *known == Ok(None),
+        Ok(Keyed::Kept(kept)) => *known == Ok(Some(*kept)),
+        Err(Submit(_)) => *known == Ok(None),
+        Err(fault) => *known == Err(*fault),
+    }
+}
+
+// Whether a call under a key was taken.
+fn was_taken(answer: &Answer) -> bool {
+    matches!(answer, Ok(Keyed::New(_)))
+}
+
+// What a desk answers to a call of a session under a key. What it knows of the key beforehand has to fit that, and what
+// is not taken changes nothing.
 fn answer_of(desk: &mut Desk, session: u32, key: u32, op: &str, args: &[Datum]) -> Option<Answer> {
     let known = desk.kept(session, key, op, args);
     let before = look(desk);
     let next = desk.next_key(session);
     let answer = desk.submit_keyed(session, key, op, args);
-    let agrees = match answer {
-        Ok(Keyed::New(_)) => known == Ok(None) && desk.next_key(session) == next.saturating_add(1),
-        Ok(Keyed::Kept(kept)) => known == Ok(Some(kept)) && look(desk) == before,
-        Err(Submit(_)) => known == Ok(None) && look(desk) == before,
-        Err(fault) => known == Err(fault) && look(desk) == before,
-    };
-    if agrees { Some(answer) } else { None }
+    let is_same = look(desk) == before;
+    let grows = desk.next_key(session) == next.saturating_add(1);
+    let taken = was_taken(&answer);
+    if fits(&known, &answer) && is_same != taken && grows == taken {
+        Some(answer)
+    } else {
+        None
+    }
 }
 
 // What a desk answers to a call under a key.

@@ -4,3 +4,4 @@ pub mod Whole
 pub mod Serializing
 pub mod Unended
 pub mod Back
+pub mod Stepping

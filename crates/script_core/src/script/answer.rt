@@ -61,11 +61,12 @@ fn push_refusal(out: &mut Vec<u8>, refusal: Refusal) -> Result<(), AllocError>
 fn push_repeat(out: &mut Vec<u8>, kept: Kept) -> Result<(), AllocError>
     ensures { OnOk result (out.new.items ≡ out.old.items ++ repeat_line kept.number kept.state) }
 {
-    match kept.state {
-        CallState::Waiting => push_kept(out, "waiting", kept.number),
-        CallState::Running => push_kept(out, "running", kept.number),
-        CallState::Cancelled => push_kept(out, "cancelled", kept.number),
-        CallState::Ended(reply) => push_repeated(out, kept.number, &reply),
+    let Kept { number, state } = kept;
+    match state {
+        CallState::Waiting => push_kept(out, "waiting", number),
+        CallState::Running => push_kept(out, "running", number),
+        CallState::Cancelled => push_kept(out, "cancelled", number),
+        CallState::Ended(reply) => push_repeated(out, number, &reply),
     }
 }
 
