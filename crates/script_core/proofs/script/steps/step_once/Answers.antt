@@ -1,4 +1,4 @@
-use Rattle.std.proofs.Common.{false, true, ◌≡◌}
+use Rattle.std.proofs.Common.{true, ◌≡◌}
 use Rattle.script_core.specs.Does.{IsOver}
 use Rattle.desk_core.specs.Answers.{runs_in}
 use Rattle.script_core.proofs.Stepping.{step_over}
