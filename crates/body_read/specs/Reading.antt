@@ -5,7 +5,7 @@ use Rattle.path_tree.specs.declared.token.Symbol.TheVariants.{Plus, Minus, OpenP
 use Rattle.path_tree.specs.Lexeme.{Lexeme, symbol, number as number_lexeme, identifier, string, end_mark, same_symbol}
 use Rattle.path_tree.specs.Reading.{symbol_at}
 use Rattle.path_tree.specs.Known.{value_of}
-use Rattle.value_core.specs.Limits.{most_text_bytes}
+use Rattle.text_core.specs.Limits.{most_text_bytes}
 use Rattle.value_core.specs.declared.kind.Elem.{Elem}
 use Rattle.value_core.specs.declared.kind.Elem.TheVariants as elem
 use Rattle.value_core.specs.declared.kind.Kind.{Kind}
