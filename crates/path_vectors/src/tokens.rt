@@ -132,8 +132,18 @@ fn strings_have_1000_bytes(rt: HostRuntime) {
         let source = quoted(rt.alloc(), count).expect(&rt, "memory");
         match lex(rt.alloc(), &source) {
             Ok(tokens) => match tokens.as_slice() {
-                [Token { kind: Kind::Text(content), .. }, end] => {
-                    assert!(rt; is_string && content.len() == usize::from(count) && end.start == source.len());
+                [
+                    Token {
+                        kind: Kind::Text(content),
+                        ..
+                    },
+                    end,
+                ] => {
+                    assert!(rt;
+                        is_string
+                            && content.len() == usize::from(count)
+                            && end.start == source.len()
+                    );
                 }
                 _ => assert!(rt; false),
             },
