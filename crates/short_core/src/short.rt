@@ -1,7 +1,7 @@
 //! Replies in memory of their own length.
 
 ghost use Rattle.std.specs.Prelude.{◌≡◌, ◌≤◌, ◌↔◌, IsTrue, Some, None, vec_capacity};
-ghost use Rattle.value_core.specs.declared.datum.Datum.TheVariants as data;
+ghost use Rattle.value_core.specs.declared.datum.Datum.TheVariants as datum;
 ghost use Rattle.apply_core.specs.declared.reply.Reply.TheVariants.{Done, Refused, Failed};
 ghost use Rattle.text_core.specs.Limits.{most_text_bytes};
 ghost use Rattle.short_core.specs.Short.{reply_of, IsDone};
@@ -82,7 +82,7 @@ fn is_nothing(reply: &Reply) -> bool
 }
 
 fn is_integer(number: u32, reply: &Reply) -> bool
-    ensures { IsTrue result ↔ (Done (Some (data.Integer number)) ≡ reply.now) }
+    ensures { IsTrue result ↔ (Done (Some (datum.Integer number)) ≡ reply.now) }
 {
     match reply {
         Reply::Done(Some(Datum::Integer(other))) => number == *other,
@@ -91,7 +91,7 @@ fn is_integer(number: u32, reply: &Reply) -> bool
 }
 
 fn is_text(row: &Row, reply: &Reply) -> bool
-    ensures { IsTrue result ↔ (Done (Some (data.Text row.now)) ≡ reply.now) }
+    ensures { IsTrue result ↔ (Done (Some (datum.Text row.now)) ≡ reply.now) }
 {
     match reply {
         Reply::Done(Some(Datum::Text(text))) => row.is(text),
