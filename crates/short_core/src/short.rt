@@ -6,11 +6,11 @@ ghost use Rattle.apply_core.specs.declared.reply.Reply.TheVariants.{Done, Refuse
 ghost use Rattle.text_core.specs.Limits.{most_text_bytes};
 ghost use Rattle.short_core.specs.Short.{reply_of, IsDone};
 
-use crate::row::Row;
 use apply_core::reply::{Failure, Reply};
 use std::alloc::Global;
 use std::marker::Model;
 use std::mem;
+use text_core::row::Row;
 use text_core::text::Text;
 use value_core::datum::Datum;
 
