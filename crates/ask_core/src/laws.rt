@@ -1,6 +1,6 @@
 //! Laws of calls under keys, over the definitions alone.
 
-ghost use Rattle.desk_core.specs.KeyedLaws.{KeptExactly, SubmitIsKeyed};
+ghost use Rattle.ask_core.specs.KeyedLaws.{KeptExactly, SubmitIsKeyed};
 
 /// A call under a key is answered by what became of an earlier one exactly where the session made it under that key.
 pub fn kept_exactly()

@@ -1,7 +1,7 @@
 //! What a desk answers.
 
 ghost use Rattle.std.specs.Prelude.{◌≡◌};
-ghost use Rattle.desk_core.specs.Answers.{receipt_by};
+ghost use Rattle.ask_core.specs.Answers.{receipt_by};
 
 use apply_core::reply::Reply;
 use board_core::receipt::{NotedOutcome, Receipt};

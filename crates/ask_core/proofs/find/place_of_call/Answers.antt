@@ -1,6 +1,6 @@
 use Rattle.std.proofs.Common.{Some, sym, ap, ◌∙◌}
 use Rattle.std.proofs.lemmas.Option.{slice_get-get_or}
-use Rattle.desk_core.proofs.find.place_of_call.Goals as goal
+use Rattle.ask_core.proofs.find.place_of_call.Goals as goal
 
 pub returns-then-is_of-clause-some : goal.returns-then-is_of-clause-some
 returns-then-is_of-clause-some c = (

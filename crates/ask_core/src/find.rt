@@ -8,10 +8,9 @@ ghost use Rattle.board_core.specs.Lists.{Every};
 ghost use Rattle.board_core.specs.Calls.{RunningCall};
 ghost use Rattle.board_core.specs.Board.{bodies};
 ghost use Rattle.board_core.specs.Outcomes.{IsOf};
-ghost use Rattle.desk_core.specs.Answers.{HasName, IsNamedAt};
+ghost use Rattle.ask_core.specs.Answers.{HasName, IsNamedAt};
 
 use board_core::call::Call;
-use board_core::same::same_args;
 use decl_core::object::{Object, Operation};
 use decl_core::same::same_declaration;
 use queue_core::open_call::{Running, Waiting};
@@ -26,7 +25,7 @@ fn has_name(operation: &Operation, name: &[u8]) -> bool
 }
 
 // The place of the first operation of this name.
-pub(crate) fn place_of(object: &Object, name: &[u8]) -> Option<usize>
+pub fn place_of(object: &Object, name: &[u8]) -> Option<usize>
     ensures some { IfSome result (λ k. (operation : AnOperation) × IsNamedAt object.now k operation name.now) }
     ensures none { IfNone result (Every (λ x. HasName name.now x → ⊥) (bodies object.now)) }
 {
@@ -39,35 +38,35 @@ pub(crate) fn place_of(object: &Object, name: &[u8]) -> Option<usize>
 }
 
 // Whether a call is of the operation of this name, with these arguments.
-pub(crate) fn is_same_call(call: &Call, name: &[u8], args: &[Datum]) -> bool
+pub fn is_same_call(call: &Call, name: &[u8], args: &[Datum]) -> bool
     ensures { IsTrue result ↔ (HasName name.now call.now.operation × (call.now.arguments ≡ args.now)) }
 {
-    has_name(call.operation(), name) && same_args(call.args(), args)
+    has_name(call.operation(), name) && call.args().are(args)
 }
 
 // Whether a call of this session waits.
-pub(crate) fn waits_for(waiting: &[Waiting], session: u32) -> bool
+pub fn waits_for(waiting: &[Waiting], session: u32) -> bool
     ensures { result ≡ list_any (λ w. w.call.session == session) waiting.now }
 {
     waiting.iter().any(|w| w.session() == session)
 }
 
 // Whether a call of this session runs.
-pub(crate) fn runs_for(running: &[Running], session: u32) -> bool
+pub fn runs_for(running: &[Running], session: u32) -> bool
     ensures { result ≡ list_any (λ r. r.call.session == session) running.now }
 {
     running.iter().any(|r| r.session() == session)
 }
 
 // Whether a call of this number waits.
-pub(crate) fn waits(waiting: &[Waiting], number: u32) -> bool
+pub fn waits(waiting: &[Waiting], number: u32) -> bool
     ensures { result ≡ list_any (λ w. w.number == number) waiting.now }
 {
     waiting.iter().any(|w| w.number() == number)
 }
 
 // Whether a call of this number runs.
-pub(crate) fn runs(running: &[Running], number: u32) -> bool
+pub fn runs(running: &[Running], number: u32) -> bool
     ensures { result ≡ list_any (λ r. r.number == number) running.now }
 {
     running.iter().any(|r| r.number() == number)
@@ -79,7 +78,7 @@ fn is_of(outcome: &Outcome, running: &Running) -> bool
 {
     running.number() == outcome.number()
         && same_declaration(running.call().operation(), outcome.operation())
-        && same_args(running.call().args(), outcome.args())
+        && running.call().args().are(outcome.args())
         && running.pins().is_same(outcome.pins())
 }
 
@@ -97,7 +96,7 @@ fn place_of_call(running: &[Running], outcome: &Outcome) -> Option<usize>
 }
 
 // The place of the running call that ends with an outcome, where that was not handed in before.
-pub(crate) fn place_to_end(running: &[Running], outcome: &Outcome) -> Option<usize>
+pub fn place_to_end(running: &[Running], outcome: &Outcome) -> Option<usize>
     ensures some { IfSome result (λ k. IsFresh outcome.now × ((r : RunningCall) × (slice_get running.now k ≡ Some r) × IsOf (outcome_call outcome.now) r)) }
     ensures none { IfNone result ((IsFresh outcome.now → ⊥) ⊎ Every (λ r. IsOf (outcome_call outcome.now) r → ⊥) running.now) }
 {
@@ -115,7 +114,7 @@ fn is_left(running: &Running, number: u32) -> bool
 }
 
 // The place of the running call of this number whose ticket was not taken.
-pub(crate) fn place_of_left(running: &[Running], number: u32) -> Option<usize>
+pub fn place_of_left(running: &[Running], number: u32) -> Option<usize>
     ensures some { IfSome result (λ k. (r : RunningCall) × (slice_get running.now k ≡ Some r) × (r.number ≡ number) × (r.taken ≡ false)) }
     ensures none { IfNone result (Every (λ r. (r.number ≡ number) × (r.taken ≡ false) → ⊥) running.now) }
 {

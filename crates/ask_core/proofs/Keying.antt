@@ -6,12 +6,12 @@ use Rattle.board_core.specs.Calls.{AcceptedCall}
 use Rattle.board_core.specs.Board.{Board, call_at}
 use Rattle.key_core.specs.Keys.{HasKey, next_key}
 use Rattle.key_core.proofs.Keys.{key_below, key_one}
-use Rattle.desk_core.specs.declared.answer.SubmitFault.TheVariants as faults
-use Rattle.desk_core.specs.declared.answer.KeyedFault.TheVariants.{Gone, BadKey, KeyReused, Submit}
-use Rattle.desk_core.specs.declared.answer.Keyed.TheVariants.{New, Kept}
-use Rattle.desk_core.specs.Answers.{Asked}
-use Rattle.desk_core.specs.Keyed.{IsSameCall}
-use Rattle.desk_core.specs.KeyedLaws.{HasMade, KeptExactly, SubmitIsKeyed}
+use Rattle.ask_core.specs.declared.answer.SubmitFault.TheVariants as faults
+use Rattle.ask_core.specs.declared.answer.KeyedFault.TheVariants.{Gone, BadKey, KeyReused, Submit}
+use Rattle.ask_core.specs.declared.answer.Keyed.TheVariants.{New, Kept}
+use Rattle.ask_core.specs.Answers.{Asked}
+use Rattle.ask_core.specs.Keyed.{IsSameCall}
+use Rattle.ask_core.specs.KeyedLaws.{HasMade, KeptExactly, SubmitIsKeyed}
 
 -- a key that has a call is not the next one
 not_next : (b : Board) (a : Asked) (key : ℕ) → HasMade b a key → key ≡ next_key b.calls a.session → ⊥

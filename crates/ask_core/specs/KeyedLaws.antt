@@ -4,14 +4,14 @@ use Rattle.board_core.specs.Calls.{AcceptedCall}
 use Rattle.board_core.specs.Board.{Board, joined}
 use Rattle.board_core.specs.Started.{Settles}
 use Rattle.key_core.specs.Keys.{HasKey, next_key}
-use Rattle.desk_core.specs.declared.answer.SubmitFault.{SubmitFault}
-use Rattle.desk_core.specs.declared.answer.SubmitFault.TheVariants as faults
-use Rattle.desk_core.specs.declared.answer.KeyedFault.{KeyedFault}
-use Rattle.desk_core.specs.declared.answer.KeyedFault.TheVariants.{Gone, Submit}
-use Rattle.desk_core.specs.declared.answer.Keyed.{Keyed}
-use Rattle.desk_core.specs.declared.answer.Keyed.TheVariants.{New, Kept}
-use Rattle.desk_core.specs.Answers.{Asked, IsGone, IsTaken, IsRefused}
-use Rattle.desk_core.specs.Keyed.{IsSameCall, SubmitsKeyed}
+use Rattle.ask_core.specs.declared.answer.SubmitFault.{SubmitFault}
+use Rattle.ask_core.specs.declared.answer.SubmitFault.TheVariants as faults
+use Rattle.ask_core.specs.declared.answer.KeyedFault.{KeyedFault}
+use Rattle.ask_core.specs.declared.answer.KeyedFault.TheVariants.{Gone, Submit}
+use Rattle.ask_core.specs.declared.answer.Keyed.{Keyed}
+use Rattle.ask_core.specs.declared.answer.Keyed.TheVariants.{New, Kept}
+use Rattle.ask_core.specs.Answers.{Asked, IsGone, IsTaken, IsRefused}
+use Rattle.ask_core.specs.Keyed.{IsSameCall, SubmitsKeyed}
 
 -- a call that was made before is told
 abbrev pub IsKeptAnswer : Result Keyed KeyedFault → Type 0

@@ -5,14 +5,14 @@ use Rattle.board_core.specs.Calls.{AcceptedCall, Noted}
 use Rattle.board_core.specs.Board.{Board, joined}
 use Rattle.board_core.specs.Started.{Settles}
 use Rattle.key_core.specs.Keys.{HasKey, next_key}
-use Rattle.desk_core.specs.declared.answer.KeyedFault.{KeyedFault}
-use Rattle.desk_core.specs.declared.answer.KeyedFault.TheVariants.{Gone, BadKey, KeyReused, Submit}
-use Rattle.desk_core.specs.declared.answer.CallState.{CallState}
-use Rattle.desk_core.specs.declared.answer.CallState.TheVariants.{Waiting, Running, Cancelled, Ended}
-use Rattle.desk_core.specs.declared.answer.Kept.{Kept}
-use Rattle.desk_core.specs.declared.answer.Keyed.{Keyed}
-use Rattle.desk_core.specs.declared.answer.Keyed.TheVariants as keyed
-use Rattle.desk_core.specs.Answers.{Asked, HasName, IsGone, IsTaken, IsRefused, waits_in, runs_in, ended_in}
+use Rattle.ask_core.specs.declared.answer.KeyedFault.{KeyedFault}
+use Rattle.ask_core.specs.declared.answer.KeyedFault.TheVariants.{Gone, BadKey, KeyReused, Submit}
+use Rattle.ask_core.specs.declared.answer.CallState.{CallState}
+use Rattle.ask_core.specs.declared.answer.CallState.TheVariants.{Waiting, Running, Cancelled, Ended}
+use Rattle.ask_core.specs.declared.answer.Kept.{Kept}
+use Rattle.ask_core.specs.declared.answer.Keyed.{Keyed}
+use Rattle.ask_core.specs.declared.answer.Keyed.TheVariants as keyed
+use Rattle.ask_core.specs.Answers.{Asked, HasName, IsGone, IsTaken, IsRefused, waits_in, runs_in, ended_in}
 
 -- a call is of the operation of the name that is asked, in any case, with the arguments that are asked
 pub record IsSameCall (a : Asked) (call : AcceptedCall) : Type 0 where

@@ -11,13 +11,13 @@ use Rattle.run_core.specs.Outcomes.{outcome_call, outcome_reply, outcome_news, o
 use Rattle.run_core.specs.declared.outcome.Outcome.{Outcome}
 use Rattle.board_core.specs.declared.receipt.Receipt.{Receipt}
 use Rattle.call_core.specs.Tickets.{ticket_call}
-use Rattle.desk_core.specs.declared.answer.SubmitFault.{SubmitFault}
-use Rattle.desk_core.specs.declared.answer.SubmitFault.TheVariants.{Gone, UnknownOp, BadArgs, SessionBusy, Full, HistoryFull, Memory}
-use Rattle.desk_core.specs.declared.answer.Cancelled.{Cancelled}
-use Rattle.desk_core.specs.declared.answer.Cancelled.TheVariants as cancels
-use Rattle.desk_core.specs.declared.answer.Collected.{Collected}
-use Rattle.desk_core.specs.declared.answer.Finished.{Finished}
-use Rattle.desk_core.specs.declared.answer.Collected.TheVariants as collects
+use Rattle.ask_core.specs.declared.answer.SubmitFault.{SubmitFault}
+use Rattle.ask_core.specs.declared.answer.SubmitFault.TheVariants.{Gone, UnknownOp, BadArgs, SessionBusy, Full, HistoryFull, Memory}
+use Rattle.ask_core.specs.declared.answer.Cancelled.{Cancelled}
+use Rattle.ask_core.specs.declared.answer.Cancelled.TheVariants as cancels
+use Rattle.ask_core.specs.declared.answer.Collected.{Collected}
+use Rattle.ask_core.specs.declared.answer.Finished.{Finished}
+use Rattle.ask_core.specs.declared.answer.Collected.TheVariants as collects
 use Rattle.board_core.specs.Lists.{Every, Among}
 use Rattle.board_core.specs.Calls.{AcceptedCall, RunningCall}
 use Rattle.board_core.specs.Board.{Board, bodies, call_at, dismissed, taken_at, ended, entry_of}
