@@ -5,6 +5,7 @@ pub mod TextOrder
 pub mod Datum
 pub mod Cells
 pub mod Queue
+pub mod Sorted
 pub mod Contents
 pub mod Spelling
 pub mod Laws

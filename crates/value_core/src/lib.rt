@@ -16,6 +16,8 @@ pub mod limits;
 mod queue;
 mod reader;
 pub mod refusal;
+pub mod row;
 mod rows;
+mod sorted;
 pub mod text;
 pub mod value;
