@@ -2,6 +2,7 @@ pub mod Openings
 pub mod Padding
 pub mod Tables
 pub mod TableRows
+pub mod Placing
 pub mod Apart
 pub mod Decoding
 pub mod Encoding

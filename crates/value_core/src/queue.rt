@@ -1,7 +1,8 @@
 //! The elements of a queue, the oldest first: none is moved when one is added or taken.
 
-ghost use Rattle.std.specs.Prelude.{◌≡◌, ◌++◌, ◌∷◌, [], length, slice_get, IfOk, OnOk, OnErr, drop};
+ghost use Rattle.std.specs.Prelude.{◌≡◌, ◌++◌, ◌∷◌, [], length, map, slice_get, IfOk, OnOk, OnErr, drop};
 ghost use Rattle.std.specs.List.{flat_map};
+ghost use Rattle.value_core.specs.declared.datum.Datum.TheVariants as datum;
 ghost use Rattle.value_core.specs.Datum.{elem_of};
 ghost use Rattle.value_core.specs.Queue.{queue_sort, queue_data};
 ghost use Rattle.value_core.specs.Spelling.{spelled_datum};
@@ -166,19 +167,19 @@ impl Queue {
 }
 
 fn put_integers(all: &VecDeque<u32>, out: &mut Vec<u8>) -> Result<(), AllocError>
-    ensures { OnOk result (out.new.items ≡ out.old.items ++ flat_map spelled_datum (queue_data (Queue.Integers all.now))) }
+    ensures { OnOk result (out.new.items ≡ out.old.items ++ flat_map spelled_datum (map datum.Integer all.now.items)) }
 {
-    for number in all {
-        put_integer(out, *number)?;
+    for place in 0..all.len() {
+        put_integer(out, all[place])?;
     }
     Ok(())
 }
 
 fn put_texts(all: &VecDeque<Row>, out: &mut Vec<u8>) -> Result<(), AllocError>
-    ensures { OnOk result (out.new.items ≡ out.old.items ++ flat_map spelled_datum (queue_data (Queue.Texts all.now))) }
+    ensures { OnOk result (out.new.items ≡ out.old.items ++ flat_map spelled_datum (map datum.Text all.now.items)) }
 {
-    for row in all {
-        put_row(out, row)?;
+    for place in 0..all.len() {
+        put_row(out, &all[place])?;
     }
     Ok(())
 }

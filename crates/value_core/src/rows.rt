@@ -7,7 +7,8 @@ ghost use Rattle.std.specs.FinMap as map;
 ghost use Rattle.std.specs.List.{flat_map};
 ghost use Rattle.value_core.specs.Spelling.{spelled_row};
 ghost use Rattle.value_core.specs.Datum.{elem_of};
-ghost use Rattle.value_core.specs.Rows.{rows_sort, rows_map};
+ghost use Rattle.value_core.specs.declared.datum.Datum.TheVariants as datum;
+ghost use Rattle.value_core.specs.Rows.{as_data, rows_sort, rows_map};
 
 use crate::datum::Datum;
 use crate::encode::{put_integer, put_row, row_len};
@@ -152,8 +153,8 @@ impl Rows {
         ensures { IfOk result (λ list. list.items ≡ map.entries (rows_map self.now)) }
     {
         match self {
-            Rows::Integers(all) => list_integers(alloc, all),
-            Rows::Texts(all) => list_texts(alloc, all),
+            Rows::Integers(all) => list_integers(alloc, all.rows()),
+            Rows::Texts(all) => list_texts(alloc, all.rows()),
         }
     }
 
@@ -162,46 +163,50 @@ impl Rows {
         ensures { OnOk result (out.new.items ≡ out.old.items ++ flat_map spelled_row (map.entries (rows_map self.now))) }
     {
         match self {
-            Rows::Integers(all) => put_integers(all, out),
-            Rows::Texts(all) => put_texts(all, out),
+            Rows::Integers(all) => put_integers(all.rows(), out),
+            Rows::Texts(all) => put_texts(all.rows(), out),
         }
     }
 }
 
-fn list_integers(alloc: Global, all: &Sorted<u32>) -> Result<Vec<(Text, Datum)>, AllocError>
-    ensures { IfOk result (λ list. list.items ≡ map.entries (rows_map (Rows.Integers all.now))) }
+fn list_integers(alloc: Global, all: &[(Row, u32)]) -> Result<Vec<(Text, Datum)>, AllocError>
+    ensures { IfOk result (λ list. list.items ≡ as_data datum.Integer all.now) }
 {
     let mut list = Vec::with_capacity(alloc, all.len())?;
-    for row in all.rows() {
+    for place in 0..all.len() {
+        let row = &all[place];
         list.push((row.0.text(), Datum::Integer(row.1)))?;
     }
     Ok(list)
 }
 
-fn list_texts(alloc: Global, all: &Sorted<Row>) -> Result<Vec<(Text, Datum)>, AllocError>
-    ensures { IfOk result (λ list. list.items ≡ map.entries (rows_map (Rows.Texts all.now))) }
+fn list_texts(alloc: Global, all: &[(Row, Row)]) -> Result<Vec<(Text, Datum)>, AllocError>
+    ensures { IfOk result (λ list. list.items ≡ as_data datum.Text all.now) }
 {
     let mut list = Vec::with_capacity(alloc, all.len())?;
-    for row in all.rows() {
+    for place in 0..all.len() {
+        let row = &all[place];
         list.push((row.0.text(), Datum::Text(row.1.text())))?;
     }
     Ok(list)
 }
 
-fn put_integers(all: &Sorted<u32>, out: &mut Vec<u8>) -> Result<(), AllocError>
-    ensures { OnOk result (out.new.items ≡ out.old.items ++ flat_map spelled_row (map.entries (rows_map (Rows.Integers all.now)))) }
+fn put_integers(all: &[(Row, u32)], out: &mut Vec<u8>) -> Result<(), AllocError>
+    ensures { OnOk result (out.new.items ≡ out.old.items ++ flat_map spelled_row (as_data datum.Integer all.now)) }
 {
-    for row in all.rows() {
+    for place in 0..all.len() {
+        let row = &all[place];
         put_row(out, &row.0)?;
         put_integer(out, row.1)?;
     }
     Ok(())
 }
 
-fn put_texts(all: &Sorted<Row>, out: &mut Vec<u8>) -> Result<(), AllocError>
-    ensures { OnOk result (out.new.items ≡ out.old.items ++ flat_map spelled_row (map.entries (rows_map (Rows.Texts all.now)))) }
+fn put_texts(all: &[(Row, Row)], out: &mut Vec<u8>) -> Result<(), AllocError>
+    ensures { OnOk result (out.new.items ≡ out.old.items ++ flat_map spelled_row (as_data datum.Text all.now)) }
 {
-    for row in all.rows() {
+    for place in 0..all.len() {
+        let row = &all[place];
         put_row(out, &row.0)?;
         put_row(out, &row.1)?;
     }

@@ -90,7 +90,10 @@ impl<X> Sorted<X> {
     pub fn has(&self, key: &Text) -> bool
         ensures { result ≡ is_some (lookup (is_at (text_cmp key.now)) self.now) }
     {
-        self.place(key).is_ok()
+        match self.place(key) {
+            Ok(_) => true,
+            Err(_) => false,
+        }
     }
 }
 
