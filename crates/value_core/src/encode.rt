@@ -10,12 +10,21 @@ ghost use Rattle.value_core.specs.Spelling.{spelled_text, spelled_datum, header,
 
 use crate::cells::Cells;
 use crate::kind::Kind;
+<<<<<<< HEAD
 use crate::limits::TextLength;
 use crate::row::Row;
 use crate::text::Text;
 use crate::value::{Body, Value};
 use std::alloc::{AllocError, Global};
 use std::mem::size_of;
+=======
+use crate::queue::Queue;
+use crate::value::{Body, Value};
+use std::alloc::{AllocError, Global};
+use std::mem::size_of;
+use text_core::limits::TextLength;
+use text_core::text::Text;
+>>>>>>> cut
 
 /// The bytes that spell the value.
 pub fn encode(alloc: Global, value: &Value) -> Result<Vec<u8>, AllocError>
@@ -95,3 +104,22 @@ fn put_texts(out: &mut Vec<u8>, all: &[Text]) -> Result<(), AllocError>
     }
     Ok(())
 }
+<<<<<<< HEAD
+=======
+
+fn put_queue(out: &mut Vec<u8>, line: &Queue) -> Result<(), AllocError>
+    ensures { OnOk result (out.new.items ≡ out.old.items ++ flat_map spelled_datum (queue_data line.now)) }
+{
+    for place in 0..line.len() {
+        if let Some(datum) = line.get(place) {
+            put_datum(out, &datum)?;
+        }
+    }
+    Ok(())
+}
+
+// How many bytes spell a text: its length, and itself.
+pub(crate) fn text_len(text: &Text) -> usize {
+    size_of::<TextLength>() + text.len() as usize
+}
+>>>>>>> cut

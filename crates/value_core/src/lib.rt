@@ -18,6 +18,9 @@ mod reader;
 pub mod refusal;
 pub mod row;
 mod rows;
+<<<<<<< HEAD
 mod sorted;
 pub mod text;
+=======
+>>>>>>> cut
 pub mod value;
