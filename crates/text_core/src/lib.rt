@@ -5,3 +5,4 @@
 
 pub mod limits;
 pub mod text;
+pub mod row;

@@ -10,21 +10,12 @@ ghost use Rattle.value_core.specs.Spelling.{spelled_text, spelled_datum, header,
 
 use crate::cells::Cells;
 use crate::kind::Kind;
-<<<<<<< HEAD
-use crate::limits::TextLength;
-use crate::row::Row;
-use crate::text::Text;
-use crate::value::{Body, Value};
-use std::alloc::{AllocError, Global};
-use std::mem::size_of;
-=======
-use crate::queue::Queue;
 use crate::value::{Body, Value};
 use std::alloc::{AllocError, Global};
 use std::mem::size_of;
 use text_core::limits::TextLength;
+use text_core::row::Row;
 use text_core::text::Text;
->>>>>>> cut
 
 /// The bytes that spell the value.
 pub fn encode(alloc: Global, value: &Value) -> Result<Vec<u8>, AllocError>

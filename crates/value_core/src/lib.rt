@@ -16,11 +16,6 @@ pub mod limits;
 mod queue;
 mod reader;
 pub mod refusal;
-pub mod row;
 mod rows;
-<<<<<<< HEAD
 mod sorted;
-pub mod text;
-=======
->>>>>>> cut
 pub mod value;

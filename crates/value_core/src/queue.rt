@@ -10,7 +10,7 @@ ghost use Rattle.value_core.specs.Spelling.{spelled_datum};
 use crate::datum::Datum;
 use crate::encode::{put_integer, put_row, row_len};
 use crate::kind::Elem;
-use crate::row::Row;
+use text_core::row::Row;
 use std::alloc::{AllocError, Global};
 use std::collections::VecDeque;
 

@@ -6,11 +6,11 @@ ghost use Rattle.std.specs.FinMap.{put};
 ghost use Rattle.std.specs.List.{AllZip};
 ghost use Rattle.std.specs.List.Sorted.{IsStrictlySortedBy};
 ghost use Rattle.std.specs.Map.{lookup, remove_entry};
-ghost use Rattle.value_core.specs.TextOrder.{text_cmp};
+ghost use Rattle.text_core.specs.TextOrder.{text_cmp};
 ghost use Rattle.value_core.specs.Sorted.{Rise, StandsAt, IsGapFor};
 
-use crate::row::Row;
-use crate::text::Text;
+use text_core::row::Row;
+use text_core::text::Text;
 use std::alloc::{AllocError, Global};
 use std::marker::Model;
 

@@ -1,9 +1,9 @@
 //! Texts in memory of their own length.
 
 ghost use Rattle.std.specs.Prelude.{◌≡◌, ◌≤◌, ◌↔◌, IsTrue, IfOk, length, vec_capacity};
-ghost use Rattle.value_core.specs.Plain.{IsText};
-ghost use Rattle.value_core.specs.Limits.{most_text_bytes};
-ghost use Rattle.value_core.specs.TextOrder.{text_cmp};
+ghost use Rattle.text_core.specs.Plain.{IsText};
+ghost use Rattle.text_core.specs.Limits.{most_text_bytes};
+ghost use Rattle.text_core.specs.TextOrder.{text_cmp};
 
 use crate::limits::TextLength;
 use crate::text::Text;
@@ -20,7 +20,7 @@ pub struct Row {
 impl Model for Row {
     ghost use Rattle.std.specs.Prelude.{List, ℕ};
     ghost use Rattle.std.specs.Coded.{coded_list, coded_ℕ};
-    ghost use Rattle.value_core.specs.Plain.{IsText};
+    ghost use Rattle.text_core.specs.Plain.{IsText};
 
     ghost Value = { List ℕ };
 
@@ -121,7 +121,7 @@ impl PartialEq for Row {
     ghost use Rattle.std.specs.Prelude.{◌==◌};
     ghost use Rattle.std.proofs.Common.{rules};
     ghost use Rattle.std.specs.Cmp.Rules.{comparing};
-    ghost use Rattle.value_core.specs.TextOrder.{text_eq};
+    ghost use Rattle.text_core.specs.TextOrder.{text_eq};
 
     ghost eq = { text_eq };
 
@@ -144,7 +144,7 @@ impl PartialOrd for Row {
     ghost use Rattle.std.specs.Cmp.Rules.{comparing};
     ghost use Rattle.std.specs.Cmp.{partial_order_from_own_ties};
     ghost use Rattle.std.specs.Ordering.{as_partial_cmp};
-    ghost use Rattle.value_core.specs.TextOrder.{text_cmp};
+    ghost use Rattle.text_core.specs.TextOrder.{text_cmp};
 
     ghost partial_cmp = { as_partial_cmp text_cmp };
 
@@ -158,7 +158,7 @@ impl PartialOrd for Row {
 impl Ord for Row {
     ghost use Rattle.std.proofs.Common.{rules};
     ghost use Rattle.std.specs.Cmp.Rules.{comparing};
-    ghost use Rattle.value_core.specs.TextOrder.{text_cmp};
+    ghost use Rattle.text_core.specs.TextOrder.{text_cmp};
 
     ghost cmp = { text_cmp };
 
