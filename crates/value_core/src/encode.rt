@@ -9,6 +9,7 @@ ghost use Rattle.value_core.specs.Cells.{cells_data};
 ghost use Rattle.value_core.specs.Spelling.{spelled_text, spelled_datum, header, Spells};
 
 use crate::cells::Cells;
+use crate::format::Format;
 use crate::kind::Kind;
 use crate::value::{Body, Value};
 use std::alloc::{AllocError, Global};
@@ -17,7 +18,7 @@ use text_core::limits::TextLength;
 use text_core::row::Row;
 use text_core::text::Text;
 
-/// The bytes that spell the value.
+/// The bytes that spell the value, in the second format.
 pub fn encode(alloc: Global, value: &Value) -> Result<Vec<u8>, AllocError>
     ensures { IfOk result (λ bytes. Spells bytes.items (kind_of value.now) value.now) }
 {
@@ -34,7 +35,7 @@ pub fn encode(alloc: Global, value: &Value) -> Result<Vec<u8>, AllocError>
 fn put_header(out: &mut Vec<u8>, kind: Kind, count: u16) -> Result<(), AllocError>
     ensures { OnOk result (out.new.items ≡ out.old.items ++ header kind count) }
 {
-    out.push(1)?;
+    out.push(Format::Second.number())?;
     out.push(kind.code())?;
     out.extend_from_slice(&count.to_be_bytes())
 }
@@ -95,22 +96,8 @@ fn put_texts(out: &mut Vec<u8>, all: &[Text]) -> Result<(), AllocError>
     }
     Ok(())
 }
-<<<<<<< HEAD
-=======
-
-fn put_queue(out: &mut Vec<u8>, line: &Queue) -> Result<(), AllocError>
-    ensures { OnOk result (out.new.items ≡ out.old.items ++ flat_map spelled_datum (queue_data line.now)) }
-{
-    for place in 0..line.len() {
-        if let Some(datum) = line.get(place) {
-            put_datum(out, &datum)?;
-        }
-    }
-    Ok(())
-}
 
 // How many bytes spell a text: its length, and itself.
 pub(crate) fn text_len(text: &Text) -> usize {
     size_of::<TextLength>() + text.len() as usize
 }
->>>>>>> cut

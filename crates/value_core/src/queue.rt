@@ -10,9 +10,9 @@ ghost use Rattle.value_core.specs.Spelling.{spelled_datum};
 use crate::datum::Datum;
 use crate::encode::{put_integer, put_row, row_len};
 use crate::kind::Elem;
-use text_core::row::Row;
 use std::alloc::{AllocError, Global};
 use std::collections::VecDeque;
+use text_core::row::Row;
 
 /// The elements of a queue. Each text has memory of its own length.
 #[derive(Drop)]

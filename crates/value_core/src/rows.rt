@@ -13,10 +13,10 @@ ghost use Rattle.value_core.specs.Rows.{as_data, rows_sort, rows_map};
 use crate::datum::Datum;
 use crate::encode::{put_integer, put_row, row_len};
 use crate::kind::Elem;
-use text_core::row::Row;
 use crate::sorted::Sorted;
-use text_core::text::Text;
 use std::alloc::{AllocError, Global};
+use text_core::row::Row;
+use text_core::text::Text;
 
 /// The elements of a table. Each key and each text has memory of its own length.
 #[derive(Drop)]

@@ -9,10 +9,10 @@ ghost use Rattle.std.specs.Map.{lookup, remove_entry};
 ghost use Rattle.text_core.specs.TextOrder.{text_cmp};
 ghost use Rattle.value_core.specs.Sorted.{Rise, StandsAt, IsGapFor};
 
-use text_core::row::Row;
-use text_core::text::Text;
 use std::alloc::{AllocError, Global};
 use std::marker::Model;
+use text_core::row::Row;
+use text_core::text::Text;
 
 /// Keys that rise, and what stands under each. A contract sees them as a list of pairs.
 #[derive(Drop)]
