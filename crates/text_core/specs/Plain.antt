@@ -1,6 +1,6 @@
 -- Which bytes are a text.
 use Rattle.std.specs.Prelude.{ℕ, ◌≤◌, List, length, All}
-use Rattle.value_core.specs.Limits.{most_text_bytes}
+use Rattle.text_core.specs.Limits.{most_text_bytes}
 
 -- a byte that a text may have
 abbrev pub IsPlain : ℕ → Type 0

@@ -1,9 +1,9 @@
 -- A text in its row.
 use Rattle.std.proofs.Common.{◌≡◌, ℕ, ◌≤◌, ◌-◌, List, ◌++◌, length, drop, replicate, All, refl, sym, ap, ◌∙◌, subst, arith, length-append}
 use Rattle.std.proofs.lemmas.List.{drop-replicate, take_at, drop_at, length-replicate}
-use Rattle.value_core.specs.Limits.{most_text_bytes}
-use Rattle.value_core.specs.Plain.{IsPlain}
-use Rattle.value_core.specs.Text.{IsKept}
+use Rattle.text_core.specs.Limits.{most_text_bytes}
+use Rattle.text_core.specs.Plain.{IsPlain}
+use Rattle.text_core.specs.Text.{IsKept}
 
 -- bytes written over the front of a row of zeros
 pub kept : (bytes row : List ℕ) → row ≡ bytes ++ drop (length bytes) (replicate most_text_bytes 0) → length bytes ≤ most_text_bytes → All IsPlain bytes → IsKept (record { row = row; len = length bytes })

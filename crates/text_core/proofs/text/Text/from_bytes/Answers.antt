@@ -1,7 +1,7 @@
 use Rattle.std.proofs.Common.{rules, arith, All}
-use Rattle.value_core.specs.Plain.{IsPlain}
-use Rattle.value_core.proofs.Padding.{kept}
-use Rattle.value_core.proofs.text.Text.from_bytes.Goals as goal
+use Rattle.text_core.specs.Plain.{IsPlain}
+use Rattle.text_core.proofs.Padding.{kept}
+use Rattle.text_core.proofs.text.Text.from_bytes.Goals as goal
 
 pub invariant_of-result : goal.invariant_of-result
 invariant_of-result c =

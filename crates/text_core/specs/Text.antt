@@ -2,9 +2,9 @@
 use Rattle.std.specs.Prelude.{◌≡◌, ℕ, ◌-◌, ◌≤◌, List, ◌++◌, length, take, drop, replicate, All}
 use Rattle.std.proofs.Common.{sym, ap, ◌∙◌, arith, length-take}
 use Rattle.std.proofs.lemmas.List.{take-append-drop}
-use Rattle.value_core.specs.Plain.{IsPlain}
-use Rattle.value_core.specs.Limits.{most_text_bytes}
-use Rattle.value_core.specs.declared.text.Text.TheInside.{Inside}
+use Rattle.text_core.specs.Plain.{IsPlain}
+use Rattle.text_core.specs.Limits.{most_text_bytes}
+use Rattle.text_core.specs.declared.text.Text.TheInside.{Inside}
 
 -- the text is the front of its row
 abbrev pub text_of : Inside → List ℕ

@@ -1,13 +1,12 @@
 //! Texts, in a fixed row.
 
 ghost use Rattle.std.specs.Prelude.{◌≡◌, ◌+◌, ◌≤◌, [], ◌++◌, List, ℕ, length, drop, IfSome, IfNone, ◌↔◌, IsTrue};
-ghost use Rattle.value_core.specs.Plain.{IsPlain, IsText};
+ghost use Rattle.text_core.specs.Plain.{IsPlain, IsText};
 
 use crate::limits::{MOST_TEXT_BYTES, TextLength};
 use std::cmp::Ordering;
 use std::fmt;
 use std::marker::Model;
-use std::mem::size_of;
 
 /// A text of at most 255 bytes from 32 to 126, in a row of its own: it is copied without memory.
 /// Texts are ordered by their bytes, a prefix before the longer text.
@@ -23,7 +22,7 @@ impl Model for Text {
 
     ghost Value = { List ℕ };
 
-    ghost use Rattle.value_core.specs.Text.{text_of, IsKept, inside_of, text_again};
+    ghost use Rattle.text_core.specs.Text.{text_of, IsKept, inside_of, text_again};
 
     ghost view = { text_of };
 
@@ -67,11 +66,6 @@ impl Text {
         ensures { result ≡ length self.now }
     {
         self.len
-    }
-
-    // How many bytes spell the text: its length, and itself.
-    pub(crate) fn spelled_len(&self) -> usize {
-        size_of::<TextLength>() + self.len as usize
     }
 
     /// Whether the text has no byte.
@@ -122,7 +116,7 @@ impl PartialEq for Text {
     ghost use Rattle.std.specs.Prelude.{◌==◌};
     ghost use Rattle.std.proofs.Common.{rules};
     ghost use Rattle.std.specs.Cmp.Rules.{comparing};
-    ghost use Rattle.value_core.specs.TextOrder.{text_eq};
+    ghost use Rattle.text_core.specs.TextOrder.{text_eq};
 
     ghost eq = { text_eq };
 
@@ -145,7 +139,7 @@ impl PartialOrd for Text {
     ghost use Rattle.std.specs.Cmp.Rules.{comparing};
     ghost use Rattle.std.specs.Cmp.{partial_order_from_own_ties};
     ghost use Rattle.std.specs.Ordering.{as_partial_cmp};
-    ghost use Rattle.value_core.specs.TextOrder.{text_cmp};
+    ghost use Rattle.text_core.specs.TextOrder.{text_cmp};
 
     ghost partial_cmp = { as_partial_cmp text_cmp };
 
@@ -159,7 +153,7 @@ impl PartialOrd for Text {
 impl Ord for Text {
     ghost use Rattle.std.proofs.Common.{rules};
     ghost use Rattle.std.specs.Cmp.Rules.{comparing};
-    ghost use Rattle.value_core.specs.TextOrder.{text_cmp};
+    ghost use Rattle.text_core.specs.TextOrder.{text_cmp};
 
     ghost cmp = { text_cmp };
 
