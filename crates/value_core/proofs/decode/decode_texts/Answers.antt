@@ -3,7 +3,7 @@ use Rattle.std.specs.Prelude.{All}
 use Rattle.value_core.specs.declared.datum.Datum.TheVariants as datum
 use Rattle.value_core.specs.declared.kind.Elem.TheVariants as elem
 use Rattle.value_core.specs.Datum.{IsElement}
-use Rattle.value_core.specs.Spelling.{spelled_datum}
+use Rattle.value_core.specs.Spelling.{spelled_datum_in}
 use Rattle.value_core.proofs.Decoding.{read_more, All-push, length-push, map-push, no_next, no_more, no_text}
 use Rattle.value_core.proofs.decode.decode_texts.Goals as goal
 
@@ -21,7 +21,7 @@ loop-place-preserved c =
     record {
       each = subst (All (IsElement elem.Text)) (sym made) (All-push (IsElement elem.Text) (map datum.Text old) (datum.Text text) c.loop-place.invariant.each is);
       many = subst (λ ys. length ys ≡ c.loop-place.place + 1) (sym made) (length-push (map datum.Text old) (datum.Text text) c.loop-place.place c.loop-place.invariant.many);
-      parts = rw made (read_more spelled_datum _ _ _ (map datum.Text old) (datum.Text text) c.loop-place.invariant.parts c.in-Some.ensures.some.1);
+      parts = rw made (read_more spelled_datum_in _ _ _ (map datum.Text old) (datum.Text text) c.loop-place.invariant.parts c.in-Some.ensures.some.1);
     }
 
 pub returns-then-not-is_empty-clause-damaged : goal.returns-then-not-is_empty-clause-damaged
