@@ -4,16 +4,17 @@ use Rattle.std.specs.Prelude.{All}
 use Rattle.std.specs.List.{flat_map}
 use Rattle.std.specs.Int.{w16, w32, to_be_bytes, from_be_bytes}
 use Rattle.std.proofs.lemmas.Nat.{from_be_bytes-to_be_bytes_2, from_be_bytes-to_be_bytes_4}
+use Rattle.value_core.specs.declared.format.Format.{Format}
+use Rattle.value_core.specs.declared.format.Format.TheVariants.{First, Second}
 use Rattle.value_core.specs.declared.datum.Datum.{Datum}
 use Rattle.value_core.specs.declared.datum.Datum.TheVariants as datum
 use Rattle.value_core.specs.declared.kind.Elem.{Elem}
 use Rattle.value_core.specs.declared.kind.Elem.TheVariants as elem
-use Rattle.text_core.specs.Limits.{most_text_bytes}
-use Rattle.value_core.specs.Limits.{spelled_length}
-use Rattle.text_core.specs.Plain.{IsText}
-use Rattle.value_core.specs.Datum.{IsElement}
-use Rattle.value_core.specs.Contents.{IsRow}
+use Rattle.value_core.specs.Format.{most_text, spelled_length, IsTextIn}
+use Rattle.value_core.specs.Datum.{IsElementIn}
+use Rattle.value_core.specs.Contents.{IsRowIn}
 use Rattle.value_core.specs.Spelling.{spelled_text_in, spelled_datum_in, spelled_row_in}
+use Rattle.value_core.proofs.Widening.{most_fits}
 use Rattle.value_core.proofs.TableRows.{head, tail}
 
 -- fronts of one length

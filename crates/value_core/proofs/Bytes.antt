@@ -1,19 +1,21 @@
 -- A spelling is bytes.
-use Rattle.std.proofs.Common.{ℕ, zero, suc, ◌<◌, ◌/◌, ◌%◌, ◌^◌, List, [], ◌∷◌, ◌++◌, length, arith}
+use Rattle.std.proofs.Common.{ℕ, zero, suc, ◌<◌, ◌≤◌, ◌/◌, ◌%◌, ◌^◌, List, [], ◌∷◌, ◌++◌, length, arith}
 use Rattle.std.specs.Prelude.{All}
 use Rattle.std.specs.List.{flat_map}
 use Rattle.std.specs.Int.{w16, byte_at, bytes_high_first, to_be_bytes}
 use Rattle.std.specs.FinMap as map
 use Rattle.std.proofs.lemmas.List.Elements.{All-append, All-cons, All-nil, All-head, All-tail}
+use Rattle.value_core.specs.declared.format.Format.{Format}
+use Rattle.value_core.specs.declared.format.Format.TheVariants.{First, Second}
+use Rattle.value_core.specs.Format.{number_of, most_text, spelled_length, IsTextIn}
 use Rattle.value_core.specs.declared.datum.Datum.{Datum}
 use Rattle.value_core.specs.declared.datum.Datum.TheVariants as datum
 use Rattle.value_core.specs.declared.kind.Elem.{Elem}
 use Rattle.value_core.specs.declared.kind.Elem.TheVariants as elem
 use Rattle.value_core.specs.declared.kind.Kind.{Kind}
 use Rattle.value_core.specs.declared.kind.Kind.TheVariants as kind
-use Rattle.text_core.specs.Plain.{IsText}
-use Rattle.value_core.specs.Datum.{IsElement}
-use Rattle.value_core.specs.Contents.{array, queue, table, IsRow}
+use Rattle.value_core.specs.Datum.{IsElementIn}
+use Rattle.value_core.specs.Contents.{array, queue, table, IsRowIn}
 use Rattle.value_core.specs.Spelling.{spelled_text_in, spelled_datum_in, spelled_row_in, code_of, header_in}
 use Rattle.value_core.specs.Laws.{AreBytes, SpellingIsBytes}
 
