@@ -140,7 +140,6 @@ impl SlipRoom {
             reply,
             pins,
             news,
-            alloc: self.alloc,
         })
     }
 }

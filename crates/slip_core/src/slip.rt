@@ -28,8 +28,6 @@ pub struct Slip {
     pub(crate) pins: PartPins,
     // the page lists that the run made; of a call that was not done they are published by nobody, and not shown
     pub(crate) news: PartPins,
-    // where its memory is from
-    pub(crate) alloc: Global,
 }
 
 impl Model for Slip {
@@ -101,8 +99,8 @@ impl Slip {
     {
         match (entry.new_pins(), self.new_pins()) {
             (Some(news), Some(others)) => news.is_same(others),
-            (Some(news), None) => is_none(self.alloc, news),
-            (None, Some(others)) => is_none(self.alloc, others),
+            (Some(news), None) => is_none(self.args.alloc(), news),
+            (None, Some(others)) => is_none(self.args.alloc(), others),
             (None, None) => true,
         }
     }
