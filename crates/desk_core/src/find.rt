@@ -11,7 +11,6 @@ ghost use Rattle.board_core.specs.Outcomes.{IsOf};
 ghost use Rattle.desk_core.specs.Answers.{HasName, IsNamedAt};
 
 use board_core::call::Call;
-use board_core::same::same_args;
 use decl_core::object::{Object, Operation};
 use decl_core::same::same_declaration;
 use queue_core::open_call::{Running, Waiting};
@@ -42,7 +41,7 @@ pub(crate) fn place_of(object: &Object, name: &[u8]) -> Option<usize>
 pub(crate) fn is_same_call(call: &Call, name: &[u8], args: &[Datum]) -> bool
     ensures { IsTrue result ↔ (HasName name.now call.now.operation × (call.now.arguments ≡ args.now)) }
 {
-    has_name(call.operation(), name) && same_args(call.args(), args)
+    has_name(call.operation(), name) && call.args().are(args)
 }
 
 // Whether a call of this session waits.
@@ -79,7 +78,7 @@ fn is_of(outcome: &Outcome, running: &Running) -> bool
 {
     running.number() == outcome.number()
         && same_declaration(running.call().operation(), outcome.operation())
-        && same_args(running.call().args(), outcome.args())
+        && running.call().args().are(outcome.args())
         && running.pins().is_same(outcome.pins())
 }
 

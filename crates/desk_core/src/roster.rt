@@ -503,7 +503,7 @@ impl Roster {
         if place == 0 {
             return CallState::Cancelled;
         }
-        CallState::Ended(*self.history[place - 1].reply())
+        CallState::Ended(self.history[place - 1].reply())
     }
 
     // Whether the call of this number is of the operation of this name, with these arguments.
@@ -615,7 +615,14 @@ impl Roster {
         let object = self.accepted.object();
         let mut out = Vec::new(self.alloc);
         push_front(self.alloc, &mut out, object, opening)?;
-        push_marks(&mut out, object, &self.calls, &self.history, &self.marks)?;
+        push_marks(
+            self.alloc,
+            &mut out,
+            object,
+            &self.calls,
+            &self.history,
+            &self.marks,
+        )?;
         Ok(out)
     }
 
