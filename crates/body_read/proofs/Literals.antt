@@ -2,7 +2,7 @@
 use Rattle.std.proofs.Common.{◌≡◌, ℕ, zero, suc, ◌-◌, ◌≤◌, List, [], ◌∷◌, length, Bool, true, false, ◌&&◌, nat_le, Some, None, if◌then◌else◌, All, refl, arith}
 use Rattle.std.proofs.lemmas.Bool.Decides.{nat_tests}
 use Rattle.std.proofs.lemmas.List.Elements.{All-nil, All-cons, All-head, All-tail}
-use Rattle.value_core.specs.Plain.{IsPlain, IsText}
+use Rattle.text_core.specs.Plain.{IsPlain, IsText}
 use Rattle.decl_core.specs.Form.{Form, a_text, literal}
 use Rattle.body_read.specs.Reading.{all_plain, literal_of, level_of}
 

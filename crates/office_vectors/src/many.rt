@@ -2,10 +2,10 @@
 
 use crate::make::{room, stuck};
 use apply_core::reply::Reply;
+use ask_core::answer::SubmitFault;
 use board_core::entry::Entry;
 use board_core::event::TraceEvent;
 use board_core::receipt::Receipt;
-use desk_core::answer::SubmitFault;
 use desk_core::desk::Desk;
 use device_core::memory::MemHand;
 use office_core::office::Office;

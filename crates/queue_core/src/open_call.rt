@@ -28,8 +28,8 @@ use std::alloc::{AllocError, Global};
 use std::marker::Model;
 use std::mem;
 use std::sync::Arc;
+use text_core::limits::MOST_TEXT_BYTES;
 use value_core::datum::Datum;
-use value_core::limits::MOST_TEXT_BYTES;
 
 // What a ticket is made of.
 #[derive(Drop)]

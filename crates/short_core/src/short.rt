@@ -3,7 +3,7 @@
 ghost use Rattle.std.specs.Prelude.{◌≡◌, ◌≤◌, ◌↔◌, IsTrue, Some, None, vec_capacity};
 ghost use Rattle.value_core.specs.declared.datum.Datum.TheVariants.{Integer, Text};
 ghost use Rattle.apply_core.specs.declared.reply.Reply.TheVariants.{Done, Refused, Failed};
-ghost use Rattle.value_core.specs.Limits.{most_text_bytes};
+ghost use Rattle.text_core.specs.Limits.{most_text_bytes};
 ghost use Rattle.short_core.specs.Short.{reply_of, IsDone};
 
 use crate::row::Row;
@@ -11,6 +11,7 @@ use apply_core::reply::{Failure, Reply};
 use std::alloc::Global;
 use std::marker::Model;
 use std::mem;
+use text_core::text::Text;
 use value_core::datum::Datum;
 
 /// A reply of which a text has memory of its own. A contract sees it as the reply.
@@ -48,6 +49,14 @@ impl Model for Short {
     ghost view = { λ s. reply_of s.form };
 }
 
+// A text, in memory that was taken for one.
+fn row_in(alloc: Global, room: &mut Vec<u8>, text: &Text) -> Row
+    requires { most_text_bytes ≤ vec_capacity room.old }
+    ensures { result ≡ text.now }
+{
+    Row::within(mem::replace(room, Vec::new(alloc)), text)
+}
+
 // How a reply is kept, in memory that was taken for a text.
 fn form_of(alloc: Global, room: &mut Vec<u8>, reply: &Reply) -> Form
     requires { most_text_bytes ≤ vec_capacity room.old }
@@ -56,14 +65,8 @@ fn form_of(alloc: Global, room: &mut Vec<u8>, reply: &Reply) -> Form
     match reply {
         Reply::Done(None) => Form::Nothing,
         Reply::Done(Some(Datum::Integer(number))) => Form::Integer(*number),
-        Reply::Done(Some(Datum::Text(text))) => Form::Text(Row::within(
-            mem::replace(room, Vec::new(alloc)),
-            text,
-        )),
-        Reply::Refused(word) => Form::Refused(Row::within(
-            mem::replace(room, Vec::new(alloc)),
-            word,
-        )),
+        Reply::Done(Some(Datum::Text(text))) => Form::Text(row_in(alloc, room, text)),
+        Reply::Refused(word) => Form::Refused(row_in(alloc, room, word)),
         Reply::Failed(failure) => Form::Failed(*failure),
     }
 }

@@ -8,8 +8,9 @@ use Rattle.value_core.specs.declared.datum.Datum.{Datum}
 use Rattle.value_core.specs.declared.datum.Datum.TheVariants as datum
 use Rattle.value_core.specs.declared.kind.Elem.{Elem}
 use Rattle.value_core.specs.declared.kind.Elem.TheVariants as elem
-use Rattle.value_core.specs.Limits.{spelled_length, most_text_bytes}
-use Rattle.value_core.specs.Plain.{IsText}
+use Rattle.text_core.specs.Limits.{most_text_bytes}
+use Rattle.value_core.specs.Limits.{spelled_length}
+use Rattle.text_core.specs.Plain.{IsText}
 use Rattle.value_core.specs.Datum.{IsElement}
 use Rattle.value_core.specs.Contents.{IsRow}
 use Rattle.value_core.specs.Spelling.{spelled_text, spelled_datum, spelled_row}

@@ -11,7 +11,7 @@ use Rattle.value_core.specs.declared.kind.Elem.{Elem}
 use Rattle.value_core.specs.declared.kind.Elem.TheVariants as elem
 use Rattle.value_core.specs.declared.kind.Kind.{Kind}
 use Rattle.value_core.specs.declared.kind.Kind.TheVariants as kind
-use Rattle.value_core.specs.Plain.{IsText}
+use Rattle.text_core.specs.Plain.{IsText}
 use Rattle.value_core.specs.Datum.{IsElement}
 use Rattle.value_core.specs.Contents.{array, queue, table, IsRow}
 use Rattle.value_core.specs.Spelling.{spelled_text, spelled_datum, spelled_row, code_of, header}

@@ -10,7 +10,7 @@ use Rattle.value_core.specs.declared.datum.Datum.{Datum}
 use Rattle.value_core.specs.declared.datum.Datum.TheVariants as datum
 use Rattle.value_core.specs.declared.kind.Elem.{Elem}
 use Rattle.value_core.specs.declared.kind.Elem.TheVariants as elem
-use Rattle.value_core.specs.Plain.{IsText}
+use Rattle.text_core.specs.Plain.{IsText}
 use Rattle.value_core.specs.Datum.{IsElement}
 use Rattle.value_core.specs.Spelling.{spelled_text, spelled_datum, SpellElements}
 use Rattle.value_core.proofs.Apart.{datum_apart, same_elements, next_element}

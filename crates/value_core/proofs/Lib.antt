@@ -1,5 +1,4 @@
 pub mod Openings
-pub mod Padding
 pub mod Tables
 pub mod TableRows
 pub mod Apart

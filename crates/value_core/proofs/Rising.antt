@@ -12,7 +12,7 @@ use Rattle.std.specs.FinMap.Entries.{below_all, by_order}
 use Rattle.std.proofs.lemmas.List.Elements.{All-cons, All-nil}
 use Rattle.value_core.specs.declared.datum.Datum.{Datum}
 use Rattle.value_core.specs.declared.kind.Elem.{Elem}
-use Rattle.value_core.specs.TextOrder.{text_cmp}
+use Rattle.text_core.specs.TextOrder.{text_cmp}
 use Rattle.value_core.specs.Contents.{IsRow}
 use Rattle.value_core.specs.Spelling.{spelled_row, SpellRows, IsAfter}
 use Rattle.value_core.proofs.Apart.{row_apart, same_elements, next_element}

@@ -16,7 +16,7 @@ use Rattle.value_core.specs.Kinds.{sort_of}
 use Rattle.value_core.specs.Datum.{IsElement}
 use Rattle.value_core.specs.Contents.{Contents, array, queue, table, IsContents, IsRow, AreElements}
 use Rattle.value_core.specs.Spelling.{spelled_datum, spelled_row, code_of, header, spelling, Spells, SpellRows}
-use Rattle.value_core.specs.TextOrder.{text_cmp}
+use Rattle.text_core.specs.TextOrder.{text_cmp}
 use Rattle.value_core.specs.Laws.{SpellingUnique, IntegersStandInPlace}
 use Rattle.std.proofs.Math.Seq.{drop-append-add}
 use Rattle.value_core.proofs.TableRows.{head, tail}

@@ -6,9 +6,9 @@ use Rattle.value_core.specs.declared.kind.Elem.{Elem}
 use Rattle.value_core.specs.declared.kind.Kind.{Kind}
 use Rattle.value_core.specs.declared.kind.Kind.TheVariants as kind
 use Rattle.value_core.specs.Limits.{most_elements}
-use Rattle.value_core.specs.Plain.{IsText}
+use Rattle.text_core.specs.Plain.{IsText}
 use Rattle.value_core.specs.Datum.{IsElement}
-use Rattle.value_core.specs.TextOrder.{text_cmp}
+use Rattle.text_core.specs.TextOrder.{text_cmp}
 
 -- an array and a queue (its oldest first) are lists, a table is a finite map from texts
 pub data Contents : Type 0 where

@@ -4,7 +4,7 @@ use Rattle.value_core.specs.declared.datum.Datum.{Datum}
 use Rattle.value_core.specs.declared.datum.Datum.TheVariants as datum
 use Rattle.value_core.specs.declared.kind.Elem.{Elem}
 use Rattle.value_core.specs.declared.kind.Elem.TheVariants as elem
-use Rattle.value_core.specs.Plain.{IsText}
+use Rattle.text_core.specs.Plain.{IsText}
 
 -- whether it is an integer or a text
 abbrev pub elem_of : Datum → Elem

@@ -1,7 +1,4 @@
 pub mod Limits
-pub mod Plain
-pub mod Text
-pub mod TextOrder
 pub mod Datum
 pub mod Cells
 pub mod Queue

@@ -5,10 +5,6 @@ use Rattle.std.specs.Prelude.{ℕ, List, [], ◌∷◌}
 abbrev pub most_elements : ℕ
 most_elements = 1024
 
--- the most bytes of a text
-abbrev pub most_text_bytes : ℕ
-most_text_bytes = 255
-
 -- the length of a text is one byte
 abbrev pub spelled_length : ℕ → List ℕ
 spelled_length n = n ∷ []

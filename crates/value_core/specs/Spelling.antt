@@ -13,7 +13,7 @@ use Rattle.value_core.specs.declared.kind.Kind.TheVariants as kind
 use Rattle.value_core.specs.Limits.{spelled_length, most_elements}
 use Rattle.value_core.specs.Contents.{Contents, array, queue, table, kind_of, IsContents, IsRow}
 use Rattle.value_core.specs.Datum.{IsElement}
-use Rattle.value_core.specs.TextOrder.{text_cmp}
+use Rattle.text_core.specs.TextOrder.{text_cmp}
 
 -- a text is its length, and its bytes
 abbrev pub spelled_text : List ℕ → List ℕ

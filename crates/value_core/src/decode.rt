@@ -8,7 +8,7 @@ ghost use Rattle.value_core.specs.Limits.{most_elements};
 ghost use Rattle.value_core.specs.Contents.{Contents};
 ghost use Rattle.value_core.specs.Spelling.{Spells, SpellElements, SpellRows, IsAfter, header, IsCountOf, BeginsAs};
 ghost use Rattle.value_core.specs.Rows.{rows_sort, rows_map};
-ghost use Rattle.value_core.specs.TextOrder.{text_cmp};
+ghost use Rattle.text_core.specs.TextOrder.{text_cmp};
 ghost use Rattle.std.specs.FinMap.{FinMap};
 ghost use Rattle.value_core.specs.Cells.{cells_sort, cells_data};
 ghost use Rattle.value_core.specs.Queue.{queue_sort, queue_data};
@@ -19,10 +19,10 @@ use crate::limits::MOST_ELEMENTS;
 use crate::queue::Queue;
 use crate::reader::{read_datum, read_header, read_integer, read_row, read_text};
 use crate::rows::Rows;
-use crate::text::Text;
 use crate::value::{Body, Value};
 use std::alloc::{AllocError, Global};
 use std::cmp::Ordering;
+use text_core::text::Text;
 use thiserror::Error;
 
 /// Why bytes gave no value.

@@ -12,11 +12,12 @@ ghost use Rattle.value_core.specs.Spelling.{spelled_text, spelled_datum, header,
 use crate::cells::Cells;
 use crate::datum::Datum;
 use crate::kind::Kind;
-use crate::limits::TextLength;
 use crate::queue::Queue;
-use crate::text::Text;
 use crate::value::{Body, Value};
 use std::alloc::{AllocError, Global};
+use std::mem::size_of;
+use text_core::limits::TextLength;
+use text_core::text::Text;
 
 /// The bytes that spell the value.
 pub fn encode(alloc: Global, value: &Value) -> Result<Vec<u8>, AllocError>
@@ -101,4 +102,9 @@ fn put_queue(out: &mut Vec<u8>, line: &Queue) -> Result<(), AllocError>
         }
     }
     Ok(())
+}
+
+// How many bytes spell a text: its length, and itself.
+pub(crate) fn text_len(text: &Text) -> usize {
+    size_of::<TextLength>() + text.len() as usize
 }

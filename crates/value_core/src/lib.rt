@@ -17,5 +17,4 @@ mod queue;
 mod reader;
 pub mod refusal;
 mod rows;
-pub mod text;
 pub mod value;

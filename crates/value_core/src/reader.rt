@@ -4,16 +4,17 @@
 ghost use Rattle.std.specs.Prelude.{◌≡◌, ◌≢◌, ◌<◌, ◌≤◌, ◌^◌, ◌++◌, ◌∷◌, List, ℕ, IfSome, IfNone};
 ghost use Rattle.std.specs.Int.{w16, w32, to_be_bytes};
 ghost use Rattle.value_core.specs.declared.datum.Datum.{Datum};
-ghost use Rattle.value_core.specs.Limits.{spelled_length, most_text_bytes};
-ghost use Rattle.value_core.specs.Plain.{IsText};
+ghost use Rattle.text_core.specs.Limits.{most_text_bytes};
+ghost use Rattle.value_core.specs.Limits.{spelled_length};
+ghost use Rattle.text_core.specs.Plain.{IsText};
 ghost use Rattle.value_core.specs.Datum.{IsElement};
 ghost use Rattle.value_core.specs.Contents.{IsRow};
 ghost use Rattle.value_core.specs.Spelling.{spelled_text, spelled_datum, spelled_row};
 
 use crate::datum::Datum;
 use crate::kind::Elem;
-use crate::limits::TextLength;
-use crate::text::Text;
+use text_core::limits::TextLength;
+use text_core::text::Text;
 
 /// The byte of the kind, and the number of elements.
 pub fn read_header(bytes: &[u8]) -> Option<(u8, u16, &[u8])>

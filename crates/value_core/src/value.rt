@@ -14,9 +14,9 @@ use crate::limits::{HEADER_BYTES, MOST_ELEMENTS};
 use crate::queue::Queue;
 use crate::refusal::{GrowFault, Refusal};
 use crate::rows::Rows;
-use crate::text::Text;
 use std::alloc::{AllocError, Global};
 use std::marker::Model;
+use text_core::text::Text;
 
 /// An array, a queue or a table, of at most 1,024 integers or texts.
 #[derive(Drop)]
