@@ -1,16 +1,19 @@
 //! Replies in memory of their own length.
 
 ghost use Rattle.std.specs.Prelude.{◌≡◌, ◌≤◌, ◌↔◌, IsTrue, Some, None, vec_capacity};
-ghost use Rattle.value_core.specs.declared.datum.Datum.TheVariants.{Integer, Text};
+ghost use Rattle.value_core.specs.declared.datum.Datum.TheVariants as datum;
 ghost use Rattle.apply_core.specs.declared.reply.Reply.TheVariants.{Done, Refused, Failed};
 ghost use Rattle.text_core.specs.Limits.{most_text_bytes};
 ghost use Rattle.short_core.specs.Short.{reply_of, IsDone};
 
-use crate::row::Row;
 use apply_core::reply::{Failure, Reply};
 use std::alloc::Global;
 use std::marker::Model;
 use std::mem;
+<<<<<<< HEAD
+=======
+use text_core::row::Row;
+>>>>>>> short
 use text_core::text::Text;
 use value_core::datum::Datum;
 
@@ -82,7 +85,7 @@ fn is_nothing(reply: &Reply) -> bool
 }
 
 fn is_integer(number: u32, reply: &Reply) -> bool
-    ensures { IsTrue result ↔ (Done (Some (Integer number)) ≡ reply.now) }
+    ensures { IsTrue result ↔ (Done (Some (datum.Integer number)) ≡ reply.now) }
 {
     match reply {
         Reply::Done(Some(Datum::Integer(other))) => number == *other,
@@ -91,7 +94,7 @@ fn is_integer(number: u32, reply: &Reply) -> bool
 }
 
 fn is_text(row: &Row, reply: &Reply) -> bool
-    ensures { IsTrue result ↔ (Done (Some (Text row.now)) ≡ reply.now) }
+    ensures { IsTrue result ↔ (Done (Some (datum.Text row.now)) ≡ reply.now) }
 {
     match reply {
         Reply::Done(Some(Datum::Text(text))) => row.is(text),

@@ -3,4 +3,4 @@ use Rattle.std.specs.Prelude.{ℕ}
 
 -- the most bytes of a text
 abbrev pub most_text_bytes : ℕ
-most_text_bytes = 255
+most_text_bytes = 1000

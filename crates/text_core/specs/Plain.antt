@@ -6,7 +6,11 @@ use Rattle.text_core.specs.Limits.{most_text_bytes}
 abbrev pub IsPlain : ℕ → Type 0
 IsPlain b = (32 ≤ b) × (b ≤ 126)
 
--- at most 255 bytes from 32 to 126
-pub record IsText (bytes : List ℕ) : Type 0 where
-  pub few : length bytes ≤ most_text_bytes
+-- at most so many bytes from 32 to 126
+pub record IsTextUpTo (most : ℕ) (bytes : List ℕ) : Type 0 where
+  pub few : length bytes ≤ most
   pub plain : All IsPlain bytes
+
+-- at most 1,000 bytes from 32 to 126
+abbrev pub IsText : List ℕ → Type 0
+IsText = IsTextUpTo most_text_bytes

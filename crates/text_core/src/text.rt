@@ -8,7 +8,7 @@ use std::cmp::Ordering;
 use std::fmt;
 use std::marker::Model;
 
-/// A text of at most 255 bytes from 32 to 126, in a row of its own: it is copied without memory.
+/// A text of at most 1,000 bytes from 32 to 126, in a row of its own: it is copied without memory.
 /// Texts are ordered by their bytes, a prefix before the longer text.
 #[derive(Clone, Copy, Drop)]
 pub struct Text {
@@ -45,7 +45,7 @@ impl Text {
         }
     }
 
-    /// The text of these bytes, or `None` where they are over 255 or one of them is outside 32 to 126.
+    /// The text of these bytes, or `None` where they are over 1,000 or one of them is outside 32 to 126.
     pub fn from_bytes(bytes: &[u8]) -> Option<Text>
         ensures some { IfSome result (λ t. (t ≡ bytes.now) × IsText bytes.now) }
         ensures none { IfNone result (IsText bytes.now → ⊥) }
@@ -61,7 +61,7 @@ impl Text {
         })
     }
 
-    /// The number of bytes, from 0 to 255.
+    /// The number of bytes, from 0 to 1,000.
     pub fn len(&self) -> TextLength
         ensures { result ≡ length self.now }
     {

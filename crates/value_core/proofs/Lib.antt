@@ -7,3 +7,4 @@ pub mod Encoding
 pub mod Rising
 pub mod Unique
 pub mod Bytes
+pub mod Widening

@@ -1,4 +1,5 @@
 pub mod Limits
+pub mod Format
 pub mod Datum
 pub mod Cells
 pub mod Queue

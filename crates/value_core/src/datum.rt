@@ -11,7 +11,7 @@ use text_core::text::Text;
 pub enum Datum {
     /// An integer from 0 to 4294967295.
     Integer(u32),
-    /// A text of at most 255 bytes from 32 to 126.
+    /// A text of at most 1,000 bytes from 32 to 126.
     Text(Text),
 }
 
