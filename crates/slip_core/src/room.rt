@@ -13,8 +13,8 @@ use short_core::short::Short;
 use short_core::slim::Slims;
 use std::alloc::{AllocError, Global};
 use std::mem;
+use text_core::limits::MOST_TEXT_BYTES;
 use value_core::datum::Datum;
-use value_core::limits::MOST_TEXT_BYTES;
 
 // The most pages that the parts of an object may have: 16 parts of 8 pages.
 const MOST_STAMPS: usize = 128;

@@ -13,7 +13,7 @@ use session_text::line::{Line, push_ended, push_line, push_opened, push_repeated
 use std::alloc::Global;
 use std::marker::Model;
 use std::mem;
-use value_core::limits::MOST_TEXT_BYTES;
+use text_core::limits::MOST_TEXT_BYTES;
 
 /// Room for the longest line that is written of a call, in bytes, twice over.
 const LINE_ROOM: usize = 4096;

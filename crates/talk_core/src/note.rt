@@ -6,7 +6,7 @@ ghost use Rattle.talk_core.specs.Notes.{note_at};
 use apply_core::reply::Reply;
 use short_core::short::Short;
 use std::alloc::{AllocError, Global};
-use value_core::limits::MOST_TEXT_BYTES;
+use text_core::limits::MOST_TEXT_BYTES;
 
 /// The number and the reply of a last line.
 #[derive(Drop)]
