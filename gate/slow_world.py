@@ -489,10 +489,17 @@ class World:
         return shown_lines(self.made, self.published)
 
     def trace_lines(self):
-        lines = [f"object {self.made.name}"]
-        for name, kind in self.made.parts.items():
-            lines.append(f"part {name} {kind.bytes_of(kind.opening).hex()}")
-        for event in self.trace:
+        contents = self.made.opening()
+        return [f"object {self.made.name}", *(self.part_line(name, contents) for name in contents), *self.event_lines()]
+
+    def part_line(self, name, contents, format=WRITTEN):
+        """The line that tells what a part holds at the beginning."""
+        return f"part {name} {self.made.parts[name].bytes_of(contents[name], format).hex()}"
+
+    def event_lines(self, events=None):
+        """The lines of these events, or of all."""
+        lines = []
+        for event in self.trace if events is None else events:
             number = event[1]
             if event[0] == "start":
                 call = self.calls[number - 1]
