@@ -14,9 +14,9 @@ use crate::reply::Reply;
 use decl_core::footprint::reads;
 use decl_core::object::Operation;
 use std::alloc::{AllocError, Global};
+use text_core::text::Text;
 use value_core::datum::Datum;
 use value_core::kind::{Elem, Kind};
-use value_core::text::Text;
 use value_core::value::Value;
 
 /// Does the body of an operation on values: one for each part that it reads, in the order of the

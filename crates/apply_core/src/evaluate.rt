@@ -10,9 +10,9 @@ ghost use Rattle.apply_core.specs.Stops.{StopTells};
 
 use crate::act::{Stop, act_all};
 use decl_core::object::Operation;
+use text_core::text::Text;
 use value_core::datum::Datum;
 use value_core::kind::Elem;
-use value_core::text::Text;
 use value_core::value::Value;
 
 // Does the body of an operation on values, in place: that of part p stands at place p, where the operation reads

@@ -7,7 +7,7 @@ use Rattle.path_tree.specs.Reading.{symbol_at}
 use Rattle.path_tree.specs.Known.{value_of}
 use Rattle.value_core.specs.declared.kind.Elem.{Elem}
 use Rattle.value_core.specs.declared.kind.Kind.{Kind}
-use Rattle.value_core.specs.Plain.{IsText}
+use Rattle.text_core.specs.Plain.{IsText}
 use Rattle.decl_core.specs.Form.{element, oldest, under, Integers, number, count, Texts, literal, Form, an_integer, a_text}
 use Rattle.body_read.specs.Reading.{Names, found_in, of_sort, value_named, combined, sign_at}
 use Rattle.decl_core.specs.Sorts.{array_sort, queue_sort, table_sort}

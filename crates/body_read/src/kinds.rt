@@ -10,8 +10,8 @@ ghost use Rattle.decl_core.specs.Form.{Integers};
 use crate::text_fault::TextFault;
 use decl_core::expr::{Expr, IntegerExpr, Signed, Source, TextExpr};
 use std::alloc::Global;
+use text_core::text::Text;
 use value_core::kind::{Elem, Kind};
-use value_core::text::Text;
 
 /// An expression that has to be an integer.
 pub(crate) fn integer(e: Expr, at: usize) -> Result<IntegerExpr, TextFault>

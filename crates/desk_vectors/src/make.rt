@@ -1,8 +1,8 @@
 //! Objects, files and desks, as the tests make them.
 
+use ask_core::answer::Collected;
 use board_core::receipt::Receipt;
 use decl_read::read::read_objects;
-use desk_core::answer::Collected;
 use desk_core::desk::Desk;
 use exclude_core::analyse::{Accepted, analyse};
 use hand_core::hand::{Hand, Stamp};

@@ -24,11 +24,11 @@ use known_core::pages::Pages;
 use page_core::file_bytes::FileBytes;
 use piece_core::page::page_of;
 use std::alloc::{AllocError, Global};
+use text_core::text::Text;
 use value_core::datum::Datum;
 use value_core::decode::{DecodeFault, decode};
 use value_core::encode::encode;
 use value_core::kind::{Elem, Kind};
-use value_core::text::Text;
 use value_core::value::Value;
 
 /// A part that the body changed, and the bytes that spell its new value.

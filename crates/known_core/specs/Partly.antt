@@ -5,7 +5,7 @@ use Rattle.value_core.specs.declared.datum.Datum.TheVariants as datum
 use Rattle.value_core.specs.declared.refusal.Refusal.{Refusal}
 use Rattle.value_core.specs.Contents.{Contents}
 use Rattle.value_core.specs.Words.{word_of}
-use Rattle.value_core.specs.TextOrder.{text_eq}
+use Rattle.text_core.specs.TextOrder.{text_eq}
 use Rattle.value_core.specs.Meaning.{element_at, with_element, oldest_of, without_oldest, with_newest, has_key, under_key, with_row, without_key, count_of, sum_of, difference_of}
 use Rattle.decl_core.specs.Form.{From, argument, element, oldest, under, Integers, number, integer_from, count, add, subtract, Texts, literal, text_from, Form, an_integer, a_text, Condition, compare, same_texts, other_texts, has, is_not, Statement, block, set_element, set_result, append, take, store, erase, choose, refuse, Statements, nothing, first_and, Body}
 use Rattle.decl_core.specs.Meaning.{Seen, Changed, part_at, argument_at, integer_in, text_in, compares, seen_with, reply_before}

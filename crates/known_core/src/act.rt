@@ -7,7 +7,7 @@ ghost use Rattle.value_core.specs.Contents.{kind_of};
 ghost use Rattle.value_core.specs.Datum.{elem_of};
 ghost use Rattle.value_core.specs.Kinds.{IsArray, IsQueue, IsTable};
 ghost use Rattle.value_core.specs.Meaning.{with_element, without_oldest, with_newest, with_row, without_key};
-ghost use Rattle.value_core.specs.Plain.{IsText};
+ghost use Rattle.text_core.specs.Plain.{IsText};
 ghost use Rattle.value_core.specs.Words.{word_of};
 ghost use Rattle.decl_core.specs.Form.{set_element as set_element_form, append as append_form, store as store_form, erase as erase_form};
 ghost use Rattle.decl_core.specs.View.{integers_of, texts_of, form_of, statement_of, all_of};
@@ -23,9 +23,9 @@ use crate::pages::Pages;
 use decl_core::expr::{Expr, IntegerExpr, TextExpr};
 use decl_core::id::PartId;
 use decl_core::stmt::Stmt;
+use text_core::text::Text;
 use value_core::datum::Datum;
 use value_core::refusal::{GrowFault, Refusal};
-use value_core::text::Text;
 use value_core::value::Value;
 
 /// Why a body stopped.

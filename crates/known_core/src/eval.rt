@@ -17,10 +17,10 @@ use crate::pages::Pages;
 use decl_core::expr::{Expr, IntegerExpr, Signed, Source, TextExpr};
 use decl_core::id::{ParamId, PartId};
 use decl_core::stmt::{Cond, Relation};
+use text_core::text::Text;
 use value_core::arithmetic::{add, sub};
 use value_core::datum::Datum;
 use value_core::refusal::Refusal;
-use value_core::text::Text;
 use value_core::value::Value;
 
 /// Why an expression has no value.

@@ -13,9 +13,9 @@ ghost use Rattle.known_core.specs.Partly.{partly_done};
 use crate::act::{Stop, act_all};
 use crate::pages::Pages;
 use decl_core::object::Operation;
+use text_core::text::Text;
 use value_core::datum::Datum;
 use value_core::kind::Elem;
-use value_core::text::Text;
 use value_core::value::Value;
 
 /// Does the body of an operation on values, in place: that of part p stands at place p, where the operation reads it, and

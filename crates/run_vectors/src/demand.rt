@@ -11,8 +11,8 @@ use run_core::at_once::run_at_once;
 use run_core::outcome::Outcome;
 use std::alloc::Global;
 use std::process::Abort;
+use text_core::text::Text;
 use value_core::datum::Datum;
-use value_core::text::Text;
 
 // How a call ends.
 #[derive(Clone, Copy)]

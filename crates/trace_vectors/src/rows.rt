@@ -2,9 +2,9 @@
 
 use apply_core::reply::{Failure, Reply};
 use std::alloc::{AllocError, Global};
+use text_core::text::Text;
 use trace_core::event::push_end;
 use value_core::datum::Datum;
-use value_core::text::Text;
 
 type Bytes = &'static [u8];
 

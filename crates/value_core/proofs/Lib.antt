@@ -1,5 +1,4 @@
 pub mod Openings
-pub mod Padding
 pub mod Tables
 pub mod TableRows
 pub mod Apart
@@ -8,3 +7,4 @@ pub mod Encoding
 pub mod Rising
 pub mod Unique
 pub mod Bytes
+pub mod Widening

@@ -10,11 +10,12 @@ use Rattle.std.specs.FinMap as map
 use Rattle.std.specs.FinMap.{put, is_sorted}
 use Rattle.std.specs.FinMap.Entries.{below_all, by_order}
 use Rattle.std.proofs.lemmas.List.Elements.{All-cons, All-nil}
+use Rattle.value_core.specs.declared.format.Format.{Format}
 use Rattle.value_core.specs.declared.datum.Datum.{Datum}
 use Rattle.value_core.specs.declared.kind.Elem.{Elem}
-use Rattle.value_core.specs.TextOrder.{text_cmp}
-use Rattle.value_core.specs.Contents.{IsRow}
-use Rattle.value_core.specs.Spelling.{spelled_row, SpellRows, IsAfter}
+use Rattle.text_core.specs.TextOrder.{text_cmp}
+use Rattle.value_core.specs.Contents.{IsRowIn}
+use Rattle.value_core.specs.Spelling.{spelled_row_in, SpellRows, IsAfter}
 use Rattle.value_core.proofs.Apart.{row_apart, same_elements, next_element}
 use Rattle.value_core.proofs.TableRows.{head, tail}
 
@@ -72,28 +73,29 @@ pub put_behind : (m : map.FinMap text_cmp Datum) (last : Option (List ℕ)) (key
 put_behind m last key d ends after =
     map.entries-insert nat_list_cmp_total m key d ∙ put_last (map.entries m) key d (all_before (map.entries m) last key (map.entries_sorted m) ends after)
 
--- where no row stands next, there are not so many
-pub no_next_row : (bytes rest : List ℕ) (e : Elem) (count : ℕ) (rows : List (List ℕ × Datum)) → All (IsRow e) rows → length rows < count → bytes ≡ flat_map spelled_row rows ++ rest
-    → ((row : List ℕ × Datum) (r : List ℕ) → IsRow e row → rest ≢ spelled_row row ++ r) → (m : map.FinMap text_cmp Datum) → SpellRows bytes e count m → ⊥
-no_next_row bytes rest e count rows each less parts none m is =
-    let next = next_element spelled_row (IsRow e) (row_apart e) rows (map.entries m) rest each is.each (omega (arith, less, is.many, map.len-entries m)) (sym is.spelled ∙ parts) in
-    none next.0 (flat_map spelled_row next.1) next.2 next.4
+module _ (f : Format) where
+  -- where no row stands next, there are not so many
+  pub no_next_row : (bytes rest : List ℕ) (e : Elem) (count : ℕ) (rows : List (List ℕ × Datum)) → All (IsRowIn f e) rows → length rows < count → bytes ≡ flat_map (spelled_row_in f) rows ++ rest
+      → ((row : List ℕ × Datum) (r : List ℕ) → IsRowIn f e row → rest ≢ spelled_row_in f row ++ r) → (m : map.FinMap text_cmp Datum) → SpellRows f bytes e count m → ⊥
+  no_next_row bytes rest e count rows each less parts none m is =
+      let next = next_element (spelled_row_in f) (IsRowIn f e) (row_apart f e) rows (map.entries m) rest each is.each (omega (arith, less, is.many, map.len-entries m)) (sym is.spelled ∙ parts) in
+      none next.0 (flat_map (spelled_row_in f) next.1) next.2 next.4
 
-fall : (rows : List (List ℕ × Datum)) (last : Option (List ℕ)) (next : List ℕ × Datum) (later : List (List ℕ × Datum)) → EndsWith rows last → T (is_sorted text_cmp (rows ++ next ∷ later)) → IsAfter last next.0
-fall rows None next later ends sorted = tt
-fall rows (Some last) next later ends sorted = rising ends.0 (last, ends.1) next later (subst (λ r. T (is_sorted text_cmp (r ++ next ∷ later))) ends.2 sorted)
+  fall : (rows : List (List ℕ × Datum)) (last : Option (List ℕ)) (next : List ℕ × Datum) (later : List (List ℕ × Datum)) → EndsWith rows last → T (is_sorted text_cmp (rows ++ next ∷ later)) → IsAfter last next.0
+  fall rows None next later ends sorted = tt
+  fall rows (Some last) next later ends sorted = rising ends.0 (last, ends.1) next later (subst (λ r. T (is_sorted text_cmp (r ++ next ∷ later))) ends.2 sorted)
 
--- where the next key does not come after the last, these are no rows of a table
-pub no_rise : (bytes rest behind : List ℕ) (e : Elem) (count : ℕ) (rows : List (List ℕ × Datum)) (last : Option (List ℕ)) (key : List ℕ) (d : Datum) → All (IsRow e) rows → length rows < count → bytes ≡ flat_map spelled_row rows ++ rest
-    → EndsWith rows last → IsRow e (key, d) → rest ≡ spelled_row (key, d) ++ behind → (IsAfter last key → ⊥) → (m : map.FinMap text_cmp Datum) → SpellRows bytes e count m → ⊥
-no_rise bytes rest behind e count rows last key d each less parts ends row front no_after m is =
-    let next = next_element spelled_row (IsRow e) (row_apart e) rows (map.entries m) rest each is.each (omega (arith, less, is.many, map.len-entries m)) (sym is.spelled ∙ parts) in
-    let same = row_apart e next.0 (key, d) (flat_map spelled_row next.1) behind next.2 row (sym next.4 ∙ front) in
-    let sorted : T (is_sorted text_cmp (rows ++ next.0 ∷ next.1)) = subst (λ r. T (is_sorted text_cmp r)) next.3 (map.entries_sorted m) in
-    no_after (subst (λ (r : List ℕ × Datum). IsAfter last r.0) same.0 (fall rows last next.0 next.1 ends sorted))
+  -- where the next key does not come after the last, these are no rows of a table
+  pub no_rise : (bytes rest behind : List ℕ) (e : Elem) (count : ℕ) (rows : List (List ℕ × Datum)) (last : Option (List ℕ)) (key : List ℕ) (d : Datum) → All (IsRowIn f e) rows → length rows < count → bytes ≡ flat_map (spelled_row_in f) rows ++ rest
+      → EndsWith rows last → IsRowIn f e (key, d) → rest ≡ spelled_row_in f (key, d) ++ behind → (IsAfter last key → ⊥) → (m : map.FinMap text_cmp Datum) → SpellRows f bytes e count m → ⊥
+  no_rise bytes rest behind e count rows last key d each less parts ends row front no_after m is =
+      let next = next_element (spelled_row_in f) (IsRowIn f e) (row_apart f e) rows (map.entries m) rest each is.each (omega (arith, less, is.many, map.len-entries m)) (sym is.spelled ∙ parts) in
+      let same = row_apart f e next.0 (key, d) (flat_map (spelled_row_in f) next.1) behind next.2 row (sym next.4 ∙ front) in
+      let sorted : T (is_sorted text_cmp (rows ++ next.0 ∷ next.1)) = subst (λ r. T (is_sorted text_cmp r)) next.3 (map.entries_sorted m) in
+      no_after (subst (λ (r : List ℕ × Datum). IsAfter last r.0) same.0 (fall rows last next.0 next.1 ends sorted))
 
--- where bytes are left behind them, there are not so many
-pub no_more_rows : (bytes rest : List ℕ) (e : Elem) (count : ℕ) (rows : List (List ℕ × Datum)) → All (IsRow e) rows → length rows ≡ count → bytes ≡ flat_map spelled_row rows ++ rest
-    → (rest ≡ [] → ⊥) → (m : map.FinMap text_cmp Datum) → SpellRows bytes e count m → ⊥
-no_more_rows bytes rest e count rows each same parts some m is =
-    some (same_elements spelled_row (IsRow e) (row_apart e) rows (map.entries m) rest each is.each (same ∙ sym is.many ∙ map.len-entries m) (sym is.spelled ∙ parts)).1
+  -- where bytes are left behind them, there are not so many
+  pub no_more_rows : (bytes rest : List ℕ) (e : Elem) (count : ℕ) (rows : List (List ℕ × Datum)) → All (IsRowIn f e) rows → length rows ≡ count → bytes ≡ flat_map (spelled_row_in f) rows ++ rest
+      → (rest ≡ [] → ⊥) → (m : map.FinMap text_cmp Datum) → SpellRows f bytes e count m → ⊥
+  no_more_rows bytes rest e count rows each same parts some m is =
+      some (same_elements (spelled_row_in f) (IsRowIn f e) (row_apart f e) rows (map.entries m) rest each is.each (same ∙ sym is.many ∙ map.len-entries m) (sym is.spelled ∙ parts)).1

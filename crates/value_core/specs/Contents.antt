@@ -6,9 +6,11 @@ use Rattle.value_core.specs.declared.kind.Elem.{Elem}
 use Rattle.value_core.specs.declared.kind.Kind.{Kind}
 use Rattle.value_core.specs.declared.kind.Kind.TheVariants as kind
 use Rattle.value_core.specs.Limits.{most_elements}
-use Rattle.value_core.specs.Plain.{IsText}
-use Rattle.value_core.specs.Datum.{IsElement}
-use Rattle.value_core.specs.TextOrder.{text_cmp}
+use Rattle.value_core.specs.declared.format.Format.{Format}
+use Rattle.value_core.specs.declared.format.Format.TheVariants.{Second}
+use Rattle.value_core.specs.Format.{IsTextIn}
+use Rattle.value_core.specs.Datum.{IsElementIn}
+use Rattle.text_core.specs.TextOrder.{text_cmp}
 
 -- an array and a queue (its oldest first) are lists, a table is a finite map from texts
 pub data Contents : Type 0 where
@@ -34,23 +36,37 @@ rows_of (array e xs) = []
 rows_of (queue e xs) = []
 rows_of (table e m) = map.entries m
 
--- at most 1,024 elements of one sort
-pub record AreElements (e : Elem) (xs : List Datum) : Type 0 where
-  pub each : All (IsElement e) xs
+-- at most 1,024 elements of one sort, for which a format has room
+pub record AreElementsIn (f : Format) (e : Elem) (xs : List Datum) : Type 0 where
+  pub each : All (IsElementIn f e) xs
   pub few : length xs ≤ most_elements
 
 -- a text, and an element under it
-pub record IsRow (e : Elem) (row : List ℕ × Datum) : Type 0 where
-  pub key : IsText row.0
-  pub element : IsElement e row.1
+pub record IsRowIn (f : Format) (e : Elem) (row : List ℕ × Datum) : Type 0 where
+  pub key : IsTextIn f row.0
+  pub element : IsElementIn f e row.1
 
 -- at most 1,024 elements of one sort, under texts
-pub record AreRows (e : Elem) (m : map.FinMap text_cmp Datum) : Type 0 where
-  pub each : All (IsRow e) (map.entries m)
+pub record AreRowsIn (f : Format) (e : Elem) (m : map.FinMap text_cmp Datum) : Type 0 where
+  pub each : All (IsRowIn f e) (map.entries m)
   pub few : map.len m ≤ most_elements
+
+-- the contents for which a format has room
+abbrev pub IsContentsIn : Format → Contents → Type 0
+IsContentsIn f (array e xs) = AreElementsIn f e xs
+IsContentsIn f (queue e xs) = AreElementsIn f e xs
+IsContentsIn f (table e m) = AreRowsIn f e m
+
+-- the same for texts of up to 1,000 bytes
+abbrev pub AreElements : Elem → List Datum → Type 0
+AreElements = AreElementsIn Second
+
+abbrev pub IsRow : Elem → List ℕ × Datum → Type 0
+IsRow = IsRowIn Second
+
+abbrev pub AreRows : Elem → map.FinMap text_cmp Datum → Type 0
+AreRows = AreRowsIn Second
 
 -- the contents that a value can have
 abbrev pub IsContents : Contents → Type 0
-IsContents (array e xs) = AreElements e xs
-IsContents (queue e xs) = AreElements e xs
-IsContents (table e m) = AreRows e m
+IsContents = IsContentsIn Second

@@ -1,7 +1,5 @@
 pub mod Limits
-pub mod Plain
-pub mod Text
-pub mod TextOrder
+pub mod Format
 pub mod Datum
 pub mod Cells
 pub mod Queue

@@ -1,14 +1,6 @@
--- The limits of a value, and how the length of a text is spelled.
-use Rattle.std.specs.Prelude.{ℕ, List, [], ◌∷◌}
+-- The limits of a value.
+use Rattle.std.specs.Prelude.{ℕ}
 
 -- the most elements of a value
 abbrev pub most_elements : ℕ
 most_elements = 1024
-
--- the most bytes of a text
-abbrev pub most_text_bytes : ℕ
-most_text_bytes = 255
-
--- the length of a text is one byte
-abbrev pub spelled_length : ℕ → List ℕ
-spelled_length n = n ∷ []

@@ -5,9 +5,10 @@ ghost use Rattle.value_core.specs.Datum.{elem_of, zero_of};
 ghost use Rattle.value_core.specs.Cells.{cells_sort, cells_data};
 
 use crate::datum::Datum;
+use crate::encode::text_len;
 use crate::kind::Elem;
-use crate::text::Text;
 use std::alloc::{AllocError, Global};
+use text_core::text::Text;
 
 /// The elements of an array.
 #[derive(Drop)]
@@ -90,7 +91,7 @@ impl Cells {
             Cells::Texts(all) => {
                 let mut total = 0usize;
                 for text in all {
-                    total = total.saturating_add(text.spelled_len());
+                    total = total.saturating_add(text_len(text));
                 }
                 total
             }

@@ -4,14 +4,14 @@ ghost use Rattle.std.specs.Prelude.{◌≡◌, ◌↔◌, IsTrue};
 ghost use Rattle.value_core.specs.Datum.{elem_of, IsDatum};
 
 use crate::kind::Elem;
-use crate::text::Text;
+use text_core::text::Text;
 
 /// An integer or a text. It is copied without memory.
 #[derive(Clone, Copy, Debug, PartialEq, Eq)]
 pub enum Datum {
     /// An integer from 0 to 4294967295.
     Integer(u32),
-    /// A text of at most 255 bytes from 32 to 126.
+    /// A text of at most 1,000 bytes from 32 to 126.
     Text(Text),
 }
 

@@ -1,28 +1,31 @@
 //! Values from their bytes.
 
-ghost use Rattle.std.specs.Prelude.{◌≡◌, ◌≤◌, List, map, IfOk, IsErrOf, IsTrue, ◌↔◌, ◌++◌};
+ghost use Rattle.std.specs.Prelude.{◌≡◌, ◌≢◌, ◌≤◌, List, map, IfOk, IsErrOf, IsTrue, Some, false, slice_get, ◌↔◌, ◌++◌};
+ghost use Rattle.value_core.specs.declared.format.Format.{Format};
+ghost use Rattle.value_core.specs.Format.{number_of};
 ghost use Rattle.value_core.specs.declared.datum.Datum.{Datum};
 ghost use Rattle.value_core.specs.declared.datum.Datum.TheVariants as datum;
 ghost use Rattle.value_core.specs.declared.kind.Elem.TheVariants as elem;
 ghost use Rattle.value_core.specs.Limits.{most_elements};
 ghost use Rattle.value_core.specs.Contents.{Contents};
-ghost use Rattle.value_core.specs.Spelling.{Spells, SpellElements, SpellRows, IsAfter, header, IsCountOf, BeginsAs};
+ghost use Rattle.value_core.specs.Spelling.{SpellsIn, Spells, SpellsInSome, SpellElements, SpellRows, IsAfter, header_in, IsCountOf, BeginsAsIn, BeginsAs};
 ghost use Rattle.value_core.specs.Rows.{rows_sort, rows_map};
-ghost use Rattle.value_core.specs.TextOrder.{text_cmp};
+ghost use Rattle.text_core.specs.TextOrder.{text_cmp};
 ghost use Rattle.std.specs.FinMap.{FinMap};
 ghost use Rattle.value_core.specs.Cells.{cells_sort, cells_data};
 ghost use Rattle.value_core.specs.Queue.{queue_sort, queue_data};
 
 use crate::cells::Cells;
+use crate::format::Format;
 use crate::kind::{Elem, Kind};
 use crate::limits::MOST_ELEMENTS;
 use crate::queue::Queue;
 use crate::reader::{read_datum, read_header, read_integer, read_row, read_text};
 use crate::rows::Rows;
-use crate::text::Text;
 use crate::value::{Body, Value};
 use std::alloc::{AllocError, Global};
 use std::cmp::Ordering;
+use text_core::text::Text;
 use thiserror::Error;
 
 /// Why bytes gave no value.
@@ -48,21 +51,32 @@ impl From<AllocError> for DecodeFault {
 }
 
 // The elements of an array, so many, that the bytes are.
-fn decode_cells(alloc: Global, sort: Elem, count: usize, bytes: &[u8]) -> Result<Cells, DecodeFault>
+fn decode_cells(
+    alloc: Global,
+    format: Format,
+    sort: Elem,
+    count: usize,
+    bytes: &[u8],
+) -> Result<Cells, DecodeFault>
     ensures sort { IfOk result (λ cells. cells_sort cells ≡ sort) }
-    ensures found { IfOk result (λ cells. SpellElements bytes.now sort count (cells_data cells)) }
-    ensures damaged { IsErrOf result DecodeFault.Damaged → (xs : List Datum) → SpellElements bytes.now sort count xs → ⊥ }
+    ensures found { IfOk result (λ cells. SpellElements format bytes.now sort count (cells_data cells)) }
+    ensures damaged { IsErrOf result DecodeFault.Damaged → (xs : List Datum) → SpellElements format bytes.now sort count xs → ⊥ }
 {
     match sort {
-        Elem::Integer => Ok(Cells::Integers(decode_integers(alloc, count, bytes)?)),
-        Elem::Text => Ok(Cells::Texts(decode_texts(alloc, count, bytes)?)),
+        Elem::Integer => Ok(Cells::Integers(decode_integers(alloc, format, count, bytes)?)),
+        Elem::Text => Ok(Cells::Texts(decode_texts(alloc, format, count, bytes)?)),
     }
 }
 
 // The integers, so many, that the bytes are.
-fn decode_integers(alloc: Global, count: usize, bytes: &[u8]) -> Result<Vec<u32>, DecodeFault>
-    ensures found { IfOk result (λ all. SpellElements bytes.now elem.Integer count (map datum.Integer all.items)) }
-    ensures damaged { IsErrOf result DecodeFault.Damaged → (xs : List Datum) → SpellElements bytes.now elem.Integer count xs → ⊥ }
+fn decode_integers(
+    alloc: Global,
+    format: Format,
+    count: usize,
+    bytes: &[u8],
+) -> Result<Vec<u32>, DecodeFault>
+    ensures found { IfOk result (λ all. SpellElements format bytes.now elem.Integer count (map datum.Integer all.items)) }
+    ensures damaged { IsErrOf result DecodeFault.Damaged → (xs : List Datum) → SpellElements format bytes.now elem.Integer count xs → ⊥ }
 {
     let mut all = Vec::with_capacity(alloc, count)?;
     let mut rest = bytes;
@@ -83,14 +97,19 @@ fn decode_integers(alloc: Global, count: usize, bytes: &[u8]) -> Result<Vec<u32>
 }
 
 // The texts, so many, that the bytes are.
-fn decode_texts(alloc: Global, count: usize, bytes: &[u8]) -> Result<Vec<Text>, DecodeFault>
-    ensures found { IfOk result (λ all. SpellElements bytes.now elem.Text count (map datum.Text all.items)) }
-    ensures damaged { IsErrOf result DecodeFault.Damaged → (xs : List Datum) → SpellElements bytes.now elem.Text count xs → ⊥ }
+fn decode_texts(
+    alloc: Global,
+    format: Format,
+    count: usize,
+    bytes: &[u8],
+) -> Result<Vec<Text>, DecodeFault>
+    ensures found { IfOk result (λ all. SpellElements format bytes.now elem.Text count (map datum.Text all.items)) }
+    ensures damaged { IsErrOf result DecodeFault.Damaged → (xs : List Datum) → SpellElements format bytes.now elem.Text count xs → ⊥ }
 {
     let mut all = Vec::with_capacity(alloc, count)?;
     let mut rest = bytes;
     for place in 0..count {
-        let Some(front) = read_text(rest) else {
+        let Some(front) = read_text(format, rest) else {
             return Err(DecodeFault::Damaged);
         };
         let (text, behind) = front;
@@ -107,15 +126,21 @@ fn decode_texts(alloc: Global, count: usize, bytes: &[u8]) -> Result<Vec<Text>, 
 }
 
 // The elements of a queue, so many, that the bytes are.
-fn decode_queue(alloc: Global, sort: Elem, count: usize, bytes: &[u8]) -> Result<Queue, DecodeFault>
+fn decode_queue(
+    alloc: Global,
+    format: Format,
+    sort: Elem,
+    count: usize,
+    bytes: &[u8],
+) -> Result<Queue, DecodeFault>
     ensures sort { IfOk result (λ line. queue_sort line ≡ sort) }
-    ensures found { IfOk result (λ line. SpellElements bytes.now sort count (queue_data line)) }
-    ensures damaged { IsErrOf result DecodeFault.Damaged → (xs : List Datum) → SpellElements bytes.now sort count xs → ⊥ }
+    ensures found { IfOk result (λ line. SpellElements format bytes.now sort count (queue_data line)) }
+    ensures damaged { IsErrOf result DecodeFault.Damaged → (xs : List Datum) → SpellElements format bytes.now sort count xs → ⊥ }
 {
     let mut line = Queue::with_capacity(alloc, sort, count)?;
     let mut rest = bytes;
     for place in 0..count {
-        let Some((datum, behind)) = read_datum(sort, rest) else {
+        let Some((datum, behind)) = read_datum(format, sort, rest) else {
             return Err(DecodeFault::Damaged);
         };
         line.push(datum)?;
@@ -128,16 +153,22 @@ fn decode_queue(alloc: Global, sort: Elem, count: usize, bytes: &[u8]) -> Result
 }
 
 // The rows of a table, so many, that the bytes are.
-fn decode_rows(alloc: Global, sort: Elem, count: usize, bytes: &[u8]) -> Result<Rows, DecodeFault>
+fn decode_rows(
+    alloc: Global,
+    format: Format,
+    sort: Elem,
+    count: usize,
+    bytes: &[u8],
+) -> Result<Rows, DecodeFault>
     ensures sort { IfOk result (λ rows. rows_sort rows ≡ sort) }
-    ensures found { IfOk result (λ rows. SpellRows bytes.now sort count (rows_map rows)) }
-    ensures damaged { IsErrOf result DecodeFault.Damaged → (m : FinMap text_cmp Datum) → SpellRows bytes.now sort count m → ⊥ }
+    ensures found { IfOk result (λ rows. SpellRows format bytes.now sort count (rows_map rows)) }
+    ensures damaged { IsErrOf result DecodeFault.Damaged → (m : FinMap text_cmp Datum) → SpellRows format bytes.now sort count m → ⊥ }
 {
     let mut rows = Rows::new(alloc, sort);
     let mut rest = bytes;
     let mut last: Option<Text> = None;
     for place in 0..count {
-        let Some(row) = read_row(sort, rest) else {
+        let Some(row) = read_row(format, sort, rest) else {
             return Err(DecodeFault::Damaged);
         };
         let (key, datum, behind) = row;
@@ -167,13 +198,14 @@ fn rises(last: &Option<Text>, key: &Text) -> bool
 // The value of this kind, with so many elements, that the bytes behind the header are.
 fn decode_elements(
     alloc: Global,
+    format: Format,
     kind: Kind,
     count: u16,
     bytes: &[u8],
 ) -> Result<Value, DecodeFault>
     requires { count ≤ most_elements }
-    ensures found { IfOk result (λ value. Spells (header kind count ++ bytes.now) kind value) }
-    ensures damaged { IsErrOf result DecodeFault.Damaged → (value : Contents) → Spells (header kind count ++ bytes.now) kind value → ⊥ }
+    ensures found { IfOk result (λ value. SpellsIn format (header_in format kind count ++ bytes.now) kind value) }
+    ensures damaged { IsErrOf result DecodeFault.Damaged → (value : Contents) → SpellsIn format (header_in format kind count ++ bytes.now) kind value → ⊥ }
     ensures header { (IsCountOf kind count → ⊥) → IsErrOf result DecodeFault.Damaged }
 {
     let many = count as usize;
@@ -182,33 +214,76 @@ fn decode_elements(
             if count != length {
                 return Err(DecodeFault::Damaged);
             }
-            let cells = decode_cells(alloc, sort, many, bytes)?;
-            Ok(Value::of(Body::Array(cells)))
+            let cells = decode_cells(alloc, format, sort, many, bytes)?;
+            Ok(Value::in_format(format, Body::Array(cells)))
         }
         Kind::Queue(sort) => {
-            let line = decode_queue(alloc, sort, many, bytes)?;
-            Ok(Value::of(Body::Queue(line)))
+            let line = decode_queue(alloc, format, sort, many, bytes)?;
+            Ok(Value::in_format(format, Body::Queue(line)))
         }
         Kind::Table(sort) => {
-            let rows = decode_rows(alloc, sort, many, bytes)?;
-            Ok(Value::of(Body::Table(rows)))
+            let rows = decode_rows(alloc, format, sort, many, bytes)?;
+            Ok(Value::in_format(format, Body::Table(rows)))
         }
     }
 }
 
-/// The value of this kind that the bytes spell. `Damaged` where they spell none; where no header of this
-/// kind stands at their front, whatever memory there is. `Memory` where it was refused before another damage
-/// was seen.
-pub fn decode(alloc: Global, kind: Kind, bytes: &[u8]) -> Result<Value, DecodeFault>
-    ensures found { IfOk result (λ value. Spells bytes.now kind value) }
-    ensures damaged { IsErrOf result DecodeFault.Damaged → (value : Contents) → Spells bytes.now kind value → ⊥ }
-    ensures header { (BeginsAs kind bytes.now → ⊥) → IsErrOf result DecodeFault.Damaged }
+// The value of this kind that the bytes spell in a format.
+fn decode_in(alloc: Global, format: Format, kind: Kind, bytes: &[u8]) -> Result<Value, DecodeFault>
+    ensures found { IfOk result (λ value. SpellsIn format bytes.now kind value) }
+    ensures damaged { IsErrOf result DecodeFault.Damaged → (value : Contents) → SpellsIn format bytes.now kind value → ⊥ }
+    ensures header { (BeginsAsIn format kind bytes.now → ⊥) → IsErrOf result DecodeFault.Damaged }
 {
-    let Some((code, count, rest)) = read_header(bytes) else {
+    let Some((code, count, rest)) = read_header(format, bytes) else {
         return Err(DecodeFault::Damaged);
     };
     if code != kind.code() || count > MOST_ELEMENTS {
         return Err(DecodeFault::Damaged);
     }
-    decode_elements(alloc, kind, count, rest)
+    decode_elements(alloc, format, kind, count, rest)
+}
+
+/// The value of this kind that the bytes spell in the second format, which `encode` writes. `Damaged` where
+/// they spell none; where no header of this kind stands at their front, whatever memory there is. `Memory`
+/// where it was refused before another damage was seen.
+pub fn decode(alloc: Global, kind: Kind, bytes: &[u8]) -> Result<Value, DecodeFault>
+    ensures found { IfOk result (λ value. Spells bytes.now kind value) }
+    ensures damaged { IsErrOf result DecodeFault.Damaged → (value : Contents) → Spells bytes.now kind value → ⊥ }
+    ensures header { (BeginsAs kind bytes.now → ⊥) → IsErrOf result DecodeFault.Damaged }
+{
+    decode_in(alloc, Format::Second, kind, bytes)
+}
+
+/// The same of bytes in the first format.
+pub fn decode_v1(alloc: Global, kind: Kind, bytes: &[u8]) -> Result<Value, DecodeFault>
+    ensures found { IfOk result (λ value. SpellsIn Format.First bytes.now kind value) }
+    ensures damaged { IsErrOf result DecodeFault.Damaged → (value : Contents) → SpellsIn Format.First bytes.now kind value → ⊥ }
+    ensures header { (BeginsAsIn Format.First kind bytes.now → ⊥) → IsErrOf result DecodeFault.Damaged }
+{
+    decode_in(alloc, Format::First, kind, bytes)
+}
+
+// Whether these bytes are to be read in the first format: their first byte is its number.
+fn is_first(bytes: &[u8]) -> bool
+    ensures first { IsTrue result → slice_get bytes.now 0 ≡ Some (number_of Format.First) }
+    ensures other { result ≡ false → slice_get bytes.now 0 ≢ Some (number_of Format.First) }
+{
+    match bytes {
+        [number, ..] => *number == Format::First.number(),
+        _ => false,
+    }
+}
+
+/// The same of bytes that were kept, in either format: in the first one where their first byte is its
+/// number, else in the second one.
+pub fn decode_kept(alloc: Global, kind: Kind, bytes: &[u8]) -> Result<Value, DecodeFault>
+    ensures found { IfOk result (λ value. SpellsInSome bytes.now kind value) }
+    ensures damaged { IsErrOf result DecodeFault.Damaged → (value : Contents) → SpellsInSome bytes.now kind value → ⊥ }
+    ensures header { ((f : Format) → BeginsAsIn f kind bytes.now → ⊥) → IsErrOf result DecodeFault.Damaged }
+{
+    if is_first(bytes) {
+        decode_v1(alloc, kind, bytes)
+    } else {
+        decode(alloc, kind, bytes)
+    }
 }

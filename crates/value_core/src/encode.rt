@@ -11,14 +11,16 @@ ghost use Rattle.value_core.specs.Spelling.{spelled_text, spelled_datum, header,
 
 use crate::cells::Cells;
 use crate::datum::Datum;
+use crate::format::Format;
 use crate::kind::Kind;
-use crate::limits::TextLength;
 use crate::queue::Queue;
-use crate::text::Text;
 use crate::value::{Body, Value};
 use std::alloc::{AllocError, Global};
+use std::mem::size_of;
+use text_core::limits::TextLength;
+use text_core::text::Text;
 
-/// The bytes that spell the value.
+/// The bytes that spell the value, in the second format.
 pub fn encode(alloc: Global, value: &Value) -> Result<Vec<u8>, AllocError>
     ensures { IfOk result (λ bytes. Spells bytes.items (kind_of value.now) value.now) }
 {
@@ -35,7 +37,7 @@ pub fn encode(alloc: Global, value: &Value) -> Result<Vec<u8>, AllocError>
 fn put_header(out: &mut Vec<u8>, kind: Kind, count: u16) -> Result<(), AllocError>
     ensures { OnOk result (out.new.items ≡ out.old.items ++ header kind count) }
 {
-    out.push(1)?;
+    out.push(Format::Second.number())?;
     out.push(kind.code())?;
     out.extend_from_slice(&count.to_be_bytes())
 }
@@ -101,4 +103,9 @@ fn put_queue(out: &mut Vec<u8>, line: &Queue) -> Result<(), AllocError>
         }
     }
     Ok(())
+}
+
+// How many bytes spell a text: its length, and itself.
+pub(crate) fn text_len(text: &Text) -> usize {
+    size_of::<TextLength>() + text.len() as usize
 }

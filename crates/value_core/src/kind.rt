@@ -9,7 +9,7 @@ ghost use Rattle.value_core.specs.Spelling.{code_of};
 pub enum Elem {
     /// An integer from 0 to 4294967295.
     Integer,
-    /// A text of at most 255 bytes from 32 to 126.
+    /// A text of at most 1,000 bytes from 32 to 126.
     Text,
 }
 

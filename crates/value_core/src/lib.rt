@@ -1,8 +1,10 @@
 //! Values of a part: arrays, queues and tables of integers or texts, with their operations and their bytes.
 //!
 //! A contract sees a `value::Value` as its `Contents`: an array and a queue are lists, a table is a finite
-//! map. Each value has one spelling in bytes: `encode::encode` writes it, and `decode::decode` reads exactly
-//! the spellings. An operation that is refused says so by a word (`refusal::Refusal`) and changes nothing.
+//! map. Each value has one spelling in bytes in each `format::Format` that has room for it: `encode::encode`
+//! writes the second one, `decode::decode` reads exactly the spellings of that, `decode::decode_v1` exactly
+//! those of the first, and `decode::decode_kept` those of either. An operation that is refused says so by a
+//! word (`refusal::Refusal`) and changes nothing.
 #![tactic(auto)]
 
 pub mod arithmetic;
@@ -10,6 +12,7 @@ mod cells;
 pub mod datum;
 pub mod decode;
 pub mod encode;
+pub mod format;
 pub mod kind;
 pub mod laws;
 pub mod limits;
@@ -17,5 +20,4 @@ mod queue;
 mod reader;
 pub mod refusal;
 mod rows;
-pub mod text;
 pub mod value;

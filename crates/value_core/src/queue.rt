@@ -5,10 +5,11 @@ ghost use Rattle.value_core.specs.Datum.{elem_of};
 ghost use Rattle.value_core.specs.Queue.{queue_sort, queue_data};
 
 use crate::datum::Datum;
+use crate::encode::text_len;
 use crate::kind::Elem;
-use crate::text::Text;
 use std::alloc::{AllocError, Global};
 use std::collections::VecDeque;
+use text_core::text::Text;
 
 /// The elements of a queue.
 #[derive(Drop)]
@@ -111,7 +112,7 @@ impl Queue {
             Queue::Texts(all) => {
                 let mut total = 0usize;
                 for text in all {
-                    total = total.saturating_add(text.spelled_len());
+                    total = total.saturating_add(text_len(text));
                 }
                 total
             }

@@ -4,24 +4,29 @@
 ghost use Rattle.std.specs.Prelude.{◌≡◌, ◌≢◌, ◌<◌, ◌≤◌, ◌^◌, ◌++◌, ◌∷◌, List, ℕ, IfSome, IfNone};
 ghost use Rattle.std.specs.Int.{w16, w32, to_be_bytes};
 ghost use Rattle.value_core.specs.declared.datum.Datum.{Datum};
-ghost use Rattle.value_core.specs.Limits.{spelled_length, most_text_bytes};
-ghost use Rattle.value_core.specs.Plain.{IsText};
-ghost use Rattle.value_core.specs.Datum.{IsElement};
-ghost use Rattle.value_core.specs.Contents.{IsRow};
-ghost use Rattle.value_core.specs.Spelling.{spelled_text, spelled_datum, spelled_row};
+ghost use Rattle.value_core.specs.Format.{number_of, spelled_length, IsTextIn};
+ghost use Rattle.value_core.specs.Datum.{IsElementIn};
+ghost use Rattle.value_core.specs.Contents.{IsRowIn};
+ghost use Rattle.value_core.specs.Spelling.{spelled_text_in, spelled_datum_in, spelled_row_in};
 
 use crate::datum::Datum;
+use crate::format::Format;
 use crate::kind::Elem;
-use crate::limits::TextLength;
-use crate::text::Text;
+use text_core::limits::TextLength;
+use text_core::text::Text;
 
 /// The byte of the kind, and the number of elements.
-pub fn read_header(bytes: &[u8]) -> Option<(u8, u16, &[u8])>
-    ensures some { IfSome result (λ r. (bytes.now ≡ 1 ∷ r.0 ∷ to_be_bytes w16 r.1 ++ r.2.now) × (r.1 < 2 ^ 16)) }
-    ensures none { IfNone result ((code count : ℕ) (rest : List ℕ) → bytes.now ≢ 1 ∷ code ∷ to_be_bytes w16 count ++ rest) }
+pub fn read_header(format: Format, bytes: &[u8]) -> Option<(u8, u16, &[u8])>
+    ensures some { IfSome result (λ r. (bytes.now ≡ number_of format ∷ r.0 ∷ to_be_bytes w16 r.1 ++ r.2.now) × (r.1 < 2 ^ 16)) }
+    ensures none { IfNone result ((code count : ℕ) (rest : List ℕ) → bytes.now ≢ number_of format ∷ code ∷ to_be_bytes w16 count ++ rest) }
 {
     match bytes {
-        [1, code, high, low, rest @ ..] => Some((*code, u16::from_be_bytes([*high, *low]), rest)),
+        [number, code, high, low, rest @ ..] => {
+            if *number != format.number() {
+                return None;
+            }
+            Some((*code, u16::from_be_bytes([*high, *low]), rest))
+        }
         _ => None,
     }
 }
@@ -38,24 +43,33 @@ pub fn read_integer(bytes: &[u8]) -> Option<(u32, &[u8])>
 }
 
 // The length of a text.
-fn read_length(bytes: &[u8]) -> Option<(TextLength, &[u8])>
-    ensures some { IfSome result (λ r. bytes.now ≡ spelled_length r.0 ++ r.1.now) }
-    ensures none { IfNone result ((n : ℕ) (rest : List ℕ) → n ≤ most_text_bytes → bytes.now ≢ spelled_length n ++ rest) }
+fn read_length(format: Format, bytes: &[u8]) -> Option<(TextLength, &[u8])>
+    ensures some { IfSome result (λ r. (bytes.now ≡ spelled_length format r.0 ++ r.1.now) × (r.0 < 2 ^ 16)) }
+    ensures none { IfNone result ((n : ℕ) (rest : List ℕ) → bytes.now ≢ spelled_length format n ++ rest) }
 {
-    match bytes {
-        [len, rest @ ..] => Some((TextLength::from_be_bytes([*len]), rest)),
-        _ => None,
+    match format {
+        Format::First => match bytes {
+            [len, rest @ ..] => Some((TextLength::from(*len), rest)),
+            _ => None,
+        },
+        Format::Second => match bytes {
+            [high, low, rest @ ..] => Some((TextLength::from_be_bytes([*high, *low]), rest)),
+            _ => None,
+        },
     }
 }
 
 /// A text: its length, and its bytes.
-pub fn read_text(bytes: &[u8]) -> Option<(Text, &[u8])>
-    ensures some { IfSome result (λ r. IsText r.0 × (bytes.now ≡ spelled_text r.0 ++ r.1.now)) }
-    ensures none { IfNone result ((text rest : List ℕ) → IsText text → bytes.now ≢ spelled_text text ++ rest) }
+pub fn read_text(format: Format, bytes: &[u8]) -> Option<(Text, &[u8])>
+    ensures some { IfSome result (λ r. IsTextIn format r.0 × (bytes.now ≡ spelled_text_in format r.0 ++ r.1.now)) }
+    ensures none { IfNone result ((text rest : List ℕ) → IsTextIn format text → bytes.now ≢ spelled_text_in format text ++ rest) }
 {
-    let Some((len, rest)) = read_length(bytes) else {
+    let Some((len, rest)) = read_length(format, bytes) else {
         return None;
     };
+    if len > format.most_text() {
+        return None;
+    }
     if rest.len() < len as usize {
         return None;
     }
@@ -65,9 +79,9 @@ pub fn read_text(bytes: &[u8]) -> Option<(Text, &[u8])>
 }
 
 /// An integer or a text.
-pub fn read_datum(sort: Elem, bytes: &[u8]) -> Option<(Datum, &[u8])>
-    ensures some { IfSome result (λ r. IsElement sort r.0 × (bytes.now ≡ spelled_datum r.0 ++ r.1.now)) }
-    ensures none { IfNone result ((datum : Datum) (rest : List ℕ) → IsElement sort datum → bytes.now ≢ spelled_datum datum ++ rest) }
+pub fn read_datum(format: Format, sort: Elem, bytes: &[u8]) -> Option<(Datum, &[u8])>
+    ensures some { IfSome result (λ r. IsElementIn format sort r.0 × (bytes.now ≡ spelled_datum_in format r.0 ++ r.1.now)) }
+    ensures none { IfNone result ((datum : Datum) (rest : List ℕ) → IsElementIn format sort datum → bytes.now ≢ spelled_datum_in format datum ++ rest) }
 {
     match sort {
         Elem::Integer => {
@@ -77,7 +91,7 @@ pub fn read_datum(sort: Elem, bytes: &[u8]) -> Option<(Datum, &[u8])>
             Some((Datum::Integer(number), rest))
         }
         Elem::Text => {
-            let Some((text, rest)) = read_text(bytes) else {
+            let Some((text, rest)) = read_text(format, bytes) else {
                 return None;
             };
             Some((Datum::Text(text), rest))
@@ -86,15 +100,15 @@ pub fn read_datum(sort: Elem, bytes: &[u8]) -> Option<(Datum, &[u8])>
 }
 
 /// The key of a table, and what stands under it.
-pub fn read_row(sort: Elem, bytes: &[u8]) -> Option<(Text, Datum, &[u8])>
-    ensures some { IfSome result (λ r. IsRow sort (r.0, r.1) × (bytes.now ≡ spelled_row (r.0, r.1) ++ r.2.now)) }
-    ensures none { IfNone result ((row : List ℕ × Datum) (rest : List ℕ) → IsRow sort row → bytes.now ≢ spelled_row row ++ rest) }
+pub fn read_row(format: Format, sort: Elem, bytes: &[u8]) -> Option<(Text, Datum, &[u8])>
+    ensures some { IfSome result (λ r. IsRowIn format sort (r.0, r.1) × (bytes.now ≡ spelled_row_in format (r.0, r.1) ++ r.2.now)) }
+    ensures none { IfNone result ((row : List ℕ × Datum) (rest : List ℕ) → IsRowIn format sort row → bytes.now ≢ spelled_row_in format row ++ rest) }
 {
-    let Some(front) = read_text(bytes) else {
+    let Some(front) = read_text(format, bytes) else {
         return None;
     };
     let (key, behind) = front;
-    let Some((datum, rest)) = read_datum(sort, behind) else {
+    let Some((datum, rest)) = read_datum(format, sort, behind) else {
         return None;
     };
     Some((key, datum, rest))

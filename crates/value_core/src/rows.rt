@@ -10,11 +10,11 @@ ghost use Rattle.value_core.specs.Datum.{elem_of};
 ghost use Rattle.value_core.specs.Rows.{rows_sort, rows_map};
 
 use crate::datum::Datum;
-use crate::encode::{put_integer, put_text};
+use crate::encode::{put_integer, put_text, text_len};
 use crate::kind::Elem;
-use crate::text::Text;
 use std::alloc::{AllocError, Global};
 use std::collections::BTreeMap;
+use text_core::text::Text;
 
 /// The elements of a table.
 #[derive(Drop)]
@@ -121,14 +121,14 @@ impl Rows {
         match self {
             Rows::Integers(all) => {
                 for (key, _) in all {
-                    total = total.saturating_add(key.spelled_len()).saturating_add(4);
+                    total = total.saturating_add(text_len(key)).saturating_add(4);
                 }
             }
             Rows::Texts(all) => {
                 for (key, text) in all {
                     total = total
-                        .saturating_add(key.spelled_len())
-                        .saturating_add(text.spelled_len());
+                        .saturating_add(text_len(key))
+                        .saturating_add(text_len(text));
                 }
             }
         }

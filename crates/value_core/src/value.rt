@@ -4,19 +4,20 @@ ghost use Rattle.std.specs.Prelude.{◌≡◌, IfOk};
 ghost use Rattle.value_core.specs.Datum.{elem_of, IsElement};
 ghost use Rattle.value_core.specs.Kinds.{sort_of, IsKind, IsArray, IsQueue, IsTable};
 ghost use Rattle.value_core.specs.Body.{contents_of};
-ghost use Rattle.value_core.specs.Contents.{kind_of, elements_of, rows_of, IsContents};
+ghost use Rattle.value_core.specs.Contents.{kind_of, elements_of, rows_of, IsContents, IsContentsIn};
 ghost use Rattle.value_core.specs.Meaning.{opening_of, element_at, with_element, oldest_of, without_oldest, with_newest, has_key, under_key, with_row, without_key, count_of, Changes, Grows};
 
 use crate::cells::Cells;
 use crate::datum::Datum;
+use crate::format::Format;
 use crate::kind::Kind;
 use crate::limits::{HEADER_BYTES, MOST_ELEMENTS};
 use crate::queue::Queue;
 use crate::refusal::{GrowFault, Refusal};
 use crate::rows::Rows;
-use crate::text::Text;
 use std::alloc::{AllocError, Global};
 use std::marker::Model;
+use text_core::text::Text;
 
 /// An array, a queue or a table, of at most 1,024 integers or texts.
 #[derive(Drop)]
@@ -54,6 +55,16 @@ impl Value {
         ensures { result ≡ contents_of body }
     {
         Value { body }
+    }
+
+    // The value that is kept so, for which a format has room.
+    #[tactic(auto, using(crate::proofs::Widening::wide))]
+    pub(crate) fn in_format(format: Format, body: Body) -> Value
+        requires { IsContentsIn format (contents_of body) }
+        ensures { result ≡ contents_of body }
+    {
+        let _format = format;
+        Value::of(body)
     }
 
     // How many bytes spell the value, so that they are made in one growth.

@@ -1,10 +1,10 @@
 //! Operations that test the kind first, and values to begin with.
 
 use std::alloc::{AllocError, Global};
+use text_core::text::Text;
 use value_core::datum::Datum;
 use value_core::kind::{Elem, Kind};
 use value_core::refusal::{GrowFault, Refusal};
-use value_core::text::Text;
 use value_core::value::Value;
 
 /// What a test does to a value whose kind does not fit.

@@ -1,15 +1,15 @@
 use Rattle.std.proofs.Common.{◌≡◌, ◌++◌, length}
 use Rattle.std.specs.Prelude.{All}
 use Rattle.std.specs.List.{flat_map}
-use Rattle.value_core.specs.Datum.{IsElement}
+use Rattle.value_core.specs.Datum.{IsElementIn}
 use Rattle.value_core.specs.Queue.{queue_sort, queue_data}
-use Rattle.value_core.specs.Spelling.{spelled_datum}
+use Rattle.value_core.specs.Spelling.{spelled_datum_in}
 use Rattle.value_core.proofs.decode.decode_queue.Given as goal
 
 abbrev pub invariant-loop-place : goal.invariant-loop-place
 invariant-loop-place l = record {
   sort : queue_sort l.line ≡ l.sort;
-  each : All (IsElement l.sort) (queue_data l.line);
+  each : All (IsElementIn l.format l.sort) (queue_data l.line);
   many : length (queue_data l.line) ≡ l.place;
-  parts : l.bytes ≡ flat_map spelled_datum (queue_data l.line) ++ l.rest;
+  parts : l.bytes ≡ flat_map (spelled_datum_in l.format) (queue_data l.line) ++ l.rest;
 }

@@ -3,9 +3,9 @@ use Rattle.std.specs.Prelude.{All}
 use Rattle.std.specs.FinMap as map
 use Rattle.std.proofs.lemmas.List.Elements.{All-nil}
 use Rattle.value_core.specs.declared.datum.Datum.{Datum}
-use Rattle.value_core.specs.Contents.{IsRow}
-use Rattle.value_core.specs.TextOrder.{text_cmp}
-use Rattle.value_core.specs.Spelling.{spelled_row, IsAfter}
+use Rattle.value_core.specs.Contents.{IsRowIn}
+use Rattle.text_core.specs.TextOrder.{text_cmp}
+use Rattle.value_core.specs.Spelling.{spelled_row_in, IsAfter}
 use Rattle.value_core.specs.Rows.{rows_map}
 use Rattle.value_core.proofs.Tables.{none_of}
 use Rattle.value_core.proofs.Decoding.{read_more, All-push, length-push}
@@ -20,7 +20,7 @@ loop-place-init c =
     let none : map.entries (rows_map c.new-rows.result) ≡ [] = none_read (rows_map c.new-rows.result) c.new-rows.ensures.data in
     record {
       sort = c.new-rows.ensures.sort;
-      each = subst (All (IsRow c.args.sort)) (sym none) (All-nil (IsRow c.args.sort));
+      each = subst (All (IsRowIn c.args.format c.args.sort)) (sym none) (All-nil (IsRowIn c.args.format c.args.sort));
       many = map.len-entries (rows_map c.new-rows.result) ∙ ap length none;
       last = none;
       parts = rw none refl;
@@ -29,14 +29,14 @@ loop-place-init c =
 pub returns-in_default-clause-damaged : goal.returns-in_default-clause-damaged
 returns-in_default-clause-damaged c = λ _.
     let m = rows_map c.loop-place.rows in
-    no_next_row c.args.bytes.now c.loop-place.rest.now c.args.sort c.args.count (map.entries m) c.loop-place.invariant.each
+    no_next_row c.args.format c.args.bytes.now c.loop-place.rest.now c.args.sort c.args.count (map.entries m) c.loop-place.invariant.each
     (omega (arith, map.len-entries m, c.loop-place.invariant.many)) c.loop-place.invariant.parts c.in_default.ensures.none
 
 pub returns-then-not-rises-clause-damaged : goal.returns-then-not-rises-clause-damaged
 returns-then-not-rises-clause-damaged c = λ _.
     let m = rows_map c.loop-place.rows in
     let no_after : IsAfter c.loop-place.last c.in-Some.row.0 → ⊥ = search rules in
-    no_rise c.args.bytes.now c.loop-place.rest.now c.in-Some.row.2.now c.args.sort c.args.count (map.entries m) c.loop-place.last c.in-Some.row.0 c.in-Some.row.1 c.loop-place.invariant.each
+    no_rise c.args.format c.args.bytes.now c.loop-place.rest.now c.in-Some.row.2.now c.args.sort c.args.count (map.entries m) c.loop-place.last c.in-Some.row.0 c.in-Some.row.1 c.loop-place.invariant.each
     (omega (arith, map.len-entries m, c.loop-place.invariant.many)) c.loop-place.invariant.parts c.loop-place.invariant.last c.in-Some.ensures.some.0 c.in-Some.ensures.some.1 no_after
 
 pub loop-place-preserved : goal.loop-place-preserved
@@ -49,15 +49,15 @@ loop-place-preserved c =
     let many : length (map.entries m) ≡ c.loop-place.place = sym (map.len-entries m) ∙ c.loop-place.invariant.many in
     record {
       sort = c.in_ok-insert.ensures.sort ∙ c.loop-place.invariant.sort;
-      each = subst (All (IsRow c.args.sort)) (sym same) (All-push (IsRow c.args.sort) (map.entries m) row c.loop-place.invariant.each c.in-Some.ensures.some.0);
+      each = subst (All (IsRowIn c.args.format c.args.sort)) (sym same) (All-push (IsRowIn c.args.format c.args.sort) (map.entries m) row c.loop-place.invariant.each c.in-Some.ensures.some.0);
       many = map.len-entries (rows_map c.insert.new.self) ∙ ap length same ∙ length-push (map.entries m) row c.loop-place.place many;
       last = (map.entries m, c.in-Some.row.1, same);
-      parts = rw same (read_more spelled_row _ _ _ (map.entries m) row c.loop-place.invariant.parts c.in-Some.ensures.some.1);
+      parts = rw same (read_more (spelled_row_in c.args.format) _ _ _ (map.entries m) row c.loop-place.invariant.parts c.in-Some.ensures.some.1);
     }
 
 pub returns-then-not-is_empty-clause-damaged : goal.returns-then-not-is_empty-clause-damaged
 returns-then-not-is_empty-clause-damaged c = λ _.
     let m = rows_map c.loop-place.rows in
     let some : c.loop-place.rest.now ≢ [] = search rules in
-    no_more_rows c.args.bytes.now c.loop-place.rest.now c.args.sort c.args.count (map.entries m) c.loop-place.invariant.each
+    no_more_rows c.args.format c.args.bytes.now c.loop-place.rest.now c.args.sort c.args.count (map.entries m) c.loop-place.invariant.each
     (omega (arith, map.len-entries m, c.loop-place.invariant.many)) c.loop-place.invariant.parts some

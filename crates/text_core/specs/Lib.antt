@@ -1,0 +1,4 @@
+pub mod Limits
+pub mod Plain
+pub mod Text
+pub mod TextOrder
