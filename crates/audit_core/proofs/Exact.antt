@@ -8,8 +8,8 @@ use Rattle.path_tree.specs.Satisfies.{Satisfies, SatisfiesAll}
 use Rattle.value_core.specs.Contents.{Contents}
 use Rattle.std.specs.Str.{str_to_ascii_lowercase}
 use Rattle.path_tree.specs.Known.{place_of}
-use Rattle.value_core.specs.Spelling.{Spells}
-use Rattle.value_core.proofs.Unique.{unique}
+use Rattle.value_core.specs.Spelling.{SpellsInSome}
+use Rattle.value_core.proofs.Unique.{unique_in}
 use Rattle.audit_core.specs.Operations.{operation_names}
 use Rattle.std.proofs.lemmas.Option.{slice_get_within}
 use Rattle.audit_core.specs.declared.verdict.Verdict.{Verdict}
@@ -35,7 +35,8 @@ same_bytes a b {E} r p q = let e : ◌≡◌ {A = Result (List ℕ) E} (Ok a) (O
 part_once : (o : ObjectForm) (heard : Heard) (name hex : List ℕ) (a b : Contents) → IsPart o heard name hex a → IsPart o heard name hex b → a ≡ b
 part_once o heard name hex a b p q =
     let bytes : p.bytes ≡ q.bytes = same_bytes p.bytes q.bytes _ p.is.read q.is.read in
-    unique p.bytes p.kind q.kind a b p.spells (subst (λ x. Spells x q.kind b) (sym bytes) q.spells)
+    let other : SpellsInSome p.bytes q.kind b = subst (λ x. SpellsInSome x q.kind b) (sym bytes) q.spells in
+    (unique_in p.spells.0 other.0 p.bytes p.kind q.kind a b p.spells.1 other.1).1
 
 -- a line tells one thing
 pub tells_once : (o : ObjectForm) (heard : Heard) (line : List ℕ) (a b : Heard) → IsTrace (trace_of heard.past) → Tells o heard line a → Tells o heard line b → a ≡ b

@@ -4,7 +4,7 @@ use Rattle.std.specs.Prelude.{Option, Some, None, MatchOption, Result, Ok, Err, 
 use Rattle.std.proofs.lemmas.Option.{slice_get_read, slice_get-map}
 use Rattle.value_core.specs.declared.kind.Kind.{Kind}
 use Rattle.value_core.specs.Contents.{Contents}
-use Rattle.value_core.specs.Spelling.{Spells}
+use Rattle.value_core.specs.Spelling.{SpellsInSome}
 use Rattle.decl_core.specs.declared.object.Part.{Part}
 use Rattle.decl_core.specs.ObjectMap.{parts_of}
 use Rattle.audit_core.specs.Tells.{IsHex}
@@ -23,7 +23,7 @@ unfolding kind_in
 same_kind name a b e = ap (λ x. kind_in a x) e
 
 part_found : (parts : List Part) (place : ℕ) (name word : List ℕ) (part : Part) (found : Option Contents) → slice_get (parts_of parts) place ≡ Some (name, part.kind)
-    → MatchOption found ((bytes : List ℕ) (value : Contents) → IsHex word bytes → Spells bytes part.kind value → ⊥) (λ value. (bytes : List ℕ) × IsHex word bytes × Spells bytes part.kind value)
+    → MatchOption found ((bytes : List ℕ) (value : Contents) → IsHex word bytes → SpellsInSome bytes part.kind value → ⊥) (λ value. (bytes : List ℕ) × IsHex word bytes × SpellsInSome bytes part.kind value)
     → MatchOption found ((value : Contents) → IsPartAt (parts_of parts) place name word value → ⊥) (IsPartAt (parts_of parts) place name word)
 part_found parts place name word part None there none = λ value is.
     let k : is.kind ≡ part.kind = same_kind name is.kind part.kind (sym is.there ∙ there) in
@@ -31,7 +31,7 @@ part_found parts place name word part None there none = λ value is.
 part_found parts place name word part (Some value) there is = record { kind = part.kind; there = there; bytes = is.0; is = is.1; spells = is.2 }
 
 pub part_read : {E : Type 0} (parts : List Part) (place : ℕ) (name word : List ℕ) (part : Part) (found : Result (Option Contents) E) → place < length parts → part ≡ get_or parts place part → part.name ≡ name
-    → IfOk found (λ f. MatchOption f ((bytes : List ℕ) (value : Contents) → IsHex word bytes → Spells bytes part.kind value → ⊥) (λ value. (bytes : List ℕ) × IsHex word bytes × Spells bytes part.kind value))
+    → IfOk found (λ f. MatchOption f ((bytes : List ℕ) (value : Contents) → IsHex word bytes → SpellsInSome bytes part.kind value → ⊥) (λ value. (bytes : List ℕ) × IsHex word bytes × SpellsInSome bytes part.kind value))
     → IfOk found (λ f. MatchOption f ((value : Contents) → IsPartAt (parts_of parts) place name word value → ⊥) (IsPartAt (parts_of parts) place name word))
 part_read parts place name word part (Err e) within is same of = tt
 part_read parts place name word part (Ok f) within is same of = part_found parts place name word part f (at_place parts place part name within is same) of

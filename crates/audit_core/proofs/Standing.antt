@@ -12,7 +12,7 @@ use Rattle.path_count.specs.State.{State}
 use Rattle.value_core.specs.declared.datum.Datum.{Datum}
 use Rattle.value_core.specs.declared.kind.Kind.{Kind}
 use Rattle.value_core.specs.Contents.{Contents, kind_of}
-use Rattle.value_core.specs.Spelling.{Spells}
+use Rattle.value_core.specs.Spelling.{SpellsInSome}
 use Rattle.decl_core.specs.ObjectForm.{ObjectForm}
 use Rattle.apply_core.specs.declared.reply.Reply.{Reply}
 use Rattle.apply_core.specs.History.{End as Ended, IsReplyOn, left_by, leads_to, IsLegal}
@@ -90,7 +90,7 @@ named_stands o audit heard s = record {
 }
 
 pub part_stands : (o : ObjectForm) (audit new : Audit) (heard : Heard) (name : List ℕ) (kind : Kind) (value : Contents) (bytes : List ℕ) → Stands o audit heard → audit.named ≡ true
-    → slice_get o.parts (length heard.opening) ≡ Some (name, kind) → Spells bytes kind value
+    → slice_get o.parts (length heard.opening) ≡ Some (name, kind) → SpellsInSome bytes kind value
     → new.parts.items ≡ audit.parts.items ++ value ∷ [] → new.named ≡ audit.named → new.counters ≡ audit.counters → new.calls ≡ audit.calls → new.entries ≡ audit.entries
     → Stands o new (record heard { opening = heard.opening ++ value ∷ [] })
 part_stands o audit new heard name kind value bytes s yes' there spells parts named counters calls entries =
@@ -103,7 +103,7 @@ part_stands o audit new heard name kind value bytes s yes' there spells parts na
       early = λ h. none;
       few = omega (arith, size);
       kinds = ap (map kind_of) parts ∙ map-append kind_of audit.parts.items (value ∷ []) ∙ ap (λ ks. ks ++ kind_of value ∷ []) s.kinds
-          ∙ ap (λ k. map (λ p. p.1) (take (length heard.opening) o.parts) ++ k ∷ []) (spells.kind ∙ ap (λ p. p.1) (sym (get_or_from_slice_get o.parts (length heard.opening) (name, kind) (name, kind) there)))
+          ∙ ap (λ k. map (λ p. p.1) (take (length heard.opening) o.parts) ++ k ∷ []) (spells.1.kind ∙ ap (λ p. p.1) (sym (get_or_from_slice_get o.parts (length heard.opening) (name, kind) (name, kind) there)))
           ∙ sym (map-append (λ p. p.1) (take (length heard.opening) o.parts) (get_or o.parts (length heard.opening) (name, kind) ∷ []))
           ∙ ap (map (λ p. p.1)) (sym (take_more o.parts (length heard.opening) (name, kind) within)) ∙ ap (λ n. map (λ p. p.1) (take n o.parts)) (sym size);
       contents = parts ∙ ap (λ ps. ps ++ value ∷ []) (s.contents ∙ opening_is o heard none) ∙ sym (opening_is o (record heard { opening = heard.opening ++ value ∷ [] }) none);

@@ -11,6 +11,7 @@ use Rattle.hex.specs.Hex.{encode_lower}
 use Rattle.path_tree.specs.Identifier.{IsName}
 use Rattle.path_tree.specs.Known.{place_of}
 use Rattle.path_tree.proofs.Spelling.{name_lower}
+use Rattle.value_core.specs.declared.format.Format.TheVariants.{Second}
 use Rattle.value_core.specs.declared.datum.Datum.{Datum}
 use Rattle.value_core.specs.declared.kind.Kind.{Kind}
 use Rattle.value_core.specs.Contents.{Contents, kind_of, IsContents}
@@ -101,7 +102,7 @@ tell_parts o before (p ∷ rest) done (v ∷ opening) (l ∷ ls) parts many kind
       next = there;
       bytes = spelling v;
       is = record { read = part_is_read v is; lower = refl };
-      spells = record { kind = refl; contents = is; spelled = refl };
+      spells = (Second, record { kind = refl; contents = is; spelled = refl });
     } in
     let says : Says l (a_part p.0 (encode_lower (spelling v))) = (part_words p.0 v, have.0, refl) in
     let more = tell_parts o (before ++ p ∷ []) rest (done ++ v ∷ []) opening ls (parts ∙ sym (append_assoc before (p ∷ []) rest)) (omega (arith, many, length-append before (p ∷ []), length-append done (v ∷ []))) others (All-tail IsContents v opening contents) have.1 in

@@ -8,7 +8,7 @@ use Rattle.value_core.specs.declared.datum.Datum.{Datum}
 use Rattle.value_core.specs.declared.kind.Kind.{Kind}
 use Rattle.value_core.specs.Datum.{elem_of}
 use Rattle.value_core.specs.Contents.{Contents}
-use Rattle.value_core.specs.Spelling.{Spells}
+use Rattle.value_core.specs.Spelling.{SpellsInSome}
 use Rattle.decl_core.specs.ObjectForm.{ObjectForm}
 use Rattle.audit_core.specs.Operations.{operation_names}
 use Rattle.apply_core.specs.declared.reply.Reply.{Reply}
@@ -45,14 +45,14 @@ pub record IsObject (o : ObjectForm) (heard : Heard) (name : List ℕ) : Type 0 
   pub first : heard.named ≡ false
   pub same : str_to_ascii_lowercase name ≡ o.name
 
--- the part that is next has this name, and its opening value is spelled so
+-- the part that is next has this name, and its opening value is spelled so, in one of the formats
 pub record IsPart (o : ObjectForm) (heard : Heard) (name hex : List ℕ) (value : Contents) : Type 0 where
   pub named : heard.named ≡ true
   pub kind : Kind
   pub next : slice_get o.parts (length heard.opening) ≡ Some (name, kind)
   pub bytes : List ℕ
   pub is : IsHex hex bytes
-  pub spells : Spells bytes kind value
+  pub spells : SpellsInSome bytes kind value
 
 -- a call of the operation at this place may be told to start
 pub record IsStart (o : ObjectForm) (heard : Heard) (number session : ℕ) (name : List ℕ) (arguments : List Datum) (place : ℕ) : Type 0 where

@@ -2,7 +2,7 @@
 
 ghost use Rattle.std.specs.Prelude.{◌≡◌, ◌↔◌, IsTrue, ℕ, List, IfOk, MatchOption, Some, slice_get};
 ghost use Rattle.value_core.specs.Contents.{Contents};
-ghost use Rattle.value_core.specs.Spelling.{Spells};
+ghost use Rattle.value_core.specs.Spelling.{SpellsInSome};
 ghost use Rattle.decl_core.specs.ObjectMap.{parts_of};
 ghost use Rattle.audit_core.specs.Tells.{IsHex};
 ghost use Rattle.audit_core.specs.Parts.{IsPartAt};
@@ -10,7 +10,7 @@ ghost use Rattle.audit_core.specs.Parts.{IsPartAt};
 use decl_core::object::Part;
 use hex::FromHexError;
 use std::alloc::{AllocError, Global};
-use value_core::decode::{DecodeFault, decode};
+use value_core::decode::{DecodeFault, decode_kept};
 use value_core::kind::Kind;
 use value_core::value::Value;
 
@@ -37,23 +37,23 @@ fn is_same(a: &[u8], b: &[u8]) -> bool
     a == b
 }
 
-// The value of a kind that a word spells in lower-case hexadecimal.
+// The value of a kind that a word spells in lower-case hexadecimal, in either format.
 fn read_spelled(alloc: Global, kind: Kind, word: &[u8]) -> Result<Option<Value>, AllocError>
     ensures { IfOk result (λ found. MatchOption found
-        ((bytes : List ℕ) (value : Contents) → IsHex word.now bytes → Spells bytes kind value → ⊥)
-        (λ value. (bytes : List ℕ) × IsHex word.now bytes × Spells bytes kind value)) }
+        ((bytes : List ℕ) (value : Contents) → IsHex word.now bytes → SpellsInSome bytes kind value → ⊥)
+        (λ value. (bytes : List ℕ) × IsHex word.now bytes × SpellsInSome bytes kind value)) }
 {
     let Some(bytes) = read_hex(alloc, word)? else {
         return Ok(None);
     };
-    match decode(alloc, kind, &bytes) {
+    match decode_kept(alloc, kind, &bytes) {
         Ok(value) => Ok(Some(value)),
         Err(DecodeFault::Damaged) => Ok(None),
         Err(DecodeFault::Memory) => Err(AllocError),
     }
 }
 
-/// The value of the part at a place, where it has this name and the word spells a value of its kind.
+/// The value of the part at a place, where it has this name and the word spells a value of its kind in either format.
 pub fn read_value(
     alloc: Global,
     parts: &[Part],

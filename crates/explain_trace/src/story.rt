@@ -10,7 +10,7 @@ use line_core::words::is_same_word;
 use note_core::span::Span;
 use std::alloc::{AllocError, Global};
 use value_core::datum::Datum;
-use value_core::decode::{DecodeFault, decode};
+use value_core::decode::{DecodeFault, decode_kept};
 use value_core::value::Value;
 use word_core::number::{integer_of, session_of};
 use word_core::word::Word;
@@ -52,7 +52,7 @@ pub(crate) fn bytes_of(alloc: Global, word: &[u8]) -> Result<Option<Vec<u8>>, Al
     }
 }
 
-/// The value of a part that a word spells in hexadecimal.
+/// The value of a part that a word spells in hexadecimal, in either format.
 pub(crate) fn value_of(
     alloc: Global,
     part: &Part,
@@ -61,7 +61,7 @@ pub(crate) fn value_of(
     let Some(bytes) = bytes_of(alloc, word)? else {
         return Ok(None);
     };
-    match decode(alloc, part.kind, &bytes) {
+    match decode_kept(alloc, part.kind, &bytes) {
         Ok(value) => Ok(Some(value)),
         Err(DecodeFault::Damaged) => Ok(None),
         Err(DecodeFault::Memory) => Err(AllocError),

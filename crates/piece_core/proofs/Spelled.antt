@@ -9,6 +9,7 @@ use Rattle.std.proofs.lemmas.List.{take-append-drop, get_or-take, get_or-drop, e
 use Rattle.std.proofs.Math.ListN.{get_or-append}
 use Rattle.std.proofs.lemmas.Option.{slice_get_past, slice_get-get_or}
 use Rattle.std.proofs.lemmas.List.Elements.{All-cons, All-nil, All-get_or}
+use Rattle.value_core.specs.declared.format.Format.TheVariants.{Second}
 use Rattle.value_core.specs.declared.datum.Datum.{Datum}
 use Rattle.value_core.specs.declared.datum.Datum.TheVariants as datum
 use Rattle.value_core.specs.declared.kind.Elem.{Elem}
@@ -130,7 +131,7 @@ of_element : (xs : List Datum) (i r n : ℕ) → IsContents (array elem.Integer 
 of_element xs i r n is there less =
     sym (get_or-drop (4 + 4 * i) (spelling (array elem.Integer xs)) r 0)
     ∙ sym (get_or-take 4 (drop (4 + 4 * i) (spelling (array elem.Integer xs))) r 0 less)
-    ∙ ap (λ (b : List ℕ). get_or b r 0) (stand_in_place xs i n is there)
+    ∙ ap (λ (b : List ℕ). get_or b r 0) (stand_in_place Second xs i n is there)
 
 -- what stands at a place of an array of integers
 an_integer : (xs : List Datum) (i : ℕ) → IsContents (array elem.Integer xs) → i < length xs → (n : ℕ) × (n < 2 ^ 32) × (slice_get xs i ≡ Some (datum.Integer n))

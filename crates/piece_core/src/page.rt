@@ -3,14 +3,14 @@
 ghost use Rattle.std.specs.Prelude.{◌≡◌, ◌↔◌, IsTrue};
 ghost use Rattle.piece_core.specs.Pages.{HasFrame, page_of as in_page};
 
-/// Whether at the front of these bytes stands the header of an array of so many integers, and they are as many as such
+/// Whether at the front of these bytes stands the header of an array of so many integers, in the second format, and they are as many as such
 /// an array has. Whatever bytes stand behind the header, they spell an array then.
 pub fn has_frame(count: u16, bytes: &[u8]) -> bool
     ensures { IsTrue result ↔ HasFrame count bytes.now }
 {
     let [high, low] = count.to_be_bytes();
     match bytes {
-        [1, 1, first, second, rest @ ..] => {
+        [2, 1, first, second, rest @ ..] => {
             *first == high && *second == low && rest.len() == 4 * count as usize
         }
         _ => false,

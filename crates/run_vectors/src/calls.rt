@@ -35,9 +35,9 @@ end;
 ";
 
 /// The arrays `[0]` and `[7]`.
-pub const ZERO: Bytes = b"\x01\x01\x00\x01\x00\x00\x00\x00";
+pub const ZERO: Bytes = b"\x02\x01\x00\x01\x00\x00\x00\x00";
 
-pub const SEVEN: Bytes = b"\x01\x01\x00\x01\x00\x00\x00\x07";
+pub const SEVEN: Bytes = b"\x02\x01\x00\x01\x00\x00\x00\x07";
 
 /// An object with one part, of five pages. Element i is on page (i + 1) / 256.
 pub const WIDE: &[u8] = b"object wide;
@@ -79,7 +79,7 @@ pub fn operation(rt: &impl Abort, object: &Object, name: &str) -> Arc<Operation>
 /// The bytes of an array of 1,024 zeros, where there is memory for them.
 pub fn zeros(alloc: Global) -> Option<Vec<u8>> {
     let mut bytes = Vec::new(alloc);
-    bytes.extend_from_slice(b"\x01\x01\x04\x00").ok()?;
+    bytes.extend_from_slice(b"\x02\x01\x04\x00").ok()?;
     bytes.resize(4_100, 0).ok()?;
     Some(bytes)
 }

@@ -92,7 +92,7 @@ fn calls_of(row: &Row) -> usize {
 fn falling<H: Hand>(rt: &impl Abort, alloc: Global, hand: &mut H) -> Vec<Stamp> {
     let mut bytes = Vec::new(alloc);
     bytes
-        .extend_from_slice(b"\x01\x01\x04\x00")
+        .extend_from_slice(b"\x02\x01\x04\x00")
         .expect(rt, "memory");
     for n in 0..1_024u32 {
         bytes

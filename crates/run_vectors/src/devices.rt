@@ -159,13 +159,15 @@ fn a_device_that_fails_for_good_fails_each_call(rt: HostRuntime) {
     assert!(rt; set_seven(&rt, alloc, &two, &mut hand, &files, true) == (FAILED, 0, 0));
 }
 
-// Bytes that spell no array of one integer: one less, one more, none, another format, another kind.
-const CUT: [Bytes; 5] = [
-    b"\x01\x01\x00\x01\x00\x00\x00",
-    b"\x01\x01\x00\x01\x00\x00\x00\x00\x00",
+// Bytes that spell no array of one integer in the second format: one less, one more, none, the first format, a third one,
+// another kind.
+const CUT: [Bytes; 6] = [
+    b"\x02\x01\x00\x01\x00\x00\x00",
+    b"\x02\x01\x00\x01\x00\x00\x00\x00\x00",
     b"",
-    b"\x02\x01\x00\x01\x00\x00\x00\x00",
-    b"\x01\x03\x00\x01\x00\x00\x00\x00",
+    b"\x01\x01\x00\x01\x00\x00\x00\x00",
+    b"\x03\x01\x00\x01\x00\x00\x00\x00",
+    b"\x02\x03\x00\x01\x00\x00\x00\x00",
 ];
 
 // Whether `set 7` finds a damaged part, where the files of both have these bytes.

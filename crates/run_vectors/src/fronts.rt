@@ -61,14 +61,15 @@ fn begun(rt: &impl Abort, alloc: Global, front: Bytes, len: usize) -> Vec<u8> {
 }
 
 // The front of an array of 1,024 integers, which have 4,100 bytes with it.
-const FRONT: Bytes = b"\x01\x01\x04\x00";
+const FRONT: Bytes = b"\x02\x01\x04\x00";
 
 // Arrays that are damaged: their front and their length.
-const ROWS: [(Bytes, usize); 7] = [
-    // Another kind, another format, another count.
-    (b"\x01\x03\x04\x00", 4_100),
-    (b"\x02\x01\x04\x00", 4_100),
-    (b"\x01\x01\x03\xff", 4_100),
+const ROWS: [(Bytes, usize); 8] = [
+    // Another kind, the first format, a third one, another count.
+    (b"\x02\x03\x04\x00", 4_100),
+    (b"\x01\x01\x04\x00", 4_100),
+    (b"\x03\x01\x04\x00", 4_100),
+    (b"\x02\x01\x03\xff", 4_100),
     // The last page has 8 bytes, or none; no page is whole; there is not the whole header.
     (FRONT, 4_104),
     (FRONT, 4_096),
@@ -179,7 +180,7 @@ fn all(
     let bytes = begun(rt, alloc, front, 4_100);
     let pages = paged(alloc, &mut hand, &bytes).expect(rt, "files");
     files.extend_from_slice(&pages).expect(rt, "memory");
-    let last = put(&mut hand, b"\x01\x02\x00\x01\x00").expect(rt, "a file");
+    let last = put(&mut hand, b"\x02\x02\x00\x01\x00\x00").expect(rt, "a file");
     files.push(last).expect(rt, "memory");
     if gone {
         assert!(rt; hand.retire(&last).is_ok());
@@ -190,12 +191,12 @@ fn all(
     (steps, *outcome.reply())
 }
 
-const EMPTY: Bytes = b"\x01\x03\x00\x00";
+const EMPTY: Bytes = b"\x02\x03\x00\x00";
 
 // Bytes of no queue, and the front of no array of integers.
-const NO_QUEUE: Bytes = b"\x01\x03\x00";
+const NO_QUEUE: Bytes = b"\x02\x03\x00";
 
-const NO_ARRAY: Bytes = b"\x01\x03\x04\x00";
+const NO_ARRAY: Bytes = b"\x02\x03\x04\x00";
 
 #[test]
 fn the_first_miss_that_is_met_ends_the_call(rt: HostRuntime) {

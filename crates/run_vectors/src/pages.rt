@@ -23,7 +23,7 @@ end;
 fn queue(rt: &impl Abort, alloc: Global, same: Option<u8>) -> Vec<u8> {
     let mut bytes = Vec::new(alloc);
     bytes
-        .extend_from_slice(b"\x01\x03\x04\x00")
+        .extend_from_slice(b"\x02\x03\x04\x00")
         .expect(rt, "memory");
     for n in 1..1_025u32 {
         let word = match same {

@@ -6,7 +6,7 @@ use Rattle.std.proofs.lemmas.List.{length-append, map-append}
 use Rattle.std.specs.FinMap.{get}
 use Rattle.value_core.specs.declared.kind.Kind.{Kind}
 use Rattle.value_core.specs.Contents.{Contents, kind_of}
-use Rattle.value_core.specs.Spelling.{Spells}
+use Rattle.value_core.specs.Spelling.{SpellsInSome}
 use Rattle.decl_core.specs.declared.object.Part.{Part}
 use Rattle.hand_core.specs.declared.hand.Stamp.{Stamp}
 use Rattle.store_core.specs.declared.open.OpenFault.{OpenFault}
@@ -47,7 +47,7 @@ served_more serves (x ∷ pins) pin so_far one (suc p) q is = served_more serves
 -- a part that was loaded is not damaged
 sound : (kind : Kind) (found : Option (List ℕ)) (value : Contents) → BeginsWith kind found value → AreDamaged kind found → ⊥
 sound kind None value begins damaged = let e = damaged.there in absurd cc
-sound kind (Some bytes) value begins damaged = damaged.unspelled value (subst (λ b. Spells b kind value) (some_same damaged.there) begins)
+sound kind (Some bytes) value begins damaged = damaged.unspelled value (subst (λ b. SpellsInSome b kind value) (some_same damaged.there) begins)
 
 -- none of the parts that were loaded is damaged
 loaded_sound : (papers : Papers) (object : List ℕ) (all : List Part) (n m : ℕ) (values : List Contents) → AreLoaded papers object (take n all) values → m < n → IsDamaged papers object all m → ⊥

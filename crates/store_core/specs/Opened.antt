@@ -4,7 +4,7 @@ use Rattle.std.specs.FinMap.{get}
 use Rattle.value_core.specs.declared.kind.Kind.{Kind}
 use Rattle.value_core.specs.Contents.{Contents}
 use Rattle.value_core.specs.Meaning.{opening_of}
-use Rattle.value_core.specs.Spelling.{Spells}
+use Rattle.value_core.specs.Spelling.{Spells, SpellsInSome}
 use Rattle.decl_core.specs.declared.object.Part.{Part}
 use Rattle.hand_core.specs.declared.hand.HandFault.{HandFault}
 use Rattle.hand_core.specs.declared.hand.HandFault.TheVariants as hand
@@ -31,11 +31,11 @@ abbrev pub open_fault_of : HandFault → OpenFault
 open_fault_of hand.Device = Device
 open_fault_of hand.Memory = Memory
 
--- A part begins with the value that the bytes under its name spell, and with the opening of its kind where there are
--- none.
+-- A part begins with the value that the bytes under its name spell, in one of the formats, and with the opening of its
+-- kind where there are none.
 abbrev pub BeginsWith : Kind → Option (List ℕ) → Contents → Type 0
 BeginsWith kind None value = value ≡ opening_of kind
-BeginsWith kind (Some bytes) value = Spells bytes kind value
+BeginsWith kind (Some bytes) value = SpellsInSome bytes kind value
 
 -- the pages of a pin were sealed with those into which the spelling of a value is cut
 pub record IsPinned (a : Assignment) (kind : Kind) (pin : List Stamp) (value : Contents) : Type 0 where
@@ -61,11 +61,11 @@ ArePinned a [] (pin ∷ pins) values = ⊥
 ArePinned a (part ∷ parts) [] values = ⊥
 ArePinned a (part ∷ parts) (pin ∷ pins) [] = ⊥
 
--- there are bytes, and they spell no value of this kind
+-- there are bytes, and they spell no value of this kind, in no format
 pub record AreDamaged (kind : Kind) (found : Option (List ℕ)) : Type 0 where
   pub bytes : List ℕ
   pub there : found ≡ Some bytes
-  pub unspelled : (value : Contents) → Spells bytes kind value → ⊥
+  pub unspelled : (value : Contents) → SpellsInSome bytes kind value → ⊥
 
 -- there is a part of this number, and what stands under its name is damaged
 pub record IsDamaged (papers : Papers) (object : List ℕ) (parts : List Part) (number : ℕ) : Type 0 where

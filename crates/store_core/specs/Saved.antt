@@ -1,6 +1,7 @@
 -- The parts of an object, from a hand to a shelf.
-use Rattle.std.specs.Prelude.{◌≡◌, ℕ, ◌+◌, ◌<◌, ◌⊎◌, List, [], ◌∷◌, Some, length, take, slice_get, codes}
+use Rattle.std.specs.Prelude.{◌≡◌, ℕ, ◌+◌, ◌<◌, ◌⊎◌, List, [], ◌∷◌, Option, Some, length, take, slice_get, codes}
 use Rattle.std.specs.FinMap.{insert}
+use Rattle.value_core.specs.declared.kind.Kind.{Kind}
 use Rattle.value_core.specs.Contents.{Contents}
 use Rattle.value_core.specs.Spelling.{Spells}
 use Rattle.decl_core.specs.declared.object.Part.{Part}
@@ -12,7 +13,6 @@ use Rattle.store_core.specs.declared.save.SaveFault.TheVariants.{Damaged, Device
 use Rattle.hand_core.specs.Device.{Assignment}
 use Rattle.hand_core.specs.Papers.{Papers, part_key}
 use Rattle.page_core.specs.Bytes.{list_bytes}
-use Rattle.store_core.specs.Opened.{AreDamaged}
 
 abbrev pub save_fault_number : SaveFault → ℕ
 save_fault_number (Damaged part) = 1
@@ -50,13 +50,19 @@ with_parts papers object [] rest = papers
 with_parts papers object (part ∷ parts) [] = papers
 with_parts papers object (part ∷ parts) (bytes ∷ rest) = with_parts (insert papers (part_key object part.name) bytes) object parts rest
 
+-- there are bytes, and they are not what is written of a value of this kind
+pub record AreUnspelled (kind : Kind) (found : Option (List ℕ)) : Type 0 where
+  pub bytes : List ℕ
+  pub there : found ≡ Some bytes
+  pub unspelled : (value : Contents) → Spells bytes kind value → ⊥
+
 -- there is a part of this number, and what stands under its pin is damaged
 pub record IsDamagedPin (a : Assignment) (parts : List Part) (pins : List (List Stamp)) (number : ℕ) : Type 0 where
   pub part : Part
   pub pin : List Stamp
   pub part_there : slice_get parts number ≡ Some part
   pub pin_there : slice_get pins number ≡ Some pin
-  pub damaged : AreDamaged part.kind (list_bytes a pin)
+  pub damaged : AreUnspelled part.kind (list_bytes a pin)
 
 -- Why the parts of an object were not saved: a pin's bytes are damaged, whatever assignment agrees, or a device failed
 -- at a part.
@@ -67,7 +73,7 @@ SaveCause agrees parts pins failed Memory = Unit {0}
 
 -- the same of one part
 abbrev pub PinSaveCause : (Assignment → Type 0) → Part → List Stamp → ℕ → Type 0 → SaveFault → Type 0
-PinSaveCause agrees part pin number failed (Damaged n) = (n ≡ number) × ((a : Assignment) → agrees a → AreDamaged part.kind (list_bytes a pin))
+PinSaveCause agrees part pin number failed (Damaged n) = (n ≡ number) × ((a : Assignment) → agrees a → AreUnspelled part.kind (list_bytes a pin))
 PinSaveCause agrees part pin number failed (Device n) = (n ≡ number) × failed
 PinSaveCause agrees part pin number failed Memory = Unit {0}
 

@@ -19,7 +19,7 @@ use page_core::pins::Pins;
 use path_tree::name::Name;
 use std::alloc::{AllocError, Global};
 use thiserror::Error;
-use value_core::decode::{DecodeFault, decode};
+use value_core::decode::{DecodeFault, decode_kept};
 use value_core::encode::encode;
 use value_core::kind::Kind;
 use value_core::value::Value;
@@ -27,7 +27,8 @@ use value_core::value::Value;
 /// Why the parts of an object were not opened.
 #[derive(Clone, Copy, Debug, PartialEq, Eq, Error)]
 pub enum OpenFault {
-    /// What the shelf has under the name of this part, counted from 0, spells no value of the part's kind.
+    /// What the shelf has under the name of this part, counted from 0, spells no value of the part's kind in either
+    /// format.
     #[error("Damaged {0}")]
     Damaged(usize),
     /// The shelf or the hand failed. Its count of failures rose in this call, or stood at its end.
@@ -109,7 +110,7 @@ fn load_value<S: Shelf>(
     ensures cause { IfErr result (λ e. PartCause (S.holds shelf.new) key.now kind number (Failed (S.failed shelf.old) (S.failed shelf.new)) e) }
 {
     match shelf.load(alloc, key) {
-        Ok(Some(bytes)) => match decode(alloc, kind, &bytes) {
+        Ok(Some(bytes)) => match decode_kept(alloc, kind, &bytes) {
             Ok(value) => Ok(value),
             Err(DecodeFault::Damaged) => Err(OpenFault::Damaged(number)),
             Err(DecodeFault::Memory) => Err(OpenFault::Memory),
@@ -184,12 +185,12 @@ fn add(
     Ok(())
 }
 
-/// Opens each part of an object, in order: its value is what the shelf has under its name, or the opening
-/// value of its kind where nothing is there, and the value's spelling is cut into at most 8 pages, of the least size
-/// that holds it so, each sealed in a new file of the hand. Answers a pin, the list of these files, and a value for
-/// each part.
+/// Opens each part of an object, in order: its value is what the shelf has under its name, in either format, or the
+/// opening value of its kind where nothing is there, and the value's spelling in the second format is cut into at most
+/// 8 pages, of the least size that holds it so, each sealed in a new file of the hand. Answers a pin, the list of these
+/// files, and a value for each part.
 ///
-/// The first fault on the way is told: `Damaged` where the bytes of a part spell no value of its kind,
+/// The first fault on the way is told: `Damaged` where the bytes of a part spell no value of its kind in either format,
 /// `Device` where the shelf or the hand failed, `Memory` where memory was refused. Files that were sealed
 /// before it are left.
 pub fn open_parts<S: Shelf, H: Hand>(

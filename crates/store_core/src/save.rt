@@ -23,8 +23,8 @@ use value_core::decode::{DecodeFault, decode};
 /// Why the parts of an object were not saved.
 #[derive(Clone, Copy, Debug, PartialEq, Eq, Error)]
 pub enum SaveFault {
-    /// The bytes under the pin of this part, counted from 0, spell no value of the part's kind. Nothing was
-    /// stored for it.
+    /// The bytes under the pin of this part, counted from 0, spell no value of the part's kind in the second format.
+    /// Nothing was stored for it.
     #[error("Damaged {0}")]
     Damaged(usize),
     /// The shelf or the hand failed at this part, counted from 0. Its count of failures rose in this call,
@@ -81,7 +81,7 @@ fn of_device(fault: HandFault, number: usize) -> SaveFault
     }
 }
 
-// The bytes under a part's pin, which spell a value of its kind.
+// The bytes under a part's pin, which spell a value of its kind in the second format.
 fn fetch_part<H: Hand>(
     alloc: Global,
     part: &Part,

@@ -13,7 +13,7 @@ use value_core::kind::{Elem, Kind};
 pub type Bytes = &'static [u8];
 
 /// The array `[0]`.
-pub const ZERO: Bytes = b"\x01\x01\x00\x01\x00\x00\x00\x00";
+pub const ZERO: Bytes = b"\x02\x01\x00\x01\x00\x00\x00\x00";
 
 const LETTERS: &[u8; 26] = b"abcdefghijklmnopqrstuvwxyz";
 
@@ -60,25 +60,40 @@ pub fn letters(alloc: Global, count: usize) -> Result<Vec<u8>, AllocError> {
     Ok(bytes)
 }
 
-// Adds a text of so many letters.
-fn push_text(bytes: &mut Vec<u8>, count: u8) -> Result<(), AllocError> {
-    bytes.push(count)?;
-    for _ in 0..count {
-        bytes.push(LETTERS[bytes.len() % 26])?;
+// Adds a text of so many letters, as the format of this number spells it.
+fn push_text(bytes: &mut Vec<u8>, format: u8, count: u16) -> Result<(), AllocError> {
+    let [high, low] = count.to_be_bytes();
+    if format > 1 {
+        bytes.push(high)?;
+    }
+    bytes.push(low)?;
+    for place in 0..count {
+        bytes.push(LETTERS[place as usize % 26])?;
     }
     Ok(())
 }
 
-/// The bytes of a queue: so many texts of 255 letters, and a last one.
-pub fn queue_of(alloc: Global, full: u16, last: u8) -> Result<Vec<u8>, AllocError> {
+/// The bytes of a queue in the format of this number: so many texts of this length, and a last one.
+pub fn texts_of(
+    alloc: Global,
+    format: u8,
+    full: u16,
+    long: u16,
+    last: u16,
+) -> Result<Vec<u8>, AllocError> {
     let mut bytes = Vec::new(alloc);
-    bytes.extend_from_slice(&[1, 4])?;
+    bytes.extend_from_slice(&[format, 4])?;
     bytes.extend_from_slice(&full.saturating_add(1).to_be_bytes())?;
     for _ in 0..full {
-        push_text(&mut bytes, 255)?;
+        push_text(&mut bytes, format, long)?;
     }
-    push_text(&mut bytes, last)?;
+    push_text(&mut bytes, format, last)?;
     Ok(bytes)
+}
+
+/// The bytes of a queue: so many texts of 1,000 letters, and a last one.
+pub fn queue_of(alloc: Global, full: u16, last: u16) -> Result<Vec<u8>, AllocError> {
+    texts_of(alloc, 2, full, 1_000, last)
 }
 
 /// Whether these files are so many pages, the last of `end` bytes and each other one of `size` bytes.

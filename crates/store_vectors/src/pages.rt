@@ -11,7 +11,7 @@ use std::process::Abort;
 use store_core::pages::{fetch_pages, put_cut};
 
 // A number of bytes, the number of their pages, the size of these, and how many bytes the last one has.
-const CUTS: [(usize, usize, usize, usize); 9] = [
+const CUTS: [(usize, usize, usize, usize); 10] = [
     (1, 1, 1_024, 1),
     (1_023, 1, 1_024, 1_023),
     (1_024, 1, 1_024, 1_024),
@@ -20,6 +20,8 @@ const CUTS: [(usize, usize, usize, usize); 9] = [
     (8_193, 5, 2_048, 1),
     (524_292, 5, 131_072, 4),
     (1_048_577, 5, 262_144, 1),
+    // The longest value: a table of 1,024 texts of 1,000 bytes under keys of 1,000 bytes.
+    (2_052_100, 8, 262_144, 217_092),
     (2_097_152, 8, 262_144, 262_144),
 ];
 

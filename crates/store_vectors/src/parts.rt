@@ -1,6 +1,6 @@
 //! From a shelf to a hand and back.
 
-use crate::make::{Bytes, ZERO, are_pages, has, pair, queue_of};
+use crate::make::{Bytes, ZERO, are_pages, has, pair, queue_of, texts_of};
 use decl_core::object::Object;
 use device_core::mem_shelf::MemShelf;
 use device_core::memory::MemHand;
@@ -15,17 +15,17 @@ use std::process::Abort;
 use store_core::open::{OpenFault, open_parts};
 use store_core::save::{SaveFault, save_parts};
 
-// Of a queue the number of its texts of 255 letters and the letters of its last text; then the number of the pages of
-// its bytes, their size, and how many bytes the last one has. The bytes are 4, and 1 more than its letters a text: 5,
-// 1,023, 1,024, 1,025, 8,192, 8,193, and 262,148, the most of a queue.
-const QUEUES: [(u16, u8, usize, usize, usize); 7] = [
-    (0, 0, 1, 1_024, 5),
-    (3, 250, 1, 1_024, 1_023),
-    (3, 251, 1, 1_024, 1_024),
-    (3, 252, 2, 1_024, 1),
-    (31, 251, 8, 1_024, 1_024),
-    (31, 252, 5, 2_048, 1),
-    (1_023, 255, 5, 65_536, 4),
+// Of a queue the number of its texts of 1,000 letters and the letters of its last text; then the number of the pages of
+// its bytes, their size, and how many bytes the last one has. The bytes are 4, and 2 more than its letters a text: 6,
+// 1,023, 1,024, 1,025, 8,192, 8,193, and 1,026,052, the most of a queue.
+const QUEUES: [(u16, u16, usize, usize, usize); 7] = [
+    (0, 0, 1, 1_024, 6),
+    (1, 15, 1, 1_024, 1_023),
+    (1, 16, 1, 1_024, 1_024),
+    (1, 17, 2, 1_024, 1),
+    (8, 170, 8, 1_024, 1_024),
+    (8, 171, 5, 2_048, 1),
+    (1_023, 1_000, 8, 131_072, 108_548),
 ];
 
 // A shelf with these bytes under the name of the queue.
@@ -138,7 +138,7 @@ fn goes_by(rt: &impl Abort, alloc: Global, object: &Object, queue: &[u8], call: 
 #[test]
 fn a_failing_hand_is_told(rt: HostRuntime) {
     let object = pair(rt.alloc()).expect(&rt, "memory");
-    let queue = queue_of(rt.alloc(), 3, 252).expect(&rt, "memory");
+    let queue = queue_of(rt.alloc(), 1, 17).expect(&rt, "memory");
     for call in 1..14 {
         goes_by(&rt, rt.alloc(), &object, &queue, call);
     }
@@ -170,7 +170,7 @@ fn saved(rt: &impl Abort, alloc: Global, object: &Object, files: &[Bytes]) -> Op
 }
 
 // Why a pair with this queue on its shelf is not opened.
-fn open_fault(rt: &impl Abort, alloc: Global, object: &Object, queue: Bytes) -> Option<OpenFault> {
+fn open_fault(rt: &impl Abort, alloc: Global, object: &Object, queue: &[u8]) -> Option<OpenFault> {
     let mut shelf = shelf_of(rt, alloc, queue);
     let mut hand = MemHand::new(alloc);
     open_parts(alloc, object, &mut shelf, &mut hand).err()
@@ -178,22 +178,108 @@ fn open_fault(rt: &impl Abort, alloc: Global, object: &Object, queue: Bytes) -> 
 
 // Pages of one queue of two texts, wherever it is cut.
 const QUEUE: [&[Bytes]; 3] = [
-    &[b"\x01\x04\x00\x02\x01a\x02bc"],
-    &[b"\x01\x04\x00\x02\x01a\x02b", b"c"],
-    &[b"\x01", b"\x04\x00\x02", b"\x01a\x02b", b"", b"c"],
+    &[b"\x02\x04\x00\x02\x00\x01a\x00\x02bc"],
+    &[b"\x02\x04\x00\x02\x00\x01a\x00\x02b", b"c"],
+    &[
+        b"\x02",
+        b"\x04\x00\x02",
+        b"\x00\x01a\x00",
+        b"\x02b",
+        b"",
+        b"c",
+    ],
 ];
 
 // Pages that are no queue of texts, one behind the other: they stand in another order, one lacks or stands twice, there
-// is no byte, or they are of another kind or format.
-const NO_QUEUE: [&[Bytes]; 7] = [
-    &[b"c", b"\x01\x04\x00\x02\x01a\x02b"],
-    &[b"\x01\x04\x00\x02\x01a\x02b"],
-    &[b"\x01\x04\x00\x02\x01a\x02bc", b"c"],
-    &[b"\x01\x04\x00\x02", b"\x01a\x02bc", b"\x01a\x02bc"],
+// is no byte, or they are of another kind or format. Under a pin that is the first one too.
+const NO_QUEUE: [&[Bytes]; 9] = [
+    &[b"c", b"\x02\x04\x00\x02\x00\x01a\x00\x02b"],
+    &[b"\x02\x04\x00\x02\x00\x01a\x00\x02b"],
+    &[b"\x02\x04\x00\x02\x00\x01a\x00\x02bc", b"c"],
+    &[
+        b"\x02\x04\x00\x02",
+        b"\x00\x01a\x00\x02bc",
+        b"\x00\x01a\x00\x02bc",
+    ],
     &[b""],
-    &[b"\x01\x03\x00\x02", b"\x01a\x02bc"],
-    &[b"\x02\x04\x00\x02", b"\x01a\x02bc"],
+    &[b"\x02\x03\x00\x02", b"\x00\x01a\x00\x02bc"],
+    &[b"\x01\x04\x00\x02", b"\x00\x01a\x00\x02bc"],
+    &[b"\x01\x04\x00\x02", b"\x01a\x02bc"],
+    &[b"\x03\x04\x00\x02", b"\x00\x01a\x00\x02bc"],
 ];
+
+// Bytes of no queue of texts, in either format: the last byte lacks, or they are of the other format or of none.
+const NO_FORMAT: [Bytes; 5] = [
+    b"\x02\x04\x00\x02\x00\x01a\x00\x02b",
+    b"\x01\x04\x00\x02\x01a\x02b",
+    b"\x02\x04\x00\x02\x01a\x02bc",
+    b"\x01\x04\x00\x02\x00\x01a\x00\x02bc",
+    b"\x03\x04\x00\x02\x00\x01a\x00\x02bc",
+];
+
+// What a shelf had in the first format, and what is saved of it: queues of no text, of two, and of one of 16 letters.
+const FORMER: [(Bytes, Bytes); 3] = [
+    (b"\x01\x04\x00\x00", b"\x02\x04\x00\x00"),
+    (
+        b"\x01\x04\x00\x02\x01a\x02bc",
+        b"\x02\x04\x00\x02\x00\x01a\x00\x02bc",
+    ),
+    (
+        b"\x01\x04\x00\x01\x10abcdefghijklmnop",
+        b"\x02\x04\x00\x01\x00\x10abcdefghijklmnop",
+    ),
+];
+
+// Asserts that a shelf with these bytes of the queue is opened, and saved on it with those.
+fn is_taken_up(rt: &impl Abort, alloc: Global, object: &Object, former: &[u8], now: &[u8]) {
+    let mut shelf = shelf_of(rt, alloc, former);
+    assert!(rt;
+        shelf
+            .store(b"pair.a", b"\x01\x01\x00\x01\x00\x00\x00\x07")
+            .is_ok()
+    );
+    let mut hand = MemHand::new(alloc);
+    let pins = opened(alloc, object, &mut shelf, &mut hand).expect(rt, "memory");
+    // Opening stores nothing.
+    assert!(rt; has(alloc, &mut shelf, b"pair.b", Some(former)));
+    assert!(rt; pins.len() == object.parts.len());
+    assert!(rt; save_parts(alloc, object, &pins, &mut shelf, &mut hand) == Ok(()));
+    assert!(rt;
+        has(
+            alloc,
+            &mut shelf,
+            b"pair.a",
+            Some(b"\x02\x01\x00\x01\x00\x00\x00\x07")
+        ) && has(alloc, &mut shelf, b"pair.b", Some(now))
+    );
+}
+
+// Bytes of the first format are taken up, and saved in the second one, which is taken up as it is.
+#[test]
+fn the_first_format_is_taken_up(rt: HostRuntime) {
+    let object = pair(rt.alloc()).expect(&rt, "memory");
+    for (former, now) in FORMER {
+        is_taken_up(&rt, rt.alloc(), &object, former, now);
+        is_taken_up(&rt, rt.alloc(), &object, now, now);
+    }
+    // The most of a queue in the first format.
+    let former = texts_of(rt.alloc(), 1, 1_023, 255, 255).expect(&rt, "memory");
+    let now = texts_of(rt.alloc(), 2, 1_023, 255, 255).expect(&rt, "memory");
+    is_taken_up(&rt, rt.alloc(), &object, &former, &now);
+}
+
+// The texts of a queue have at most 1,000 bytes.
+#[test]
+fn longer_texts_are_damaged(rt: HostRuntime) {
+    let alloc = rt.alloc();
+    let object = pair(alloc).expect(&rt, "memory");
+    for len in [255, 256, 1_000] {
+        let queue = queue_of(alloc, 0, len).expect(&rt, "memory");
+        is_taken_up(&rt, alloc, &object, &queue, &queue);
+    }
+    let queue = queue_of(alloc, 0, 1_001).expect(&rt, "memory");
+    assert!(rt; open_fault(&rt, alloc, &object, &queue) == Some(OpenFault::Damaged(1)));
+}
 
 #[test]
 fn damaged_parts_are_told(rt: HostRuntime) {
@@ -205,6 +291,8 @@ fn damaged_parts_are_told(rt: HostRuntime) {
         let fault = saved(&rt, rt.alloc(), &object, files);
         assert!(rt; fault == Some(SaveFault::Damaged(1)));
     }
-    let fault = open_fault(&rt, rt.alloc(), &object, b"\x01\x04\x00\x02\x01a\x02b");
-    assert!(rt; fault == Some(OpenFault::Damaged(1)));
+    for bytes in NO_FORMAT {
+        let fault = open_fault(&rt, rt.alloc(), &object, bytes);
+        assert!(rt; fault == Some(OpenFault::Damaged(1)));
+    }
 }

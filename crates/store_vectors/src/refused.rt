@@ -3,7 +3,7 @@
 //! `gate/refuse_memory` runs the test with the first, the second, .. growth refused. With none refused it is a happy
 //! path.
 
-use crate::make::{are_pages, has, pair, queue_of};
+use crate::make::{are_pages, has, pair, texts_of};
 use crate::parts::opened;
 use decl_core::object::Object;
 use device_core::mem_shelf::MemShelf;
@@ -24,11 +24,12 @@ fn pair_twice(rt: &impl Abort, alloc: Global) -> Object {
     }
 }
 
-// A queue of 1,025 bytes, where there is memory for it at the first or at the second try.
-fn queue_twice(rt: &impl Abort, alloc: Global) -> Vec<u8> {
-    match queue_of(alloc, 3, 252) {
+// A queue in the format of this number, which has 1,025 bytes in the second one, where there is memory for it at the first
+// or at the second try.
+fn queue_twice(rt: &impl Abort, alloc: Global, format: u8) -> Vec<u8> {
+    match texts_of(alloc, format, 3, 255, 248) {
         Ok(bytes) => bytes,
-        Err(_) => queue_of(alloc, 3, 252).expect(rt, "memory"),
+        Err(_) => texts_of(alloc, format, 3, 255, 248).expect(rt, "memory"),
     }
 }
 
@@ -77,8 +78,8 @@ fn has_queue(alloc: Global, shelf: &mut MemShelf, bytes: &[u8]) -> bool {
     has(alloc, shelf, b"pair.b", Some(bytes)) || has(alloc, shelf, b"pair.b", Some(bytes))
 }
 
-// Opens a pair with this queue and saves it on another shelf.
-fn goes_round(rt: &impl Abort, alloc: Global, object: &Object, bytes: &[u8]) {
+// Opens a pair with the first of these queues and saves it on another shelf, as the second one.
+fn goes_round(rt: &impl Abort, alloc: Global, object: &Object, bytes: &[u8], saved: &[u8]) {
     let mut shelf = MemShelf::new(alloc);
     let mut other = MemShelf::new(alloc);
     let mut hand = MemHand::new(alloc);
@@ -87,7 +88,7 @@ fn goes_round(rt: &impl Abort, alloc: Global, object: &Object, bytes: &[u8]) {
     let queue = pins.get(1).expect(rt, "a pin");
     assert!(rt; are_pages(queue.stamps(), 2, 1_024, 1));
     save_twice(rt, alloc, object, &pins, &mut other, &mut hand);
-    assert!(rt; has_queue(alloc, &mut other, bytes));
+    assert!(rt; has_queue(alloc, &mut other, saved));
     // Want of memory is no failure of a device.
     assert!(rt; other.failures() == 0 && hand.failures() == 0);
 }
@@ -95,6 +96,14 @@ fn goes_round(rt: &impl Abort, alloc: Global, object: &Object, bytes: &[u8]) {
 #[test]
 fn refused_open_and_save(rt: HostRuntime) {
     let object = pair_twice(&rt, rt.alloc());
-    let bytes = queue_twice(&rt, rt.alloc());
-    goes_round(&rt, rt.alloc(), &object, &bytes);
+    let bytes = queue_twice(&rt, rt.alloc(), 2);
+    goes_round(&rt, rt.alloc(), &object, &bytes, &bytes);
+}
+
+#[test]
+fn refused_open_of_the_first_format(rt: HostRuntime) {
+    let object = pair_twice(&rt, rt.alloc());
+    let first = queue_twice(&rt, rt.alloc(), 1);
+    let second = queue_twice(&rt, rt.alloc(), 2);
+    goes_round(&rt, rt.alloc(), &object, &first, &second);
 }

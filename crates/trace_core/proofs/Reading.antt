@@ -4,6 +4,7 @@ use Rattle.std.specs.Prelude.{codes}
 use Rattle.std.specs.Str.{bytes_eq}
 use Rattle.std.specs.Str.Lines.{lines}
 use Rattle.hex.proofs.HexLemmas.{decode_of-encode_lower}
+use Rattle.value_core.specs.declared.format.Format.TheVariants.{Second}
 use Rattle.value_core.specs.Spelling.{spelling}
 use Rattle.value_core.proofs.Bytes.{spelling_is_bytes}
 use Rattle.apply_core.specs.declared.reply.Failure.{Failure}
@@ -32,7 +33,7 @@ trace_is_read o opening events named contents told =
     subst (λ found. HaveWords found all) (sym (lines_are all safe)) (each_read all safe)
 
 pub part_is_read : PartIsRead
-part_is_read value is = decode_of-encode_lower (spelling value) (spelling_is_bytes value is)
+part_is_read value is = decode_of-encode_lower (spelling value) (spelling_is_bytes Second value is)
 
 apart : (a b : List ℕ) → bytes_eq a b ≡ false → bytes_eq a a ≡ true → a ≡ b → ⊥
 apart a b differ self same = let is : bytes_eq a b ≡ true = subst (λ w. bytes_eq a w ≡ true) same self in cc

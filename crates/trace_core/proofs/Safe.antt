@@ -10,6 +10,7 @@ use Rattle.std.proofs.lemmas.Str.Parse.{digit_at}
 use Rattle.std.proofs.lemmas.Fmt.{digits_decimal, decimal_nonempty}
 use Rattle.hex.specs.Hex.{encode_with, encode_lower, lower_digits}
 use Rattle.hex.proofs.HexLemmas.{length-encode_with}
+use Rattle.value_core.specs.declared.format.Format.TheVariants.{Second}
 use Rattle.value_core.specs.declared.datum.Datum.{Datum}
 use Rattle.value_core.specs.declared.datum.Datum.TheVariants.{Integer, Text}
 use Rattle.value_core.specs.declared.kind.Kind.{Kind}
@@ -89,7 +90,7 @@ hex_safe : (value : Contents) → IsContents value → IsSafe (encode_lower (spe
 hex_safe value is =
     let some = spelling_some value in
     let twice = length-encode_with lower_digits (spelling value) in
-    record { some = omega (arith, some, twice); each = hex_each (spelling value) (spelling_is_bytes value is) }
+    record { some = omega (arith, some, twice); each = hex_each (spelling value) (spelling_is_bytes Second value is) }
 
 datum_safe : (datum : Datum) → IsDatum datum → IsSafeWord (datum_word datum)
 datum_safe (Integer n) is = decimal_safe n is

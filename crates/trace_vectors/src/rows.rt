@@ -2,6 +2,7 @@
 
 use apply_core::reply::{Failure, Reply};
 use std::alloc::{AllocError, Global};
+use std::process::Abort;
 use text_core::text::Text;
 use trace_core::event::push_end;
 use value_core::datum::Datum;
@@ -63,5 +64,28 @@ fn refused_ends(rt: HostRuntime) {
             Err(_) => line(rt.alloc(), row.0, row.1).expect(&rt, "memory"),
         };
         assert!(rt; written.as_slice() == row.2);
+    }
+}
+
+// A text of so many apostrophes, each of which is doubled in a line.
+fn apostrophes(rt: &impl Abort, alloc: Global, count: usize) -> Text {
+    let mut bytes = Vec::new(alloc);
+    bytes.resize(count, 39).expect(rt, "memory");
+    Text::from_bytes(&bytes).expect(rt, "a text")
+}
+
+// The texts of a line have up to 1,000 bytes.
+#[test]
+fn long_texts_are_written(rt: HostRuntime) {
+    let alloc = rt.alloc();
+    for count in [255, 256, 1_000] {
+        let text = apostrophes(&rt, alloc, count);
+        let mut out = Vec::new(alloc);
+        push_end(&mut out, 1, &Reply::Done(Some(Datum::Text(text)))).expect(&rt, "memory");
+        let mut want = Vec::new(alloc);
+        want.extend_from_slice(b"end 1 done ").expect(&rt, "memory");
+        want.resize(2 * count + 13, 39).expect(&rt, "memory");
+        want.push(b'\n').expect(&rt, "memory");
+        assert!(rt; out.as_slice() == want.as_slice());
     }
 }
