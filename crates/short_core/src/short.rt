@@ -10,10 +10,7 @@ use apply_core::reply::{Failure, Reply};
 use std::alloc::Global;
 use std::marker::Model;
 use std::mem;
-<<<<<<< HEAD
-=======
 use text_core::row::Row;
->>>>>>> short
 use text_core::text::Text;
 use value_core::datum::Datum;
 
