@@ -99,7 +99,12 @@ fn tables_keep_texts_of_each_length(rt: HostRuntime) {
 #[test]
 fn tables_give_their_keys_in_order(rt: HostRuntime) {
     let mut table = opening(rt.alloc(), NUMBERS).expect(&rt, "memory");
-    for (letter, len, number) in [(b'b', 255, 4), (b'a', 1000, 2), (b'b', 1, 3), (b'a', 999, 1)] {
+    for (letter, len, number) in [
+        (b'b', 255, 4),
+        (b'a', 1000, 2),
+        (b'b', 1, 3),
+        (b'a', 999, 1),
+    ] {
         let key = made(&rt, rt.alloc(), letter, len);
         assert!(rt; store(&mut table, key, Datum::Integer(9)).is_ok());
         assert!(rt; store(&mut table, key, Datum::Integer(number)).is_ok());
