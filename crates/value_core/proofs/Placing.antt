@@ -1,6 +1,6 @@
 -- What a place among rows in the order of their keys tells, and what an edit there does.
-use Rattle.std.proofs.Common.{◌≡◌, ℕ, zero, suc, ◌+◌, ◌<◌, ◌≤◌, Bool, true, false, cond, List, [], ◌∷◌, ◌++◌, length, take, drop, get_or, set, Option, Some, None, Result, Ok, Err, IfOk, IfErr, refl, sym, ap, ◌∙◌, subst, arith, rules}
-use Rattle.std.specs.Prelude.{map}
+use Rattle.std.proofs.Common.{◌≡◌, ℕ, zero, suc, ◌+◌, ◌<◌, ◌≤◌, Bool, true, false, cond, List, [], ◌∷◌, length, get_or, set, Some, None, Result, Ok, Err, IfOk, IfErr, refl, sym, ap, ◌∙◌, subst, arith}
+use Rattle.std.specs.Prelude.{map, is_some}
 use Rattle.std.specs.declared.cmp.Ordering.{Ordering}
 use Rattle.std.specs.declared.cmp.Ordering.TheVariants.{Less, Equal, Greater}
 use Rattle.std.specs.Ordering.{is_eq, is_lt, ordering_reverse, ordering_index, eq_by_cmp}
@@ -132,6 +132,10 @@ module _ {X : Type 0} where
 
   pub found : (es : List (List ℕ × X)) (k : List ℕ) (i : ℕ) (d : List ℕ × X) → StandsAt es k i → lookup (is_at (text_cmp k)) es ≡ Some (get_or es i d).1
   found es k i d at = found_at es k i d at.inside at.lower at.same
+
+  pub there : (es : List (List ℕ × X)) (k : List ℕ) (i : ℕ) → StandsAt es k i → is_some (lookup (is_at (text_cmp k)) es) ≡ true
+  there [] k i at = absurd (omega (arith, at.inside))
+  there (e ∷ es) k i at = ap is_some (found (e ∷ es) k i e at)
 
   pub missing : (es : List (List ℕ × X)) (k : List ℕ) (i : ℕ) → IsGapFor es k i → lookup (is_at (text_cmp k)) es ≡ None
   missing es k i gap = none_in_gap es k i gap.inside gap.lower gap.higher

@@ -18,5 +18,5 @@ returns-in_ok-row-in-Text-datum-clause-ok c =
     let row = c.in_ok-row-in-Text-datum.row in
     rw (c.in-Texts.is, c.in-Text-datum.is)
     (on_ok _ _ c.insert-in-Text-datum.result (λ is.
-        ap (λ es. map.from_entries {R = text_cmp} (as_data datum.Text es)) is ∙ stored_row datum.Text all c.args.key row c.insert-in-Text-datum.ensures.rise
-        ∙ ap (λ t. map.insert (map.from_entries {R = text_cmp} (as_data datum.Text all)) c.args.key (datum.Text t)) c.in_ok-row-in-Text-datum.ensures) c.insert-in-Text-datum.ensures.ok)
+    ap (λ es. map.from_entries {R = text_cmp} (as_data datum.Text es)) is ∙ stored_row datum.Text all c.args.key row c.insert-in-Text-datum.ensures.rise
+    ∙ ap (λ t. map.insert (map.from_entries {R = text_cmp} (as_data datum.Text all)) c.args.key (datum.Text t)) c.in_ok-row-in-Text-datum.ensures) c.insert-in-Text-datum.ensures.ok)

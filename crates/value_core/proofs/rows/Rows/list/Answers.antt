@@ -1,10 +1,8 @@
-use Rattle.std.proofs.Common.{◌≡◌, ◌++◌, sym, ap, ◌∙◌}
-use Rattle.std.specs.List.{flat_map}
+use Rattle.std.proofs.Common.{◌≡◌, sym, ap, ◌∙◌}
 use Rattle.std.specs.FinMap as map
 use Rattle.value_core.specs.declared.datum.Datum.TheVariants as datum
 use Rattle.value_core.specs.Rows.{as_data, rows_map}
-use Rattle.value_core.specs.Spelling.{spelled_row}
-use Rattle.value_core.proofs.Outcomes.{on_ok, if_ok}
+use Rattle.value_core.proofs.Outcomes.{if_ok}
 use Rattle.value_core.proofs.Tables.{in_order}
 use Rattle.value_core.proofs.rows.Rows.list.Goals as goal
 
