@@ -60,7 +60,7 @@ static int hears(struct connection *it, const char *word)
 
 static void say(struct connection *it, const char *word, const char *text)
 {
-    char line[512];
+    char line[LINE];
     int size = snprintf(line, sizeof line, "%s%s\n", word, text);
     if (size >= (int)sizeof line || write(it->socket, line, (size_t)size) != size)
         fail("a line was not sent");
@@ -71,7 +71,7 @@ static void call(struct connection *it, int made)
 {
     const char *kind = it->kind[(it->begin + made) % it->kinds], *words = kind + strspn(kind, "!"), *mark = strchr(words, '#');
     int key = kind[0] != '!' ? 0 : kind[1] == '!' ? 1 : made + 1;
-    char text[256] = "";
+    char text[LINE / 2] = "";
     size_t front = 0;
 
     if (key)

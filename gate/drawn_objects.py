@@ -29,13 +29,15 @@ INTEGERS = (0, 1, 2, 3, 7, 10, 99, 65535, 2147483648, MOST - 1, MOST)
 SMALL = (0, 1, 2, 3, 5)
 PLACES = (0, 0, 1, 1, 32, 33, 254, 255, 1023, 1024)
 FRONT = (0, 0, 0, 1, 1, 33)
-KEYS = ("", "a", "ab", "A", "it's")
-HELD = ("", "k00", "k00", "k16", "k31", "z")
-# An array of 33 texts, one of 251 bytes and 32 of 247, has 8,192 bytes, the most that pages of 1,024 hold.
-LONG = ("", "m" * 247, "m" * 247, "n" * 247, "m" * 251, "m" * 251, "n" * 252)
-# Sixteen texts of 255 bytes have 4,096 bytes, so that pages are alike.
-LIKE = ("", "'" * 255, "'" * 255, "'" * 255, "'" * 255, "m" * 247)
-TEXTS = ("", "a", "it's", "''", " x ", "#", "~" * 184, "m" * 247, "n" * 251, "m" * 252, "'" * 255)
+# A text has two bytes more than its letters, and at most 1,000 letters.
+KEYS = ("", "a", "ab", "A", "it's", "b" * 256, "b" * 1000)
+HELD = ("", "k00", "k00", "k16", "k31", "z", "k" * 255, "k" * 1000)
+# An array of 33 texts, one of 250 bytes and 32 of 246, has 8,192 bytes, the most that pages of 1,024 hold. One of 33 texts of
+# 494 bytes has 16,372, a page of 2,048 less than it may, and one of 33 of 1,000 bytes has 33,070.
+LONG = ("", "m" * 246, "m" * 246, "n" * 246, "m" * 250, "m" * 250, "n" * 251, "m" * 494, "n" * 1000)
+# Sixteen texts of 254 bytes have 4,096 bytes, and of 510 bytes 8,192, so that pages are alike.
+LIKE = ("", "'" * 254, "'" * 254, "'" * 254, "'" * 254, "'" * 510, "m" * 246, "m" * 1000)
+TEXTS = ("", "a", "it's", "''", " x ", "#", "~" * 184, "m" * 246, "n" * 250, "m" * 251, "'" * 255, "n" * 256, "m" * 700, "~" * 999, "'" * 1000)
 # Places of an array of integers, at the ends of pages. Where all are 0 again a page is as others are.
 EDGES = (0, 254, 255, 255, 511, 511, 1022, 1023, 1024)
 FEW = (0, 0, 1)

@@ -3,7 +3,7 @@ line by line, each path is asked over the whole of it, and the ends are folded o
 import bisect
 import re
 
-from slow_world import MOST, Array, Disagreement, Queue
+from slow_world import FORMATS, LONGEST, MOST, WRITTEN, Array, Disagreement, Queue
 
 FIRST_LINE = 65536
 NUMBERS, SESSIONS = range(1, 65537), range(1, 1025)
@@ -40,7 +40,7 @@ def words_of(line):
             words.append(found[2])
         else:
             words.append(found[1].decode("ascii").replace("''", "'"))
-            if len(words[-1]) > 255:
+            if len(words[-1]) > LONGEST[WRITTEN]:
                 raise Bad
         at = found.end()
     return words
@@ -97,11 +97,14 @@ def ending_of(words):
 
 
 def value_of(kind, spelled):
-    """The value of a kind whose bytes are these in hexadecimal."""
+    """The value of a kind whose bytes are these in hexadecimal, in the format that their first byte names."""
     if not re.fullmatch("(?:[0-9a-f]{2})*", spelled):
         raise Bad
     whole = bytes.fromhex(spelled)
     rest = whole[4:]
+    if len(whole) < 4 or whole[0] not in FORMATS:
+        raise Bad
+    format = whole[0]
 
     def take(count):
         nonlocal rest
@@ -111,16 +114,14 @@ def value_of(kind, spelled):
         return taken
 
     def text():
-        taken = take(take(1)[0])
-        if any(not 32 <= it <= 126 for it in taken):
+        taken = take(int.from_bytes(take(format), "big"))
+        if len(taken) > LONGEST[format] or any(not 32 <= it <= 126 for it in taken):
             raise Bad
         return taken.decode("ascii")
 
     def element():
-        return text() if kind.format % 2 == 0 else int.from_bytes(take(4), "big")
+        return text() if kind.form % 2 == 0 else int.from_bytes(take(4), "big")
 
-    if len(whole) < 4:
-        raise Bad
     count = int.from_bytes(whole[2:4], "big")
     if count > 1024 or isinstance(kind, Array) and count != len(kind.opening):
         raise Bad
@@ -128,8 +129,8 @@ def value_of(kind, spelled):
         value = [element() for _ in range(count)]
     else:
         value = dict([(text(), element()) for _ in range(count)])
-    # A value has one spelling.
-    if kind.bytes_of(value) != whole:
+    # A value has one spelling in a format.
+    if kind.bytes_of(value, format) != whole:
         raise Bad
     return value
 

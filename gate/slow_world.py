@@ -6,6 +6,10 @@ MOST = 4294967295
 # How long the pages of a part may be, and how many of them it may have.
 SIZES = [1024 << it for it in range(9)]
 PAGES = 8
+# The formats of the bytes of a value, and how many bytes a text has in each: what is written is in the second one.
+FORMATS = (1, 2)
+WRITTEN = 2
+LONGEST = {1: 255, 2: 1000}
 
 
 # What a path says, by counts of starts and ends over a whole trace. An event is ("start", OP) or ("end", OP).
@@ -156,8 +160,8 @@ def lookup(table, key):
 class Row:
     """What an array and a queue share: their elements, one after another."""
 
-    def bytes_of(self, value):
-        return head(self.format, value) + b"".join(bytes_of_datum(it) for it in value)
+    def bytes_of(self, value, format=WRITTEN):
+        return head(format, self.form, value) + b"".join(bytes_of_datum(format, it) for it in value)
 
     def shown(self, value):
         return self.opens + " ".join(map(written, value)) + self.closes
@@ -168,33 +172,39 @@ class Array(Row):
 
     def __init__(self, length, elements):
         self.opening = [0 if elements == "integer" else ""] * length
-        self.format, self.elements = (1 if elements == "integer" else 2), elements
+        self.form, self.elements = (1 if elements == "integer" else 2), elements
 
 
 class Queue(Row):
     opens, closes = "<>"
 
     def __init__(self, elements):
-        self.opening, self.format = [], 3 if elements == "integer" else 4
+        self.opening, self.form = [], 3 if elements == "integer" else 4
 
 
 class Table:
     def __init__(self, elements):
-        self.opening, self.format = {}, 5 if elements == "integer" else 6
+        self.opening, self.form = {}, 5 if elements == "integer" else 6
 
-    def bytes_of(self, value):
-        return head(self.format, value) + b"".join(bytes_of_datum(k) + bytes_of_datum(value[k]) for k in sorted(value))
+    def bytes_of(self, value, format=WRITTEN):
+        elements = (bytes_of_datum(format, it) for key in sorted(value) for it in (key, value[key]))
+        return head(format, self.form, value) + b"".join(elements)
 
     def shown(self, value):
         return "{" + ", ".join(f"{written(k)}: {written(value[k])}" for k in sorted(value)) + "}"
 
 
-def head(form, value):
-    return bytes([1, form]) + len(value).to_bytes(2, "big")
+def head(format, form, value):
+    return bytes([format, form]) + len(value).to_bytes(2, "big")
 
 
-def bytes_of_datum(datum):
-    return datum.to_bytes(4, "big") if isinstance(datum, int) else bytes([len(datum)]) + datum.encode("ascii")
+def bytes_of_datum(format, datum):
+    """The bytes of an integer or a text. The length of a text is one byte in the first format, and two in the second."""
+    if isinstance(datum, int):
+        return datum.to_bytes(4, "big")
+    if len(datum) > LONGEST[format]:
+        raise Disagreement(f"a text of {len(datum)} bytes in format {format}")
+    return len(datum).to_bytes(format, "big") + datum.encode("ascii")
 
 
 def written(datum):
@@ -479,10 +489,17 @@ class World:
         return shown_lines(self.made, self.published)
 
     def trace_lines(self):
-        lines = [f"object {self.made.name}"]
-        for name, kind in self.made.parts.items():
-            lines.append(f"part {name} {kind.bytes_of(kind.opening).hex()}")
-        for event in self.trace:
+        contents = self.made.opening()
+        return [f"object {self.made.name}", *(self.part_line(name, contents) for name in contents), *self.event_lines()]
+
+    def part_line(self, name, contents, format=WRITTEN):
+        """The line that tells what a part holds at the beginning."""
+        return f"part {name} {self.made.parts[name].bytes_of(contents[name], format).hex()}"
+
+    def event_lines(self, events=None):
+        """The lines of these events, or of all."""
+        lines = []
+        for event in self.trace if events is None else events:
             number = event[1]
             if event[0] == "start":
                 call = self.calls[number - 1]

@@ -14,8 +14,8 @@
 #include <string.h>
 #include <sys/socket.h>
 
-/* A line that the server writes has at most some 600 bytes. */
-static char line[1024];
+/* A line that the server writes has at most some 2,100 bytes. */
+static char line[4096];
 
 /* The call that was sent, and has no last line yet. */
 static const char *sent;

@@ -81,9 +81,9 @@ def written(value):
     """An argument as the server reads it."""
     if isinstance(value, int) and not isinstance(value, bool) and 0 <= value < 1 << 32:
         return str(value)
-    if isinstance(value, str) and len(value) <= 255 and all(" " <= it <= "~" for it in value):
+    if isinstance(value, str) and len(value) <= 1000 and all(" " <= it <= "~" for it in value):
         return "'" + value.replace("'", "''") + "'"
-    wanted = "an integer from 0 to 4294967295, or a text of at most 255 characters from ' ' to '~'"
+    wanted = "an integer from 0 to 4294967295, or a text of at most 1000 characters from ' ' to '~'"
     raise ValueError(f"{value!r} is not {wanted}")
 
 

@@ -6,6 +6,7 @@ use Rattle.std.proofs.lemmas.Bool.{cases_eq}
 use Rattle.std.proofs.lemmas.Option.{slice_get_within, slice_get-map}
 use Rattle.value_core.specs.declared.kind.Kind.{Kind}
 use Rattle.value_core.specs.declared.datum.Datum.{Datum}
+use Rattle.value_core.specs.declared.format.Format.TheVariants.{Second}
 use Rattle.value_core.specs.Contents.{Contents, kind_of}
 use Rattle.value_core.specs.Spelling.{Spells}
 use Rattle.value_core.specs.Laws.{AreBytes}
@@ -75,7 +76,7 @@ is_whole a kind pages value shows = record {
   whole = shows.whole;
   bytes = shows.bytes;
   there = shows.there;
-  are = subst AreBytes (sym shows.spells.spelled) (spelling_is_bytes value shows.spells.contents);
+  are = subst AreBytes (sym shows.spells.spelled) (spelling_is_bytes Second value shows.spells.contents);
 }
 
 -- the pins of a call are whole that are those of pins that show contents, where it reads

@@ -5,10 +5,10 @@ ghost use Rattle.std.specs.Arc.{arc_value};
 
 use decl_core::object::Operation;
 use path_tree::node::OpId;
+use short_core::slim::Slims;
 use std::alloc::Global;
 use std::marker::Model;
 use std::sync::Arc;
-use value_core::datum::Datum;
 
 /// An accepted call: who made it, of which operation, with which arguments.
 #[derive(Drop)]
@@ -16,7 +16,7 @@ pub struct Call {
     session: u32,
     op: OpId,
     operation: Arc<Operation>,
-    args: Vec<Datum>,
+    args: Slims,
 }
 
 impl Model for Call {
@@ -29,13 +29,13 @@ impl Model for Call {
 
     ghost coded = { Prim.hlevel (codes, e.the_row.coded) };
 
-    ghost view = { λ c. record { session = c.session; op = c.op; operation = arc_value c.operation; arguments = c.args.items } };
+    ghost view = { λ c. record { session = c.session; op = c.op; operation = arc_value c.operation; arguments = c.args } };
 }
 
 impl Call {
     /// The call of a session, of the operation at this place of the object, with these arguments.
-    pub fn new(session: u32, op: OpId, operation: Arc<Operation>, args: Vec<Datum>) -> Call
-        ensures { result ≡ record { session = session; op = op; operation = arc_value operation; arguments = args.items } }
+    pub fn new(session: u32, op: OpId, operation: Arc<Operation>, args: Slims) -> Call
+        ensures { result ≡ record { session = session; op = op; operation = arc_value operation; arguments = args } }
     {
         Call {
             session,
@@ -67,7 +67,7 @@ impl Call {
     }
 
     /// Its arguments, in order.
-    pub fn args(&self) -> &[Datum]
+    pub fn args(&self) -> &Slims
         ensures { result.now ≡ self.now.arguments }
     {
         &self.args
@@ -75,6 +75,6 @@ impl Call {
 
     // Where its memory is from.
     pub(crate) fn alloc(&self) -> Global {
-        *self.args.allocator()
+        self.args.alloc()
     }
 }

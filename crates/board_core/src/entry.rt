@@ -8,21 +8,22 @@ ghost use Rattle.board_core.specs.Outcomes.{IsEntryOf};
 
 use crate::call::Call;
 use crate::receipt::NotedOutcome;
-use crate::same::{is_none, same_args};
+use crate::same::is_none;
 use apply_core::reply::Reply;
 use decl_core::object::Operation;
 use decl_core::same::same_declaration;
 use page_core::part_pins::PartPins;
+use short_core::short::Short;
+use short_core::slim::Slims;
 use std::marker::Model;
 use std::sync::Arc;
-use value_core::datum::Datum;
 
 /// A call that has finished: how it ended, by which pins it read, and which page lists it published.
 #[derive(Drop)]
 pub struct Entry {
     number: u32,
     call: Arc<Call>,
-    reply: Reply,
+    reply: Short,
     pins: PartPins,
     // of a call that was not done they are published by nobody, and not shown
     news: PartPins,
@@ -45,13 +46,13 @@ impl Model for Entry {
 impl Entry {
     /// The entry of a call that ended so: the pins of the parts that its operation reads, and the new pins of the parts
     /// that it changed, which count where it was done. It takes no memory.
-    pub fn new(number: u32, call: Arc<Call>, reply: &Reply, pins: PartPins, news: PartPins) -> Entry
-        ensures { result ≡ noted_of number (arc_value call) reply.now pins (if_done reply.now news) }
+    pub fn new(number: u32, call: Arc<Call>, reply: Short, pins: PartPins, news: PartPins) -> Entry
+        ensures { result ≡ noted_of number (arc_value call) reply pins (if_done reply news) }
     {
         Entry {
             number,
             call,
-            reply: *reply,
+            reply,
             pins,
             news,
         }
@@ -71,10 +72,10 @@ impl Entry {
         if !same_declaration(self.operation(), noted.operation()) {
             return false;
         }
-        if !same_args(self.args(), noted.args()) {
+        if !self.args().are(noted.args()) {
             return false;
         }
-        if !self.reply.is_same(noted.reply()) {
+        if !self.reply.is(noted.reply()) {
             return false;
         }
         if !self.has_news(noted) {
@@ -117,14 +118,21 @@ impl Entry {
     }
 
     /// The arguments, in order.
-    pub fn args(&self) -> &[Datum]
+    pub fn args(&self) -> &Slims
         ensures { result.now ≡ self.now.arguments }
     {
         self.call.args()
     }
 
     /// What the call replied.
-    pub fn reply(&self) -> &Reply
+    pub fn reply(&self) -> Reply
+        ensures { result ≡ self.now.reply }
+    {
+        self.reply.reply()
+    }
+
+    /// The same, where it lies.
+    pub fn kept_reply(&self) -> &Short
         ensures { result.now ≡ self.now.reply }
     {
         &self.reply
@@ -143,10 +151,9 @@ impl Entry {
         ensures some { IfSome result (λ pins. pins.now ≡ self.now.news) }
         ensures none { IfNone result (self.now.news ≡ []) }
     {
-        match self.reply {
-            Reply::Done(_) => Some(&self.news),
-            Reply::Refused(_) => None,
-            Reply::Failed(_) => None,
+        if self.reply.is_done() {
+            return Some(&self.news);
         }
+        None
     }
 }

@@ -12,4 +12,4 @@ pub mod event;
 pub mod laws;
 pub mod pick;
 pub mod receipt;
-pub mod same;
+mod same;

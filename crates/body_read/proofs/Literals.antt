@@ -2,6 +2,7 @@
 use Rattle.std.proofs.Common.{◌≡◌, ℕ, zero, suc, ◌-◌, ◌≤◌, List, [], ◌∷◌, length, Bool, true, false, ◌&&◌, nat_le, Some, None, if◌then◌else◌, All, refl, arith}
 use Rattle.std.proofs.lemmas.Bool.Decides.{nat_tests}
 use Rattle.std.proofs.lemmas.List.Elements.{All-nil, All-cons, All-head, All-tail}
+use Rattle.text_core.specs.Limits.{most_text_bytes}
 use Rattle.text_core.specs.Plain.{IsPlain, IsText}
 use Rattle.decl_core.specs.Form.{Form, a_text, literal}
 use Rattle.body_read.specs.Reading.{all_plain, literal_of, level_of}
@@ -31,7 +32,7 @@ all_plain_is (b ∷ bytes) h =
 pub literal_some : (bytes : List ℕ) → IsText bytes → literal_of bytes ≡ Some (a_text (literal bytes))
 unfolding literal_of
 literal_some bytes h =
-    let few : nat_le (length bytes) 255 ≡ true = grind (arith, nat_tests, h.few) in
+    let few : nat_le (length bytes) most_text_bytes ≡ true = grind (arith, nat_tests, h.few) in
     let plain : all_plain bytes ≡ true = plain_all bytes h.plain in
     rw (few, plain) refl
 
@@ -43,7 +44,7 @@ none_by false b f h = refl
 pub literal_none : (bytes : List ℕ) → (IsText bytes → ⊥) → literal_of bytes ≡ None
 unfolding literal_of
 literal_none bytes never =
-    none_by (nat_le (length bytes) 255) (all_plain bytes) (a_text (literal bytes)) (λ few plain. never (record { few = grind (arith, nat_tests, few); plain = all_plain_is bytes plain }))
+    none_by (nat_le (length bytes) most_text_bytes) (all_plain bytes) (a_text (literal bytes)) (λ few plain. never (record { few = grind (arith, nat_tests, few); plain = all_plain_is bytes plain }))
 
 pub level_some : (depth : ℕ) → (depth ≡ 0 → ⊥) → level_of depth ≡ Some (depth - 1)
 level_some zero h = absurd (h refl)
@@ -61,5 +62,5 @@ kept_by false b f g h = absurd cc
 pub literal_found : (bytes : List ℕ) (g : Form) → literal_of bytes ≡ Some g → IsText bytes × (g ≡ a_text (literal bytes))
 unfolding literal_of
 literal_found bytes g h =
-    let k = kept_by (nat_le (length bytes) 255) (all_plain bytes) (a_text (literal bytes)) g h in
+    let k = kept_by (nat_le (length bytes) most_text_bytes) (all_plain bytes) (a_text (literal bytes)) g h in
     (record { few = grind (arith, nat_tests, k.0); plain = all_plain_is bytes k.1 }, k.2)

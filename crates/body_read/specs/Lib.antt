@@ -6,3 +6,4 @@ pub mod Statements
 pub mod StatementReading
 pub mod DeclaredTypes
 pub mod Scopes
+pub mod Starts

@@ -5,6 +5,7 @@ use Rattle.path_tree.specs.declared.token.Symbol.TheVariants.{Plus, Minus, OpenP
 use Rattle.path_tree.specs.Lexeme.{Lexeme, symbol, number as number_lexeme, identifier, string, end_mark, same_symbol}
 use Rattle.path_tree.specs.Reading.{symbol_at}
 use Rattle.path_tree.specs.Known.{value_of}
+use Rattle.text_core.specs.Limits.{most_text_bytes}
 use Rattle.value_core.specs.declared.kind.Elem.{Elem}
 use Rattle.value_core.specs.declared.kind.Elem.TheVariants as elem
 use Rattle.value_core.specs.declared.kind.Kind.{Kind}
@@ -77,7 +78,7 @@ all_plain [] = true
 all_plain (b ∷ bytes) = nat_le 32 b && nat_le b 126 && all_plain bytes
 
 unfoldable pub literal_of : List ℕ → Option Form
-literal_of bytes = if nat_le (length bytes) 255 && all_plain bytes then Some (a_text (literal bytes)) else None
+literal_of bytes = if nat_le (length bytes) most_text_bytes && all_plain bytes then Some (a_text (literal bytes)) else None
 
 -- one level less
 abbrev pub level_of : ℕ → Option ℕ

@@ -5,13 +5,16 @@ ghost use Rattle.path_tree.specs.Lexeme.{lexemes};
 ghost use Rattle.path_tree.specs.Reading.{symbol_at};
 ghost use Rattle.body_read.specs.Reader.{Gives};
 ghost use Rattle.body_read.specs.Reading.{sign_at, name_at};
+ghost use Rattle.body_read.specs.Starts.{start_at, second_start_at};
 
 use crate::text_fault::TextFault;
 use path_tree::name::Name;
 use path_tree::token::{Kind, Symbol, Token, is_same_symbol};
 
 /// The byte where the first of these tokens starts; there is one, an end mark at least.
-pub fn start_of(tokens: &[Token]) -> usize {
+pub fn start_of(tokens: &[Token]) -> usize
+    ensures { result ≡ start_at tokens.now }
+{
     match tokens {
         [] => 0,
         [token, ..] => token.start,
@@ -19,7 +22,9 @@ pub fn start_of(tokens: &[Token]) -> usize {
 }
 
 /// The byte where the second of these tokens starts, where there is one.
-pub(crate) fn start_of_second(tokens: &[Token]) -> usize {
+pub(crate) fn start_of_second(tokens: &[Token]) -> usize
+    ensures { result ≡ second_start_at tokens.now }
+{
     match tokens {
         [_, token, ..] => token.start,
         [] | [_] => 0,

@@ -165,7 +165,7 @@ Example: a `put` that starts while another one runs.
 
   $ cat two_puts.trace
   object cell
-  part v 0101000100000000
+  part v 0201000100000000
   start 1 s1 put 7
   start 2 s2 put 8
   $ pathserve audit examples/objects/cell.pp two_puts.trace

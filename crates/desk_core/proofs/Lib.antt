@@ -7,4 +7,3 @@ pub mod Telling
 pub mod Sending
 pub mod Publishing
 pub mod Sessions
-pub mod Keying

@@ -6,17 +6,17 @@ ghost use Rattle.board_core.specs.Calls.{AcceptedCall};
 ghost use Rattle.board_core.specs.Board.{opened, joined, released, marked, call_at, Rests};
 ghost use Rattle.board_core.specs.Started.{Settles};
 ghost use Rattle.key_core.specs.Keys.{next_key, resumed};
-ghost use Rattle.desk_core.specs.Keyed.{Finds, SubmitsKeyed};
+ghost use Rattle.ask_core.specs.Keyed.{Finds, SubmitsKeyed};
 ghost use Rattle.board_core.specs.Sound.{IsSound};
 ghost use Rattle.decl_core.specs.ObjectMap.{object_of};
 ghost use Rattle.trace_core.specs.Text.{trace_text as text_of};
 ghost use Rattle.desk_core.specs.Told.{lines_told};
-ghost use Rattle.desk_core.specs.Answers.{IsGone, IsTaken, IsRefused, Cancels, Collects, Finishes, IsStranger, receipt_by, waits_in, runs_in, runs_by};
+ghost use Rattle.ask_core.specs.Answers.{IsGone, IsTaken, IsRefused, Cancels, Collects, Finishes, IsStranger, receipt_by, waits_in, runs_in, runs_by};
 
-use crate::answer::{
+use crate::roster::{MOST_SESSIONS, Roster};
+use ask_core::answer::{
     Cancelled, Collected, Finished, Kept, Keyed, KeyedFault, Stranger, SubmitFault,
 };
-use crate::roster::{MOST_SESSIONS, Roster};
 use board_core::call::Call;
 use board_core::entry::Entry;
 use board_core::event::TraceEvent;

@@ -6,10 +6,7 @@
 //! that grows with the history.
 #![tactic(auto)]
 
-pub mod answer;
 pub mod desk;
-mod find;
-pub mod laws;
 mod marks;
 mod roster;
 mod text;

@@ -48,7 +48,7 @@ pub(crate) fn note_end(marks: &mut Vec<Mark>, place: usize)
 fn end_event(entry: &Entry) -> TraceEvent
     ensures { result ≡ Ended entry.now.number entry.now.reply }
 {
-    TraceEvent::End(entry.number(), *entry.reply())
+    TraceEvent::End(entry.number(), entry.reply())
 }
 
 // What a mark tells.

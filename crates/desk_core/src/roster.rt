@@ -17,8 +17,8 @@ ghost use Rattle.page_core.specs.PartPins.{pin_at};
 ghost use Rattle.run_core.specs.Outcomes.{outcome_call, if_done, IsFresh};
 ghost use Rattle.board_core.specs.Board.{Board, bodies, call_at, opened, joined, dismissed, released, taken_at, marked, started, ended, entry_of, published, read_pins, IsNext, Rests, Admits};
 ghost use Rattle.key_core.specs.Keys.{next_key, resumed};
-ghost use Rattle.desk_core.specs.Keyed.{IsStateOf, Finds};
-ghost use Rattle.desk_core.specs.Answers.{HasName, IsGone, is_busy, waits_in, runs_in, runs_by, ended_in, IsLeft, NoneIsLeft, IsTaken, IsRefused, IsStranger};
+ghost use Rattle.ask_core.specs.Keyed.{IsStateOf, Finds};
+ghost use Rattle.ask_core.specs.Answers.{HasName, IsGone, is_busy, waits_in, runs_in, runs_by, ended_in, IsLeft, NoneIsLeft, IsTaken, IsRefused, IsStranger};
 ghost use Rattle.board_core.specs.Free.{IsNeeded, Picks};
 ghost use Rattle.board_core.specs.Outcomes.{IsOf};
 ghost use Rattle.desk_core.specs.Publishing.{ArePageLists, with_pin};
@@ -26,14 +26,14 @@ ghost use Rattle.trace_core.specs.Text.{trace_text as text_of};
 ghost use Rattle.desk_core.specs.Told.{lines_told};
 ghost use Rattle.board_core.specs.Sound.{IsSound};
 
-use crate::answer::{CallState, Kept, KeyedFault, SubmitFault};
-use crate::find::{
-    is_same_call, place_of, place_of_left, place_to_end, runs, runs_for, waits, waits_for,
-};
 use crate::marks::{Mark, event_of, note, note_end, note_start};
 use crate::text::{call_of, push_marks};
 use apply_core::fits::arguments_fit;
 use apply_core::reply::Reply;
+use ask_core::answer::{CallState, Kept, KeyedFault, SubmitFault};
+use ask_core::find::{
+    is_same_call, place_of, place_of_left, place_to_end, runs, runs_for, waits, waits_for,
+};
 use board_core::call::Call;
 use board_core::entry::Entry;
 use board_core::event::TraceEvent;
@@ -503,7 +503,7 @@ impl Roster {
         if place == 0 {
             return CallState::Cancelled;
         }
-        CallState::Ended(*self.history[place - 1].reply())
+        CallState::Ended(self.history[place - 1].reply())
     }
 
     // Whether the call of this number is of the operation of this name, with these arguments.
@@ -615,7 +615,14 @@ impl Roster {
         let object = self.accepted.object();
         let mut out = Vec::new(self.alloc);
         push_front(self.alloc, &mut out, object, opening)?;
-        push_marks(&mut out, object, &self.calls, &self.history, &self.marks)?;
+        push_marks(
+            self.alloc,
+            &mut out,
+            object,
+            &self.calls,
+            &self.history,
+            &self.marks,
+        )?;
         Ok(out)
     }
 

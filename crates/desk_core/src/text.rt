@@ -15,7 +15,7 @@ use board_core::call::Call;
 use board_core::entry::Entry;
 use board_core::event::TraceEvent;
 use decl_core::object::Object;
-use std::alloc::AllocError;
+use std::alloc::{AllocError, Global};
 use std::sync::Arc;
 use trace_core::event::{push_end, push_start};
 
@@ -32,6 +32,7 @@ pub(crate) fn call_of(calls: &[Arc<Call>], number: u32) -> Option<&Call>
 
 // Adds the line of an event.
 fn push_event(
+    alloc: Global,
     out: &mut Vec<u8>,
     object: &Object,
     calls: &[Arc<Call>],
@@ -41,7 +42,10 @@ fn push_event(
 {
     match event {
         TraceEvent::Start(number) => match call_of(calls, *number) {
-            Some(call) => push_start(out, object, *number, call.session(), call.op(), call.args()),
+            Some(call) => {
+                let args = call.args().list(alloc)?;
+                push_start(out, object, *number, call.session(), call.op(), &args)
+            }
             None => push_start(out, object, *number, 0, 0, &[]),
         },
         TraceEvent::End(number, reply) => push_end(out, *number, reply),
@@ -50,6 +54,7 @@ fn push_event(
 
 // Adds a line for each mark.
 pub(crate) fn push_marks(
+    alloc: Global,
     out: &mut Vec<u8>,
     object: &Object,
     calls: &[Arc<Call>],
@@ -61,7 +66,7 @@ pub(crate) fn push_marks(
 {
     for mark in marks {
         let event = event_of(history, *mark);
-        push_event(out, object, calls, &event)?;
+        push_event(alloc, out, object, calls, &event)?;
     }
     Ok(())
 }

@@ -1,7 +1,7 @@
 //! What a finish publishes and which files it frees: of a call that is DONE, of one whose device FAILED, and of one that
 //! met a damaged part.
 
-use crate::make::{Bytes, CELL, ZERO, desk_of, pinned, receipt_of};
+use crate::make::{Bytes, CELL, FIRST_ZERO, ZERO, desk_of, pinned, receipt_of};
 use apply_core::reply::{Failure, Reply};
 use desk_core::desk::Desk;
 use device_core::memory::MemHand;
@@ -149,7 +149,7 @@ fn a_file_of_two_parts_is_freed_once(rt: HostRuntime) {
 fn a_page_of_two_parts_is_freed_once(rt: HostRuntime) {
     let mut bytes = Vec::new(rt.alloc());
     bytes
-        .extend_from_slice(b"\x01\x01\x04\x00")
+        .extend_from_slice(b"\x02\x01\x04\x00")
         .expect(&rt, "memory");
     bytes.resize(4_100, 0).expect(&rt, "memory");
     let apart: [Row; 3] = [
@@ -175,7 +175,18 @@ fn is_damaged(rt: &impl Abort, alloc: Global, bytes: Bytes) -> bool {
 
 #[test]
 fn a_damaged_part_fails_the_call(rt: HostRuntime) {
-    let cut: Bytes = b"\x01\x01\x00\x01\x00\x00\x00";
-    let longer: Bytes = b"\x01\x01\x00\x01\x00\x00\x00\x00\x00";
+    let cut: Bytes = b"\x02\x01\x00\x01\x00\x00\x00";
+    let longer: Bytes = b"\x02\x01\x00\x01\x00\x00\x00\x00\x00";
     assert!(rt; is_damaged(&rt, rt.alloc(), cut) && is_damaged(&rt, rt.alloc(), longer));
+}
+
+#[test]
+fn a_pin_in_another_format_fails_the_call(rt: HostRuntime) {
+    let third: Bytes = b"\x03\x01\x00\x01\x00\x00\x00\x00";
+    assert!(rt; is_damaged(&rt, rt.alloc(), FIRST_ZERO) && is_damaged(&rt, rt.alloc(), third));
+    let mut hand = MemHand::new(rt.alloc());
+    let pins = pinned(&rt, &mut hand, &[FIRST_ZERO]);
+    let mut desk = desk_of(&rt, rt.alloc(), CELL, pins);
+    let receipt = receipt_of(rt.alloc(), &mut desk, &mut hand, "get", &[]).expect(&rt, "a receipt");
+    assert!(rt; *receipt.noted.reply() == DAMAGED && receipt.free.is_empty());
 }

@@ -121,7 +121,7 @@ const OF_CELL: [Row; 6] = [
     (5, DONE, &[1], &[1], 9),
 ];
 
-const NINE: Bytes = b"\x01\x01\x00\x01\x00\x00\x00\x09";
+const NINE: Bytes = b"\x02\x01\x00\x01\x00\x00\x00\x09";
 
 #[test]
 fn a_device_fails_each_call_of_a_cell_in_turn(rt: HostRuntime) {
@@ -182,7 +182,7 @@ const OF_WIDE: [Row; 11] = [
 fn spelled(rt: &impl Abort, alloc: Global, ends: u8) -> Vec<u8> {
     let mut bytes = Vec::new(alloc);
     bytes
-        .extend_from_slice(&[1, 1, 4, 0, 0, 0, 0, ends])
+        .extend_from_slice(&[2, 1, 4, 0, 0, 0, 0, ends])
         .expect(rt, "memory");
     bytes.resize(4_099, 0).expect(rt, "memory");
     bytes.push(ends).expect(rt, "memory");
@@ -212,12 +212,17 @@ fn a_device_fails_each_call_of_a_part_of_five_pages_in_turn(rt: HostRuntime) {
 // missing), and what `get` of an element replies.
 type Damage = (&'static [u8], Option<Bytes>, u32, Reply);
 
-const ARRAY: Bytes = &[1, 1, 4, 0];
+const ARRAY: Bytes = &[2, 1, 4, 0];
 
-const QUEUE: Bytes = &[1, 3, 4, 0];
+const QUEUE: Bytes = &[2, 3, 4, 0];
 
-const DAMAGES: [Damage; 9] = [
+// The array in the first format.
+const FIRST: Bytes = &[1, 1, 4, 0];
+
+const DAMAGES: [Damage; 11] = [
     (ARRAY, Some(&[0, 0, 0, 0]), 0, ZERO_READ),
+    (FIRST, Some(&[0, 0, 0, 0]), 0, DAMAGED),
+    (FIRST, Some(&[0, 0, 0, 0]), 1_023, DAMAGED),
     (QUEUE, Some(&[0, 0, 0, 0]), 0, DAMAGED),
     (QUEUE, Some(&[0, 0, 0, 0]), 1_023, DAMAGED),
     (ARRAY, Some(&[0, 0, 0, 0, 0, 0, 0, 0]), 0, DAMAGED),

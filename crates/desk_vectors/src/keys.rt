@@ -2,8 +2,8 @@
 
 use crate::make::{CELL, SEVEN, ZERO, desk_of, look, outcome_of, pinned};
 use apply_core::reply::{Failure, Reply};
-use desk_core::answer::KeyedFault::{BadKey, Gone, KeyReused, Submit};
-use desk_core::answer::{CallState, Cancelled, Kept, Keyed, KeyedFault, SubmitFault};
+use ask_core::answer::KeyedFault::{BadKey, Gone, KeyReused, Submit};
+use ask_core::answer::{CallState, Cancelled, Kept, Keyed, KeyedFault, SubmitFault};
 use desk_core::desk::Desk;
 use device_core::memory::MemHand;
 use device_core::once::OnceHand;

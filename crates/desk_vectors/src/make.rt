@@ -1,8 +1,8 @@
 //! Objects, files and desks, as the tests make them.
 
+use ask_core::answer::Collected;
 use board_core::receipt::Receipt;
 use decl_read::read::read_objects;
-use desk_core::answer::Collected;
 use desk_core::desk::Desk;
 use exclude_core::analyse::{Accepted, analyse};
 use hand_core::hand::{Hand, Stamp};
@@ -20,9 +20,14 @@ use value_core::datum::Datum;
 pub type Bytes = &'static [u8];
 
 /// The arrays `[0]` and `[7]`.
-pub const ZERO: Bytes = b"\x01\x01\x00\x01\x00\x00\x00\x00";
+pub const ZERO: Bytes = b"\x02\x01\x00\x01\x00\x00\x00\x00";
 
-pub const SEVEN: Bytes = b"\x01\x01\x00\x01\x00\x00\x00\x07";
+pub const SEVEN: Bytes = b"\x02\x01\x00\x01\x00\x00\x00\x07";
+
+/// The same in the first format.
+pub const FIRST_ZERO: Bytes = b"\x01\x01\x00\x01\x00\x00\x00\x00";
+
+pub const FIRST_SEVEN: Bytes = b"\x01\x01\x00\x01\x00\x00\x00\x07";
 
 /// An object with one part.
 pub const CELL: Bytes = b"object cell;

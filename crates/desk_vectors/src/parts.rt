@@ -1,7 +1,7 @@
 //! From a shelf to a desk and back.
 
 use crate::desks::PAIR;
-use crate::make::{Bytes, SEVEN, ZERO, accepted, pinned, receipt_of};
+use crate::make::{Bytes, FIRST_SEVEN, FIRST_ZERO, SEVEN, ZERO, accepted, pinned, receipt_of};
 use crate::refused::{cell_twice, desk_twice};
 use apply_core::reply::Reply;
 use decl_core::object::Object;
@@ -201,12 +201,15 @@ fn told(
 }
 
 // Bytes that spell no array of one integer: one less, one more, none, another format, another kind, another length.
-const DAMAGED: [Bytes; 6] = [
+const DAMAGED: [Bytes; 9] = [
+    b"\x02\x01\x00\x01\x00\x00\x00",
+    b"\x02\x01\x00\x01\x00\x00\x00\x07\x00",
+    b"",
+    b"\x03\x01\x00\x01\x00\x00\x00\x07",
+    b"\x02\x03\x00\x01\x00\x00\x00\x07",
+    b"\x02\x01\x00\x02\x00\x00\x00\x07\x00\x00\x00\x07",
     b"\x01\x01\x00\x01\x00\x00\x00",
     b"\x01\x01\x00\x01\x00\x00\x00\x07\x00",
-    b"",
-    b"\x02\x01\x00\x01\x00\x00\x00\x07",
-    b"\x01\x03\x00\x01\x00\x00\x00\x07",
     b"\x01\x01\x00\x02\x00\x00\x00\x07\x00\x00\x00\x07",
 ];
 
@@ -219,4 +222,35 @@ fn damaged_parts_are_told(rt: HostRuntime) {
         assert!(rt; opened == (Some(OpenFault::Damaged(1)), None));
         assert!(rt; saved == (None, Some(SaveFault::Damaged(1))));
     }
+}
+
+// Opens the part of a cell that a shelf has in the first format, and saves it.
+fn goes_over(rt: &impl Abort, alloc: Global, cell: &Object, stored: Bytes, saved: Bytes) {
+    let mut shelf = MemShelf::new(alloc);
+    let mut hand = MemHand::new(alloc);
+    assert!(rt; shelf.store(b"cell.v", stored).is_ok());
+    let pins = opened(rt, alloc, cell, &mut shelf, &mut hand, saved);
+    // Opening stores nothing.
+    assert!(rt; holds(alloc, &mut shelf, b"cell.v", Some(stored)));
+    save_twice(rt, alloc, cell, &pins, &mut shelf, &mut hand);
+    assert!(rt; holds(alloc, &mut shelf, b"cell.v", Some(saved)));
+    opened(rt, alloc, cell, &mut shelf, &mut hand, saved);
+}
+
+// What a shelf has from before is taken up and saved in the second format. `gate/refuse_memory` runs this test with the
+// first, the second, .. growth of memory refused.
+#[test]
+fn refused_open_and_save_of_what_was_before(rt: HostRuntime) {
+    let alloc = rt.alloc();
+    let cell = cell_twice(&rt, alloc);
+    goes_over(&rt, alloc, cell.object(), FIRST_SEVEN, SEVEN);
+    goes_over(&rt, alloc, cell.object(), FIRST_ZERO, ZERO);
+    goes_over(&rt, alloc, cell.object(), SEVEN, SEVEN);
+}
+
+#[test]
+fn a_pin_in_the_first_format_is_not_saved(rt: HostRuntime) {
+    let pair = accepted(&rt, rt.alloc(), PAIR);
+    let saved = told(&rt, rt.alloc(), pair.object(), FIRST_SEVEN, FIRST_SEVEN);
+    assert!(rt; saved == (None, Some(SaveFault::Damaged(1))));
 }

@@ -1,8 +1,8 @@
 //! The last of all numbers. (Which refusal is told is shown by cases of `cases/run`.)
 
 use crate::make::{CELL, ZERO, desk_of, has_turn_of, pinned};
-use desk_core::answer::SubmitFault::{Full, HistoryFull, SessionBusy, UnknownOp};
-use desk_core::answer::{CallState, Cancelled, Kept, Keyed, KeyedFault, SubmitFault};
+use ask_core::answer::SubmitFault::{Full, HistoryFull, SessionBusy, UnknownOp};
+use ask_core::answer::{CallState, Cancelled, Kept, Keyed, KeyedFault, SubmitFault};
 use desk_core::desk::Desk;
 use device_core::memory::MemHand;
 use std::alloc::Global;

@@ -8,8 +8,8 @@
 use crate::desks::are_files;
 use crate::make::{CELL, ZERO, look, outcome_of};
 use apply_core::reply::{Failure, Reply};
+use ask_core::answer::{CallState, Cancelled, Kept, Keyed, KeyedFault, SubmitFault};
 use decl_read::read::read_objects;
-use desk_core::answer::{CallState, Cancelled, Kept, Keyed, KeyedFault, SubmitFault};
 use desk_core::desk::Desk;
 use device_core::memory::MemHand;
 use device_core::once::OnceHand;

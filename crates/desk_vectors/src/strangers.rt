@@ -1,7 +1,7 @@
 //! Outcomes that are handed to a desk on which no such call runs.
 
 use crate::make::{Bytes, CELL, ZERO, desk_of, has_turn_of, look, outcome_of, pinned};
-use desk_core::answer::Stranger;
+use ask_core::answer::Stranger;
 use desk_core::desk::Desk;
 use device_core::memory::MemHand;
 use hand_core::hand::Stamp;

@@ -151,7 +151,7 @@ fn lexical(fault: LexFault, before: &[Token], here: &[u8]) -> Said {
         LexFault::BadByte(_) => bad_bytes(before, here),
         LexFault::OpenComment(_) => open_comment(here),
         LexFault::OpenString(_) => say(
-            "this string has no closing apostrophe on its line, or more than 255 bytes",
+            "this string has no closing apostrophe on its line, or more than 1000 bytes",
             "close it by an apostrophe; one that is part of the text is written twice, as in 'it''s'",
         ),
         LexFault::BadNumber(_) => say(

@@ -11,8 +11,8 @@ use Rattle.board_core.specs.Started.{Settles}
 use Rattle.board_core.specs.Sound.{IsSound, IsRunningIn}
 use Rattle.board_core.proofs.Lists.{Every-at}
 use Rattle.board_core.proofs.Traces.{call_at-new}
-use Rattle.desk_core.specs.declared.answer.Collected.TheVariants as collected
-use Rattle.desk_core.specs.Answers.{Asked, IsTaken, Collects}
+use Rattle.ask_core.specs.declared.answer.Collected.TheVariants as collected
+use Rattle.ask_core.specs.Answers.{Asked, IsTaken, Collects}
 use Rattle.office_core.specs.declared.seat.Submitted.{Submitted}
 use Rattle.office_core.specs.Submissions.{IsOf, IsTicketOf}
 

@@ -4,11 +4,11 @@ use Rattle.std.specs.Prelude.{Ok, Err}
 use Rattle.board_core.specs.Board.{Board}
 use Rattle.board_core.specs.Sound.{IsSound}
 use Rattle.key_core.specs.Keys.{next_key}
-use Rattle.desk_core.specs.declared.answer.SubmitFault.{SubmitFault}
-use Rattle.desk_core.specs.declared.answer.KeyedFault.{KeyedFault}
-use Rattle.desk_core.specs.declared.answer.KeyedFault.TheVariants.{Gone, BadKey, KeyReused, Submit}
-use Rattle.desk_core.specs.Answers.{Asked, IsGone, IsRefused}
-use Rattle.desk_core.specs.Keyed.{Finds, SubmitsKeyed}
+use Rattle.ask_core.specs.declared.answer.SubmitFault.{SubmitFault}
+use Rattle.ask_core.specs.declared.answer.KeyedFault.{KeyedFault}
+use Rattle.ask_core.specs.declared.answer.KeyedFault.TheVariants.{Gone, BadKey, KeyReused, Submit}
+use Rattle.ask_core.specs.Answers.{Asked, IsGone, IsRefused}
+use Rattle.ask_core.specs.Keyed.{Finds, SubmitsKeyed}
 
 -- a fault that a look at a key finds is that of a submission, which changes nothing
 pub found_fault : (b : Board) (a : Asked) (key : ℕ) (fault : KeyedFault) → Finds b a key (Err fault) → SubmitsKeyed b a key (Err fault) b

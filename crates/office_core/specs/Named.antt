@@ -4,7 +4,7 @@ use Rattle.board_core.specs.Lists.{Every}
 use Rattle.board_core.specs.Board.{released, marked}
 use Rattle.board_core.specs.Started.{Settles}
 use Rattle.key_core.specs.Keys.{resumed}
-use Rattle.desk_core.specs.Answers.{runs_by}
+use Rattle.ask_core.specs.Answers.{runs_by}
 use Rattle.seat_core.specs.declared.seat.Seat.{Seat}
 use Rattle.seat_core.specs.declared.clients.Client.{Client}
 use Rattle.seat_core.specs.Seats.{IsFresh}

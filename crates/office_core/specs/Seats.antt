@@ -3,8 +3,8 @@ use Rattle.std.specs.Prelude.{◌≡◌, ℕ, ◌+◌, ◌≤◌, ◌<◌, lengt
 use Rattle.run_core.specs.declared.outcome.Outcome.{Outcome}
 use Rattle.run_core.specs.Outcomes.{TellsSame}
 use Rattle.board_core.specs.declared.receipt.Receipt.{Receipt}
-use Rattle.desk_core.specs.Answers.{Finishes, IsStranger, receipt_by}
-use Rattle.desk_core.specs.declared.answer.Finished.{Finished}
+use Rattle.ask_core.specs.Answers.{Finishes, IsStranger, receipt_by}
+use Rattle.ask_core.specs.declared.answer.Finished.{Finished}
 use Rattle.seat_core.specs.declared.seat.Seat.{Seat}
 use Rattle.seat_core.specs.Seats.{Advances}
 use Rattle.office_core.specs.declared.seat.NotTaken.{NotTaken}

@@ -8,8 +8,8 @@ use Rattle.call_core.specs.declared.ticket.Ticket.{Ticket as Admitted}
 use Rattle.call_core.specs.Tickets.{ticket_call}
 use Rattle.board_core.specs.Calls.{AcceptedCall}
 use Rattle.board_core.specs.Board.{Board, call_at}
-use Rattle.desk_core.specs.declared.answer.Collected.TheVariants as collected
-use Rattle.desk_core.specs.Answers.{Collects, HasName}
+use Rattle.ask_core.specs.declared.answer.Collected.TheVariants as collected
+use Rattle.ask_core.specs.Answers.{Collects, HasName}
 use Rattle.office_core.specs.declared.seat.Submitted.{Submitted}
 use Rattle.office_core.specs.declared.seat.Started.{Started}
 use Rattle.office_core.specs.declared.seat.Started.TheVariants as started

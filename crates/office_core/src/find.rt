@@ -12,7 +12,6 @@ use crate::seat::Submitted;
 use board_core::call::Call;
 use board_core::entry::Entry;
 use board_core::receipt::Receipt;
-use board_core::same::same_args;
 use decl_core::same::same_declaration;
 use desk_core::desk::Desk;
 use slip_core::slip::Slip;
@@ -24,7 +23,7 @@ fn is_call_of(call: &Call, submitted: &Submitted) -> bool
     if !same_declaration(call.operation(), submitted.call.operation()) {
         return false;
     }
-    same_args(call.args(), submitted.call.args())
+    call.args().is_same(submitted.call.args())
 }
 
 // Whether the call of that number has the operation and the arguments of a submission.

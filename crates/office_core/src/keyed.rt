@@ -4,15 +4,15 @@ ghost use Rattle.std.specs.Prelude.{◌≡◌, ◌<◌, ◌≤◌};
 ghost use Rattle.board_core.specs.Board.{Board};
 ghost use Rattle.board_core.specs.Sound.{IsSound};
 ghost use Rattle.key_core.specs.Keys.{next_key};
-ghost use Rattle.desk_core.specs.Answers.{IsGone};
-ghost use Rattle.desk_core.specs.Keyed.{Finds, SubmitsKeyed};
+ghost use Rattle.ask_core.specs.Answers.{IsGone};
+ghost use Rattle.ask_core.specs.Keyed.{Finds, SubmitsKeyed};
 ghost use Rattle.office_core.specs.Rooms.{KeepsSeats};
 ghost use Rattle.office_core.specs.Keyed.{answer_of, Resubmits};
 
 use crate::office::Office;
 use crate::room::Room;
 use crate::seat::Submitted;
-use desk_core::answer::{Kept, KeyedFault};
+use ask_core::answer::{Kept, KeyedFault};
 use seat_core::seat::Seat;
 use std::sync::Wait;
 use value_core::datum::Datum;

@@ -3,7 +3,7 @@
 ghost use Rattle.std.specs.Prelude.{◌≡◌, ◌+◌, ◌≤◌, ◌<◌, length, IfOk, IfErr, IfSome, IfNone, Ok, Err, []};
 ghost use Rattle.board_core.specs.Board.{opened, Rests};
 ghost use Rattle.board_core.specs.Sound.{IsSound};
-ghost use Rattle.desk_core.specs.Answers.{Cancels};
+ghost use Rattle.ask_core.specs.Answers.{Cancels};
 ghost use Rattle.board_core.specs.Started.{Settles};
 ghost use Rattle.board_core.specs.Board.{released, marked};
 ghost use Rattle.std.specs.Prelude.{◌⊎◌};
@@ -15,8 +15,8 @@ ghost use Rattle.office_core.specs.Closing.{Closes, ClosesBySlips, IsIdle, AreSe
 
 use crate::find::{first_mismatch, first_mismatched_slip, is_of};
 use crate::seat::{CompleteFault, NotTaken, Submitted, Tried};
+use ask_core::answer::{Cancelled, Collected, Finished, SubmitFault};
 use board_core::receipt::Receipt;
-use desk_core::answer::{Cancelled, Collected, Finished, SubmitFault};
 use desk_core::desk::Desk;
 use exclude_core::analyse::Accepted;
 use page_core::pins::Pins;

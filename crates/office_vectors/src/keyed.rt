@@ -4,7 +4,7 @@ use crate::make::{finish, room, stuck, turn};
 use crate::meeting::meets;
 use crate::named::{is_cancelled, name, outcome_of};
 use apply_core::reply::Reply;
-use desk_core::answer::{CallState, Kept, KeyedFault, SubmitFault};
+use ask_core::answer::{CallState, Kept, KeyedFault, SubmitFault};
 use device_core::memory::MemHand;
 use office_core::keyed::Resubmitted;
 use office_core::named::{NameFault, ParkFault};

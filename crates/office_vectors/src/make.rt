@@ -18,7 +18,7 @@ use std::sync::Wait;
 use value_core::datum::Datum;
 
 /// The array `[0]`.
-pub const ZERO: &[u8] = b"\x01\x01\x00\x01\x00\x00\x00\x00";
+pub const ZERO: &[u8] = b"\x02\x01\x00\x01\x00\x00\x00\x00";
 
 /// An object with one part.
 pub const CELL: &[u8] = b"object cell;

@@ -2,10 +2,10 @@
 
 use crate::make::{room, stuck};
 use apply_core::reply::Reply;
+use ask_core::answer::SubmitFault;
 use board_core::entry::Entry;
 use board_core::event::TraceEvent;
 use board_core::receipt::Receipt;
-use desk_core::answer::SubmitFault;
 use desk_core::desk::Desk;
 use device_core::memory::MemHand;
 use office_core::office::Office;
@@ -168,16 +168,16 @@ fn is_get(desk: &Desk, number: u32) -> bool {
 
 // What a cell holds after a call that was done, where it replied what one thread would have been told.
 fn told(before: u32, entry: &Entry) -> Option<u32> {
-    match entry.args() {
-        [] => {
-            if *entry.reply() == Reply::Done(Some(Datum::Integer(before))) {
+    match entry.args().get(0) {
+        None => {
+            if entry.reply() == Reply::Done(Some(Datum::Integer(before))) {
                 Some(before)
             } else {
                 None
             }
         }
-        [Datum::Integer(value)] => Some(*value),
-        _ => None,
+        Some(Datum::Integer(value)) => Some(value),
+        Some(Datum::Text(_)) => None,
     }
 }
 

@@ -2,7 +2,7 @@
 
 use crate::make::{room, stuck, turn};
 use apply_core::reply::Reply;
-use desk_core::answer::{CallState, Kept, KeyedFault};
+use ask_core::answer::{CallState, Kept, KeyedFault};
 use device_core::memory::MemHand;
 use hand_core::hand::Hand;
 use office_core::named::{NameFault, ParkFault};

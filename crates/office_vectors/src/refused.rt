@@ -6,7 +6,7 @@
 
 use crate::make::{pins, room_of, stuck, turn};
 use apply_core::reply::Reply;
-use desk_core::answer::{CallState, Kept, KeyedFault, SubmitFault};
+use ask_core::answer::{CallState, Kept, KeyedFault, SubmitFault};
 use device_core::memory::MemHand;
 use office_core::keyed::Resubmitted;
 use office_core::named::NameFault;

@@ -8,7 +8,7 @@ use Rattle.path_tree.specs.declared.lex.fault.LexFault.TheVariants as faults
 use Rattle.path_tree.specs.Identifier.{IsLetter, IsDigit}
 use Rattle.path_tree.specs.Lexeme.{Lexeme, symbol, number, identifier, string, end_mark}
 use Rattle.path_tree.specs.Gap.{OpensComment}
-use Rattle.path_tree.specs.Tokens.{Placed, IsWord, IsTextByte, IsString, IsToken, AreTokens, IsStray, IsLongWord, IsLargeNumber, IsStringStart, IsBadInString, IsOpenString, IsFaultAt, IsFirstFault}
+use Rattle.path_tree.specs.Tokens.{Placed, IsWord, IsTextByte, most_string_bytes, IsString, IsToken, AreTokens, IsStray, IsLongWord, IsLargeNumber, IsStringStart, IsBadInString, IsOpenString, IsFaultAt, IsFirstFault}
 use Rattle.path_tree.proofs.Gaps.{NoGap, no_gap, open_opens, open_no_gap}
 use Rattle.path_tree.proofs.Slices.{byte_within}
 use Rattle.path_tree.proofs.Strings.{Stops, content_longest, one_content}
@@ -67,7 +67,7 @@ module _ (source : List ℕ) where
       let same = one_content source (from + 1) h.0 content at k.0 h.2 k.2 stops (closes_stops source k.0 k.4 k.5) in
       no_close (ap (slice_index source) same.1 ∙ k.4)
 
-  long_no_string : (content : List ℕ) (from at to : ℕ) → IsStringStart source from 256 at → IsString source content from to → ⊥
+  long_no_string : (content : List ℕ) (from at to : ℕ) → IsStringStart source from (most_string_bytes + 1) at → IsString source content from to → ⊥
   long_no_string content from at to h k =
       omega (arith, content_longest source (from + 1) h.0 content at k.0 h.2 k.2 (closes_stops source k.0 k.4 k.5), h.3, k.3)
 

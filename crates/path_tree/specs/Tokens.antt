@@ -58,10 +58,14 @@ IsContent source from (b ∷ content) to =
     IsTextByte b × (slice_index source from ≡ b) × (b ≡ 39 → slice_index source (from + 1) ≡ 39)
     × IsContent source (from + (if b == 39 then 2 else 1)) content to
 
--- a string: at most 255 bytes between two apostrophes, the last of which is no doubled one
+-- the most bytes of a string's content
+abbrev pub most_string_bytes : ℕ
+most_string_bytes = 1000
+
+-- a string: at most so many bytes between two apostrophes, the last of which is no doubled one
 abbrev pub IsString : List ℕ → List ℕ → ℕ → ℕ → Type 0
 IsString source content from to =
-    (close : ℕ) × (slice_index source from ≡ 39) × IsContent source (from + 1) content close × (length content ≤ 255)
+    (close : ℕ) × (slice_index source from ≡ 39) × IsContent source (from + 1) content close × (length content ≤ most_string_bytes)
     × (slice_index source close ≡ 39) × (slice_index source (close + 1) ≢ 39) × (to ≡ close + 1)
 
 -- a token of this lexeme stands from one place to the other
@@ -112,14 +116,14 @@ IsStringStart source from count at = (content : List ℕ) × (slice_index source
 -- a string goes on to a byte that it may not hold, other than a LF, which ends the line
 abbrev pub IsBadInString : List ℕ → ℕ → ℕ → Type 0
 IsBadInString source from at =
-    (count : ℕ) × IsStringStart source from count at × (count ≤ 255) × (at < length source)
+    (count : ℕ) × IsStringStart source from count at × (count ≤ most_string_bytes) × (at < length source)
     × (IsTextByte (slice_index source at) → ⊥) × (slice_index source at ≢ 10)
 
--- a string goes on to the end of its line or past 255 bytes
+-- a string goes on to the end of its line or past the most bytes
 abbrev pub IsOpenString : List ℕ → ℕ → Type 0
 IsOpenString source from =
     (count : ℕ) × (at : ℕ) × IsStringStart source from count at
-    × (((count ≤ 255) × ((length source ≤ at) ⊎ (slice_index source at ≡ 10))) ⊎ (count ≡ 256))
+    × (((count ≤ most_string_bytes) × ((length source ≤ at) ⊎ (slice_index source at ≡ 10))) ⊎ (count ≡ most_string_bytes + 1))
 
 -- what stands at a place is no token and no gap, and this is its fault
 abbrev pub IsFaultAt : List ℕ → ℕ → LexFault → Type 0

@@ -161,7 +161,7 @@ pub enum Kind {
     Number(u32),
     /// An identifier that is no reserved word.
     Name(Name),
-    /// The content of a string of at most 255 bytes of 32..=126, a doubled apostrophe made single.
+    /// The content of a string of at most 1000 bytes of 32..=126, a doubled apostrophe made single.
     Text(Vec<u8>),
     /// The end of the source, with an empty span there.
     EndMark,

@@ -1,8 +1,9 @@
 //! What tokens a text has: no clause says that the lexer's definitions are those that were meant.
 
+use path_tree::lex::fault::LexFault;
 use path_tree::lex::lex;
 use path_tree::token::{Kind, Token};
-use std::alloc::Global;
+use std::alloc::{AllocError, Global};
 use std::process::Abort;
 
 // The number of its digits.
@@ -112,4 +113,41 @@ fn doubled_apostrophes_are_one(rt: HostRuntime) {
         (b"''''''''a", b"|''''|@a|$"),
     ];
     have_tokens(&rt, rt.alloc(), &rows);
+}
+
+// A string of so many apostrophes, as a source has it.
+fn quoted(alloc: Global, count: u16) -> Result<Vec<u8>, AllocError> {
+    let mut source = Vec::new(alloc);
+    source.push(b'\'')?;
+    for _ in 0..count {
+        source.extend_from_slice(b"''")?;
+    }
+    source.push(b'\'')?;
+    Ok(source)
+}
+
+#[test]
+fn strings_have_1000_bytes(rt: HostRuntime) {
+    for (count, is_string) in [(255, true), (256, true), (1000, true), (1001, false)] {
+        let source = quoted(rt.alloc(), count).expect(&rt, "memory");
+        match lex(rt.alloc(), &source) {
+            Ok(tokens) => match tokens.as_slice() {
+                [
+                    Token {
+                        kind: Kind::Text(content),
+                        ..
+                    },
+                    end,
+                ] => {
+                    assert!(rt;
+                        is_string
+                            && content.len() == usize::from(count)
+                            && end.start == source.len()
+                    );
+                }
+                _ => assert!(rt; false),
+            },
+            Err(fault) => assert!(rt; !is_string && fault == LexFault::OpenString(0)),
+        }
+    }
 }

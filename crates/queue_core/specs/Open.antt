@@ -1,6 +1,7 @@
 -- Calls that wait or run, as they are kept.
 use Rattle.std.specs.Prelude.{◌≡◌, ◌≤◌, [], ⊤, false, Option, Some, None, is_none, vec_capacity}
 use Rattle.std.specs.Arc.{arc_value}
+use Rattle.text_core.specs.Limits.{most_text_bytes}
 use Rattle.decl_core.specs.Bodies.{body_of}
 use Rattle.decl_core.specs.Footprint.{reads_of}
 use Rattle.page_core.specs.PartPins.{room_in}
@@ -25,9 +26,9 @@ abbrev pub IsForSome : AcceptedCall → Option ForTicket → Type 0
 IsForSome call None = ⊤
 IsForSome call (Some t) = IsForTicket call t
 
--- a call that waits or runs has what its ticket is made of, until that is taken, knows which parts it reads, and has an empty row for its entry
+-- a call that waits or runs has what its ticket is made of, until that is taken, knows which parts it reads, has an empty row for its entry, and room for the longest text of a reply
 abbrev pub IsKit : Kit → Type 0
-IsKit k = IsForSome (arc_value k.call) k.ticket × (k.reads ≡ reads_of (body_of (arc_value k.call).operation)) × (k.entry.items ≡ [])
+IsKit k = IsForSome (arc_value k.call) k.ticket × (k.reads ≡ reads_of (body_of (arc_value k.call).operation)) × (k.entry.items ≡ []) × (most_text_bytes ≤ vec_capacity k.reply)
 
 -- there is room for the pins of the parts that a call reads
 abbrev pub HasRow : Kit → Type 0

@@ -22,10 +22,13 @@ use page_core::page_list::PageList;
 use page_core::part_pins::PartPins;
 use page_core::pins::Pins;
 use path_tree::node::OpId;
+use short_core::short::Short;
+use short_core::slim::Slims;
 use std::alloc::{AllocError, Global};
 use std::marker::Model;
 use std::mem;
 use std::sync::Arc;
+use text_core::limits::MOST_TEXT_BYTES;
 use value_core::datum::Datum;
 
 // What a ticket is made of.
@@ -51,6 +54,8 @@ pub(crate) struct Kit {
     pins: PartPins,
     // memory for the pins of its entry
     entry: Vec<Stamp>,
+    // memory for the longest text that it may reply
+    reply: Vec<u8>,
 }
 
 /// A call that waits.
@@ -186,14 +191,14 @@ fn shared_call(
     ensures { IfOk result (λ c. arc_value c ≡ record { session = session; op = op; operation = arc_value operation.now; arguments = args.now }) }
 {
     let operation = Arc::try_clone(operation)?;
-    let args = args.to_vec(alloc)?;
+    let args = Slims::new(alloc, args)?;
     let call = Arc::new(alloc, Call::new(session, op, operation, args))?;
     Ok(call)
 }
 
 impl Waiting {
     /// A call that waits, with all that it will need: for its entry, as many stamps as the parts that it reads have pages
-    /// in these pins. The error is that memory was refused.
+    /// in these pins, and as many bytes as the longest text. The error is that memory was refused.
     pub fn new(
         alloc: Global,
         number: u32,
@@ -211,6 +216,7 @@ impl Waiting {
         let ticket = ForTicket::new(alloc, operation, args, reads)?;
         let row = row_for(alloc, reads)?;
         let entry = Vec::with_capacity(alloc, pages_in(reads, 0, pins.as_slice()))?;
+        let reply = Vec::with_capacity(alloc, MOST_TEXT_BYTES)?;
         let kit = Box::new(
             alloc,
             Kit {
@@ -220,6 +226,7 @@ impl Waiting {
                 row,
                 pins: PartPins::from_counts([0; MOST_PARTS], Vec::new(alloc)),
                 entry,
+                reply,
             },
         )?;
         Ok(Waiting {
@@ -354,7 +361,10 @@ impl Running {
             row: _,
             pins,
             entry,
+            reply: mut room,
         } = Box::into_inner(kit);
+        let alloc = *room.allocator();
+        let reply = Short::within(alloc, &mut room, reply);
         Entry::new(number, call, reply, pins.within(entry), news)
     }
 }

@@ -24,10 +24,10 @@ use Rattle.board_core.specs.Board.{Board, call_at, joined, dismissed, released, 
 use Rattle.key_core.specs.Keys.{next_key}
 use Rattle.board_core.specs.Chain.{end_of as entry_end, history_of}
 use Rattle.board_core.specs.Sound.{IsRunningIn, IsSound, kinds_of, event_number}
-use Rattle.desk_core.specs.declared.answer.CallState.{CallState}
-use Rattle.desk_core.specs.declared.answer.CallState.TheVariants as states
-use Rattle.desk_core.specs.Answers.{Asked, IsNamedAt}
-use Rattle.desk_core.specs.Keyed.{IsStateOf}
+use Rattle.ask_core.specs.declared.answer.CallState.{CallState}
+use Rattle.ask_core.specs.declared.answer.CallState.TheVariants as states
+use Rattle.ask_core.specs.Answers.{Asked, IsNamedAt}
+use Rattle.ask_core.specs.Keyed.{IsStateOf}
 use Rattle.world_core.specs.Events.{WorldEvent, call, call_key, step, finish, cancel, leave, resume, look}
 use Rattle.world_core.specs.declared.event.Refusal.TheVariants as refusals
 use Rattle.world_core.specs.declared.event.EventAnswer.{EventAnswer}

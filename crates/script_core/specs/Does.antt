@@ -10,13 +10,13 @@ use Rattle.run_core.specs.declared.step.StepAnswer.TheVariants.{Went, Failed, Al
 use Rattle.trace_core.specs.Text.{trace_text}
 use Rattle.board_core.specs.declared.event.TraceEvent.{TraceEvent}
 use Rattle.board_core.specs.Sound.{event_number}
-use Rattle.desk_core.specs.declared.answer.SubmitFault.TheVariants as faults
-use Rattle.desk_core.specs.declared.answer.KeyedFault.TheVariants as keyed
-use Rattle.desk_core.specs.declared.answer.CallState.{CallState}
-use Rattle.desk_core.specs.declared.answer.CallState.TheVariants as states
-use Rattle.desk_core.specs.declared.answer.Cancelled.{Cancelled}
-use Rattle.desk_core.specs.declared.answer.Cancelled.TheVariants as cancels
-use Rattle.desk_core.specs.Answers.{runs_in}
+use Rattle.ask_core.specs.declared.answer.SubmitFault.TheVariants as faults
+use Rattle.ask_core.specs.declared.answer.KeyedFault.TheVariants as keyed
+use Rattle.ask_core.specs.declared.answer.CallState.{CallState}
+use Rattle.ask_core.specs.declared.answer.CallState.TheVariants as states
+use Rattle.ask_core.specs.declared.answer.Cancelled.{Cancelled}
+use Rattle.ask_core.specs.declared.answer.Cancelled.TheVariants as cancels
+use Rattle.ask_core.specs.Answers.{runs_in}
 use Rattle.desk_core.specs.Told.{lines_told}
 use Rattle.world_core.specs.declared.event.Refusal.{Refusal}
 use Rattle.world_core.specs.declared.event.Refusal.TheVariants.{Submit, Keyed, NotRunning, NoStep, Memory}

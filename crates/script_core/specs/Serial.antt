@@ -19,8 +19,8 @@ use Rattle.board_core.specs.Calls.{AcceptedCall}
 use Rattle.board_core.specs.Board.{call_at}
 use Rattle.board_core.specs.Sound.{kinds_of}
 use Rattle.key_core.specs.Keys.{HasKey, next_key}
-use Rattle.desk_core.specs.Answers.{IsNamedAt}
-use Rattle.desk_core.specs.Keyed.{IsSameCall}
+use Rattle.ask_core.specs.Answers.{IsNamedAt}
+use Rattle.ask_core.specs.Keyed.{IsSameCall}
 use Rattle.script_text.specs.Said.{Said, a_call, a_keyed_call, a_step, all_steps, a_finish, a_cancel, a_drop, a_resume, a_show, a_trace, said_of, IsSkipped}
 use Rattle.script_text.specs.Answers.{called_line, refused_line, finished_line, kept_line, repeated_line, started_line, shown_lines, bad_line}
 use Rattle.script_core.specs.declared.script.ScriptEnd.{ScriptEnd}

@@ -26,7 +26,7 @@ end;
 ";
 
 // The array `[0]`.
-const ZERO: &[u8] = b"\x01\x01\x00\x01\x00\x00\x00\x00";
+const ZERO: &[u8] = b"\x02\x01\x00\x01\x00\x00\x00\x00";
 
 // The objects of a text, each with one part that is spelled so, and their offices, where there is memory for them.
 fn named(alloc: Global, text: &[u8], part: &[u8]) -> Option<Vec<Named>> {

@@ -8,7 +8,7 @@ use Rattle.call_core.specs.Truths.{IsTrueOf}
 use Rattle.page_core.specs.PartPins.{PartPin}
 use Rattle.run_core.specs.declared.outcome.Outcome.{Outcome}
 use Rattle.run_core.specs.Outcomes.{outcome_call, outcome_reply, outcome_news, if_done, TellsSame}
-use Rattle.desk_core.specs.declared.answer.Finished.{Finished}
+use Rattle.ask_core.specs.declared.answer.Finished.{Finished}
 use Rattle.seat_core.specs.declared.seat.Seat.{Seat}
 use Rattle.office_core.specs.declared.seat.NotTaken.{NotTaken}
 use Rattle.office_core.specs.declared.seat.NotTaken.TheVariants.{Front, Stranger}

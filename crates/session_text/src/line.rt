@@ -7,7 +7,7 @@ ghost use Rattle.std.specs.Prelude.{◌≡◌, ◌++◌, Some, None, OnOk};
 ghost use Rattle.session_text.specs.Lines as lines;
 
 use apply_core::reply::Reply;
-use desk_core::answer::{Cancelled, KeyedFault, SubmitFault};
+use ask_core::answer::{Cancelled, KeyedFault, SubmitFault};
 use path_tree::name::Name;
 use script_text::answers::{
     push_cancelled, push_finished, push_kept, push_refused, push_repeated as push_repeated_line,

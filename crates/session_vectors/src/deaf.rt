@@ -26,7 +26,7 @@ end;
 ";
 
 // The array `[0]`.
-const ZERO: &[u8] = b"\x01\x01\x00\x01\x00\x00\x00\x00";
+const ZERO: &[u8] = b"\x02\x01\x00\x01\x00\x00\x00\x00";
 
 // How far a client that reads nothing has come: a write to it waits, it was let go in time, or not.
 const WAITS: u64 = 1;

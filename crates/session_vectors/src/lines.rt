@@ -15,7 +15,7 @@ use std::time::Clock;
 use talk_core::fault::SessionFault;
 
 /// The array `[0]`.
-pub const ZERO: &[u8] = b"\x01\x01\x00\x01\x00\x00\x00\x00";
+pub const ZERO: &[u8] = b"\x02\x01\x00\x01\x00\x00\x00\x00";
 
 // Lines, and what answers them.
 const ASKED: &[u8] = b"open cell\ncancel 7\ndance\nquit\n";

@@ -16,7 +16,7 @@ use std::time::Clock;
 use std::{io, thread};
 
 // The queue `<>`.
-pub const EMPTY: &[u8] = b"\x01\x03\x00\x00";
+pub const EMPTY: &[u8] = b"\x02\x03\x00\x00";
 
 // After so many turns nobody comes any more.
 const MOST_TURNS: u64 = 100_000_000;

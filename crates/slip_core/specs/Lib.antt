@@ -1,3 +1,2 @@
-pub mod Short
 pub mod Slips
 pub mod Rooms

@@ -7,6 +7,4 @@
 #![tactic(auto)]
 
 pub mod room;
-pub mod short;
-mod slim;
 pub mod slip;

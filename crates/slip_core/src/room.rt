@@ -5,15 +5,15 @@ ghost use Rattle.run_core.specs.Outcomes.{outcome_call};
 ghost use Rattle.slip_core.specs.Rooms.{IsMade};
 ghost use Rattle.slip_core.specs.Slips.{told_by};
 
-use crate::short::Short;
-use crate::slim::{Slim, are, slims};
 use crate::slip::Slip;
-use apply_core::reply::Reply;
 use hand_core::hand::Stamp;
 use page_core::part_pins::PartPins;
 use run_core::outcome::Outcome;
+use short_core::short::Short;
+use short_core::slim::Slims;
 use std::alloc::{AllocError, Global};
 use std::mem;
+use text_core::limits::MOST_TEXT_BYTES;
 use value_core::datum::Datum;
 
 // The most pages that the parts of an object may have: 16 parts of 8 pages.
@@ -33,8 +33,8 @@ pub(crate) struct RowRoom {
 #[derive(Drop)]
 pub struct SlipRoom {
     alloc: Global,
-    args: Vec<Slim>,
-    reply: Option<Box<Reply>>,
+    args: Slims,
+    reply: Vec<u8>,
     pins: RowRoom,
     news: RowRoom,
 }
@@ -95,8 +95,8 @@ impl SlipRoom {
     pub fn new(alloc: Global) -> SlipRoom {
         SlipRoom {
             alloc,
-            args: Vec::new(alloc),
-            reply: None,
+            args: Slims::empty(alloc),
+            reply: Vec::new(alloc),
             pins: RowRoom::new(alloc),
             news: RowRoom::new(alloc),
         }
@@ -106,13 +106,10 @@ impl SlipRoom {
     pub fn make(&mut self, args: &[Datum]) -> Result<(), AllocError>
         ensures { OnOk result (IsMade args.now self.new) }
     {
-        if self.reply.is_none() {
-            let reply = Box::new(self.alloc, Reply::Done(None))?;
-            self.reply = Some(reply);
-        }
+        self.reply.reserve_exact(MOST_TEXT_BYTES)?;
         self.pins.make()?;
         self.news.make()?;
-        self.args = slims(self.alloc, args)?;
+        self.args = Slims::new(self.alloc, args)?;
         Ok(())
     }
 
@@ -122,11 +119,14 @@ impl SlipRoom {
         ensures told { IfSome result (λ s. s ≡ told_by place session outcome) }
         ensures given { IfNone result (IsMade (outcome_call outcome).arguments self.old → ⊥) }
     {
-        let args = mem::replace(&mut self.args, Vec::new(self.alloc));
-        if !are(&args, outcome.args()) {
+        let args = mem::replace(&mut self.args, Slims::empty(self.alloc));
+        if !args.are(outcome.args()) {
             return None;
         }
-        let reply = Short::within(&mut self.reply, outcome.reply())?;
+        if self.reply.capacity() < MOST_TEXT_BYTES {
+            return None;
+        }
+        let reply = Short::within(self.alloc, &mut self.reply, outcome.reply());
         let number = outcome.number();
         let (operation, pins, news) = outcome.into_rows();
         let pins = self.pins.filled(self.alloc, pins);

@@ -3,14 +3,14 @@
 ghost use Rattle.std.specs.Prelude.{◌≡◌, ◌↔◌, [], IsTrue, IfSome, IfNone};
 ghost use Rattle.slip_core.specs.Slips.{StandsIn, IsEntryTold, pins_told};
 
-use crate::short::Short;
-use crate::slim::{Slim, are};
 use apply_core::reply::Reply;
 use board_core::entry::Entry;
 use decl_core::id::MOST_PARTS;
 use decl_core::object::Operation;
 use decl_core::same::same_declaration;
 use page_core::part_pins::PartPins;
+use short_core::short::Short;
+use short_core::slim::Slims;
 use std::alloc::Global;
 use std::marker::Model;
 use std::sync::Arc;
@@ -22,7 +22,7 @@ pub struct Slip {
     pub(crate) number: u32,
     pub(crate) session: u32,
     pub(crate) operation: Arc<Operation>,
-    pub(crate) args: Vec<Slim>,
+    pub(crate) args: Slims,
     pub(crate) reply: Short,
     // of the parts that the operation reads
     pub(crate) pins: PartPins,
@@ -31,20 +31,18 @@ pub struct Slip {
 }
 
 impl Model for Slip {
-    ghost use Rattle.std.specs.Prelude.{map};
     ghost use Rattle.std.specs.Arc.{arc_value};
     ghost use Rattle.decl_core.specs.contracts.object.Operation as e;
     ghost use Rattle.call_core.specs.Calls.{call_of};
     ghost use Rattle.run_core.specs.Outcomes.{if_done};
     ghost use Rattle.slip_core.specs.Slips.{Told};
-    ghost use Rattle.slip_core.specs.Short.{datum_of};
     ghost use Rattle.std.specs.Coded.{codes};
 
     ghost Value = { Told };
 
     ghost coded = { Prim.hlevel (codes, e.the_row.coded) };
 
-    ghost view = { λ s. record { place = s.place; session = s.session; call = call_of s.number (arc_value s.operation) (map datum_of s.args.items) s.pins; reply = s.reply; news = if_done s.reply s.news } };
+    ghost view = { λ s. record { place = s.place; session = s.session; call = call_of s.number (arc_value s.operation) s.args s.pins; reply = s.reply; news = if_done s.reply s.news } };
 }
 
 // Whether there are no pins. It takes no memory.
@@ -88,16 +86,11 @@ impl Slip {
         ensures some { IfSome result (λ pins. pins.now ≡ pins_told self.now) }
         ensures none { IfNone result (pins_told self.now ≡ []) }
     {
-        match self.reply() {
-            Reply::Done(_) => Some(&self.news),
-            Reply::Refused(_) => None,
-            Reply::Failed(_) => None,
+        if self.reply.is_done() {
+            Some(&self.news)
+        } else {
+            None
         }
-    }
-
-    // Where its memory is from.
-    fn alloc(&self) -> Global {
-        *self.args.allocator()
     }
 
     // Whether an entry has its new pins.
@@ -106,8 +99,8 @@ impl Slip {
     {
         match (entry.new_pins(), self.new_pins()) {
             (Some(news), Some(others)) => news.is_same(others),
-            (Some(news), None) => is_none(self.alloc(), news),
-            (None, Some(others)) => is_none(self.alloc(), others),
+            (Some(news), None) => is_none(self.args.alloc(), news),
+            (None, Some(others)) => is_none(self.args.alloc(), others),
             (None, None) => true,
         }
     }
@@ -125,10 +118,10 @@ impl Slip {
         if !same_declaration(entry.operation(), &self.operation) {
             return false;
         }
-        if !are(&self.args, entry.args()) {
+        if !self.args.is_same(entry.args()) {
             return false;
         }
-        if !self.reply.is(entry.reply()) {
+        if !self.reply.is_same(entry.kept_reply()) {
             return false;
         }
         if !self.has_news(entry) {

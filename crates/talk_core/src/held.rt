@@ -13,9 +13,10 @@ use session_text::line::{Line, push_ended, push_line, push_opened, push_repeated
 use std::alloc::Global;
 use std::marker::Model;
 use std::mem;
+use text_core::limits::MOST_TEXT_BYTES;
 
 /// Room for the longest line that is written of a call, in bytes, twice over.
-const LINE_ROOM: usize = 2048;
+const LINE_ROOM: usize = 4096;
 
 /// Lines that are held back, whole, and the notes of the last lines of calls among them.
 #[derive(Drop)]
@@ -24,7 +25,7 @@ pub struct Held {
     notes: Vec<Note>,
     line: Vec<u8>,
     // memory for the reply of a note
-    spare: Option<Box<Reply>>,
+    spare: Vec<u8>,
     alloc: Global,
     // Whether a line was lost, for which there was no memory. No more are begun then.
     lost: bool,
@@ -77,10 +78,11 @@ fn add_repeated(held: &mut Vec<u8>, text: &mut Vec<u8>, number: u32, reply: &Rep
 
 // Holds the last line of a call that has a receipt back, and notes it.
 fn add_ended(
+    alloc: Global,
     held: &mut Vec<u8>,
     text: &mut Vec<u8>,
     notes: &mut Vec<Note>,
-    spare: &mut Option<Box<Reply>>,
+    spare: &mut Vec<u8>,
     number: u32,
     reply: &Reply,
 ) -> bool
@@ -94,7 +96,7 @@ fn add_ended(
     if held.extend_from_slice(text.as_slice()).is_err() {
         return false;
     }
-    if add_note(notes, spare, number, reply).is_err() {
+    if add_note(alloc, notes, spare, number, reply).is_err() {
         held.truncate(before);
         return false;
     }
@@ -102,15 +104,8 @@ fn add_ended(
 }
 
 // Makes room for the reply of a note, where there is none. Without memory it answers false.
-fn make_spare(alloc: Global, spare: &mut Option<Box<Reply>>) -> bool {
-    if spare.is_some() {
-        return true;
-    }
-    let Ok(reply) = Box::new(alloc, Reply::Done(None)) else {
-        return false;
-    };
-    *spare = Some(reply);
-    true
+fn make_spare(spare: &mut Vec<u8>) -> bool {
+    spare.reserve_exact(MOST_TEXT_BYTES).is_ok()
 }
 
 // Hands lines and their notes over.
@@ -139,7 +134,7 @@ impl Held {
             text: Vec::new(alloc),
             notes: Vec::new(alloc),
             line: Vec::new(alloc),
-            spare: None,
+            spare: Vec::new(alloc),
             alloc,
             lost: false,
         }
@@ -155,7 +150,7 @@ impl Held {
         if self.line.reserve(LINE_ROOM).is_err() {
             return false;
         }
-        if !make_spare(self.alloc, &mut self.spare) {
+        if !make_spare(&mut self.spare) {
             return false;
         }
         make_room_for(&mut self.notes, 1)
@@ -189,6 +184,7 @@ impl Held {
             return false;
         }
         if !add_ended(
+            self.alloc,
             &mut self.text,
             &mut self.line,
             &mut self.notes,

@@ -4,8 +4,9 @@ ghost use Rattle.std.specs.Prelude.{◌≡◌, ◌++◌, ◌∷◌, [], OnOk, On
 ghost use Rattle.talk_core.specs.Notes.{note_at};
 
 use apply_core::reply::Reply;
-use slip_core::short::Short;
-use std::alloc::AllocError;
+use short_core::short::Short;
+use std::alloc::{AllocError, Global};
+use text_core::limits::MOST_TEXT_BYTES;
 
 /// The number and the reply of a last line.
 #[derive(Drop)]
@@ -19,17 +20,19 @@ pub struct Note {
 /// Notes the last line of a call that has a receipt. A reply that needs memory takes what is spare. The error is that memory was
 /// refused, or none was spare; nothing is noted then.
 pub fn add_note(
+    alloc: Global,
     notes: &mut Vec<Note>,
-    spare: &mut Option<Box<Reply>>,
+    spare: &mut Vec<u8>,
     number: u32,
     reply: &Reply,
 ) -> Result<(), AllocError>
     ensures ok { OnOk result (notes.new.items ≡ notes.old.items ++ note_at number reply.now ∷ []) }
     ensures err { OnErr result (notes.new.items ≡ notes.old.items) }
 {
-    let Some(reply) = Short::within(spare, reply) else {
+    if spare.capacity() < MOST_TEXT_BYTES {
         return Err(AllocError);
-    };
+    }
+    let reply = Short::within(alloc, spare, reply);
     let Ok(()) = notes.push(Note { number, reply }) else {
         return Err(AllocError);
     };

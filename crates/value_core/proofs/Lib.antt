@@ -1,6 +1,7 @@
 pub mod Openings
 pub mod Tables
 pub mod TableRows
+pub mod Placing
 pub mod Apart
 pub mod Decoding
 pub mod Encoding
@@ -8,3 +9,4 @@ pub mod Rising
 pub mod Unique
 pub mod Bytes
 pub mod Widening
+pub mod Outcomes

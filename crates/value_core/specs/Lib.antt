@@ -3,6 +3,7 @@ pub mod Format
 pub mod Datum
 pub mod Cells
 pub mod Queue
+pub mod Sorted
 pub mod Contents
 pub mod Spelling
 pub mod Laws

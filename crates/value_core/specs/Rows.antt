@@ -20,5 +20,5 @@ as_data datum es = map (λ e. (e.0, datum e.1)) es
 
 -- its keys, and what stands under them
 abbrev pub rows_map : Rows → map.FinMap text_cmp Datum
-rows_map (Integers m) = map.from_entries (as_data datum.Integer m.entries)
-rows_map (Texts m) = map.from_entries (as_data datum.Text m.entries)
+rows_map (Integers m) = map.from_entries (as_data datum.Integer m)
+rows_map (Texts m) = map.from_entries (as_data datum.Text m)

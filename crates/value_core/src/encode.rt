@@ -6,18 +6,16 @@ ghost use Rattle.std.specs.Int.{w32, to_be_bytes};
 ghost use Rattle.value_core.specs.declared.datum.Datum.TheVariants as datum;
 ghost use Rattle.value_core.specs.Contents.{kind_of};
 ghost use Rattle.value_core.specs.Cells.{cells_data};
-ghost use Rattle.value_core.specs.Queue.{queue_data};
 ghost use Rattle.value_core.specs.Spelling.{spelled_text, spelled_datum, header, Spells};
 
 use crate::cells::Cells;
-use crate::datum::Datum;
 use crate::format::Format;
 use crate::kind::Kind;
-use crate::queue::Queue;
 use crate::value::{Body, Value};
 use std::alloc::{AllocError, Global};
 use std::mem::size_of;
 use text_core::limits::TextLength;
+use text_core::row::Row;
 use text_core::text::Text;
 
 /// The bytes that spell the value, in the second format.
@@ -28,7 +26,7 @@ pub fn encode(alloc: Global, value: &Value) -> Result<Vec<u8>, AllocError>
     put_header(&mut out, value.kind(), value.count() as u16)?;
     match value.body() {
         Body::Array(cells) => put_cells(&mut out, cells)?,
-        Body::Queue(line) => put_queue(&mut out, line)?,
+        Body::Queue(line) => line.put(&mut out)?,
         Body::Table(rows) => rows.put(&mut out)?,
     }
     Ok(out)
@@ -43,7 +41,7 @@ fn put_header(out: &mut Vec<u8>, kind: Kind, count: u16) -> Result<(), AllocErro
 }
 
 /// Adds the length of a text, and its bytes.
-pub fn put_text(out: &mut Vec<u8>, text: &Text) -> Result<(), AllocError>
+pub(crate) fn put_text(out: &mut Vec<u8>, text: &Text) -> Result<(), AllocError>
     ensures { OnOk result (out.new.items ≡ out.old.items ++ spelled_text text.now) }
 {
     let len: TextLength = text.len();
@@ -51,20 +49,25 @@ pub fn put_text(out: &mut Vec<u8>, text: &Text) -> Result<(), AllocError>
     out.extend_from_slice(text.bytes())
 }
 
+/// Adds the length of a text in memory of its own length, and its bytes.
+pub(crate) fn put_row(out: &mut Vec<u8>, row: &Row) -> Result<(), AllocError>
+    ensures { OnOk result (out.new.items ≡ out.old.items ++ spelled_text row.now) }
+{
+    let len: TextLength = row.len();
+    out.extend_from_slice(&len.to_be_bytes())?;
+    out.extend_from_slice(row.bytes())
+}
+
+// How many bytes spell such a text: its length, and itself.
+pub(crate) fn row_len(row: &Row) -> usize {
+    size_of::<TextLength>() + row.len() as usize
+}
+
 /// Adds four bytes, the highest first.
-pub fn put_integer(out: &mut Vec<u8>, number: u32) -> Result<(), AllocError>
+pub(crate) fn put_integer(out: &mut Vec<u8>, number: u32) -> Result<(), AllocError>
     ensures { OnOk result (out.new.items ≡ out.old.items ++ to_be_bytes w32 number) }
 {
     out.extend_from_slice(&number.to_be_bytes())
-}
-
-fn put_datum(out: &mut Vec<u8>, datum: &Datum) -> Result<(), AllocError>
-    ensures { OnOk result (out.new.items ≡ out.old.items ++ spelled_datum datum.now) }
-{
-    match datum {
-        Datum::Integer(number) => put_integer(out, *number),
-        Datum::Text(text) => put_text(out, text),
-    }
 }
 
 fn put_cells(out: &mut Vec<u8>, cells: &Cells) -> Result<(), AllocError>
@@ -90,17 +93,6 @@ fn put_texts(out: &mut Vec<u8>, all: &[Text]) -> Result<(), AllocError>
 {
     for place in 0..all.len() {
         put_text(out, &all[place])?;
-    }
-    Ok(())
-}
-
-fn put_queue(out: &mut Vec<u8>, line: &Queue) -> Result<(), AllocError>
-    ensures { OnOk result (out.new.items ≡ out.old.items ++ flat_map spelled_datum (queue_data line.now)) }
-{
-    for place in 0..line.len() {
-        if let Some(datum) = line.get(place) {
-            put_datum(out, &datum)?;
-        }
     }
     Ok(())
 }

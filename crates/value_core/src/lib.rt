@@ -20,4 +20,5 @@ mod queue;
 mod reader;
 pub mod refusal;
 mod rows;
+mod sorted;
 pub mod value;

@@ -1,21 +1,24 @@
 //! The elements of a queue, the oldest first: none is moved when one is added or taken.
 
-ghost use Rattle.std.specs.Prelude.{◌≡◌, ◌++◌, ◌∷◌, [], length, slice_get, IfOk, OnOk, OnErr, drop};
+ghost use Rattle.std.specs.Prelude.{◌≡◌, ◌++◌, ◌∷◌, [], length, map, slice_get, IfOk, OnOk, OnErr, drop};
+ghost use Rattle.std.specs.List.{flat_map};
+ghost use Rattle.value_core.specs.declared.datum.Datum.TheVariants as datum;
 ghost use Rattle.value_core.specs.Datum.{elem_of};
 ghost use Rattle.value_core.specs.Queue.{queue_sort, queue_data};
+ghost use Rattle.value_core.specs.Spelling.{spelled_datum};
 
 use crate::datum::Datum;
-use crate::encode::text_len;
+use crate::encode::{put_integer, put_row, row_len};
 use crate::kind::Elem;
 use std::alloc::{AllocError, Global};
 use std::collections::VecDeque;
-use text_core::text::Text;
+use text_core::row::Row;
 
-/// The elements of a queue.
+/// The elements of a queue. Each text has memory of its own length.
 #[derive(Drop)]
 pub enum Queue {
     Integers(VecDeque<u32>),
-    Texts(VecDeque<Text>),
+    Texts(VecDeque<Row>),
 }
 
 impl Queue {
@@ -66,8 +69,14 @@ impl Queue {
         ensures { result ≡ slice_get (queue_data self.now) place }
     {
         match self {
-            Queue::Integers(all) => all.get(place).copied().map(Datum::Integer),
-            Queue::Texts(all) => all.get(place).copied().map(Datum::Text),
+            Queue::Integers(all) => match all.get(place) {
+                Some(number) => Some(Datum::Integer(*number)),
+                None => None,
+            },
+            Queue::Texts(all) => match all.get(place) {
+                Some(row) => Some(Datum::Text(row.text())),
+                None => None,
+            },
         }
     }
 
@@ -84,13 +93,16 @@ impl Queue {
                 Datum::Text(_) => unreachable!(),
             },
             Queue::Texts(all) => match datum {
-                Datum::Text(text) => Ok(all.push_back(text)?),
+                Datum::Text(text) => {
+                    let row = Row::new(*all.allocator(), &text)?;
+                    Ok(all.push_back(row)?)
+                }
                 Datum::Integer(_) => unreachable!(),
             },
         }
     }
 
-    /// Removes the oldest element, if there is one.
+    /// Removes the oldest element, if there is one. It takes no memory.
     pub fn take(&mut self)
         ensures sort { queue_sort self.new ≡ queue_sort self.old }
         ensures data { queue_data self.new ≡ drop 1 (queue_data self.old) }
@@ -100,7 +112,7 @@ impl Queue {
                 let _number = all.pop_front();
             }
             Queue::Texts(all) => {
-                let _text = all.pop_front();
+                let _row = all.pop_front();
             }
         }
     }
@@ -111,8 +123,8 @@ impl Queue {
             Queue::Integers(all) => all.len().saturating_mul(4),
             Queue::Texts(all) => {
                 let mut total = 0usize;
-                for text in all {
-                    total = total.saturating_add(text_len(text));
+                for row in all {
+                    total = total.saturating_add(row_len(row));
                 }
                 total
             }
@@ -126,7 +138,7 @@ impl Queue {
     {
         match self {
             Queue::Integers(all) => Ok(Queue::Integers(copied(alloc, all)?)),
-            Queue::Texts(all) => Ok(Queue::Texts(copied(alloc, all)?)),
+            Queue::Texts(all) => Ok(Queue::Texts(all.clone()?)),
         }
     }
 
@@ -142,10 +154,38 @@ impl Queue {
         }
         Ok(list)
     }
+
+    /// Adds the bytes of the elements, the oldest first.
+    pub fn put(&self, out: &mut Vec<u8>) -> Result<(), AllocError>
+        ensures { OnOk result (out.new.items ≡ out.old.items ++ flat_map spelled_datum (queue_data self.now)) }
+    {
+        match self {
+            Queue::Integers(all) => put_integers(all, out),
+            Queue::Texts(all) => put_texts(all, out),
+        }
+    }
 }
 
-// The same elements, made in one growth.
-fn copied<T: Copy>(alloc: Global, all: &VecDeque<T>) -> Result<VecDeque<T>, AllocError>
+fn put_integers(all: &VecDeque<u32>, out: &mut Vec<u8>) -> Result<(), AllocError>
+    ensures { OnOk result (out.new.items ≡ out.old.items ++ flat_map spelled_datum (map datum.Integer all.now.items)) }
+{
+    for place in 0..all.len() {
+        put_integer(out, all[place])?;
+    }
+    Ok(())
+}
+
+fn put_texts(all: &VecDeque<Row>, out: &mut Vec<u8>) -> Result<(), AllocError>
+    ensures { OnOk result (out.new.items ≡ out.old.items ++ flat_map spelled_datum (map datum.Text all.now.items)) }
+{
+    for place in 0..all.len() {
+        put_row(out, &all[place])?;
+    }
+    Ok(())
+}
+
+// The same integers, made in one growth.
+fn copied(alloc: Global, all: &VecDeque<u32>) -> Result<VecDeque<u32>, AllocError>
     ensures { IfOk result (λ copy. copy.items ≡ all.now.items) }
 {
     let (older, newer) = all.as_slices();

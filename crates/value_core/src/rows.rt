@@ -7,20 +7,22 @@ ghost use Rattle.std.specs.FinMap as map;
 ghost use Rattle.std.specs.List.{flat_map};
 ghost use Rattle.value_core.specs.Spelling.{spelled_row};
 ghost use Rattle.value_core.specs.Datum.{elem_of};
-ghost use Rattle.value_core.specs.Rows.{rows_sort, rows_map};
+ghost use Rattle.value_core.specs.declared.datum.Datum.TheVariants as datum;
+ghost use Rattle.value_core.specs.Rows.{as_data, rows_sort, rows_map};
 
 use crate::datum::Datum;
-use crate::encode::{put_integer, put_text, text_len};
+use crate::encode::{put_integer, put_row, row_len};
 use crate::kind::Elem;
+use crate::sorted::Sorted;
 use std::alloc::{AllocError, Global};
-use std::collections::BTreeMap;
+use text_core::row::Row;
 use text_core::text::Text;
 
-/// The elements of a table.
+/// The elements of a table. Each key and each text has memory of its own length.
 #[derive(Drop)]
 pub enum Rows {
-    Integers(BTreeMap<Text, u32>),
-    Texts(BTreeMap<Text, Text>),
+    Integers(Sorted<u32>),
+    Texts(Sorted<Row>),
 }
 
 impl Rows {
@@ -30,8 +32,8 @@ impl Rows {
         ensures data { rows_map result ≡ map.empty }
     {
         match sort {
-            Elem::Integer => Rows::Integers(BTreeMap::new(alloc)),
-            Elem::Text => Rows::Texts(BTreeMap::new(alloc)),
+            Elem::Integer => Rows::Integers(Sorted::new(alloc)),
+            Elem::Text => Rows::Texts(Sorted::new(alloc)),
         }
     }
 
@@ -60,8 +62,14 @@ impl Rows {
         ensures { result ≡ map.get (rows_map self.now) key.now }
     {
         match self {
-            Rows::Integers(all) => all.get(key).copied().map(Datum::Integer),
-            Rows::Texts(all) => all.get(key).copied().map(Datum::Text),
+            Rows::Integers(all) => match all.get(key) {
+                Some(number) => Some(Datum::Integer(*number)),
+                None => None,
+            },
+            Rows::Texts(all) => match all.get(key) {
+                Some(row) => Some(Datum::Text(row.text())),
+                None => None,
+            },
         }
     }
 
@@ -69,7 +77,10 @@ impl Rows {
     pub fn has(&self, key: &Text) -> bool
         ensures { result ≡ map.contains_key (rows_map self.now) key.now }
     {
-        self.get(key).is_some()
+        match self {
+            Rows::Integers(all) => all.has(key),
+            Rows::Texts(all) => all.has(key),
+        }
     }
 
     /// Puts an element under a key, in the place of what stood there.
@@ -81,37 +92,28 @@ impl Rows {
     {
         match self {
             Rows::Integers(all) => match datum {
-                Datum::Integer(number) => {
-                    let _before = all.insert(key, number)?;
-                    Ok(())
-                }
+                Datum::Integer(number) => all.insert(&key, number),
                 Datum::Text(_) => unreachable!(),
             },
             Rows::Texts(all) => match datum {
                 Datum::Text(text) => {
-                    let _before = all.insert(key, text)?;
-                    Ok(())
+                    let row = Row::new(all.allocator(), &text)?;
+                    all.insert(&key, row)
                 }
                 Datum::Integer(_) => unreachable!(),
             },
         }
     }
 
-    /// Removes a key, if it is there.
+    /// Removes a key, if it is there. It takes no memory.
     pub fn remove(&mut self, key: &Text)
         ensures sort { rows_sort self.new ≡ rows_sort self.old }
         ensures data { rows_map self.new ≡ map.remove (rows_map self.old) key.now }
         ensures rows { (e : Elem) → AreRows e (rows_map self.old) → AreRows e (rows_map self.new) }
     {
         match self {
-            Rows::Integers(all) => {
-                let _count = all.len();
-                let _before = all.remove(key);
-            }
-            Rows::Texts(all) => {
-                let _count = all.len();
-                let _before = all.remove(key);
-            }
+            Rows::Integers(all) => all.remove(key),
+            Rows::Texts(all) => all.remove(key),
         }
     }
 
@@ -120,15 +122,15 @@ impl Rows {
         let mut total = 0usize;
         match self {
             Rows::Integers(all) => {
-                for (key, _) in all {
-                    total = total.saturating_add(text_len(key)).saturating_add(4);
+                for row in all.rows() {
+                    total = total.saturating_add(row_len(&row.0)).saturating_add(4);
                 }
             }
             Rows::Texts(all) => {
-                for (key, text) in all {
+                for row in all.rows() {
                     total = total
-                        .saturating_add(text_len(key))
-                        .saturating_add(text_len(text));
+                        .saturating_add(row_len(&row.0))
+                        .saturating_add(row_len(&row.1));
                 }
             }
         }
@@ -141,8 +143,8 @@ impl Rows {
         ensures data { IfOk result (λ copy. rows_map copy ≡ rows_map self.now) }
     {
         match self {
-            Rows::Integers(all) => Ok(Rows::Integers(all.clone()?)),
-            Rows::Texts(all) => Ok(Rows::Texts(all.clone()?)),
+            Rows::Integers(all) => Ok(Rows::Integers(all.copy()?)),
+            Rows::Texts(all) => Ok(Rows::Texts(all.copy()?)),
         }
     }
 
@@ -151,8 +153,8 @@ impl Rows {
         ensures { IfOk result (λ list. list.items ≡ map.entries (rows_map self.now)) }
     {
         match self {
-            Rows::Integers(all) => list_integers(alloc, all),
-            Rows::Texts(all) => list_texts(alloc, all),
+            Rows::Integers(all) => list_integers(alloc, all.rows()),
+            Rows::Texts(all) => list_texts(alloc, all.rows()),
         }
     }
 
@@ -161,50 +163,52 @@ impl Rows {
         ensures { OnOk result (out.new.items ≡ out.old.items ++ flat_map spelled_row (map.entries (rows_map self.now))) }
     {
         match self {
-            Rows::Integers(all) => put_integers(all, out),
-            Rows::Texts(all) => put_texts(all, out),
+            Rows::Integers(all) => put_integers(all.rows(), out),
+            Rows::Texts(all) => put_texts(all.rows(), out),
         }
     }
 }
 
-fn list_integers(alloc: Global, all: &BTreeMap<Text, u32>) -> Result<Vec<(Text, Datum)>, AllocError>
-    ensures { IfOk result (λ list. list.items ≡ map.entries (rows_map (Rows.Integers all.now))) }
+fn list_integers(alloc: Global, all: &[(Row, u32)]) -> Result<Vec<(Text, Datum)>, AllocError>
+    ensures { IfOk result (λ list. list.items ≡ as_data datum.Integer all.now) }
 {
     let mut list = Vec::with_capacity(alloc, all.len())?;
-    for (key, number) in all {
-        list.push((*key, Datum::Integer(*number)))?;
+    for place in 0..all.len() {
+        let row = &all[place];
+        list.push((row.0.text(), Datum::Integer(row.1)))?;
     }
     Ok(list)
 }
 
-fn list_texts(alloc: Global, all: &BTreeMap<Text, Text>) -> Result<Vec<(Text, Datum)>, AllocError>
-    ensures { IfOk result (λ list. list.items ≡ map.entries (rows_map (Rows.Texts all.now))) }
+fn list_texts(alloc: Global, all: &[(Row, Row)]) -> Result<Vec<(Text, Datum)>, AllocError>
+    ensures { IfOk result (λ list. list.items ≡ as_data datum.Text all.now) }
 {
     let mut list = Vec::with_capacity(alloc, all.len())?;
-    for (key, text) in all {
-        list.push((*key, Datum::Text(*text)))?;
+    for place in 0..all.len() {
+        let row = &all[place];
+        list.push((row.0.text(), Datum::Text(row.1.text())))?;
     }
     Ok(list)
 }
 
-fn put_integers(all: &BTreeMap<Text, u32>, out: &mut Vec<u8>) -> Result<(), AllocError>
-    ensures { OnOk result (out.new.items ≡ out.old.items ++ flat_map spelled_row (map.entries (rows_map (Rows.Integers all.now)))) }
+fn put_integers(all: &[(Row, u32)], out: &mut Vec<u8>) -> Result<(), AllocError>
+    ensures { OnOk result (out.new.items ≡ out.old.items ++ flat_map spelled_row (as_data datum.Integer all.now)) }
 {
-    let _count = all.len();
-    for (key, number) in all {
-        put_text(out, key)?;
-        put_integer(out, *number)?;
+    for place in 0..all.len() {
+        let row = &all[place];
+        put_row(out, &row.0)?;
+        put_integer(out, row.1)?;
     }
     Ok(())
 }
 
-fn put_texts(all: &BTreeMap<Text, Text>, out: &mut Vec<u8>) -> Result<(), AllocError>
-    ensures { OnOk result (out.new.items ≡ out.old.items ++ flat_map spelled_row (map.entries (rows_map (Rows.Texts all.now)))) }
+fn put_texts(all: &[(Row, Row)], out: &mut Vec<u8>) -> Result<(), AllocError>
+    ensures { OnOk result (out.new.items ≡ out.old.items ++ flat_map spelled_row (as_data datum.Text all.now)) }
 {
-    let _count = all.len();
-    for (key, text) in all {
-        put_text(out, key)?;
-        put_text(out, text)?;
+    for place in 0..all.len() {
+        let row = &all[place];
+        put_row(out, &row.0)?;
+        put_row(out, &row.1)?;
     }
     Ok(())
 }

@@ -17,9 +17,9 @@ use Rattle.board_core.specs.Sound.{IsSound, IsPinned}
 use Rattle.board_core.proofs.Lists.{Every-at, Every-snoc, EachPair-snoc, Every-all}
 use Rattle.call_core.specs.declared.ticket.Ticket.{Ticket}
 use Rattle.call_core.specs.Tickets.{ticket_call}
-use Rattle.desk_core.specs.declared.answer.Collected.{Collected}
-use Rattle.desk_core.specs.declared.answer.Collected.TheVariants as collects
-use Rattle.desk_core.specs.Answers.{IsLeft, NoneIsLeft, Collects}
+use Rattle.ask_core.specs.declared.answer.Collected.{Collected}
+use Rattle.ask_core.specs.declared.answer.Collected.TheVariants as collects
+use Rattle.ask_core.specs.Answers.{IsLeft, NoneIsLeft, Collects}
 use Rattle.world_core.specs.declared.slot.Slot.{Slot}
 use Rattle.world_core.specs.Scene.{Standing, AreBegun, call_running, collected}
 use Rattle.world_core.specs.Kept.{IsKept, IsNear, IsReady, HasNew, standing_of}

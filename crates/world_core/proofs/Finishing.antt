@@ -28,7 +28,7 @@ use Rattle.call_core.specs.Truths.{IsTrueOf, PinsAreWhole}
 use Rattle.board_core.specs.declared.event.TraceEvent.{TraceEvent}
 use Rattle.board_core.specs.declared.event.TraceEvent.TheVariants.{End}
 use Rattle.board_core.specs.declared.receipt.Receipt.{Receipt}
-use Rattle.desk_core.specs.Answers.{Finishes, IsStranger}
+use Rattle.ask_core.specs.Answers.{Finishes, IsStranger}
 use Rattle.board_core.specs.Lists.{Every, EachPair, Among}
 use Rattle.board_core.specs.Calls.{RunningCall, WaitingCall, Noted}
 use Rattle.board_core.specs.Board.{Board, ended, entry_of, published}

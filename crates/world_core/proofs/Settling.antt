@@ -18,12 +18,12 @@ use Rattle.key_core.specs.Keys.{resumed}
 use Rattle.board_core.specs.Started.{Settles, HasStarted, run_of}
 use Rattle.board_core.specs.Chain.{ShowContents, IsTrueEntry}
 use Rattle.board_core.specs.Sound.{IsSound, kinds_of}
-use Rattle.desk_core.specs.declared.answer.Cancelled.{Cancelled}
-use Rattle.desk_core.specs.declared.answer.Cancelled.TheVariants as cancels
-use Rattle.desk_core.specs.Answers.{Asked, Cancels}
-use Rattle.desk_core.specs.Keyed.{SubmitsKeyed}
-use Rattle.desk_core.specs.declared.answer.KeyedFault.{KeyedFault}
-use Rattle.desk_core.specs.declared.answer.KeyedFault.TheVariants as faults
+use Rattle.ask_core.specs.declared.answer.Cancelled.{Cancelled}
+use Rattle.ask_core.specs.declared.answer.Cancelled.TheVariants as cancels
+use Rattle.ask_core.specs.Answers.{Asked, Cancels}
+use Rattle.ask_core.specs.Keyed.{SubmitsKeyed}
+use Rattle.ask_core.specs.declared.answer.KeyedFault.{KeyedFault}
+use Rattle.ask_core.specs.declared.answer.KeyedFault.TheVariants as faults
 use Rattle.world_core.specs.declared.slot.Slot.{Slot}
 use Rattle.world_core.specs.declared.stage.Stage.{Stage}
 use Rattle.world_core.specs.Scene.{Scene, Standing, AreBegun, Goes, call_running, collected}

@@ -36,7 +36,7 @@ use Rattle.board_core.specs.Board.{Board}
 use Rattle.board_core.specs.Chain.{AreOf, ChainedAreLegal, ShowContents}
 use Rattle.board_core.specs.Sound.{IsMadeOf, IsPinned, IsRunningIn, kinds_of}
 use Rattle.board_core.proofs.Lists.{Every-at, Every-both, among_at}
-use Rattle.desk_core.specs.Answers.{runs_in}
+use Rattle.ask_core.specs.Answers.{runs_in}
 use Rattle.world_core.specs.declared.slot.Slot.{Slot}
 use Rattle.world_core.specs.declared.event.Answer.TheVariants.{Stepped}
 use Rattle.world_core.specs.declared.event.EventAnswer.{EventAnswer}

@@ -19,13 +19,13 @@ use Rattle.board_core.specs.Board.{joined, dismissed, released, marked, ended, e
 use Rattle.board_core.specs.Chain.{history_of}
 use Rattle.key_core.specs.Keys as keys
 use Rattle.key_core.specs.Keys.{next_key}
-use Rattle.desk_core.specs.declared.answer.SubmitFault.{SubmitFault}
-use Rattle.desk_core.specs.declared.answer.KeyedFault.{KeyedFault}
-use Rattle.desk_core.specs.declared.answer.Kept.{Kept as KeptCall}
-use Rattle.desk_core.specs.declared.answer.Cancelled.{Cancelled}
-use Rattle.desk_core.specs.declared.answer.Cancelled.TheVariants as cancels
-use Rattle.desk_core.specs.Answers.{Asked, IsGone, IsTaken, IsRefused, Cancels, waits_in, runs_in}
-use Rattle.desk_core.specs.Keyed.{IsKeptCall, SubmitsKeyed}
+use Rattle.ask_core.specs.declared.answer.SubmitFault.{SubmitFault}
+use Rattle.ask_core.specs.declared.answer.KeyedFault.{KeyedFault}
+use Rattle.ask_core.specs.declared.answer.Kept.{Kept as KeptCall}
+use Rattle.ask_core.specs.declared.answer.Cancelled.{Cancelled}
+use Rattle.ask_core.specs.declared.answer.Cancelled.TheVariants as cancels
+use Rattle.ask_core.specs.Answers.{Asked, IsGone, IsTaken, IsRefused, Cancels, waits_in, runs_in}
+use Rattle.ask_core.specs.Keyed.{IsKeptCall, SubmitsKeyed}
 use Rattle.world_core.specs.declared.event.Refusal.TheVariants.{Submit, Keyed, NotRunning, NoStep, NotDone, NoSession, Memory}
 use Rattle.world_core.specs.declared.event.Answer.{Answer}
 use Rattle.world_core.specs.declared.event.Answer.TheVariants.{Number, Stepped, Ended, Cancel, Dropped, Resumed, Kept, Shown, Refused}

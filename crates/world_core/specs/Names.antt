@@ -1,9 +1,9 @@
 -- The names of refusals.
 use Rattle.std.specs.Prelude.{ℕ, List, codes}
-use Rattle.desk_core.specs.declared.answer.SubmitFault.{SubmitFault}
-use Rattle.desk_core.specs.declared.answer.SubmitFault.TheVariants as faults
-use Rattle.desk_core.specs.declared.answer.KeyedFault.{KeyedFault}
-use Rattle.desk_core.specs.declared.answer.KeyedFault.TheVariants as keyed
+use Rattle.ask_core.specs.declared.answer.SubmitFault.{SubmitFault}
+use Rattle.ask_core.specs.declared.answer.SubmitFault.TheVariants as faults
+use Rattle.ask_core.specs.declared.answer.KeyedFault.{KeyedFault}
+use Rattle.ask_core.specs.declared.answer.KeyedFault.TheVariants as keyed
 use Rattle.world_core.specs.declared.event.Refusal.{Refusal}
 use Rattle.world_core.specs.declared.event.Refusal.TheVariants.{Submit, Keyed, NotRunning, NoStep, NotDone, NoSession, Memory}
 

@@ -18,7 +18,7 @@ end;
 // What the entry at a place of the history replies.
 fn reply_at(world: &World, place: usize) -> Option<Reply> {
     match world.desk().history().get(place) {
-        Some(entry) => Some(*entry.reply()),
+        Some(entry) => Some(entry.reply()),
         None => None,
     }
 }

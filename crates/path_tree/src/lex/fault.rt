@@ -19,7 +19,7 @@ pub enum LexFault {
     /// The first byte of a comment that is not closed.
     #[error("OpenComment at {0}")]
     OpenComment(usize),
-    /// The first apostrophe of a string that is not closed on its line, or is longer than 255 bytes.
+    /// The first apostrophe of a string that is not closed on its line, or is longer than 1000 bytes.
     #[error("OpenString at {0}")]
     OpenString(usize),
     /// The first digit of a number over 4294967295.

@@ -11,7 +11,7 @@ use crate::token::Kind;
 use std::alloc::Global;
 
 /// The most bytes of a string's content.
-pub const MOST_STRING_BYTES: usize = 255;
+pub const MOST_STRING_BYTES: usize = 1000;
 
 /// The string at a place and its end. `BadByte` is a byte that it may not hold, `OpenString` one
 /// that is not closed on its line or is too long, whichever the reading meets first.

@@ -11,9 +11,9 @@ ghost use Rattle.world_core.specs.Events.{event_of};
 ghost use Rattle.script_core.specs.Does.{Does, Happens, IsNoWant, IsTold, answer_lines, cancel_name, has_gone, repeat_line};
 
 use crate::script::steps::step_to_end;
+use ask_core::answer::{CallState, Cancelled, Kept, KeyedFault, SubmitFault};
 use board_core::event::TraceEvent;
 use decl_core::object::Object;
-use desk_core::answer::{CallState, Cancelled, Kept, KeyedFault, SubmitFault};
 use desk_core::desk::Desk;
 use run_core::step::StepAnswer;
 use script_text::answers::{

@@ -9,7 +9,7 @@ use Rattle.board_core.specs.Board.{Board, joined, bodies, paths_of, past_of}
 use Rattle.desk_core.specs.Kept.{board_of, IsMarkIn, ArePlaces}
 use Rattle.board_core.specs.Sound.{IsSound}
 use Rattle.board_core.proofs.Sound.{sound-joined, past_joined}
-use Rattle.desk_core.specs.Answers.{is_busy}
+use Rattle.ask_core.specs.Answers.{is_busy}
 use Rattle.desk_core.proofs.Busy.{not_open}
 use Rattle.board_core.proofs.Made.{some_body, made_of}
 use Rattle.desk_core.proofs.Marking.{events_same}

@@ -5,7 +5,7 @@ use Rattle.board_core.specs.Board.{Board}
 use Rattle.key_core.specs.Keys.{HasKey, count_by}
 use Rattle.board_core.proofs.Sound.{call_number}
 use Rattle.board_core.proofs.Traces.{true_false}
-use Rattle.desk_core.specs.Answers.{HasName, IsGone}
+use Rattle.ask_core.specs.Answers.{HasName, IsGone}
 use Rattle.desk_core.specs.Kept.{board_of}
 use Rattle.key_core.specs.Index.{number_in}
 use Rattle.key_core.proofs.Indexing.{row_at, key_past, key_found}

@@ -1,4 +1,4 @@
-use Rattle.desk_core.specs.Answers.{Asked}
+use Rattle.ask_core.specs.Answers.{Asked}
 use Rattle.office_core.proofs.Keying.{refused_next}
 use Rattle.office_core.proofs.room.Room.submit_next.Goals as goal
 

@@ -1,7 +1,7 @@
 use Rattle.std.proofs.Common.{◌≡◌, ◌+◌, ◌≤◌, ◌<◌, ◌∷◌, [], ◌++◌, length, slice_index, sym, ◌∙◌, inl, inr, refl, arith}
 use Rattle.std.proofs.lemmas.Bool.{false≢true}
 use Rattle.std.proofs.lemmas.List.{length_push}
-use Rattle.path_tree.specs.Tokens.{IsTextByte}
+use Rattle.path_tree.specs.Tokens.{IsTextByte, most_string_bytes}
 use Rattle.path_tree.proofs.Slices.{byte_within}
 use Rattle.path_tree.proofs.Strings.{width, width_two, width_one, doubled, content_more}
 use Rattle.path_tree.proofs.lex.text.read_string.Goals as goal
@@ -21,7 +21,7 @@ returns-then-len-eq-MOST_STRING_BYTES c =
     let b = slice_index source at in
     let twice : b ≡ 39 → slice_index source (at + 1) ≡ 39 = doubled b (slice_index source (at + 1)) (λ closes. absurd (false≢true (c.if-closes_string.ensures.1 closes))) in
     let more = content_more source (c.args.start + 1) content at b c.loop-content.invariant.so_far (c.if-not-is_text_byte.ensures.0 refl) refl twice in
-    inr ((256, at + width b, (content ++ b ∷ [], c.requires.apostrophe, more, omega (arith, length_push content b, c.loop-content.content.ok.0)), inr refl), refl)
+    inr ((most_string_bytes + 1, at + width b, (content ++ b ∷ [], c.requires.apostrophe, more, omega (arith, length_push content b, c.loop-content.content.ok.0)), inr refl), refl)
 
 pub loop-content-preserved : goal.loop-content-preserved
 loop-content-preserved c =
