@@ -1,5 +1,5 @@
 -- The part at a place.
-use Rattle.std.proofs.Common.{◌≡◌, ℕ, ◌<◌, List, length, get_or, refl, sym, ap, ◌∙◌}
+use Rattle.std.proofs.Common.{◌≡◌, ℕ, ◌<◌, List, length, get_or, refl, sym, ap, subst, ◌∙◌}
 use Rattle.std.specs.Prelude.{Option, Some, None, MatchOption, Result, Ok, Err, IfOk, slice_get, option_map}
 use Rattle.std.proofs.lemmas.Option.{slice_get_read, slice_get-map}
 use Rattle.value_core.specs.declared.kind.Kind.{Kind}
@@ -35,3 +35,10 @@ pub part_read : {E : Type 0} (parts : List Part) (place : ℕ) (name word : List
     → IfOk found (λ f. MatchOption f ((value : Contents) → IsPartAt (parts_of parts) place name word value → ⊥) (IsPartAt (parts_of parts) place name word))
 part_read parts place name word part (Err e) within is same of = tt
 part_read parts place name word part (Ok f) within is same of = part_found parts place name word part f (at_place parts place part name within is same) of
+
+-- a word is some bytes alone: where they spell no value, none is spelled
+pub no_value : (word bytes : List ℕ) (kind : Kind) → IsHex word bytes → ((value : Contents) → SpellsInSome bytes kind value → ⊥) → (other : List ℕ) (value : Contents) → IsHex word other → SpellsInSome other kind value → ⊥
+no_value word bytes kind is none other value its spells =
+    let e : Ok other ≡ Ok bytes = sym its.read ∙ is.read in
+    let same : other ≡ bytes = cc in
+    none value (subst (λ (b : List ℕ). SpellsInSome b kind value) same spells)

@@ -91,8 +91,8 @@ impl Text {
     }
 }
 
-/// Whether a text may have this byte.
-pub fn is_plain(byte: u8) -> bool
+// Whether a text may have this byte.
+fn is_plain(byte: u8) -> bool
     ensures { IsTrue result ↔ IsPlain byte }
 {
     matches!(byte, 32..=126)

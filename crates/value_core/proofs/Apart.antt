@@ -1,5 +1,5 @@
 -- What is spelled at the front of bytes is read off in one way alone.
-use Rattle.std.proofs.Common.{◌≡◌, ℕ, ◌<◌, ◌≤◌, ◌^◌, List, [], ◌∷◌, ◌++◌, length, refl, sym, ap, ◌∙◌, append_assoc, arith}
+use Rattle.std.proofs.Common.{◌≡◌, ℕ, ◌<◌, ◌^◌, List, [], ◌∷◌, ◌++◌, length, refl, sym, ap, ◌∙◌, append_assoc, arith}
 use Rattle.std.specs.Prelude.{All}
 use Rattle.std.specs.List.{flat_map}
 use Rattle.std.specs.Int.{w16, w32, to_be_bytes, from_be_bytes}
@@ -10,7 +10,7 @@ use Rattle.value_core.specs.declared.datum.Datum.{Datum}
 use Rattle.value_core.specs.declared.datum.Datum.TheVariants as datum
 use Rattle.value_core.specs.declared.kind.Elem.{Elem}
 use Rattle.value_core.specs.declared.kind.Elem.TheVariants as elem
-use Rattle.value_core.specs.Format.{most_text, spelled_length, IsTextIn}
+use Rattle.value_core.specs.Format.{spelled_length, IsTextIn}
 use Rattle.value_core.specs.Datum.{IsElementIn}
 use Rattle.value_core.specs.Contents.{IsRowIn}
 use Rattle.value_core.specs.Spelling.{spelled_text_in, spelled_datum_in, spelled_row_in}

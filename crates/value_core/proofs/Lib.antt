@@ -9,3 +9,4 @@ pub mod Rising
 pub mod Unique
 pub mod Bytes
 pub mod Widening
+pub mod Outcomes

@@ -1,6 +1,6 @@
 -- What a place among rows in the order of their keys tells, and what an edit there does.
-use Rattle.std.proofs.Common.{◌≡◌, ℕ, zero, suc, ◌+◌, ◌<◌, ◌≤◌, Bool, true, false, cond, List, [], ◌∷◌, ◌++◌, length, take, drop, get_or, set, Option, Some, None, Result, Ok, Err, IfOk, IfErr, refl, sym, ap, ◌∙◌, subst, arith, rules}
-use Rattle.std.specs.Prelude.{map}
+use Rattle.std.proofs.Common.{◌≡◌, ℕ, zero, suc, ◌+◌, ◌<◌, ◌≤◌, Bool, true, false, cond, List, [], ◌∷◌, length, get_or, set, Some, None, Result, Ok, Err, IfOk, IfErr, refl, sym, ap, ◌∙◌, subst, arith}
+use Rattle.std.specs.Prelude.{map, is_some}
 use Rattle.std.specs.declared.cmp.Ordering.{Ordering}
 use Rattle.std.specs.declared.cmp.Ordering.TheVariants.{Less, Equal, Greater}
 use Rattle.std.specs.Ordering.{is_eq, is_lt, ordering_reverse, ordering_index, eq_by_cmp}
@@ -21,10 +21,18 @@ use Rattle.value_core.specs.declared.datum.Datum.{Datum}
 use Rattle.text_core.specs.TextOrder.{text_cmp}
 use Rattle.value_core.specs.Rows.{as_data}
 use Rattle.value_core.specs.Sorted.{Rise, StandsAt, IsGapFor}
-use Rattle.value_core.proofs.Tables.{value_at, in_order, erased}
+use Rattle.value_core.proofs.Tables.{in_order, erased}
 
 turned : (x y : List ℕ) (o : Ordering) → text_cmp x y ≡ o → text_cmp y x ≡ ordering_reverse o
 turned x y o is = nat_list_cmp_total.antisymm y x ∙ ap ordering_reverse is
+
+pub rise_none : (X : Type 0) → Rise {X = X} []
+unfolding IsStrictlySortedBy
+rise_none X = tt
+
+below_lower : (k x : List ℕ) (ys : List (List ℕ)) → text_cmp k x ≡ Less → AllByRecursion (λ y. text_cmp x y ≡ Less) ys → AllByRecursion (λ y. text_cmp k y ≡ Less) ys
+below_lower k x [] less all = tt
+below_lower k x (y ∷ ys) less all = (nat_list_cmp_total.trans k x y less all.0, below_lower k x ys less all.1)
 
 module _ {X : Type 0} where
   -- the first row, and those behind it
@@ -81,7 +89,7 @@ module _ {X : Type 0} where
       (ap (λ l. e ∷ l) (put_at es k v i d (omega (arith, inside)) (behind_all (λ e. text_cmp e.0 k ≡ Less) e es i low) same))
 
   -- the key that is there, and its row
-  found_at : (es : List (List ℕ × X)) (k : List ℕ) (i : ℕ) (d : List ℕ × X) → i < length es → AllWithin (λ e. text_cmp e.0 k ≡ Less) es 0 i → HoldsAt (λ e. text_cmp e.0 k ≡ Equal) es i → value_at es k ≡ Some (get_or es i d).1
+  found_at : (es : List (List ℕ × X)) (k : List ℕ) (i : ℕ) (d : List ℕ × X) → i < length es → AllWithin (λ e. text_cmp e.0 k ≡ Less) es 0 i → HoldsAt (λ e. text_cmp e.0 k ≡ Equal) es i → lookup (is_at (text_cmp k)) es ≡ Some (get_or es i d).1
   found_at [] k i d inside low same = absurd (omega (arith, inside))
   found_at (e ∷ es) k zero d inside low same = rw (turned e.0 k Equal (same e)) refl
   found_at (e ∷ es) k (suc i) d inside low same =
@@ -96,7 +104,7 @@ module _ {X : Type 0} where
       (ap (λ l. e ∷ l) (removed_at es k i (omega (arith, inside)) (behind_all (λ e. text_cmp e.0 k ≡ Less) e es i low) same))
 
   -- a key that has a gap is not there
-  none_in_gap : (es : List (List ℕ × X)) (k : List ℕ) (i : ℕ) → i ≤ length es → AllWithin (λ e. text_cmp e.0 k ≡ Less) es 0 i → AllWithin (λ e. text_cmp e.0 k ≡ Greater) es i (length es) → value_at es k ≡ None
+  none_in_gap : (es : List (List ℕ × X)) (k : List ℕ) (i : ℕ) → i ≤ length es → AllWithin (λ e. text_cmp e.0 k ≡ Less) es 0 i → AllWithin (λ e. text_cmp e.0 k ≡ Greater) es i (length es) → lookup (is_at (text_cmp k)) es ≡ None
   none_in_gap [] k i inside low high = refl
   none_in_gap (e ∷ es) k zero inside low high =
       rw (turned e.0 k Greater (front (λ e. text_cmp e.0 k ≡ Greater) e es (length es) high))
@@ -105,10 +113,10 @@ module _ {X : Type 0} where
       rw (turned e.0 k Less (front (λ e. text_cmp e.0 k ≡ Less) e es i low))
       (none_in_gap es k i (omega (arith, inside)) (behind_all (λ e. text_cmp e.0 k ≡ Less) e es i low) (behind (λ e. text_cmp e.0 k ≡ Greater) e es i (length es) high))
 
-  nothing_removed : (es : List (List ℕ × X)) (k : List ℕ) → value_at es k ≡ None → remove_entry (is_at (text_cmp k)) es ≡ es
+  nothing_removed : (es : List (List ℕ × X)) (k : List ℕ) → lookup (is_at (text_cmp k)) es ≡ None → remove_entry (is_at (text_cmp k)) es ≡ es
   nothing_removed [] k none = refl
   nothing_removed (e ∷ es) k none =
-      elim (is_at (text_cmp k) e.0) as (λ b. cond b (Some e.1) (value_at es k) ≡ None → cond b es (e ∷ remove_entry (is_at (text_cmp k)) es) ≡ e ∷ es) [
+      elim (is_at (text_cmp k) e.0) as (λ b. cond b (Some e.1) (lookup (is_at (text_cmp k)) es) ≡ None → cond b es (e ∷ remove_entry (is_at (text_cmp k)) es) ≡ e ∷ es) [
         | true ↦ λ some. absurd (none_is some)
         | false ↦ λ none. ap (λ l. e ∷ l) (nothing_removed es k none)
       ] none
@@ -122,10 +130,14 @@ module _ {X : Type 0} where
   pub put_over : (es : List (List ℕ × X)) (k : List ℕ) (v : X) (i : ℕ) (d : List ℕ × X) → StandsAt es k i → set es i ((get_or es i d).0, v) ≡ put text_cmp k v es
   put_over es k v i d at = put_at es k v i d at.inside at.lower at.same
 
-  pub found : (es : List (List ℕ × X)) (k : List ℕ) (i : ℕ) (d : List ℕ × X) → StandsAt es k i → value_at es k ≡ Some (get_or es i d).1
+  pub found : (es : List (List ℕ × X)) (k : List ℕ) (i : ℕ) (d : List ℕ × X) → StandsAt es k i → lookup (is_at (text_cmp k)) es ≡ Some (get_or es i d).1
   found es k i d at = found_at es k i d at.inside at.lower at.same
 
-  pub missing : (es : List (List ℕ × X)) (k : List ℕ) (i : ℕ) → IsGapFor es k i → value_at es k ≡ None
+  pub there : (es : List (List ℕ × X)) (k : List ℕ) (i : ℕ) → StandsAt es k i → is_some (lookup (is_at (text_cmp k)) es) ≡ true
+  there [] k i at = absurd (omega (arith, at.inside))
+  there (e ∷ es) k i at = ap is_some (found (e ∷ es) k i e at)
+
+  pub missing : (es : List (List ℕ × X)) (k : List ℕ) (i : ℕ) → IsGapFor es k i → lookup (is_at (text_cmp k)) es ≡ None
   missing es k i gap = none_in_gap es k i gap.inside gap.lower gap.higher
 
   pub removed : (es : List (List ℕ × X)) (k : List ℕ) (i : ℕ) → StandsAt es k i → remove es i ≡ remove_entry (is_at (text_cmp k)) es
@@ -135,10 +147,6 @@ module _ {X : Type 0} where
   not_removed es k i gap = sym (nothing_removed es k (missing es k i gap))
 
   -- the keys still rise
-  pub rise_none : Rise {X = X} []
-  unfolding IsStrictlySortedBy
-  rise_none = tt
-
   same_keys : (C : X → X → Type 0) (es fs : List (List ℕ × X)) → AllZip (λ p q. (q.0 ≡ p.0) × C p.1 q.1) es fs → map (λ e. e.0) fs ≡ map (λ e. e.0) es
   same_keys C [] [] zip = refl
   same_keys C [] (f ∷ fs) zip = absurd zip
@@ -156,10 +164,6 @@ module _ {X : Type 0} where
         | Equal ↦ all
         | Greater ↦ (all.0, below_put x k v es less all.1)
       ]
-
-  below_lower : (k x : List ℕ) (ys : List (List ℕ)) → text_cmp k x ≡ Less → AllByRecursion (λ y. text_cmp x y ≡ Less) ys → AllByRecursion (λ y. text_cmp k y ≡ Less) ys
-  below_lower k x [] less all = tt
-  below_lower k x (y ∷ ys) less all = (nat_list_cmp_total.trans k x y less all.0, below_lower k x ys less all.1)
 
   pub rise_put : (k : List ℕ) (v : X) (es : List (List ℕ × X)) → Rise es → Rise (put text_cmp k v es)
   unfolding IsStrictlySortedBy

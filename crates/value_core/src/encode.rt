@@ -41,7 +41,7 @@ fn put_header(out: &mut Vec<u8>, kind: Kind, count: u16) -> Result<(), AllocErro
 }
 
 /// Adds the length of a text, and its bytes.
-pub fn put_text(out: &mut Vec<u8>, text: &Text) -> Result<(), AllocError>
+pub(crate) fn put_text(out: &mut Vec<u8>, text: &Text) -> Result<(), AllocError>
     ensures { OnOk result (out.new.items ≡ out.old.items ++ spelled_text text.now) }
 {
     let len: TextLength = text.len();
@@ -64,7 +64,7 @@ pub(crate) fn row_len(row: &Row) -> usize {
 }
 
 /// Adds four bytes, the highest first.
-pub fn put_integer(out: &mut Vec<u8>, number: u32) -> Result<(), AllocError>
+pub(crate) fn put_integer(out: &mut Vec<u8>, number: u32) -> Result<(), AllocError>
     ensures { OnOk result (out.new.items ≡ out.old.items ++ to_be_bytes w32 number) }
 {
     out.extend_from_slice(&number.to_be_bytes())

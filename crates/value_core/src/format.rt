@@ -17,7 +17,7 @@ pub enum Format {
 
 impl Format {
     /// The first byte of a value.
-    pub fn number(self) -> u8
+    pub(crate) fn number(self) -> u8
         ensures { result ≡ number_of self }
     {
         match self {
@@ -27,7 +27,7 @@ impl Format {
     }
 
     /// The most bytes of a text.
-    pub fn most_text(self) -> TextLength
+    pub(crate) fn most_text(self) -> TextLength
         ensures { result ≡ most_text self }
     {
         match self {

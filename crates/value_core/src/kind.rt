@@ -35,7 +35,7 @@ impl Kind {
     }
 
     /// The byte that stands for it in the bytes of a value.
-    pub fn code(&self) -> u8
+    pub(crate) fn code(&self) -> u8
         ensures { result ≡ code_of self.now }
     {
         match self {

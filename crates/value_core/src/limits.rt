@@ -4,4 +4,4 @@
 pub const MOST_ELEMENTS: u16 = 1024;
 
 /// The bytes before the elements of a value: the format, the kind, and the number of elements.
-pub const HEADER_BYTES: usize = 4;
+pub(crate) const HEADER_BYTES: usize = 4;

@@ -33,6 +33,27 @@ pub fn append(value: &mut Value, datum: Datum) -> Result<(), GrowFault> {
     }
 }
 
+pub fn take(value: &mut Value) -> Result<(), Refusal> {
+    match value.kind() {
+        Kind::Queue(_) => value.take(),
+        _ => Err(UNFIT),
+    }
+}
+
+pub fn has(value: &Value, key: &Text) -> bool {
+    match value.kind() {
+        Kind::Table(_) => value.has(key),
+        _ => false,
+    }
+}
+
+pub fn erase(value: &mut Value, key: &Text) -> Result<(), Refusal> {
+    match value.kind() {
+        Kind::Table(_) => value.erase(key),
+        _ => Err(UNFIT),
+    }
+}
+
 pub fn lookup(value: &Value, key: &Text) -> Result<Datum, Refusal> {
     match value.kind() {
         Kind::Table(_) => value.lookup(key),
@@ -51,6 +72,15 @@ pub fn store(value: &mut Value, key: Text, datum: Datum) -> Result<(), GrowFault
 /// The text of these bytes, or the empty one where they are none.
 pub fn text(bytes: &[u8]) -> Text {
     Text::from_bytes(bytes).unwrap_or(Text::empty())
+}
+
+/// A text of so many letters, the same ones.
+pub fn long_text(alloc: Global, letter: u8, len: usize) -> Result<Text, AllocError> {
+    let mut bytes = Vec::new(alloc);
+    for _ in 0..len {
+        bytes.push(letter)?;
+    }
+    Ok(text(&bytes))
 }
 
 /// An integer or a text that tells the number, below 1,369, apart.

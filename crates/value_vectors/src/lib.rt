@@ -8,3 +8,5 @@ mod helpers;
 mod limits;
 #[cfg(test)]
 mod memory;
+#[cfg(test)]
+mod texts;
