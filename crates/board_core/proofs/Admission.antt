@@ -46,7 +46,7 @@ pub ended_history : (b after : Board) (e : Noted) → Admits (ended b e) after �
 unfolding ended
 ended_history b after e admits = (same_history (ended b e) after admits, same_pins (ended b e) after admits)
 
-among_more : {X : Type 0} (xs : List X) (z y : X) → Among y xs → Among y (xs ++ z ∷ [])
+pub among_more : {X : Type 0} (xs : List X) (z y : X) → Among y xs → Among y (xs ++ z ∷ [])
 among_more [] z y h = absurd h
 among_more (x ∷ xs) z y h = elim h [ inl same ↦ inl same | inr later ↦ inr (among_more xs z y later) ]
 

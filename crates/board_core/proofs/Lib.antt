@@ -10,3 +10,4 @@ pub mod BoardLaws
 pub mod Kept
 pub mod Picking
 pub mod Sending
+pub mod AfterFinish

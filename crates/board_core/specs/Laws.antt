@@ -1,5 +1,5 @@
 -- Laws of boards.
-use Rattle.std.specs.Prelude.{◌≡◌, ◌≢◌, ℕ, List, [], slice_get}
+use Rattle.std.specs.Prelude.{◌≡◌, ◌≢◌, ℕ, ◌<◌, ◌⊎◌, List, [], length, slice_get, Some, None}
 use Rattle.decl_core.specs.Bodies.{body_of}
 use Rattle.decl_core.specs.Touched.{Reads, Writes, Conflict}
 use Rattle.hand_core.specs.declared.hand.Stamp.{Stamp}
@@ -9,12 +9,12 @@ use Rattle.apply_core.specs.declared.reply.Reply.{Reply}
 use Rattle.call_core.specs.Calls.{Call}
 use Rattle.call_core.specs.Truths.{IsTrueOf}
 use Rattle.board_core.specs.Lists.{Every, Among}
-use Rattle.board_core.specs.Calls.{WaitingCall, RunningCall}
-use Rattle.board_core.specs.Board.{Board, Rests, Admits, entry_of}
+use Rattle.board_core.specs.Calls.{WaitingCall, RunningCall, Noted}
+use Rattle.board_core.specs.Board.{Board, Rests, Admits, entry_of, ended}
 use Rattle.board_core.specs.Started.{HasStarted}
 use Rattle.board_core.specs.Outcomes.{IsOf}
-use Rattle.board_core.specs.Chain.{IsTrueEntry}
-use Rattle.board_core.specs.Free.{IsIn, IsNeeded, Picks}
+use Rattle.board_core.specs.Chain.{IsTrueEntry, news_of}
+use Rattle.board_core.specs.Free.{HasFile, IsIn, IsNeeded, Picks}
 use Rattle.board_core.specs.Sound.{IsSound}
 
 -- Two calls that run at once have operations that do not conflict.
@@ -49,3 +49,12 @@ NeededIsPublished = (b : Board) → IsSound b → (number : ℕ) → IsNeeded b.
 -- On a sound board those that are picked as not published are picked as not needed.
 abbrev pub PublishedArePicked : Type 0
 PublishedArePicked = (b : Board) → IsSound b → (stamps all : List Stamp) → Picks (λ number. IsIn number b.pins) [] stamps all → Picks (IsNeeded b.pins b.running) [] stamps all
+
+-- After a finish on a sound board the published pin of each part is the new one of the call that finished, where it has one, and else the one that was published before.
+abbrev pub PinsAreNewOrOld : Type 0
+PinsAreNewOrOld = (b after : Board) → IsSound b → (e : Noted) → Admits (ended b e) after → (p : ℕ) → p < length b.object.parts.items →
+    ((pages : List Stamp) → pin_at (news_of e) p ≡ Some pages → slice_get after.pins p ≡ Some pages) × (pin_at (news_of e) p ≡ None → slice_get after.pins p ≡ slice_get b.pins p)
+
+-- Each file of stamps of which some are picked is that of one that is picked, or is needed.
+abbrev pub LeftOutAreNeeded : Type 0
+LeftOutAreNeeded = (pins : List (List Stamp)) (stamps all : List Stamp) (running : List RunningCall) → Picks (IsNeeded pins running) [] stamps all → Every (λ s. HasFile s.number all ⊎ IsNeeded pins running s.number) stamps

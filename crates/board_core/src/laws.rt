@@ -1,7 +1,7 @@
 //! Laws of boards and of entries, over the definitions alone.
 
 ghost use Rattle.board_core.specs.Chain.{ChainedAreLegal};
-ghost use Rattle.board_core.specs.Laws.{RunningNeverConflict, PinsStay, PickedAreFree, TruthIsNoted, AdmissionStarts, AdmissionRests, NeededIsPublished, PublishedArePicked};
+ghost use Rattle.board_core.specs.Laws.{RunningNeverConflict, PinsStay, PickedAreFree, TruthIsNoted, AdmissionStarts, AdmissionRests, NeededIsPublished, PublishedArePicked, PinsAreNewOrOld, LeftOutAreNeeded};
 
 /// Chained entries of which each is true are a legal history, and it leads to what the last pins spell.
 pub fn chained_are_legal()
@@ -46,4 +46,15 @@ pub fn needed_is_published()
 /// Stamps that are picked as not published are picked as not needed, on a sound board.
 pub fn published_are_picked()
     ensures { PublishedArePicked }
+{}
+
+/// After a finish the published pin of each part is the new one of the call that finished, or the one that was there
+/// before: nothing else is ever published.
+pub fn pins_are_new_or_old()
+    ensures { PinsAreNewOrOld }
+{}
+
+/// A file that a receipt leaves out is needed: by a published pin, or by a running call.
+pub fn left_out_are_needed()
+    ensures { LeftOutAreNeeded }
 {}
