@@ -1,5 +1,8 @@
 //! The small files that the hands of a folder sealed last.
 
+ghost use Rattle.std.specs.Prelude.{◌≡◌, IfOk};
+ghost use Rattle.ahead_core.specs.Sealed.{HasRoom};
+
 use hand_core::hand::Stamp;
 use std::alloc::{AllocError, Global};
 use std::sync::Mutex;
@@ -24,6 +27,24 @@ struct Row {
     oldest: usize,
 }
 
+// Room for the files, none of which is kept.
+fn none_kept(alloc: Global) -> Result<Row, AllocError>
+    ensures { IfOk result (λ row. HasRoom row.files.items × (row.oldest ≡ 0)) }
+{
+    let mut files = Vec::with_capacity(alloc, MOST_FILES)?;
+    for _ in 0..MOST_FILES {
+        let bytes = Vec::with_capacity(alloc, MOST_BYTES)?;
+        let kept = Kept {
+            number: None,
+            bytes,
+        };
+        if files.push(kept).is_err() {
+            return Err(AllocError);
+        }
+    }
+    Ok(Row { files, oldest: 0 })
+}
+
 /// What the hands of one folder sealed last, so that a file which one of them wrote is read by another one without the system: the last 8 files of at
 /// most 4,096 bytes. A file does not change once it is sealed, and its number is that of no other one.
 ///
@@ -36,18 +57,7 @@ pub struct Sealed {
 impl Sealed {
     /// Room for the files. Nothing is kept yet.
     pub fn new(alloc: Global) -> Result<Sealed, AllocError> {
-        let mut files = Vec::with_capacity(alloc, MOST_FILES)?;
-        for _ in 0..MOST_FILES {
-            let bytes = Vec::with_capacity(alloc, MOST_BYTES)?;
-            let kept = Kept {
-                number: None,
-                bytes,
-            };
-            if files.push(kept).is_err() {
-                return Err(AllocError);
-            }
-        }
-        let row = Mutex::new(Row { files, oldest: 0 });
+        let row = Mutex::new(none_kept(alloc)?);
         Ok(Sealed { row })
     }
 

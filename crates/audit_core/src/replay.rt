@@ -63,6 +63,8 @@ fn is_done_so(
     if !parts_fit(operation, parts) {
         return Ok(false);
     }
-    let given = apply_all(alloc, operation, arguments, parts)?;
-    Ok(told.is_same(&given))
+    match apply_all(alloc, operation, arguments, parts) {
+        Ok(given) => Ok(told.is_same(&given)),
+        Err(refused) => Err(refused),
+    }
 }

@@ -1,13 +1,7 @@
 //! The command line.
 
-ghost use Rattle.std.specs.Prelude.{◌≡◌, false, true, map, codes, IfOk, IfErr, IfSome};
-ghost use Rattle.clap.specs.Words.{app_of, fields_of, found_of, kind_of, new_app, rule_of, rows_of, subcommand_of, subcommand_rows_of, takes};
-ghost use Rattle.command_line.specs.Program.{audit_app, check_app, flag, needed, paths_app, program, run_app, serve_app};
-ghost use Rattle.command_line.specs.Asked.{Asks, AsksBehind};
-
 use crate::help;
 use clap::builder::ValueParser;
-use clap::error::ErrorKind;
 use clap::{Arg, ArgAction, ArgMatches, Command, Error};
 use std::alloc::{AllocError, Global};
 
@@ -49,16 +43,12 @@ const SESSIONS: &str = "16";
 const MOST_SESSIONS: u64 = 64;
 
 // An argument that has to be there.
-fn required<'a>(alloc: Global, name: &'a str, help: &'a str) -> Arg<'a>
-    ensures { (rule_of result ≡ needed name.now) × (result.global ≡ false) }
-{
+fn required<'a>(alloc: Global, name: &'a str, help: &'a str) -> Arg<'a> {
     Arg::new(alloc, name).required(true).help(help)
 }
 
 // The flag `--explain`.
-fn explain_flag<'a>(alloc: Global, help: &'a str) -> Arg<'a>
-    ensures { (rule_of result ≡ flag (codes "explain")) × (result.global ≡ false) }
-{
+fn explain_flag<'a>(alloc: Global, help: &'a str) -> Arg<'a> {
     Arg::new(alloc, "explain")
         .long("explain")
         .action(ArgAction::SetTrue)
@@ -66,9 +56,7 @@ fn explain_flag<'a>(alloc: Global, help: &'a str) -> Arg<'a>
 }
 
 // The flag `--stop-with-input`.
-fn stop_flag<'a>(alloc: Global) -> Arg<'a>
-    ensures { (rule_of result ≡ flag (codes "stop-with-input")) × (result.global ≡ false) }
-{
+fn stop_flag<'a>(alloc: Global) -> Arg<'a> {
     Arg::new(alloc, "stop-with-input")
         .long("stop-with-input")
         .action(ArgAction::SetTrue)
@@ -76,18 +64,14 @@ fn stop_flag<'a>(alloc: Global) -> Arg<'a>
 }
 
 // `pathserve paths`.
-fn paths_command<'a>(alloc: Global) -> Command<'a>
-    ensures { (app_of result ≡ paths_app) × ((fields_of result).has_globals ≡ false) }
-{
+fn paths_command<'a>(alloc: Global) -> Command<'a> {
     Command::new(alloc, "paths")
         .about(help::PATHS)
         .after_help(help::PATHS_MORE)
 }
 
 // `pathserve check`.
-fn check_command<'a>(alloc: Global) -> Result<Command<'a>, AllocError>
-    ensures { IfOk result (λ made. (app_of made ≡ check_app) × ((fields_of made).has_globals ≡ false)) }
-{
+fn check_command<'a>(alloc: Global) -> Result<Command<'a>, AllocError> {
     Command::new(alloc, "check")
         .about(help::CHECK)
         .after_help(help::CHECK_MORE)
@@ -96,9 +80,7 @@ fn check_command<'a>(alloc: Global) -> Result<Command<'a>, AllocError>
 }
 
 // `pathserve run`.
-fn run_command<'a>(alloc: Global) -> Result<Command<'a>, AllocError>
-    ensures { IfOk result (λ made. (app_of made ≡ run_app) × ((fields_of made).has_globals ≡ false)) }
-{
+fn run_command<'a>(alloc: Global) -> Result<Command<'a>, AllocError> {
     Command::new(alloc, "run")
         .about(help::RUN)
         .after_help(help::RUN_MORE)
@@ -108,9 +90,7 @@ fn run_command<'a>(alloc: Global) -> Result<Command<'a>, AllocError>
 }
 
 // `pathserve audit`.
-fn audit_command<'a>(alloc: Global) -> Result<Command<'a>, AllocError>
-    ensures { IfOk result (λ made. (app_of made ≡ audit_app) × ((fields_of made).has_globals ≡ false)) }
-{
+fn audit_command<'a>(alloc: Global) -> Result<Command<'a>, AllocError> {
     Command::new(alloc, "audit")
         .about(help::AUDIT)
         .after_help(help::AUDIT_MORE)
@@ -120,9 +100,7 @@ fn audit_command<'a>(alloc: Global) -> Result<Command<'a>, AllocError>
 }
 
 // `pathserve serve`.
-fn serve_command<'a>(alloc: Global) -> Result<Command<'a>, AllocError>
-    ensures { IfOk result (λ made. (app_of made ≡ serve_app) × ((fields_of made).has_globals ≡ false)) }
-{
+fn serve_command<'a>(alloc: Global) -> Result<Command<'a>, AllocError> {
     let port = required(alloc, "PORT", help::SERVE_PORT).value_parser(ValueParser::unsigned(
         1, 65_535,
     ));
@@ -144,9 +122,7 @@ fn serve_command<'a>(alloc: Global) -> Result<Command<'a>, AllocError>
 }
 
 // The commands of the program.
-fn command<'a>(alloc: Global) -> Result<Command<'a>, AllocError>
-    ensures { IfOk result (λ made. (app_of made ≡ program) × ((fields_of made).has_globals ≡ false)) }
-{
+fn command<'a>(alloc: Global) -> Result<Command<'a>, AllocError> {
     Command::new(alloc, "pathserve")
         .about(help::PROGRAM)
         .after_help(help::PROGRAM_MORE)
@@ -159,35 +135,27 @@ fn command<'a>(alloc: Global) -> Result<Command<'a>, AllocError>
 }
 
 // What the words of `check` ask for.
-fn check_request<'a>(check: &ArgMatches<'a>) -> Option<Request<'a>>
-    ensures { IfSome result (AsksBehind (codes "check") (rows_of (found_of check.now))) }
-{
+fn check_request<'a>(check: &ArgMatches<'a>) -> Option<Request<'a>> {
     let file = check.get_str("FILE")?;
     Some(Request::Check(file, check.get_flag("explain")))
 }
 
 // What the words of `run` ask for.
-fn run_request<'a>(run: &ArgMatches<'a>) -> Option<Request<'a>>
-    ensures { IfSome result (AsksBehind (codes "run") (rows_of (found_of run.now))) }
-{
+fn run_request<'a>(run: &ArgMatches<'a>) -> Option<Request<'a>> {
     let file = run.get_str("FILE")?;
     let script = run.get_str("SCRIPT")?;
     Some(Request::Run(file, script, run.get_flag("explain")))
 }
 
 // What the words of `audit` ask for.
-fn audit_request<'a>(audit: &ArgMatches<'a>) -> Option<Request<'a>>
-    ensures { IfSome result (AsksBehind (codes "audit") (rows_of (found_of audit.now))) }
-{
+fn audit_request<'a>(audit: &ArgMatches<'a>) -> Option<Request<'a>> {
     let file = audit.get_str("FILE")?;
     let trace = audit.get_str("TRACE")?;
     Some(Request::Audit(file, trace, audit.get_flag("explain")))
 }
 
 // What the words of `serve` ask for.
-fn serve_request<'a>(serve: &ArgMatches<'a>) -> Option<Request<'a>>
-    ensures { IfSome result (AsksBehind (codes "serve") (rows_of (found_of serve.now))) }
-{
+fn serve_request<'a>(serve: &ArgMatches<'a>) -> Option<Request<'a>> {
     let file = serve.get_str("FILE")?;
     let folder = serve.get_str("DIR")?;
     let port: u16 = serve.get_one("PORT")?;
@@ -205,30 +173,20 @@ fn serve_request<'a>(serve: &ArgMatches<'a>) -> Option<Request<'a>>
 /// What these words, the first of which names the program, ask for.
 ///
 /// An error is a mistake in them or a request for help, with the text to print, or a want of memory.
-pub fn request_of<'a>(alloc: Global, words: &'a [&'a str]) -> Result<Request<'a>, Error>
-    ensures asked { IfOk result (Asks (subcommand_of program (map (λ word. word.now) words.now))) }
-    ensures taken { IfErr result (λ e. takes program (map (λ word. word.now) words.now) ≡ true → kind_of e ≡ ErrorKind.OutOfMemory) }
-{
+pub fn request_of<'a>(alloc: Global, words: &'a [&'a str]) -> Result<Request<'a>, Error> {
     let matches = command(alloc)?.try_get_matches_from(words)?;
-    let request = asked(&matches)?;
-    Ok(request)
-}
-
-// What was asked for. Each command has the arguments that it requires, so nothing is amiss but for want of memory.
-fn asked<'a>(matches: &ArgMatches<'a>) -> Result<Request<'a>, AllocError>
-    ensures { IfOk result (Asks (subcommand_rows_of matches.now)) }
-{
+    // each has the arguments that it requires, so none is `Paths` for want of one
     if let Some(run) = matches.subcommand_matches("run") {
-        return run_request(run).ok_or(AllocError);
+        return Ok(run_request(run).unwrap_or(Request::Paths));
     }
     if let Some(audit) = matches.subcommand_matches("audit") {
-        return audit_request(audit).ok_or(AllocError);
+        return Ok(audit_request(audit).unwrap_or(Request::Paths));
     }
     if let Some(serve) = matches.subcommand_matches("serve") {
-        return serve_request(serve).ok_or(AllocError);
+        return Ok(serve_request(serve).unwrap_or(Request::Paths));
     }
     match matches.subcommand_matches("check") {
-        Some(check) => check_request(check).ok_or(AllocError),
+        Some(check) => Ok(check_request(check).unwrap_or(Request::Paths)),
         None => Ok(Request::Paths),
     }
 }

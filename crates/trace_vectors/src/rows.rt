@@ -84,7 +84,8 @@ fn long_texts_are_written(rt: HostRuntime) {
         push_end(&mut out, 1, &Reply::Done(Some(Datum::Text(text)))).expect(&rt, "memory");
         let mut want = Vec::new(alloc);
         want.extend_from_slice(b"end 1 done ").expect(&rt, "memory");
-        want.resize(2 * count + 13, 39).expect(&rt, "memory");
+        want.resize(count.saturating_mul(2).saturating_add(13), 39)
+            .expect(&rt, "memory");
         want.push(b'\n').expect(&rt, "memory");
         assert!(rt; out.as_slice() == want.as_slice());
     }

@@ -1,4 +1,4 @@
-use Rattle.std.proofs.Common.{rules, ◌≡◌, Err, ap, ◌∙◌}
+use Rattle.std.proofs.Common.{rules, Err, ap, ◌∙◌}
 use Rattle.std.specs.Prelude.{IsErrOf}
 use Rattle.value_core.specs.declared.decode.DecodeFault.TheVariants.{Damaged}
 use Rattle.audit_core.specs.Tells.{IsHex}
