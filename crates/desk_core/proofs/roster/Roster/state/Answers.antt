@@ -54,7 +54,7 @@ returns c =
     let entry = place_entry b.history n c.index-place.result.now (omega (arith, c.if-place-eq0.false)) place in
     let at = c.index-place.result.now - 1 in
     let found : c.index.result.now ≡ entry.0 = c.index.ensures ∙ get_or_from_slice_get b.history at entry.0 c.index.result.now entry.1 in
-    let told : c.reply.result.now ≡ entry.0.reply = c.reply.ensures ∙ ap (λ (e : Noted). e.reply) found in (
+    let told : c.reply.result ≡ entry.0.reply = c.reply.ensures ∙ ap (λ (e : Noted). e.reply) found in (
       sym c.waits.ensures ∙ c.if-waits.false,
       sym c.runs.ensures ∙ c.if-runs.false,
       (entry.0, subst (λ (x : Board). Among entry.0 x.history) c.self.view_is (among_at b.history at entry.0 entry.1), entry.2, sym told),
