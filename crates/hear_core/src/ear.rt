@@ -1,11 +1,17 @@
 //! The reading side of a session. One thread has it at a time.
 
+ghost use Rattle.std.specs.Prelude.{◌≡◌, ◌↔◌, [], IsTrue, None, Some, IfOk, IfErr, false};
+ghost use Rattle.session_text.specs.Table.{Takes, TakesLast};
+ghost use Rattle.hear_core.specs.Hearing.{Hearing};
+ghost use Rattle.hear_core.specs.Ears.{IsHeardOf, IsQuit, end_by, end_met, Hears, ReadsOnce, opened_at};
+
 use crate::fault::HearFault;
 use crate::reader::{LineReader, Next};
 use session_text::line::Refusal;
 use session_text::session::{Action, Session};
 use std::alloc::{AllocError, Global};
 use std::io::Read;
+use std::marker::Model;
 
 /// What is heard next.
 #[derive(Drop)]
@@ -33,9 +39,77 @@ pub struct Ear<I: Read + Drop> {
     end: Option<Option<HearFault>>,
 }
 
+impl<I: Read + Drop> Model for Ear<I> {
+    ghost use Rattle.hear_core.specs.Hearing.{Hearing};
+
+    ghost Value = { Hearing };
+
+    ghost view = { λ e. record { lines = e.lines; is_open = e.session.is_open; opened = e.opened; quits = e.quits; end = e.end } };
+}
+
+// What is done for what was fed, or the end where memory was refused.
+fn done(fed: Result<Action, AllocError>) -> Heard
+    ensures done { IfOk fed (λ action. result ≡ Heard.Action action) }
+    ensures refused { IfErr fed (λ e. result ≡ Heard.End (Some HearFault.Memory)) }
+{
+    match fed {
+        Ok(action) => Heard::Action(action),
+        Err(_) => Heard::End(Some(HearFault::Memory)),
+    }
+}
+
+// What is heard where this came next.
+fn heard_of(alloc: Global, session: &Session, next: Option<Next>) -> Heard
+    ensures { IsHeardOf session.now.is_open next result }
+{
+    match next {
+        None => Heard::Nothing,
+        Some(Next::Line(line)) => done(session.feed(alloc, line.as_bytes())),
+        Some(Next::Rest(line)) => done(session.feed_last(alloc, line.as_bytes())),
+        Some(Next::NoText) => Heard::Action(Action::Answer(Refusal::BadLine)),
+        Some(Next::End) => Heard::End(None),
+        Some(Next::LineTooLong) => Heard::LineTooLong,
+        Some(Next::Memory) => Heard::End(Some(HearFault::Memory)),
+    }
+}
+
+// Whether the session is to end, behind its calls.
+fn is_quit(heard: &Heard) -> bool
+    ensures { IsTrue result ↔ IsQuit heard.now }
+{
+    match heard {
+        Heard::Action(Action::Quit) => true,
+        _ => false,
+    }
+}
+
+// How the hearing has ended once this was heard, if it has.
+fn end_of(heard: &Heard) -> Option<Option<HearFault>>
+    ensures { result ≡ end_by heard.now }
+{
+    match heard {
+        Heard::Action(_) => None,
+        Heard::Nothing => None,
+        Heard::LineTooLong => Some(Some(HearFault::LineTooLong)),
+        Heard::End(fault) => Some(*fault),
+    }
+}
+
+// The end that a read brought, or that there was.
+fn met(end: Option<Option<HearFault>>, found: Option<HearFault>) -> Option<Option<HearFault>>
+    ensures { result ≡ end_met end found }
+{
+    match found {
+        Some(fault) => Some(Some(fault)),
+        None => end,
+    }
+}
+
 impl<I: Read + Drop> Ear<I> {
     /// Nothing is heard yet.
-    pub fn new(alloc: Global, reader: I) -> Ear<I> {
+    pub fn new(alloc: Global, reader: I) -> Ear<I>
+        ensures { result ≡ record { lines = record { bytes = []; ended = false; over = false; remaining = I.remaining reader }; is_open = false; opened = None; quits = false; end = None } }
+    {
         Ear {
             lines: LineReader::new(alloc, reader),
             session: Session::new(),
@@ -46,81 +120,54 @@ impl<I: Read + Drop> Ear<I> {
     }
 
     /// The object that is opened, by its place, and the session there.
-    pub fn opened(&self) -> Option<(usize, u32)> {
+    pub fn opened(&self) -> Option<(usize, u32)>
+        ensures { result ≡ self.now.opened }
+    {
         self.opened
     }
 
     /// An object was opened.
-    pub fn set_opened(&mut self, at: usize, session: u32) {
+    pub fn set_opened(&mut self, at: usize, session: u32)
+        ensures { self.new ≡ opened_at (at, session) self.old }
+    {
         self.opened = Some((at, session));
         self.session.opened(true);
     }
 
     /// Nothing more is heard.
-    pub fn end(&mut self, fault: Option<HearFault>) {
+    pub fn end(&mut self, fault: Option<HearFault>)
+        ensures { self.new ≡ record self.old { end = Some fault } }
+    {
         self.end = Some(fault);
     }
 
-    // What a line asks for.
-    fn line(&mut self, alloc: Global, line: &[u8]) -> Heard {
-        let fed = self.session.feed(alloc, line);
-        self.heard(fed)
-    }
-
-    // What stands behind the last line end asks for.
-    fn rest(&mut self, alloc: Global, line: &[u8]) -> Heard {
-        let fed = self.session.feed_last(alloc, line);
-        self.heard(fed)
-    }
-
-    // What is to be done.
-    fn heard(&mut self, fed: Result<Action, AllocError>) -> Heard {
-        match fed {
-            Ok(Action::Quit) => {
-                self.quits = true;
-                Heard::Action(Action::Quit)
-            }
-            Ok(action) => Heard::Action(action),
-            Err(_) => self.ends(Some(HearFault::Memory)),
-        }
-    }
-
-    fn ends(&mut self, fault: Option<HearFault>) -> Heard {
-        self.end(fault);
-        Heard::End(fault)
-    }
-
     /// What is heard next in the bytes that were read.
-    pub fn hear(&mut self, alloc: Global) -> Heard {
+    pub fn hear(&mut self, alloc: Global) -> Heard
+        ensures { Hears self.old result self.new }
+    {
         if let Some(fault) = self.end {
             return Heard::End(fault);
         }
         if self.quits {
-            return if self.lines.has_ended() {
-                self.ends(None)
-            } else {
-                Heard::Nothing
-            };
-        }
-        match self.lines.ready() {
-            None => Heard::Nothing,
-            Some(Next::Line(line)) => self.line(alloc, line.as_bytes()),
-            Some(Next::Rest(line)) => self.rest(alloc, line.as_bytes()),
-            Some(Next::NoText) => Heard::Action(Action::Answer(Refusal::BadLine)),
-            Some(Next::End) => self.ends(None),
-            Some(Next::LineTooLong) => {
-                self.end(Some(HearFault::LineTooLong));
-                Heard::LineTooLong
+            if self.lines.has_ended() {
+                self.end = Some(None);
+                return Heard::End(None);
             }
-            Some(Next::Memory) => self.ends(Some(HearFault::Memory)),
+            return Heard::Nothing;
         }
+        let next = self.lines.ready();
+        let heard = heard_of(alloc, &self.session, next);
+        self.quits = is_quit(&heard);
+        self.end = end_of(&heard);
+        heard
     }
 
     /// Reads once. It may bring nothing.
-    pub fn read(&mut self) {
-        if let Some(fault) = self.lines.read() {
-            self.end(Some(fault));
-        }
+    pub fn read(&mut self)
+        ensures { ReadsOnce self.old self.new }
+    {
+        let found = self.lines.read();
+        self.end = met(self.end, found);
         if self.quits {
             self.lines.skip();
         }

@@ -1,5 +1,9 @@
 //! The reading side of a session, as the first thread has it: in its hands, or lent to the second thread.
 
+ghost use Rattle.std.specs.Prelude.{◌≡◌, None, Some};
+ghost use Rattle.std.specs.Bool.{OnTrue, OnFalse};
+ghost use Rattle.hear_core.specs.Ears.{each, opened_at, HearsIn, ReadsIn};
+
 use crate::bell::Bell;
 use crate::ear::{Ear, Heard};
 use crate::relay::Relay;
@@ -27,7 +31,10 @@ impl<'a, I: Read + Drop> Reading<'a, I> {
         to: Sender<Ear<I>>,
         relay: &'a Relay<I>,
         bell: &'a Bell,
-    ) -> Reading<'a, I> {
+    ) -> Reading<'a, I>
+        ensures ear { result.ear ≡ Some ear }
+        ensures opened { result.opened ≡ None }
+    {
         Reading {
             ear: Some(ear),
             opened: None,
@@ -43,12 +50,17 @@ impl<'a, I: Read + Drop> Reading<'a, I> {
     }
 
     /// The object that is opened, by its place, and the session there.
-    pub fn opened(&self) -> Option<(usize, u32)> {
+    pub fn opened(&self) -> Option<(usize, u32)>
+        ensures { result ≡ self.now.opened }
+    {
         self.opened
     }
 
     /// An object was opened.
-    pub fn set_opened(&mut self, at: usize, session: u32) {
+    pub fn set_opened(&mut self, at: usize, session: u32)
+        ensures opened { self.new.opened ≡ Some (at, session) }
+        ensures ear { self.new.ear ≡ each (opened_at (at, session)) self.old.ear }
+    {
         self.opened = Some((at, session));
         if let Some(ear) = &mut self.ear {
             ear.set_opened(at, session);
@@ -56,7 +68,10 @@ impl<'a, I: Read + Drop> Reading<'a, I> {
     }
 
     /// What is heard next, where it is not lent.
-    pub fn hear(&mut self, alloc: Global) -> Option<Heard> {
+    pub fn hear(&mut self, alloc: Global) -> Option<Heard>
+        ensures heard { HearsIn self.old.ear result self.new.ear }
+        ensures opened { self.new.opened ≡ self.old.opened }
+    {
         match &mut self.ear {
             Some(ear) => Some(ear.hear(alloc)),
             None => None,
@@ -64,14 +79,21 @@ impl<'a, I: Read + Drop> Reading<'a, I> {
     }
 
     /// Reads once, where it is not lent.
-    pub fn read(&mut self) {
+    pub fn read(&mut self)
+        ensures read { ReadsIn self.old.ear self.new.ear }
+        ensures opened { self.new.opened ≡ self.old.opened }
+    {
         if let Some(ear) = &mut self.ear {
             ear.read();
         }
     }
 
     /// Lends it to the second thread, where that runs. It answers whether the second thread has it.
-    pub fn lend<R: Wait>(&mut self, rt: &R) -> bool {
+    pub fn lend<R: Wait>(&mut self, rt: &R) -> bool
+        ensures lent { OnTrue result (self.new.ear ≡ None) }
+        ensures kept { OnFalse result (self.new.ear ≡ self.old.ear) }
+        ensures opened { self.new.opened ≡ self.old.opened }
+    {
         if !self.relay.is_there(rt) {
             return false;
         }
@@ -93,7 +115,9 @@ impl<'a, I: Read + Drop> Reading<'a, I> {
     }
 
     /// Waits until the second thread hands something over or gives the reading side back.
-    pub fn await_ear<R: Wait>(&mut self, rt: &R) {
+    pub fn await_ear<R: Wait>(&mut self, rt: &R)
+        ensures { self.new.opened ≡ self.old.opened }
+    {
         self.ear = self.relay.await_ear(rt);
     }
 

@@ -1,5 +1,8 @@
 //! What the second thread of a session hands to the first.
 
+ghost use Rattle.std.specs.Prelude.{◌≡◌, ◌↔◌, [], IsTrue, None, Some, true, false};
+ghost use Rattle.hear_core.specs.Handing.{IsWanted, IsReady, Passes, TakesEar};
+
 use crate::ear::Ear;
 use session_text::session::Action;
 use std::alloc::Global;
@@ -22,6 +25,63 @@ struct Pending<I: Read + Drop> {
     is_there: bool,
 }
 
+impl<I: Read + Drop> Pending<I> {
+    // Nothing was heard.
+    fn new(alloc: Global) -> Pending<I>
+        ensures actions { result.actions.items ≡ [] }
+        ensures ear { result.ear ≡ None }
+        ensures flags { (result.is_idle ≡ false) × (result.is_over ≡ false) × (result.is_there ≡ false) }
+    {
+        Pending {
+            actions: Vec::new(alloc),
+            ear: None,
+            is_idle: false,
+            is_over: false,
+            is_there: false,
+        }
+    }
+
+    // Whether the first thread wants the reading side.
+    fn is_wanted(&self) -> bool
+        ensures { IsTrue result ↔ IsWanted self.now.is_over self.now.is_idle self.now.actions.items }
+    {
+        self.is_over || self.is_idle && self.actions.is_empty()
+    }
+
+    // Whether the first thread has something to do or to take.
+    fn is_ready(&self) -> bool
+        ensures { IsTrue result ↔ IsReady self.now.actions.items self.now.ear }
+    {
+        !self.actions.is_empty() || self.ear.is_some()
+    }
+
+    // Adds what was heard behind all that was heard before it. Without memory it answers false, and nothing is added.
+    fn pass(&mut self, action: Action) -> bool
+        ensures { Passes self.old.actions.items action result self.new.actions.items }
+    {
+        self.actions.push(action).is_ok()
+    }
+
+    // Takes all that was heard, in order.
+    fn take(&mut self, alloc: Global) -> Vec<Action>
+        ensures taken { result.items ≡ self.old.actions.items }
+        ensures left { self.new.actions.items ≡ [] }
+    {
+        mem::replace(&mut self.actions, Vec::new(alloc))
+    }
+
+    // Takes the reading side, where it was given back and nothing is to be done before.
+    fn take_ear(&mut self) -> Option<Ear<I>>
+        ensures { TakesEar self.old.actions.items self.old.ear result self.new.ear }
+    {
+        if self.actions.is_empty() {
+            self.ear.take()
+        } else {
+            None
+        }
+    }
+}
+
 /// What the second thread heard, and the reading side once it gives it back.
 #[derive(Drop)]
 pub struct Relay<I: Read + Drop> {
@@ -33,13 +93,7 @@ impl<I: Read + Drop> Relay<I> {
     /// Nothing was heard.
     pub fn new(alloc: Global) -> Relay<I> {
         Relay {
-            pending: Mutex::new(Pending {
-                actions: Vec::new(alloc),
-                ear: None,
-                is_idle: false,
-                is_over: false,
-                is_there: false,
-            }),
+            pending: Mutex::new(Pending::new(alloc)),
             came: Condvar::new(),
         }
     }
@@ -56,13 +110,12 @@ impl<I: Read + Drop> Relay<I> {
 
     /// Whether the first thread wants the reading side: it has nothing else to do, or it has ended.
     pub fn is_wanted<R: Wait>(&self, rt: &R) -> bool {
-        let pending = self.pending.lock(rt);
-        pending.is_over || pending.is_idle && pending.actions.is_empty()
+        self.pending.lock(rt).is_wanted()
     }
 
     /// Hands something over that the first thread is to do. Without memory it answers false.
     pub fn pass<R: Wait>(&self, rt: &R, action: Action) -> bool {
-        if self.pending.lock(rt).actions.push(action).is_err() {
+        if !self.pending.lock(rt).pass(action) {
             return false;
         }
         self.came.notify_all();
@@ -77,7 +130,7 @@ impl<I: Read + Drop> Relay<I> {
 
     /// What is to be done, in the order of the lines.
     pub fn taken<R: Wait>(&self, rt: &R, alloc: Global) -> Vec<Action> {
-        mem::replace(&mut self.pending.lock(rt).actions, Vec::new(alloc))
+        self.pending.lock(rt).take(alloc)
     }
 
     /// Waits until there is something to be done, or else the reading side, which it takes.
@@ -85,17 +138,13 @@ impl<I: Read + Drop> Relay<I> {
         let mut pending = self.pending.lock(rt);
         pending.is_idle = true;
         for _ in rt.forever() {
-            if !pending.actions.is_empty() || pending.ear.is_some() {
+            if pending.is_ready() {
                 break;
             }
             pending = self.came.wait(rt, pending);
         }
         pending.is_idle = false;
-        if pending.actions.is_empty() {
-            pending.ear.take()
-        } else {
-            None
-        }
+        pending.take_ear()
     }
 
     /// The first thread does nothing more.

@@ -49,5 +49,7 @@ staged_is_sequential s staged =
       once = once_each s.desk.calls s.desk.history kept.sound.told.noted kept.sound.told.in_order;
       in_order = kept.sound.told.in_order;
       ends = kept.sound.told.ends;
+      noted = kept.sound.told.noted;
+      trace = kept.sound.counted.trace;
       paths = kept.sound.counted.satisfied;
     }

@@ -1,5 +1,6 @@
 -- The main theorem of worlds.
 use Rattle.std.specs.Prelude.{◌≡◌, ◌≢◌, ◌<◌, List, map}
+use Rattle.path_tree.specs.Trace.{IsTrace}
 use Rattle.path_tree.specs.Satisfies.{SatisfiesAll}
 use Rattle.decl_core.specs.declared.object.Object.{Object}
 use Rattle.hand_core.specs.Device.{Assignment}
@@ -10,7 +11,7 @@ use Rattle.board_core.specs.Lists.{Every, EachPair}
 use Rattle.board_core.specs.Calls.{Noted}
 use Rattle.board_core.specs.Board.{paths_of, past_of, Rests}
 use Rattle.board_core.specs.Chain.{history_of, ShowContents}
-use Rattle.board_core.specs.Sound.{kinds_of, ends_of}
+use Rattle.board_core.specs.Sound.{kinds_of, ends_of, IsNoted}
 use Rattle.world_core.specs.declared.event.EventAnswer.{EventAnswer}
 use Rattle.world_core.specs.Events.{WorldEvent}
 use Rattle.world_core.specs.Scene.{Scene, AgreesWith, IsNew}
@@ -27,6 +28,10 @@ pub record IsSequential (w : Scene) : Type 0 where
   pub once : EachPair (λ (e f : Noted). e.number ≢ f.number) w.board.history
   pub in_order : EachPair (λ (e f : Noted). e.session ≡ f.session → e.number < f.number) w.board.history
   pub ends : ends_of w.board.trace ≡ map (λ (e : Noted). (e.number, e.reply)) w.board.history
+  -- each is of the call that was accepted under its number: its session, its operation and its arguments
+  pub noted : Every (IsNoted w.board.calls) w.board.history
+  -- what happened is a trace: each call starts once at most, and ends once at most, after its start
+  pub trace : IsTrace (past_of w.board)
   -- every prefix of starts and finishes satisfies every path
   pub paths : SatisfiesAll (paths_of w.board) (past_of w.board)
 

@@ -1,0 +1,5 @@
+pub mod Lines
+pub mod Told
+pub mod Hearing
+pub mod Ears
+pub mod Handing
