@@ -10,6 +10,8 @@ ESCAPES = {"n": b"\n", "r": b"\r", "t": b"\t", "\\": b"\\", "^": b"^", "|": b"|"
 PIECE = re.compile(r"(\d+)(\+?)\*")
 # A count that stands where none counts: not at the beginning of a piece, and its sign not escaped.
 MISPLACED = re.compile(r"\d+\+?\*")
+# Signs that stand for themselves, wherever they are.
+PLAIN = re.compile(r"[^\\^#]+")
 BLOCK = re.compile(r"(\w+) block (\d+) of (\S+)")
 REPORT = re.compile(rb"(?:.*\n)*\d+ objects, (\d+) refused\n\Z")
 FAULT = re.compile(rb"(?:lex|path|decl) \d+ [A-Za-z]+(?: at \d+)?\n\Z")
@@ -108,6 +110,9 @@ def read_text(raw, place=None, more=0):
             if count := MISPLACED.search(body):
                 said = f"{count[0]!r} counts at the beginning of a piece only: write |{count[0]} or {count[0][:-1]}\\*"
                 raise BadCase(f"{line!r}: {said}")
+            if PLAIN.fullmatch(body):
+                out += body.encode() * times
+                continue
             for number in range(times):
                 mark = add_piece(out, body, number if found else None, place, mark)
         if has_end:
@@ -123,6 +128,10 @@ def ends_open(line):
 def add_piece(out, body, number, place, mark):
     at = 0
     while at < len(body):
+        if plain := PLAIN.match(body, at):
+            out += plain[0].encode()
+            at = plain.end()
+            continue
         sign = body[at]
         if sign == "\\":
             byte, at = unescaped(body, at)
