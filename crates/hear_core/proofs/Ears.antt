@@ -1,9 +1,15 @@
 -- What is heard.
-use Rattle.std.proofs.Common.{◌≡◌, ◌∙◌, sym, ap, inr, Bool, true, false, Option, None}
-use Rattle.std.specs.Prelude.{IsTrue, ◌↔◌, [], ℕ}
+use Rattle.std.proofs.Common.{◌≡◌, ◌∙◌, refl, sym, ap, subst, inr, Bool, true, false, Option, Some, None, Result, Ok, Err, String, Global}
+use Rattle.std.specs.Prelude.{IsTrue, IfOk, IfErr, ◌↔◌, List, [], ℕ, string_bytes}
+use Rattle.std.specs.declared.alloc.AllocError.{AllocError}
+use Rattle.session_text.specs.Table.{Takes, TakesLast}
+use Rattle.session_text.specs.declared.session.Action.{Action}
 use Rattle.hear_core.specs.declared.fault.HearFault.{HearFault}
 use Rattle.hear_core.specs.declared.reader.Next.{Next}
 use Rattle.hear_core.specs.declared.ear.Heard.{Heard}
+use Rattle.hear_core.specs.declared.fault.HearFault.TheVariants as faults
+use Rattle.hear_core.specs.declared.reader.Next.TheVariants as nexts
+use Rattle.hear_core.specs.declared.ear.Heard.TheVariants as heards
 use Rattle.hear_core.specs.Lines.{Unread, Tells, Brings}
 use Rattle.hear_core.specs.Ears.{IsHeardOf, IsQuit, end_by, Hears, ReadsOnce, end_met, let_go}
 
@@ -26,3 +32,20 @@ pub read_on : (lines now : Unread) (is_open : Bool) (opened : Option (ℕ × ℕ
     → ReadsOnce (record { lines = lines; is_open = is_open; opened = opened; quits = quits; end = end }) (record { lines = now; is_open = is_open; opened = opened; quits = quits; end = left })
 read_on lines now is_open opened quits end left found before brings is =
     (found, now, brings, λ k. record { lines = ap (λ b. let_go b now) (sym before) k; is_open = is_open; opened = opened; quits = quits; end = is k })
+
+-- what was fed is done, or memory was refused
+pub heard_line : (is_open : Bool) (text : String Global) (bytes : List ℕ) (next : Option Next) (fed : Result Action AllocError) (heard : Heard)
+    → next ≡ Some (nexts.Line text) → bytes ≡ string_bytes text → IfOk fed (Takes is_open bytes) → IfOk fed (λ a. heard ≡ heards.Action a) → IfErr fed (λ e. heard ≡ heards.End (Some faults.Memory))
+    → IsHeardOf is_open next heard
+heard_line is_open text bytes next (Ok a) heard at same takes done none =
+    subst (λ (n : Option Next). IsHeardOf is_open n heard) (sym at) (subst (IsHeardOf is_open (Some (nexts.Line text))) (sym done) (subst (λ (b : List ℕ). Takes is_open b a) same takes))
+heard_line is_open text bytes next (Err e) heard at same takes done none =
+    subst (λ (n : Option Next). IsHeardOf is_open n heard) (sym at) (subst (IsHeardOf is_open (Some (nexts.Line text))) (sym none) refl)
+
+pub heard_rest : (is_open : Bool) (text : String Global) (bytes : List ℕ) (next : Option Next) (fed : Result Action AllocError) (heard : Heard)
+    → next ≡ Some (nexts.Rest text) → bytes ≡ string_bytes text → IfOk fed (TakesLast is_open bytes) → IfOk fed (λ a. heard ≡ heards.Action a) → IfErr fed (λ e. heard ≡ heards.End (Some faults.Memory))
+    → IsHeardOf is_open next heard
+heard_rest is_open text bytes next (Ok a) heard at same takes done none =
+    subst (λ (n : Option Next). IsHeardOf is_open n heard) (sym at) (subst (IsHeardOf is_open (Some (nexts.Rest text))) (sym done) (subst (λ (b : List ℕ). TakesLast is_open b a) same takes))
+heard_rest is_open text bytes next (Err e) heard at same takes done none =
+    subst (λ (n : Option Next). IsHeardOf is_open n heard) (sym at) (subst (IsHeardOf is_open (Some (nexts.Rest text))) (sym none) refl)
