@@ -55,7 +55,9 @@ pub fn explained<E: Write>(
     ended
 }
 
-/// The same for a script with this head: of its object alone, and nothing where it names none.
+/// Hands on what a script ended with, which no explanation changes. Where it refused something, and the name of the
+/// source's file is given, `error` gets first why the object is refused that this head names, or the fault of the
+/// source; where it names none, nothing. Want of memory, and a write that fails, end the explanation alone.
 pub fn explained_script<E: Write>(
     alloc: Global,
     ended: Result<u8, Failure>,
@@ -73,7 +75,9 @@ pub fn explained_script<E: Write>(
     }
 }
 
-/// The same for what was read of a script, unless that is not asked for: of the line that ended it.
+/// Hands on what a script ended with, which no explanation changes. Where it refused something, and what was read of
+/// the script is given, `error` gets first what is wrong with the line that ended it. Want of memory, and a write that
+/// fails, end the explanation alone.
 pub fn explained_run<E: Write>(
     alloc: Global,
     ended: Result<u8, Failure>,
@@ -107,7 +111,9 @@ fn push_trace<E: Write>(
     push_text(explain_trace(alloc, files, source, text), error);
 }
 
-/// The same for what was read of a trace, unless that is not asked for: of its object, and of its first faulty line.
+/// Hands on what an audit ended with, which no explanation changes. Where it refused something, and what was read of
+/// the trace is given, `error` gets first why the trace's object is refused, and what is wrong with its first faulty
+/// line. Want of memory, and a write that fails, end the explanation alone.
 pub fn explained_audit<E: Write>(
     alloc: Global,
     ended: Result<u8, Failure>,

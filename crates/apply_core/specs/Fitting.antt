@@ -43,7 +43,7 @@ abbrev mutual
   TextsFit kinds (literal bytes) = Unit {0}
   TextsFit kinds (text_from s) = FromFits kinds s
 
--- the same of the terms of a sum
+-- a term of a sum asks of the kinds of the parts what its integer asks of them
 abbrev pub SignedFits : List Kind → Signed → Type 0
 SignedFits kinds (signs.Plus e) = IntegersFit kinds (integers_of e)
 SignedFits kinds (signs.Minus e) = IntegersFit kinds (integers_of e)

@@ -32,7 +32,7 @@ abbrev pub Submits : Board → Asked → Result ℕ SubmitFault → Board → Ty
 Submits b a (Ok n) after = (n ≡ length b.calls + 1) × ((call : AcceptedCall) × IsTaken b a call × Settles (joined b call) after)
 Submits b a (Err fault) after = IsRefused b a fault × (after ≡ b)
 
--- the same as the answer to a call under the next key
+-- what a submission answers, told as the answer to a call under the next key
 abbrev pub as_keyed : Result ℕ SubmitFault → Result Keyed KeyedFault
 as_keyed (Ok n) = Ok (New n)
 as_keyed (Err faults.Gone) = Err Gone

@@ -30,7 +30,7 @@ pub fn is_right(
     is_given(alloc, object, running, told, parts)
 }
 
-// The same of a reply that is no failure.
+// Whether a reply that is no failure is the sequential object's; the parts are those after it then.
 fn is_given(
     alloc: Global,
     object: &Object,

@@ -131,7 +131,7 @@ impl Entry {
         self.reply.reply()
     }
 
-    /// The same, where it lies.
+    /// What the call replied, where it is kept.
     pub fn kept_reply(&self) -> &Short
         ensures { result.now ≡ self.now.reply }
     {

@@ -8,7 +8,7 @@ pub data IsSeries {S : Type 0} (IsItem : S → List Lexeme → S → List Lexeme
   no_more : {left : ℕ} {s : S} {ws : List Lexeme} → begins ws ≡ false → IsSeries IsItem begins left s ws s ws
   and_another : {left : ℕ} {s t u : S} {ws vs rest : List Lexeme} → begins ws ≡ true → IsItem s ws t vs → IsSeries IsItem begins left t vs u rest → IsSeries IsItem begins (suc left) s ws u rest
 
--- the same, read from left to right, where another begins or not
+-- items one after the other, at most so many, read from left to right, where another begins or not
 unfoldable pub series_by : {S : Type 0} → (S → Reader S) → (List Lexeme → Bool) → ℕ → S → List Lexeme → Bool → Option (S × List Lexeme)
 series_by item begins left s ws false = Some (s, ws)
 series_by item begins zero s ws true = None

@@ -224,7 +224,8 @@ impl PagePlan {
         &self.writes[self.sealed.len()]
     }
 
-    /// The same plan, with the file that was sealed for the next page. It takes no memory.
+    /// The plan once the page that is written next is sealed in this file: the file stands at that page's place, and is
+    /// the last of those that were sealed. It takes no memory.
     pub fn with(self, stamp: Stamp) -> PagePlan
         requires { length self.sealed.items < length self.writes.items }
         ensures counts { result.counts ≡ self.counts }

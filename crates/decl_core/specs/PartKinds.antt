@@ -9,7 +9,7 @@ use Rattle.decl_core.specs.KindOnce.{kind_set}
 abbrev pub AreKindsOf : List Kind → List (Option Kind) → Type 0
 AreKindsOf kinds known = (p : ℕ) (kind : Kind) → slice_get known p ≡ Some (Some kind) → slice_get kinds p ≡ Some kind
 
--- the same of what each operation knows
+-- what each operation knows of kinds is true of the parts
 abbrev pub EachKindsOf : List Kind → List (List (Option Kind)) → Type 0
 EachKindsOf kinds [] = Unit {0}
 EachKindsOf kinds (known ∷ others) = AreKindsOf kinds known × EachKindsOf kinds others

@@ -69,12 +69,12 @@ abbrev mutual
   statements_of end_of-Stmt = nothing
   statements_of (more_of-Stmt s rest) = first_and (statement_of s) (statements_of rest)
 
--- the same of a list of terms
+-- the sum of a first integer and a list of terms
 abbrev pub total_of_list : Integers → List Signed → Integers
 total_of_list first [] = first
 total_of_list first (s ∷ rest) = total_of_list (with_term first s) rest
 
--- the same of a list of statements
+-- the statements of a list, in order
 abbrev pub all_of : List Stmt → Statements
 all_of [] = nothing
 all_of (s ∷ rest) = first_and (statement_of s) (all_of rest)

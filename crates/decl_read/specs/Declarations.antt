@@ -129,7 +129,7 @@ names_before constants parts before = record { constants = constants; params = [
 abbrev pub names_within : List (List ℕ × ℕ) → List (List ℕ × Kind) → List OperationForm → List ℕ → Names
 names_within constants parts before own = record { constants = constants; params = []; parts = parts; operations = own ∷ operation_names before; function = None }
 
--- the same in the body of a function
+-- the names declared in the body of a function: that of its result too
 abbrev pub names_in_function : Names → List ℕ → Elem → Names
 names_in_function names own e = record names { function = Some (own, e) }
 

@@ -11,7 +11,7 @@ use Rattle.decl_core.specs.ObjectForm.{OperationForm, ObjectForm}
 use Rattle.decl_read.specs.Declarations.{begins, IsConsts, IsPathItem, IsVar, IsEntry, IsFile}
 use Rattle.body_read.specs.Scopes.{operation_names}
 
--- The same object of the grammar, but that its paths may use the names of its operations.
+-- An object of the grammar, but that its paths may use the names of its operations.
 pub data IsObjectByOperations : List Lexeme → ObjectForm → List Lexeme → Type 0 where
   object_by : {bytes : List ℕ} {constants : List (List ℕ × ℕ)} {paths : List Path} {parts : List (List ℕ × Kind)} {operations : List OperationForm} {ws us vs ys rest : List Lexeme} →
       IsSeries IsConsts (begins symbols.Const) 16 [] ws constants us →

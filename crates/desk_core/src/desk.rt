@@ -106,7 +106,11 @@ impl Desk {
         }
     }
 
-    /// The same, and hands out the call beside its number, shared.
+    /// Takes a call of a session, of the operation of this name, in any case, as [`Desk::submit`], and hands out the
+    /// call beside its number, shared.
+    ///
+    /// The errors, of which the first that applies is told, are those of [`SubmitFault`]; a refused submission takes no
+    /// number and changes nothing. All the memory that the call will need is taken here.
     pub fn submit_and_share(
         &mut self,
         session: u32,
@@ -241,9 +245,10 @@ impl Desk {
         }
     }
 
-    /// The same of an outcome that stays where it lies, since to hand one in and out moves a kilobyte each time. What its
-    /// entry and its receipt keep is taken out of it; what it tells of its call stays. It answers what a receipt has
-    /// beside it, or `None` where it is a stranger, and nothing is changed.
+    /// Takes the outcome of a call that runs here, as [`Desk::finish`], but leaves it where it lies, since to hand one
+    /// in and out moves a kilobyte each time. What its entry and its receipt keep is taken out of it; what it tells of
+    /// its call stays. It answers what a receipt has beside it, or `None` where it is a stranger, and nothing is
+    /// changed.
     pub fn finish_in_place(&mut self, outcome: &mut Outcome) -> Option<Finished>
         ensures board { IfSome result (λ f. Finishes self.old outcome.old (receipt_by f outcome.new) self.new) }
         ensures stranger { IfNone result ((self.new ≡ self.old) × (outcome.new ≡ outcome.old) × IsStranger self.old outcome.old) }

@@ -101,7 +101,7 @@ fn a_failed_call_frees_what_it_sealed(rt: HostRuntime) {
     );
 }
 
-/// The same with parts of five pages.
+/// An object with two parts of five pages each, of which one operation has both.
 const WIDE_PAIR: Bytes = b"object pair;
   path 1:([see], left, both) end;
   path 1:(right, both) end;
@@ -126,7 +126,8 @@ fn are_freed_once(alloc: Global, desk: &mut Desk, hand: &mut MemHand, rows: &[Ro
     true
 }
 
-// The same of two parts that have one list of pages, of these bytes.
+// Whether the files of two parts that have one list of pages, of these bytes, are freed when the second part has them
+// no more, or at once where one call replaces both.
 fn is_freed_once(rt: &impl Abort, alloc: Global, text: Bytes, bytes: &[u8], rows: &[Row]) -> bool {
     assert!(rt; 0 < bytes.len() && bytes.len() <= 5_000);
     let mut hand = MemHand::new(alloc);

@@ -24,7 +24,7 @@ pub const ZERO: Bytes = b"\x02\x01\x00\x01\x00\x00\x00\x00";
 
 pub const SEVEN: Bytes = b"\x02\x01\x00\x01\x00\x00\x00\x07";
 
-/// The same in the first format.
+/// The arrays `[0]` and `[7]` in the first format.
 pub const FIRST_ZERO: Bytes = b"\x01\x01\x00\x01\x00\x00\x00\x00";
 
 pub const FIRST_SEVEN: Bytes = b"\x01\x01\x00\x01\x00\x00\x00\x07";

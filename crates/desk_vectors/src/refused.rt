@@ -33,7 +33,7 @@ fn cell(alloc: Global) -> Option<Accepted> {
     None
 }
 
-// The same, where there is memory for it at the first or at the second try.
+// The cell, accepted, where there is memory for it at the first or at the second try.
 pub fn cell_twice(rt: &impl Abort, alloc: Global) -> Accepted {
     match cell(alloc) {
         Some(cell) => cell,

@@ -21,7 +21,7 @@ fn put(alloc: Global, desk: &mut Desk, hand: &mut MemHand, value: u32) -> Option
     receipt_of(alloc, desk, hand, "put", &[Datum::Integer(value)])
 }
 
-// The same, over a desk and a hand that are handed in and given back.
+// Session 1 puts 7, by a call from beginning to end, over a desk and a hand that are handed in and given back.
 fn driven(alloc: Global, mut desk: Desk, mut hand: MemHand) -> (Desk, MemHand, Option<Receipt>) {
     let receipt = put(alloc, &mut desk, &mut hand, 7);
     (desk, hand, receipt)

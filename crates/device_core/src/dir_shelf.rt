@@ -56,7 +56,7 @@ impl<R: Files + AllocGlobal + Drop> DirShelf<R> {
         DirShelf::of(rt, folder, Kept::Parts)
     }
 
-    /// The same of parts or of traces.
+    /// A shelf of parts or of traces on this folder, which has to be there. It touches no file yet.
     pub fn of(rt: R, folder: &str, kept: Kept) -> Result<DirShelf<R>, AllocError>
         ensures { IfOk result (λ shelf. shelf.failures ≡ 0) }
     {

@@ -35,7 +35,7 @@ pub record IsCertificate (o : ObjectForm) (entries : List Entry) : Type 0 where
   pub sound : Each (IsSound o) entries
   pub all : (i j : ℕ) → i ≤ j → Conflicts o i j → HasPair i j entries
 
--- the same, each entry with the first path and in it the first node that separates
+-- a certificate each of whose entries has the first path and in it the first node that separates
 pub record IsFirstCertificate (o : ObjectForm) (entries : List Entry) : Type 0 where
   pub certificate : IsCertificate o entries
   pub first : Each (IsOfFirst o) entries

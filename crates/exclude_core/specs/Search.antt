@@ -21,7 +21,7 @@ abbrev mutual
   some_meets (two e f) a b = meets e a b || (meets f a b || stand_apart (names e) (names f) a b)
   some_meets (more e rest) a b = meets e a b || (some_meets rest a b || stand_apart (names e) (some_names rest) a b)
 
--- the same node, so many nodes further on
+-- the number of a node where so many nodes more are counted before it
 abbrev pub further : ℕ → Option ℕ → Option ℕ
 further n None = None
 further n (Some k) = Some (n + k)
@@ -53,7 +53,8 @@ abbrev mutual
   separates_at (bound n e) k a b = if k == 0 then (n == 1) && meets e a b else separates_at e (k - 1) a b
   separates_at (burst e) k a b = nat_lt 0 k && separates_at e (k - 1) a b
 
-  -- the same of some members, where the first node of the first member has number 0
+  -- whether the node of this number of some members separates two operations, where the first node of the first one has
+  -- number 0
   pub one_separates_at : Paths → ℕ → ℕ → ℕ → Bool
   one_separates_at (two e f) k a b = if nat_lt k (node_count e) then separates_at e k a b else separates_at f (k - node_count e) a b
   one_separates_at (more e rest) k a b = if nat_lt k (node_count e) then separates_at e k a b else one_separates_at rest (k - node_count e) a b

@@ -13,7 +13,7 @@ mutual
     in_bound : {n : ℕ} {e : Path} {k : ℕ} {node : Path} → IsNodeAt e k node → IsNodeAt (bound n e) (suc k) node
     in_burst : {e : Path} {k : ℕ} {node : Path} → IsNodeAt e k node → IsNodeAt (burst e) (suc k) node
 
-  -- the same of some members, where the first node of the first member has number 0
+  -- the node of this number in some members is this tree, where the first node of the first member has number 0
   pub data IsNodeAmong : Paths → ℕ → Path → Type 0 where
     in_last_but_one : {a b : Path} {k : ℕ} {node : Path} → IsNodeAt a k node → IsNodeAmong (two a b) k node
     in_last : {a b : Path} {k : ℕ} {node : Path} → IsNodeAt b k node → IsNodeAmong (two a b) (node_count a + k) node

@@ -92,7 +92,8 @@ fn separates(e: &Node, node: usize, first: usize, second: usize) -> bool
     }
 }
 
-// The same of members, where the first node of the first member has number 0.
+// Whether the node of this number of some members separates two operations. The first node of the first member has
+// number 0.
 #[cycle(separates)]
 fn one_separates(members: &Members, node: usize, first: usize, second: usize) -> bool
     requires { count_of_all (paths_of members.now) < 2 ^ 64 }

@@ -23,7 +23,7 @@ pub struct Found {
     pub nodes: usize,
 }
 
-// The same node, so many nodes further on.
+// The number of a node where so many nodes more are counted before it.
 fn further(nodes: usize, at: Option<usize>) -> Option<usize>
     requires { IfSome at (λ k. nodes + k < 2 ^ 64) }
     ensures { result ≡ further_on nodes at }
@@ -101,7 +101,8 @@ fn around(inner: Found) -> Found
     }
 }
 
-// The same where the node is a bound.
+// What is found in a bound with this limit around what was found: with limit 1 it separates two operations that meet
+// openly in it.
 fn bounded(limit: u16, inner: Found) -> Found
     requires few { 1 + inner.nodes < 2 ^ 64 }
     requires inner_within { IfSome inner.at (λ k. k < inner.nodes) }
@@ -119,7 +120,7 @@ fn bounded(limit: u16, inner: Found) -> Found
     found
 }
 
-// The same where the node is a burst.
+// What is found in a burst around what was found: in it no two operations meet openly.
 fn burst(inner: Found) -> Found
     requires few { 1 + inner.nodes < 2 ^ 64 }
     requires inner_within { IfSome inner.at (λ k. k < inner.nodes) }

@@ -87,7 +87,7 @@ fn with_opening(object: &[Token], path: &[Token], number: usize, so_far: Around)
     }
 }
 
-// The same for a bound.
+// What is known of what stands around, with a bound of this limit, which stands at the token of this number.
 fn bounded(limit: u32, number: usize, so_far: Around) -> Around {
     if limit == 1 {
         return Around::One;

@@ -45,7 +45,7 @@ end_by heards.Nothing = None
 end_by heards.LineTooLong = Some (Some faults.LineTooLong)
 end_by (heards.End fault) = Some fault
 
--- the same for what is heard behind `quit`: nothing until the input ends
+-- what is heard behind `quit`: nothing until the input ends, and then that end
 abbrev pub IsHushed : Bool → Heard → Type 0
 IsHushed true heard = heard ≡ heards.End None
 IsHushed false heard = heard ≡ heards.Nothing
@@ -77,7 +77,7 @@ ReadsOnce s t = (found : Option HearFault) × (lines : Unread) × Brings s.lines
 abbrev pub opened_at : ℕ × ℕ → Hearing → Hearing
 opened_at at s = record s { is_open = true; opened = Some at }
 
--- the same where the first thread has the reading side, and nothing where it has not
+-- a change of what is heard where the first thread has the reading side, and nothing where it has not
 abbrev pub each : (Hearing → Hearing) → Option Hearing → Option Hearing
 each f None = None
 each f (Some s) = Some (f s)

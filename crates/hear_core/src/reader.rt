@@ -124,7 +124,7 @@ fn next_line(codec: &mut LinesCodec, buffer: &mut BytesMut) -> Option<Next>
     }
 }
 
-// The same, where the input ended with them.
+// What comes next in these bytes, where the input ended with them.
 fn last_line(codec: &mut LinesCodec, buffer: &mut BytesMut) -> Option<Next>
     requires { Resumes gives_lines (at_line_start 4096) buffer.old.items codec.old buffer.old.items }
     ensures found { Finds true buffer.old.items result buffer.new.items }

@@ -20,7 +20,8 @@ pub record AreNewPages (pages : ℕ → Bool) (filled bytes before after : List 
   pub stays : (k : ℕ) → pages k ≡ false → page_at k bytes ≡ page_at k filled
   pub stays_whole : (k : ℕ) → pages k ≡ false → page_at k after ≡ page_at k before
 
--- the same of a part of any kind: what is no array of integers is known as a whole
+-- Two pairs of bytes of a part of any kind, before and after a body: of an array of integers by its pages. What is no
+-- such array is known as a whole, so what was read of it and the whole are the same afterwards.
 abbrev pub AreNewAs : Kind → (ℕ → Bool) → (filled bytes before after : List ℕ) → Type 0
 AreNewAs (kind.Array n elem.Integer) pages filled bytes before after = AreNewPages pages filled bytes before after
 AreNewAs (kind.Array n elem.Text) pages filled bytes before after = after ≡ bytes

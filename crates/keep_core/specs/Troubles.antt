@@ -14,7 +14,7 @@ abbrev pub fault_in : Result (Unit {0}) LinesFault → Option LinesFault
 fault_in (Ok done) = None
 fault_in (Err fault) = Some fault
 
--- the same where only memory can be refused
+-- the fault of a result where only memory can be refused
 abbrev pub memory_in : Result (Unit {0}) AllocError → Option LinesFault
 memory_in (Ok done) = None
 memory_in (Err fault) = Some Memory

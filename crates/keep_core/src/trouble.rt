@@ -61,7 +61,7 @@ impl Trouble {
         }
     }
 
-    /// The same where only memory can be refused.
+    /// Notes that memory was refused, if the result tells so.
     pub fn heed_memory(&mut self, met: Result<(), AllocError>)
         ensures fault { self.new.fault ≡ first_of self.old.fault (memory_in met) }
         ensures refused { self.new.refused ≡ self.old.refused }

@@ -43,7 +43,7 @@ fn push_next<'a>(all: &mut Vec<Datum>, line: &'a [u8]) -> Result<Option<&'a [u8]
     }
 }
 
-// The same of a line whose first word does not stand bare.
+// Adds the datum at the front of a line whose first word does not stand bare, and gives what stands behind it.
 fn push_quoted<'a>(all: &mut Vec<Datum>, line: &'a [u8]) -> Result<Option<&'a [u8]>, AllocError>
     ensures { IfOk result (λ found. Adds line.now all.old.items found all.new.items) }
 {

@@ -32,7 +32,8 @@ ReceiptsAreLegal = (a : Assignment) (b : Board) (receipts : List Receipt) (conte
 abbrev pub HaveSlips : List Noted → List Told → Type 0
 HaveSlips history slips = (k : ℕ) (e : Noted) → slice_get history k ≡ Some e → (t : Told) × Among t slips × (t.place ≡ k + 1)
 
--- The same by slips.
+-- Where each entry of a desk has a slip, and each slip tells of the entry at its place and is true, the history is
+-- legal, and it leads to what the published pins spell.
 abbrev pub SlipsAreLegal : Type 0
 SlipsAreLegal = (a : Assignment) (b : Board) (slips : List Told) (contents : List Contents) →
     IsSound b → Every (StandsIn b.history) slips → HaveSlips b.history slips → Every (IsTrueTold a) slips → ShowContents a (kinds_of b.object) b.opening contents →

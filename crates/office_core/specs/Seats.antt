@@ -19,7 +19,8 @@ Receives old o (Ok r) new = TellsSame o r.noted.outcome × (old.seen < r.place) 
 Receives old o (Err (Front seen found back)) new = (seen ≡ old.seen) × (found ≤ seen) × (back ≡ o) × (new ≡ old)
 Receives old o (Err (Stranger back)) new = (back ≡ o) × (new ≡ old)
 
--- The same of an outcome that stays where it lies: it then tells the same, or is as it was.
+-- What a `complete_in_place` tells of an outcome and of the seat: at a place past all that the seat had seen the
+-- outcome, which stays where it lies, tells the same; or outcome and seat are as they were.
 abbrev pub ReceivesInPlace : Seat → Outcome → Result Finished NotTaken → Outcome → Seat → Type 0
 ReceivesInPlace old o (Ok f) after new = TellsSame o after × (old.seen < f.place) × Advances old f.place new
 ReceivesInPlace old o (Err (missed seen found)) after new = (seen ≡ old.seen) × (found ≤ seen) × (after ≡ o) × (new ≡ old)
@@ -40,7 +41,8 @@ Completes old seat o (Ok r) new = IsAhead old seat × Finishes old.board o r new
 Completes old seat o (Err (Front seen found back)) new = (found ≡ length old.board.history + 1) × (found ≤ seat.seen) × (new ≡ old)
 Completes old seat o (Err (Stranger back)) new = IsAhead old seat × IsStranger old.board o × (new ≡ old)
 
--- The same of an outcome that stays where it lies.
+-- What a `complete_in_place` makes of the room: what `finish` makes of the desk's board, where the next place is past
+-- all that the seat has seen; else it is as it was.
 abbrev pub CompletesInPlace : RoomState → Seat → Outcome → Result Finished NotTaken → Outcome → RoomState → Type 0
 CompletesInPlace old seat o (Ok f) after new = IsAhead old seat × Finishes old.board o (receipt_by f after) new.board × KeepsSeats old new
 CompletesInPlace old seat o (Err (missed seen found)) after new = (found ≡ length old.board.history + 1) × (found ≤ seat.seen) × (new ≡ old)

@@ -62,7 +62,7 @@ pub(crate) fn first_mismatch(history: &[Entry], receipts: &[Receipt]) -> Option<
     None
 }
 
-// The same of slips.
+// The index and the place of the first slip that tells of no entry at its place.
 pub(crate) fn first_mismatched_slip(history: &[Entry], slips: &[Slip]) -> Option<(usize, usize)>
     ensures none { IfNone result (Every (StandsIn history.now) slips.now) }
     ensures some { IfSome result (λ k. Misses Told (StandsIn history.now) place_told slips.now k.0 k.1) }

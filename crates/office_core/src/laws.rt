@@ -8,7 +8,8 @@ pub fn receipts_are_legal()
     ensures { ReceiptsAreLegal }
 {}
 
-/// The same by slips.
+/// Where each entry of a desk has a slip, and each slip stands in the history and is true, the history is legal, and it
+/// leads to what the published pins spell.
 pub fn slips_are_legal()
     ensures { SlipsAreLegal }
 {}

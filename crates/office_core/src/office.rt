@@ -266,7 +266,9 @@ impl Office {
         submit_and_look(&mut guard, seat, op, args)
     }
 
-    /// The same, but where the watch tells before the call's turn that so much time has passed, nothing is submitted, and it answers nothing.
+    /// Submits a call of this seat's session once its turn has come, and looks under the same lock whether it has
+    /// started. It answers the number of the call, and what the look tells; a fault is one of `submit`. Where the watch
+    /// tells before the call's turn that so much time has passed, nothing is submitted, and it answers `None`.
     pub fn submit_in_turn<R: Wait + Clock>(
         &self,
         rt: &R,
@@ -293,7 +295,8 @@ impl Office {
         self.enter(rt).try_start(submitted)
     }
 
-    /// The same, but where the call waits it first waits for it, at most so long.
+    /// Looks whether a submitted call has started or was cancelled, as [`Room::try_start`]. Where the call waits, it
+    /// waits for it, at most so long, and looks once more.
     pub fn try_start_within<R: Wait>(&self, rt: &R, submitted: Submitted, most: Duration) -> Tried
         ensures { Tells submitted result }
     {
@@ -346,7 +349,7 @@ impl Office {
         }
     }
 
-    /// The same of an outcome that stays where it lies, as [`Room::complete_in_place`].
+    /// Takes the outcome of a call that runs here, and leaves it where it lies, as [`Room::complete_in_place`].
     pub fn complete_in_place<R: Wait>(
         &self,
         rt: &R,
@@ -406,7 +409,7 @@ impl Office {
         room.close(seats, receipts)
     }
 
-    /// The same by slips, as [`Room::close_by_slips`].
+    /// Takes the room out of the lock and closes it by slips, as [`Room::close_by_slips`].
     pub fn close_by_slips(self, seats: Vec<Seat>, slips: &[Slip]) -> Result<Closed, CloseRefused>
         ensures { (r : RoomState) × ClosesBySlips r seats.items slips.now result }
     {

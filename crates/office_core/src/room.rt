@@ -192,7 +192,9 @@ impl Room {
         self.look(submitted)
     }
 
-    /// The same of a submission that was just made here, or that is known to be of the call of its number.
+    /// Looks whether a submitted call has started, as the desk's `collect` does, where the submission was just made
+    /// here, or is known to be of the call of its number. Where `collect` knows of no such call, the submission is a
+    /// stranger, and nothing is changed. It takes no memory.
     pub(crate) fn look(&mut self, submitted: Submitted) -> Tried
         requires { IsOf self.old.board submitted }
         ensures tells { Tells submitted result }
@@ -230,7 +232,11 @@ impl Room {
         }
     }
 
-    /// The same of an outcome that stays where it lies, as the desk's `finish_in_place` does.
+    /// Takes the outcome of a call that runs here, and leaves it where it lies, as the desk's `finish_in_place` does:
+    /// the seat has then seen the place of its entry, and counts one receipt more. It takes no memory.
+    ///
+    /// The errors, in this order, change nothing: the place that it would get is not past the greatest that the seat
+    /// has seen (`Front`), or no running call has it, or it was handed in before (`Stranger`).
     pub fn complete_in_place(
         &mut self,
         seat: &mut Seat,
@@ -349,7 +355,11 @@ impl Room {
         Ok(self.closed())
     }
 
-    /// The same by slips, each of which tells what a receipt told.
+    /// Ends the work by slips, each of which tells what a receipt told: where no call waits or runs, the seats, with
+    /// those that are parked here, are those of the sessions given out, each once, their counts add up to the history's
+    /// length, and each slip tells of the entry at its place. It takes no memory.
+    ///
+    /// The errors hand room and seats back, with the first cause of [`CloseFault`] that applies.
     pub fn close_by_slips(self, seats: Vec<Seat>, slips: &[Slip]) -> Result<Closed, CloseRefused>
         ensures { ClosesBySlips self seats.items slips.now result }
     {

@@ -22,7 +22,7 @@ use std::process::Abort;
 use std::sync::Wait;
 use value_core::datum::Datum;
 
-// The same, where there is memory for it at the first or at the second try.
+// The pins of a cell that is `[0]`, where there is memory for its file at the first or at the second try.
 fn pins_twice(rt: &impl Abort, hand: &mut MemHand) -> Pins {
     match pins(hand) {
         Some(pins) => pins,
@@ -218,7 +218,7 @@ fn goes_on<R: Wait>(rt: &R, room: &mut Room, seat: Seat, own: &Name, new: &Name)
     refused && nameless && room.park(seat).is_ok()
 }
 
-// The same with memory: a new name gets a session.
+// A seat is parked and given out again, its call is told of, and a new name gets a session, since there is memory.
 fn goes_on_fed<R: Wait>(rt: &R, room: &mut Room, seat: Seat, own: &Name, new: &Name) -> bool {
     if room.park(seat).is_err() {
         return false;

@@ -147,7 +147,7 @@ impl PartPins {
         stamps.len()
     }
 
-    /// The same pins in another row, which has room for them. It takes no memory.
+    /// A copy of these pins in another row, which has room for them. It takes no memory.
     pub fn copy_into(&self, room: Vec<Stamp>) -> PartPins
         requires empty { room.items ≡ [] }
         requires room { count_pages self.now ≤ vec_capacity room }
@@ -169,7 +169,7 @@ impl PartPins {
         pages_from(&self.counts, &self.stamps, 0, part)
     }
 
-    /// The same pins in this row, where it has room for them, and else where they are. It takes no memory.
+    /// These pins in this row, where it has room for them, and else where they are. It takes no memory.
     pub fn within(self, room: Vec<Stamp>) -> PartPins
         requires { room.items ≡ [] }
         ensures { result ≡ self }

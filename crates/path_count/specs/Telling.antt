@@ -24,7 +24,7 @@ abbrev pub Gives : Asked → Paths → ℕ → List ℕ → Bool → Paths → T
 Gives asked old number text goes new =
     (told : Told) (line : List ℕ) → Stands old told → asked_of line ≡ asked → Leaves told number line text goes new
 
--- the same of this line, where it begins with `path`
+-- whatever the lines before told, this line is answered so where it begins with `path`
 abbrev pub GivesPath : List ℕ → Paths → ℕ → List ℕ → Bool → Paths → Type 0
 GivesPath line old number text goes new =
     (told : Told) → Stands old told → asked_of line ≡ path → Leaves told number line text goes new

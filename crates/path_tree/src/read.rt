@@ -67,7 +67,7 @@ pub fn parse_path(
     ensures found { IfOk result (λ x. IsPathAt (known_with consts.now names.now) (lexemes tokens.now) from x.0 x.1) }
     // Its operations are those of the names.
     ensures known { IfOk result (λ x. NamesBelow x.0 (length names.now)) }
-    // The same, read from left to right: for a reader of larger texts.
+    // The path and what stands behind its end, as reading from left to right gives them: for a reader of larger texts.
     ensures read { Gives (λ x. (x.0, drop x.1 (lexemes tokens.now))) result (path_at (known_with consts.now names.now) (length tokens.now + 1) (drop from (lexemes tokens.now))) }
     // Wherever a path stands, its tree and its end are given, unless memory runs out.
     ensures only { (e : Path) (to : ℕ) → IsPathAt (known_with consts.now names.now) (lexemes tokens.now) from e to →

@@ -127,7 +127,7 @@ fn gate_at(rt: &HostRuntime, port: u16, sessions: usize) -> io::Result<Gate> {
     )
 }
 
-// The same for threads to share.
+// A gate that threads can share.
 fn shared(rt: &HostRuntime, gate: Gate) -> Result<Arc<Gate>, AllocError> {
     match Arc::new(rt.alloc(), gate) {
         Ok(gate) => Ok(gate),

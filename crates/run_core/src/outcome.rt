@@ -26,7 +26,7 @@ pub struct Outcome {
     pub(crate) reply: Reply,
     // the new page lists of the parts that the body changed
     pub(crate) news: PartPins,
-    // the same once more for the entry, until they are taken
+    // the new page lists once more, for the entry, until they are taken
     pub(crate) entry: PartPins,
     // the files of the old lists that are not in these, in order
     pub(crate) gone: Vec<Stamp>,

@@ -124,7 +124,7 @@ fn put_twice(
     }
 }
 
-// The same, where there is memory for it.
+// A call of the operation `put` of an object of one part, where there is memory for it.
 fn put_of(
     rt: &impl Abort,
     alloc: Global,

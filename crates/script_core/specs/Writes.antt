@@ -49,6 +49,6 @@ pub data Writes (told : Told) (number : ℕ) (line : List ℕ) : List ℕ → Bo
       → Writes told number line text true (record told { world = new })
   bad : told.named ≡ true → (IsSkipped line → ⊥) → ((said : Said) → Says said_of line said → ⊥) → Writes told number line (bad_line number) false told
 
--- the same of states
+-- the answer to the line of this number, of a state, and the state then
 abbrev pub ScriptGives : Script → ℕ → List ℕ → List ℕ → Bool → Script → Type 0
 ScriptGives old number line text goes new = Writes (told_of old) number line text goes (told_of new)

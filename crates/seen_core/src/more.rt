@@ -50,7 +50,8 @@ fn read_into<H: Hand>(
     }
 }
 
-// The same, of the bytes that were read of a part: where they are not as many, memory is refused, and no call is made.
+// Reads this file to this place of the bytes that were read of a part, in one device call. Where they end before the
+// file would, memory is refused, and no call is made.
 fn read_at<H: Hand>(
     hand: &mut H,
     stamp: &Stamp,

@@ -141,7 +141,8 @@ fn serve_next<
     }
 }
 
-// The same, and puts what came of it to the others.
+// Takes a connection, serves it with the next hand, and puts what came of it to the others. Where no more are taken, it
+// does nothing.
 fn serve_into<
     R: Threads + Wait + Clock + Sync,
     H: Hand + Ends + Drop + Send,
@@ -154,7 +155,8 @@ fn serve_into<
     }
 }
 
-// Does so in so many threads where these can be made, and else one after another, and returns when all have ended.
+// Takes and serves so many connections, each in a thread of its own where these can be made, and else one after
+// another, and returns when all have ended.
 fn serve_each<
     R: Threads + Wait + Clock + Sync,
     H: Hand + Ends + Drop + Send,

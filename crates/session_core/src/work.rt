@@ -101,8 +101,8 @@ fn awaited<R: Wait>(rt: &R, office: &Office, submitted: Submitted) -> Option<Tic
     unreachable!()
 }
 
-// The same, while the second thread reads. As long as that thread does not run, it looks again and again, also whether the session is to
-// end.
+// Waits until a submitted call starts or is cancelled, while the second thread reads. As long as that thread does not
+// run, it looks again and again, also whether the session is to end.
 fn awaited_beside<R: Wait, I: Read + Drop>(
     rt: &R,
     office: &Office,
@@ -141,8 +141,8 @@ fn ask<R: Wait, I: Read + Drop, W: Write + Drop, J: Start>(
     }
 }
 
-// The same, for what a look at a submission just made told. Before a call is waited for that does not start soon, the lines that are
-// held back are sent, by the third thread.
+// Waits until a call starts or is cancelled, of which a look at its submission, just made, told this. Before a call is
+// waited for that does not start soon, the lines that are held back are sent, by the third thread.
 fn started<R: Wait + Clock, I: Read + Drop, W: Write + Drop, J: Start>(
     rt: &R,
     office: &Office,

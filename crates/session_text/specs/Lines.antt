@@ -83,6 +83,6 @@ opened_text name (Some key) = line_of (bare (codes "opened") ∷ bare name ∷ b
 abbrev pub ended_text : ℕ → Reply → List ℕ
 ended_text n reply = finished_line n reply
 
--- the same behind `repeat`: the last line of a call that was made before
+-- the last line of a call that was made before: what a call with a receipt ends with, behind `repeat`
 abbrev pub repeated_text : ℕ → Reply → List ℕ
 repeated_text n reply = repeated_line n reply

@@ -123,7 +123,7 @@ fn open_behind(alloc: Global, name: Name, line: &[u8]) -> Result<Option<Request>
     }
 }
 
-// The same behind this word, which is `as`.
+// The object of this name is opened by this word, which has to be `as`, and the words behind it.
 fn open_as(
     alloc: Global,
     name: Name,
@@ -138,7 +138,7 @@ fn open_as(
     open_for(alloc, name, line)
 }
 
-// The same for the client that the one word names.
+// The object of this name is opened for the client that the one word of the line names.
 fn open_for(alloc: Global, name: Name, line: &[u8]) -> Result<Option<Request>, AllocError>
     ensures { IfOk result (Reads (client_behind name) request_view line.now) }
 {

@@ -155,7 +155,7 @@ fn told<R: Abort + Threads + Wait + Clock + Sync, H: Hand + Drop>(
     hand
 }
 
-// The same for several, one after the other.
+// Sessions without a fault, one after the other, each of which writes what its visit expects, whole.
 fn all_told<R: Abort + Threads + Wait + Clock + Sync>(
     rt: &R,
     alloc: Global,

@@ -80,7 +80,7 @@ fn plays<R: Abort + Threads + Wait + Clock + Sync>(
         && is_closed(all, seats, &end.receipts)
 }
 
-// The same for a session without a fault, whole, in pieces and in single bytes.
+// Asserts that a session over these lines writes this and has no fault, whole, in pieces and in single bytes.
 fn answers<R: Abort + Threads + Wait + Clock + Sync>(
     rt: &R,
     alloc: Global,

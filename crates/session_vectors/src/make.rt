@@ -68,7 +68,8 @@ pub fn offices_of(alloc: Global, text: &[u8], part: &[u8]) -> Option<(Vec<Named>
     Some((all, hand))
 }
 
-/// The same, where there is memory.
+/// The office of the object of a text, whose one part is spelled so, and the hand that its file is on. There has to be
+/// memory for them.
 pub fn offices(rt: &impl Abort, alloc: Global, text: &[u8], part: &[u8]) -> (Vec<Named>, MemHand) {
     offices_of(alloc, text, part).expect(rt, "an office")
 }

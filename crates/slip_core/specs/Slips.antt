@@ -23,7 +23,7 @@ pub record Told : Type 0 where
 abbrev pub pins_told : Told → List PartPin
 pins_told t = if_done t.reply t.news
 
--- the same of an outcome of a call of this session, whose entry has this place
+-- what a receipt tells by an outcome of a call of this session, whose entry has this place
 abbrev pub told_by : ℕ → ℕ → Outcome → Told
 told_by place session o = record {
   place = place;

@@ -81,7 +81,7 @@ impl RowRoom {
         row
     }
 
-    // The same pins in memory that was taken for them, or where they lie, where it is too little.
+    // These pins in memory that was taken for them, or where they lie, where it is too little.
     fn filled(&mut self, alloc: Global, pins: PartPins) -> PartPins
         ensures { result ≡ pins }
     {

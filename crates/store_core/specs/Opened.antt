@@ -85,13 +85,13 @@ OpenCause holds object parts failed (Damaged number) = (papers : Papers) → hol
 OpenCause holds object parts failed Device = failed
 OpenCause holds object parts failed Memory = Unit {0}
 
--- the same of one part
+-- why one part was not opened: it is damaged, whatever the shelf may hold, or a device failed, or memory was refused
 abbrev pub PartCause : (Papers → Type 0) → List ℕ → Kind → ℕ → Type 0 → OpenFault → Type 0
 PartCause holds key kind number failed (Damaged n) = (n ≡ number) × ((papers : Papers) → holds papers → AreDamaged kind (get papers key))
 PartCause holds key kind number failed Device = failed
 PartCause holds key kind number failed Memory = Unit {0}
 
--- the same of one pin
+-- why one pin was not made: a device failed, or memory was refused
 abbrev pub PinCause : Type 0 → OpenFault → Type 0
 PinCause failed (Damaged n) = ⊥
 PinCause failed Device = failed

@@ -71,13 +71,14 @@ SaveCause agrees parts pins failed (Damaged number) = (a : Assignment) → agree
 SaveCause agrees parts pins failed (Device number) = (number < length parts) × failed
 SaveCause agrees parts pins failed Memory = Unit {0}
 
--- the same of one part
+-- why one part was not saved: its pin's bytes are damaged, whatever assignment agrees, or a device failed, or memory was
+-- refused
 abbrev pub PinSaveCause : (Assignment → Type 0) → Part → List Stamp → ℕ → Type 0 → SaveFault → Type 0
 PinSaveCause agrees part pin number failed (Damaged n) = (n ≡ number) × ((a : Assignment) → agrees a → AreUnspelled part.kind (list_bytes a pin))
 PinSaveCause agrees part pin number failed (Device n) = (n ≡ number) × failed
 PinSaveCause agrees part pin number failed Memory = Unit {0}
 
--- the same of storing one
+-- why the bytes of one part were not stored: a device failed, or memory was refused
 abbrev pub StoreCause : ℕ → Type 0 → SaveFault → Type 0
 StoreCause number failed (Damaged n) = ⊥
 StoreCause number failed (Device n) = (n ≡ number) × failed

@@ -178,7 +178,8 @@ impl Held {
         true
     }
 
-    /// The same for the last line of a call that has a receipt. It is noted.
+    /// Holds back the last line of a call that has a receipt, and notes it, unless a line before it was lost. It
+    /// answers whether it did.
     pub fn say_ended(&mut self, number: u32, reply: &Reply) -> bool {
         if self.lost {
             return false;
@@ -198,7 +199,8 @@ impl Held {
         true
     }
 
-    /// The same for the last line of a call that was made before. It is not noted.
+    /// Holds back the last line of a call that was made before, unless a line before it was lost. It answers whether it
+    /// did. It is not noted.
     pub fn say_repeated(&mut self, number: u32, reply: &Reply) -> bool {
         if self.lost {
             return false;
@@ -210,7 +212,8 @@ impl Held {
         true
     }
 
-    /// The same for `opened NAME`, with the next key where one is told.
+    /// Holds back `opened NAME`, with the next key where one is told, unless a line before it was lost. It answers
+    /// whether it did.
     pub fn say_opened(&mut self, name: &Name, next: Option<u32>) -> bool {
         if self.lost {
             return false;

@@ -79,19 +79,22 @@ impl<W: Write + Drop, J: Start> Mouth<W, J> {
         self.held.lock(rt).say(line)
     }
 
-    /// The same for the last line of a call that has a receipt. It is noted.
+    /// Holds back the last line of a call that has a receipt, and notes it, unless a line before it was lost. It
+    /// answers whether it did. It waits for nobody who sends.
     pub fn say_ended<R: Wait>(&self, rt: &R, number: u32, reply: &Reply) -> bool {
         self.held.lock(rt).say_ended(number, reply)
     }
 
-    /// The same for the last line of a call that was made before. It is not noted: its receipt is of another session, or was told before.
+    /// Holds back the last line of a call that was made before, unless a line before it was lost. It answers whether it
+    /// did. It is not noted: its receipt is of another session, or was told before. It waits for nobody who sends.
     pub fn say_repeated<R: Wait>(&self, rt: &R, number: u32, reply: &Reply) -> bool
         requires { WasNoted number reply.now }
     {
         self.held.lock(rt).say_repeated(number, reply)
     }
 
-    /// The same for `opened NAME`, with the next key where one is told.
+    /// Holds back `opened NAME`, with the next key where one is told, unless a line before it was lost. It answers
+    /// whether it did. It waits for nobody who sends.
     pub fn say_opened<R: Wait>(&self, rt: &R, name: &Name, next: Option<u32>) -> bool {
         self.held.lock(rt).say_opened(name, next)
     }

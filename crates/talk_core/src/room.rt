@@ -19,7 +19,8 @@ pub fn make_room_for<T>(list: &mut Vec<T>, count: usize) -> bool
     list.reserve_exact(more).is_ok()
 }
 
-/// The same for one item.
+/// Makes room for one item more, where there is none. It makes it for an eighth of what there is besides, so that
+/// little stays empty. Without memory it answers false.
 pub fn make_room_in<T>(list: &mut Vec<T>) -> bool
     ensures same { list.new.items ≡ list.old.items }
     ensures room { IsTrue result → vec_len list.new < vec_capacity list.new }

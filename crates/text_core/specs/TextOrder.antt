@@ -8,6 +8,6 @@ use Rattle.std.specs.Cmp.Lexicographic.{slice_cmp, pointwise}
 abbrev pub text_cmp : List ℕ → List ℕ → Ordering
 text_cmp = slice_cmp nat_cmp
 
--- the same bytes
+-- whether two texts have the same bytes
 abbrev pub text_eq : List ℕ → List ℕ → Bool
 text_eq = pointwise ◌==◌

@@ -52,7 +52,7 @@ impl Row {
         Row { bytes }
     }
 
-    /// The same text, in memory of its own.
+    /// A copy of the text, in memory of its own. The error is that memory was refused.
     pub fn copy(&self) -> Result<Row, AllocError>
         ensures { IfOk result (λ copy. copy ≡ self.now) }
     {

@@ -18,7 +18,8 @@ pub enum Pace {
     Now,
     /// When the running call with which it conflicts has ended, which lasts some microseconds.
     Soon,
-    /// The same, of a call that conflicts with calls of its own operation too: those that come one after another.
+    /// When the running call with which it conflicts has ended, and its turn has come: it conflicts with calls of its
+    /// own operation too, which come one after another.
     InTurn,
 }
 

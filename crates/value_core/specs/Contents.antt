@@ -57,7 +57,7 @@ IsContentsIn f (array e xs) = AreElementsIn f e xs
 IsContentsIn f (queue e xs) = AreElementsIn f e xs
 IsContentsIn f (table e m) = AreRowsIn f e m
 
--- the same for texts of up to 1,000 bytes
+-- elements of a part, as the second format has room for them: texts of up to 1,000 bytes
 abbrev pub AreElements : Elem → List Datum → Type 0
 AreElements = AreElementsIn Second
 

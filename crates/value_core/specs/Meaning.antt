@@ -91,7 +91,8 @@ abbrev pub Changes : Result (Unit {0}) Refusal → Result Contents Refusal → C
 Changes (Ok u) meaning old new = meaning ≡ Ok new
 Changes (Err word) meaning old new = (meaning ≡ Err word) × (new ≡ old)
 
--- the same where memory can be wanted: only for what is not refused, and nothing changes
+-- an operation that may want memory is done, or refused, or, where it would be done, wants memory; but for the first,
+-- nothing changes
 abbrev pub Grows : Result (Unit {0}) GrowFault → Result Contents Refusal → Contents → Contents → Type 0
 Grows (Ok u) meaning old new = meaning ≡ Ok new
 Grows (Err (Refused word)) meaning old new = (meaning ≡ Err word) × (new ≡ old)

@@ -83,7 +83,7 @@ pub record SpellsIn (f : Format) (bytes : List ℕ) (k : Kind) (value : Contents
   pub contents : IsContentsIn f value
   pub spelled : bytes ≡ spelling_in f value
 
--- the same of the second format, which is written: a text,
+-- the spelling in the second format, which is written: of a text,
 abbrev pub spelled_text : List ℕ → List ℕ
 spelled_text = spelled_text_in Second
 

@@ -98,7 +98,7 @@ impl Cells {
         }
     }
 
-    /// The same elements, in memory of their own.
+    /// A copy of the elements, in memory of its own.
     pub fn copy(&self, alloc: Global) -> Result<Cells, AllocError>
         ensures sort { IfOk result (λ copy. cells_sort copy ≡ cells_sort self.now) }
         ensures data { IfOk result (λ copy. cells_data copy ≡ cells_data self.now) }

@@ -254,7 +254,9 @@ pub fn decode(alloc: Global, kind: Kind, bytes: &[u8]) -> Result<Value, DecodeFa
     decode_in(alloc, Format::Second, kind, bytes)
 }
 
-/// The same of bytes in the first format.
+/// The value of this kind that the bytes spell in the first format. `Damaged` where they spell none; where no header of
+/// this kind stands at their front, whatever memory there is. `Memory` where it was refused before another damage was
+/// seen.
 pub fn decode_v1(alloc: Global, kind: Kind, bytes: &[u8]) -> Result<Value, DecodeFault>
     ensures found { IfOk result (λ value. SpellsIn Format.First bytes.now kind value) }
     ensures damaged { IsErrOf result DecodeFault.Damaged → (value : Contents) → SpellsIn Format.First bytes.now kind value → ⊥ }
@@ -274,8 +276,10 @@ fn is_first(bytes: &[u8]) -> bool
     }
 }
 
-/// The same of bytes that were kept, in either format: in the first one where their first byte is its
-/// number, else in the second one.
+/// The value of this kind that kept bytes spell in either format: in the first one where their first byte is its
+/// number, else in the second one. `Damaged` where they spell none in either; where no header of this kind in
+/// either format stands at their front, whatever memory there is. `Memory` where it was refused before another damage
+/// was seen.
 pub fn decode_kept(alloc: Global, kind: Kind, bytes: &[u8]) -> Result<Value, DecodeFault>
     ensures found { IfOk result (λ value. SpellsInSome bytes.now kind value) }
     ensures damaged { IsErrOf result DecodeFault.Damaged → (value : Contents) → SpellsInSome bytes.now kind value → ⊥ }

@@ -131,7 +131,7 @@ impl Queue {
         }
     }
 
-    /// The same elements, in memory of their own.
+    /// A copy of the elements, in memory of its own.
     pub fn copy(&self, alloc: Global) -> Result<Queue, AllocError>
         ensures sort { IfOk result (λ copy. queue_sort copy ≡ queue_sort self.now) }
         ensures data { IfOk result (λ copy. queue_data copy ≡ queue_data self.now) }
@@ -184,7 +184,7 @@ fn put_texts(all: &VecDeque<Row>, out: &mut Vec<u8>) -> Result<(), AllocError>
     Ok(())
 }
 
-// The same integers, made in one growth.
+// A copy of these integers, made in one growth.
 fn copied(alloc: Global, all: &VecDeque<u32>) -> Result<VecDeque<u32>, AllocError>
     ensures { IfOk result (λ copy. copy.items ≡ all.now.items) }
 {

@@ -137,7 +137,7 @@ impl Rows {
         total
     }
 
-    /// The same rows, in memory of their own.
+    /// A copy of the rows, in memory of its own.
     pub fn copy(&self) -> Result<Rows, AllocError>
         ensures sort { IfOk result (λ copy. rows_sort copy ≡ rows_sort self.now) }
         ensures data { IfOk result (λ copy. rows_map copy ≡ rows_map self.now) }

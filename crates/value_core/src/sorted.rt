@@ -129,7 +129,7 @@ impl<X: Drop> Sorted<X> {
 }
 
 impl<X: Clone> Sorted<X> {
-    /// The same rows, in memory of their own.
+    /// A copy of the rows, in memory of its own.
     pub fn copy(&self) -> Result<Sorted<X>, AllocError>
         ensures { IfOk result (λ copy. AllZip (λ p q. (q.0 ≡ p.0) × X.is_clone p.1 q.1) self.now copy) }
     {

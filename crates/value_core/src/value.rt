@@ -99,7 +99,7 @@ impl Value {
         Ok(Value { body })
     }
 
-    /// The same value, in memory of its own.
+    /// A copy of the value, in memory of its own.
     pub fn copy(&self, alloc: Global) -> Result<Value, AllocError>
         ensures { IfOk result (λ copy. copy ≡ self.now) }
     {

@@ -86,7 +86,7 @@ fn adds_text(rt: &impl Abort, value: &mut Value, text: Text) {
     }
 }
 
-// The same value, copied once more where memory was refused.
+// A copy of a value, made once more where memory was refused.
 fn copied(rt: &impl Abort, alloc: Global, value: &Value) -> Value {
     match value.copy(alloc) {
         Ok(copy) => copy,

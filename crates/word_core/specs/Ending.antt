@@ -26,7 +26,7 @@ ending_words (done (Some datum)) = bare (codes "done") ∷ datum_word datum ∷ 
 ending_words (refused word) = bare (codes "refused") ∷ bare word ∷ []
 ending_words (failed word) = bare (codes "failed") ∷ bare word ∷ []
 
--- the same with the number of the call behind the first word
+-- `done N`, `done N VALUE`, `refused N WORD`, `failed N WORD`: how a call ended, with its number behind the first word
 abbrev pub finish_words : ℕ → Ending → List Word
 finish_words number (done None) = bare (codes "done") ∷ bare (decimal number) ∷ []
 finish_words number (done (Some datum)) = bare (codes "done") ∷ bare (decimal number) ∷ datum_word datum ∷ []
