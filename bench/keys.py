@@ -12,6 +12,7 @@ server has connections. The folders are made where TMPDIR says; it needs `cc`. T
 gate.
 """
 import argparse
+import contextlib
 import pathlib
 import re
 import socket
@@ -43,34 +44,19 @@ def free_port():
 
 
 class Served:
-    """A server of the cell, and a load on it."""
+    """A server of the cell that runs, by the number of its process and its port, and a load on it."""
 
-    def __init__(self, program, sessions):
-        self.folder = tempfile.TemporaryDirectory(prefix="keys-")
-        objects, place, self.port = pathlib.Path(self.folder.name) / "objects", pathlib.Path(self.folder.name) / "place", free_port()
-        place.mkdir()
-        objects.write_text(CELL, encoding="ascii")
-        words = [program, "serve", objects, place, str(self.port), "--sessions", str(sessions)]
-        self.ran = subprocess.Popen(words, stdout=subprocess.PIPE, text=True)
-        if not self.ran.stdout.readline().startswith("listening"):
-            raise SystemExit("the server does not listen")
-
-    def __enter__(self):
-        return self
-
-    def __exit__(self, *_):
-        self.ran.kill()
-        self.ran.communicate()
-        self.folder.cleanup()
+    def __init__(self, pid, port):
+        self.pid, self.port = pid, port
 
     def resident(self):
         """The memory that is resident, in MiB."""
-        status = pathlib.Path(f"/proc/{self.ran.pid}/status").read_text(encoding="ascii")
+        status = pathlib.Path(f"/proc/{self.pid}/status").read_text(encoding="ascii")
         return int(re.search(r"VmRSS:\s+(\d+) kB", status)[1]) / 1024
 
     def processor(self):
         """The processor time of its threads so far, in microseconds."""
-        tasks = pathlib.Path(f"/proc/{self.ran.pid}/task").glob("*/schedstat")
+        tasks = pathlib.Path(f"/proc/{self.pid}/task").glob("*/schedstat")
         return sum(int(it.read_text(encoding="ascii").split()[0]) for it in tasks) / 1000
 
     def load(self, load, group):
@@ -84,6 +70,23 @@ class Served:
             used, resident = self.processor() - used, self.resident()
             it.stdin.close()
         return int(words[1]) / float(words[3]), used / int(words[1]), resident
+
+
+@contextlib.contextmanager
+def served(program, sessions):
+    """A server of the cell for so many connections, which ends with the block, as does its folder."""
+    with tempfile.TemporaryDirectory(prefix="keys-") as folder:
+        objects, place, port = pathlib.Path(folder) / "objects", pathlib.Path(folder) / "place", free_port()
+        place.mkdir()
+        objects.write_text(CELL, encoding="ascii")
+        words = [program, "serve", objects, place, str(port), "--sessions", str(sessions)]
+        with subprocess.Popen(words, stdout=subprocess.PIPE, text=True) as ran:
+            try:
+                if not ran.stdout.readline().startswith("listening"):
+                    raise SystemExit("the server does not listen")
+                yield Served(ran.pid, port)
+            finally:
+                ran.kill()
 
 
 class Pairs:
@@ -102,7 +105,7 @@ class Pairs:
 
 def measured(program, load, connections, kinds, calls, name="cell"):
     """Calls a second, and microseconds of the server's processor time for each."""
-    with Served(program, connections) as it:
+    with served(program, connections) as it:
         return it.load(load, f"{name}:{connections}:{min(calls // connections, MOST)}:{kinds}")[:2]
 
 
@@ -132,7 +135,7 @@ def memory(options, load):
         for title, program, name, mark in kinds:
             found = []
             for _ in range(3):
-                with Served(program, 16) as it:
+                with served(program, 16) as it:
                     found.append(it.load(load, f"{name}:16:{MOST}:{mark}{call}")[2])
             print(f"memory of 48,000 calls of {call.split()[0]}, {title}: {statistics.median(found):.2f} MiB "
                   f"({min(found):.2f} to {max(found):.2f})", flush=True)
@@ -142,7 +145,7 @@ def opening(options):
     """How long the last of 64 connections waits for the answer to its `open`, with 62 names there."""
     found = []
     for _ in range(options.runs):
-        with Served(options.program, 64) as it:
+        with served(options.program, 64) as it:
             all_of = []
             for number in range(63):
                 all_of.append(socket.create_connection(("127.0.0.1", it.port)))

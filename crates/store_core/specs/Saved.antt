@@ -71,8 +71,8 @@ SaveCause agrees parts pins failed (Damaged number) = (a : Assignment) → agree
 SaveCause agrees parts pins failed (Device number) = (number < length parts) × failed
 SaveCause agrees parts pins failed Memory = Unit {0}
 
--- why one part was not saved: its pin's bytes are damaged, whatever assignment agrees, or a device failed, or memory was
--- refused
+-- why one part was not saved: its pin's bytes are damaged, whatever assignment agrees, or a device failed, or memory
+-- was refused
 abbrev pub PinSaveCause : (Assignment → Type 0) → Part → List Stamp → ℕ → Type 0 → SaveFault → Type 0
 PinSaveCause agrees part pin number failed (Damaged n) = (n ≡ number) × ((a : Assignment) → agrees a → AreUnspelled part.kind (list_bytes a pin))
 PinSaveCause agrees part pin number failed (Device n) = (n ≡ number) × failed
