@@ -43,70 +43,70 @@ const LOOSE_REPORT: &[u8] = b"object loose refused 1 Unseparated deposit remove 
 1 objects, 1 refused
 ";
 
-// Sources, their reports, and how a check of them ends.
-const REPORTS: [(&[u8], &[u8], CheckEnd); 4] = [
-    (
-        CELL,
-        CELL_REPORT,
-        CheckEnd::Counted {
+// The report of a source, and how a check of it ends.
+#[derive(Clone, Copy)]
+struct Report {
+    source: &'static [u8],
+    text: &'static [u8],
+    end: CheckEnd,
+}
+
+const REPORTS: [Report; 4] = [
+    Report {
+        source: CELL,
+        text: CELL_REPORT,
+        end: CheckEnd::Counted {
             objects: 1,
             refused: 0,
         },
-    ),
-    (
-        LOOSE,
-        LOOSE_REPORT,
-        CheckEnd::Counted {
+    },
+    Report {
+        source: LOOSE,
+        text: LOOSE_REPORT,
+        end: CheckEnd::Counted {
             objects: 1,
             refused: 1,
         },
-    ),
-    (
-        b"object a; var v : array [0] of integer; end;",
-        b"decl 10 Syntax at 25\n",
-        CheckEnd::Faulty,
-    ),
-    (
-        b"",
-        b"0 objects, 0 refused\n",
-        CheckEnd::Counted {
+    },
+    Report {
+        source: b"object a; var v : array [0] of integer; end;",
+        text: b"decl 10 Syntax at 25\n",
+        end: CheckEnd::Faulty,
+    },
+    Report {
+        source: b"",
+        text: b"0 objects, 0 refused\n",
+        end: CheckEnd::Counted {
             objects: 0,
             refused: 0,
         },
-    ),
+    },
 ];
 
 // Asserts that a writer with this much room, which takes so many bytes a write, gets so much of a report.
-fn is_cut(
-    rt: &impl Abort,
-    alloc: Global,
-    source: &[u8],
-    report: &[u8],
-    end: CheckEnd,
-    room: usize,
-    most: usize,
-) {
+fn is_cut(rt: &impl Abort, alloc: Global, report: Report, room: usize, most: usize) {
+    let Report { source, text, end } = report;
     let mut brim = Brim {
         taken: Vec::new(alloc),
         room,
         most,
     };
     let ended = check_report(alloc, source, &mut brim);
-    let want = if room < report.len() {
+    let want = if room < text.len() {
         Err(CheckFault::WriteFault)
     } else {
         Ok(end)
     };
-    let front = report.get(..room).unwrap_or(report);
+    let front = text.get(..room).unwrap_or(text);
     assert!(rt; ended == want && brim.taken.as_slice() == front);
 }
 
 #[test]
 fn a_writer_that_fails_has_a_front_of_the_report(rt: HostRuntime) {
-    for (source, report, end) in REPORTS {
-        for room in 0..report.len().saturating_add(2) {
+    for report in REPORTS {
+        for room in 0..report.text.len().saturating_add(2) {
             for most in [1, 7, usize::MAX] {
-                is_cut(&rt, rt.alloc(), source, report, end, room, most);
+                is_cut(&rt, rt.alloc(), report, room, most);
             }
         }
     }
