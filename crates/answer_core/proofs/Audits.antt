@@ -1,5 +1,5 @@
 -- What is said of the text of a trace is what an audit writes.
-use Rattle.std.proofs.Common.{◌≡◌, ◌⊎◌, inl, inr, ℕ, List, ◌++◌, sym, ap, subst, ◌∙◌, append_assoc}
+use Rattle.std.proofs.Common.{◌≡◌, ◌⊎◌, inl, inr, ℕ, List, ◌++◌, refl, sym, ap, subst, ◌∙◌, append_assoc}
 use Rattle.std.specs.Prelude.{codes}
 use Rattle.decl_core.specs.declared.object.Object.{Object}
 use Rattle.decl_core.specs.ObjectMap.{object_of}
@@ -9,6 +9,8 @@ use Rattle.audit_core.specs.Verdicts.{IsVerdict, IsLegalTrace}
 use Rattle.audit_core.specs.declared.verdict.Verdict.{Verdict}
 use Rattle.audit_core.specs.declared.verdict.Verdict.TheVariants as verdicts
 use Rattle.answer_core.specs.AuditRun.{audit_status, verdict_line, IsAudited, IsAuditRun, unnamed, lacking, audited}
+use Rattle.answer_core.specs.Laws.{HasNoLine, NoLineOfTrace}
+use Rattle.answer_core.proofs.Lineless.{names_none}
 
 -- what was added in two parts was added
 pub joined : (old a b mid new : List ℕ) → mid ≡ old ++ a → new ≡ mid ++ b → new ≡ old ++ (a ++ b)
@@ -38,3 +40,13 @@ pub audited_run : (source text written : List ℕ) (o : Object) (verdict : Verdi
 audited_run source text written o verdict status ready is exact known s w =
     let told : IsAudited (object_of o) text verdict = record { is = is; legal = λ entries trace. told_legal verdict entries known (exact entries trace); known = known } in
     subst (λ n. IsAuditRun source text n written) (sym s) (subst (IsAuditRun source text (audit_status verdict)) (sym w) (audited o verdict ready told))
+
+-- a text without a line is told as one whose first line is bad
+bad_first : (source text : List ℕ) (status : ℕ) (written : List ℕ) → HasNoLine text → IsAuditRun source text status written → (status ≡ 1) × (written ≡ codes "line 1 bad\n")
+bad_first source text status written none (unnamed un) = (refl, refl)
+bad_first source text status written none (lacking named is) = absurd (names_none text _ none named)
+bad_first source text status written none (audited o verdict ready is) = absurd (names_none text ready.name none ready.named)
+
+pub no_line_of_trace : NoLineOfTrace
+no_line_of_trace source text status written none =
+    (bad_first source text status written none, λ is. unnamed_run source text written status (λ name named. names_none text name none named) is.0 is.1)

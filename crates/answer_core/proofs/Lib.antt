@@ -1,4 +1,5 @@
 pub mod Fronts
 pub mod Checks
 pub mod Scripts
+pub mod Lineless
 pub mod Audits

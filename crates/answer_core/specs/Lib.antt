@@ -1,3 +1,4 @@
 pub mod Status
 pub mod ScriptRun
 pub mod AuditRun
+pub mod Laws

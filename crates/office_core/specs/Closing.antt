@@ -1,5 +1,5 @@
 -- When a room is closed.
-use Rattle.std.specs.Prelude.{◌≡◌, ℕ, ◌+◌, ◌-◌, ◌<◌, List, ◌++◌, length, slice_get, Some, Result, Ok, Err}
+use Rattle.std.specs.Prelude.{◌≡◌, ℕ, ◌+◌, ◌-◌, ◌<◌, List, ◌++◌, length, slice_get, take, Some, Result, Ok, Err}
 use Rattle.board_core.specs.declared.receipt.Receipt.{Receipt}
 use Rattle.board_core.specs.Lists.{Every}
 use Rattle.board_core.specs.Calls.{Noted}
@@ -27,12 +27,13 @@ AreSeatsOf r seats = AreSeats r.given (length r.board.history) (parked_of r.clie
 abbrev pub Stands : List Noted → Receipt → Type 0
 Stands history r = (0 < r.place) × ((e : Noted) × (slice_get history (r.place - 1) ≡ Some e) × IsEntryOf r.noted.session r.noted.outcome e)
 
--- the receipt at this index is of this place, and the entry there is another one
+-- the receipt at this index is of this place, the entry there is another one, and each receipt before it stands
 pub record Misses (X : Type 0) (stands : X → Type 0) (place_of : X → ℕ) (receipts : List X) (k place : ℕ) : Type 0 where
   pub receipt : X
   pub there : slice_get receipts k ≡ Some receipt
   pub of : place ≡ place_of receipt
   pub other : stands receipt → ⊥
+  pub before : Every stands (take k receipts)
 
 -- what keeps a room open whatever receipts there are
 abbrev pub IsOpen : RoomState → List Seat → CloseFault → Type 0

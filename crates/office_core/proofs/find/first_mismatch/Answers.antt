@@ -16,6 +16,7 @@ returns-then-not-stands-clause-some c =
       there = at;
       of = ap (λ (r : Receipt). r.place) (get_or_from_slice_get xs c.loop-k.k x c.index-receipts-k-then-not-stands.result at);
       other = λ s. true_false c.stands.result (c.stands.ensures.1 s) c.if-not-stands.true;
+      before = c.loop-k.invariant;
     }
 
 pub loop-k-preserved : goal.loop-k-preserved

@@ -15,6 +15,7 @@ returns-then-not-stands_in-clause-some c =
       there = at;
       of = c.place.ensures ∙ ap (λ (t : Told). t.place) (c.index-slips-k-then-not-stands_in.is ∙ get_or_from_slice_get xs c.loop-k.k x c.index-slips-k-then-not-stands_in.result at);
       other = λ s. true_false c.stands_in.result (c.stands_in.ensures.1 s) c.if-not-stands_in.true;
+      before = c.loop-k.invariant;
     }
 
 pub loop-k-preserved : goal.loop-k-preserved
