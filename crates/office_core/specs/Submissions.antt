@@ -1,5 +1,5 @@
 -- Submissions, and what a wait for a start answers.
-use Rattle.std.specs.Prelude.{◌≡◌, ℕ, List, Some}
+use Rattle.std.specs.Prelude.{◌≡◌, ℕ, false, List, Some}
 use Rattle.std.specs.Arc.{arc_value}
 use Rattle.value_core.specs.declared.datum.Datum.{Datum}
 use Rattle.decl_core.specs.declared.object.Operation.{Operation}
@@ -8,8 +8,9 @@ use Rattle.call_core.specs.declared.ticket.Ticket.{Ticket as Admitted}
 use Rattle.call_core.specs.Tickets.{ticket_call}
 use Rattle.board_core.specs.Calls.{AcceptedCall}
 use Rattle.board_core.specs.Board.{Board, call_at}
+use Rattle.board_core.specs.Sound.{IsSound}
 use Rattle.ask_core.specs.declared.answer.Collected.TheVariants as collected
-use Rattle.ask_core.specs.Answers.{Collects, HasName}
+use Rattle.ask_core.specs.Answers.{Collects, HasName, waits_in, runs_in, ended_in}
 use Rattle.office_core.specs.declared.seat.Submitted.{Submitted}
 use Rattle.office_core.specs.declared.seat.Started.{Started}
 use Rattle.office_core.specs.declared.seat.Started.TheVariants as started
@@ -43,17 +44,26 @@ pub record IsTicketOf (s : Submitted) (t : Admitted) : Type 0 where
   pub operation : operation_of (ticket_call t).operation ≡ operation_of (submitted_operation s)
   pub arguments : (ticket_call t).arguments ≡ submitted_args s
 
+-- a submission was cancelled: on a sound board its call was accepted, and neither waits nor runs nor has ended
+pub record WasCancelled (s : Submitted) : Type 0 where
+  pub board : Board
+  pub sound : IsSound board
+  pub is_of : IsOf board s
+  pub waits : waits_in board s.number ≡ false
+  pub runs : runs_in board s.number ≡ false
+  pub ended : ended_in board s.number ≡ false
+
 -- what a look for a start tells of a submission
 abbrev pub Tells : Submitted → Tried → Type 0
 Tells s (Ticket t) = IsTicketOf s t
-Tells s Cancelled = Unit {0}
+Tells s Cancelled = WasCancelled s
 Tells s (Waiting back) = back ≡ s
 Tells s (Stranger back) = back ≡ s
 
 -- what a wait for a start tells of it
 abbrev pub IsStartOf : Submitted → Started → Type 0
 IsStartOf s (started.Ticket t) = IsTicketOf s t
-IsStartOf s started.Cancelled = Unit {0}
+IsStartOf s started.Cancelled = WasCancelled s
 IsStartOf s (started.Stranger back) = back ≡ s
 
 -- what a look for a start makes of the room: what `collect` makes of the desk's board, where the call of that number is of the submission

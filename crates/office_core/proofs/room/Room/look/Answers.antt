@@ -37,3 +37,16 @@ returns-in-Cancelled-clause-room c =
       subst (λ b. Collects b s.number collected.Cancelled c.collect.new.self) board c.in-Cancelled.ensures.board,
       (ap (λ (r : RoomState). r.given) c.self.view_is, ap (λ (r : RoomState). r.clients) c.self.view_is),
     )
+
+pub returns-in-Cancelled-clause-tells : goal.returns-in-Cancelled-clause-tells
+returns-in-Cancelled-clause-tells c =
+    let board : c.self.inside.desk ≡ c.args.self.now.board = ap (λ (r : RoomState). r.board) c.self.view_is in
+    let is = c.in-Cancelled.ensures.board in
+    record {
+      board = c.self.inside.desk;
+      sound = c.history-history.ensures.sound;
+      is_of = subst (λ b. IsOf b c.args.submitted) (sym board) c.requires;
+      waits = is.1;
+      runs = is.2;
+      ended = is.3;
+    }
