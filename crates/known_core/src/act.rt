@@ -1,6 +1,6 @@
 //! Statements, done on the values of parts.
 
-ghost use Rattle.std.specs.Prelude.{◌≡◌, ◌<◌, length, map, Option};
+ghost use Rattle.std.specs.Prelude.{◌≡◌, ◌<◌, ⊥, length, map, Option};
 ghost use Rattle.std.specs.Result.{IsErrOf};
 ghost use Rattle.value_core.specs.declared.datum.Datum.{Datum};
 ghost use Rattle.value_core.specs.Contents.{kind_of};
@@ -9,7 +9,7 @@ ghost use Rattle.value_core.specs.Kinds.{IsArray, IsQueue, IsTable};
 ghost use Rattle.value_core.specs.Meaning.{with_element, without_oldest, with_newest, with_row, without_key};
 ghost use Rattle.text_core.specs.Plain.{IsText};
 ghost use Rattle.value_core.specs.Words.{word_of};
-ghost use Rattle.decl_core.specs.Form.{set_element as set_element_form, append as append_form, store as store_form, erase as erase_form};
+ghost use Rattle.decl_core.specs.Form.{set_element as set_element_form, set_result as set_result_form, append as append_form, store as store_form, erase as erase_form};
 ghost use Rattle.decl_core.specs.View.{integers_of, texts_of, form_of, statement_of, all_of};
 ghost use Rattle.decl_core.specs.Meaning.{part_at};
 ghost use Rattle.known_core.specs.Partly.{◌>>>◌, if_known, with_contents, after_known, all_known};
@@ -218,6 +218,25 @@ fn do_erase(
     erase(parts, part, key)
 }
 
+// `f := e`, where f is the function itself
+fn do_set_result(
+    e: &Expr,
+    args: &[Datum],
+    parts: &[Value],
+    known: &Pages,
+    reply: &mut Option<Datum>,
+) -> Result<(), Stop>
+    requires fits { StatementFits (map kind_of parts.now) (set_result_form (form_of e.now)) }
+    ensures left { Leaves result
+        (after_known (known_by known.now) args.now (set_result_form (form_of e.now)) (changing parts.now reply.old))
+        (changing parts.now reply.new) }
+    ensures memory { IsErrOf result Stop.Memory → ⊥ }
+{
+    let datum = datum(e, args, parts, known)?;
+    *reply = Some(datum);
+    Ok(())
+}
+
 // Does a statement; `reply` is what the function is to reply. A statement that stops may leave
 // parts changed.
 #[cycle(acting)]
@@ -236,11 +255,7 @@ fn act(
     match s {
         Stmt::Block(all) => act_all(all, args, parts, known, reply),
         Stmt::SetElement(part, index, e) => do_set_element(*part, index, e, args, parts, known),
-        Stmt::SetResult(e) => {
-            let datum = datum(e, args, parts, known)?;
-            *reply = Some(datum);
-            Ok(())
-        }
+        Stmt::SetResult(e) => do_set_result(e, args, parts, known, reply),
         Stmt::Append(part, e) => do_append(*part, e, args, parts, known),
         Stmt::Take(part) => take(parts, *part),
         Stmt::Store(part, key, e) => do_store(*part, key, e, args, parts, known),

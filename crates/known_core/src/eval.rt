@@ -1,12 +1,25 @@
 //! Expressions and conditions, evaluated on what is known of the values of parts.
 
-ghost use Rattle.std.specs.Prelude.{◌≡◌, ◌<◌, length, map, IfOk};
+ghost use Rattle.std.specs.Prelude.{◌≡◌, ◌<◌, List, length, map, IfOk};
 ghost use Rattle.value_core.specs.Contents.{kind_of};
+ghost use Rattle.value_core.specs.declared.datum.Datum.{Datum};
 ghost use Rattle.value_core.specs.Datum.{elem_of};
+ghost use Rattle.decl_core.specs.Form.{
+  element,
+  oldest,
+  under,
+  integer_from as taken_integer,
+  an_integer,
+  a_text,
+  same_texts,
+  other_texts,
+  has,
+};
 ghost use Rattle.decl_core.specs.View.{from_of, integers_of, texts_of, form_of, condition_of};
 ghost use Rattle.decl_core.specs.Sorts.{sort_of_form};
 ghost use Rattle.decl_core.specs.Meaning.{part_at, argument_at, integer_in as in_integer, text_in as in_text, compares as related};
 ghost use Rattle.known_core.specs.Partly.{if_known as where_known, datum_known, integer_known, text_known, value_known, holds_known};
+ghost use Rattle.known_core.specs.Known.{Known};
 ghost use Rattle.known_core.specs.Masks.{known_by};
 ghost use Rattle.known_core.specs.Breaks.{given};
 ghost use Rattle.known_core.specs.declared.eval.Break.TheVariants.{Refused};
@@ -90,7 +103,51 @@ fn text_in(datum: Datum) -> Text
     }
 }
 
-// What is taken from there.
+// The element of a part at an index.
+#[cycle(evaluating)]
+fn element_in(
+    part: PartId,
+    index: &IntegerExpr,
+    args: &[Datum],
+    parts: &[Value],
+    known: &Pages,
+) -> Result<Datum, Break>
+    requires fits { FromFits (map kind_of parts.now) (element part (integers_of index.now)) }
+    ensures { datum_known (known_by known.now) (seeing args.now parts.now) (element part (integers_of index.now))
+        ≡ given result }
+{
+    let index = integer(index, args, parts, known)?;
+    let datum = value_of(parts, part).element(index)?;
+    if_known(part, index, datum, known)
+}
+
+// The oldest element of a part.
+fn oldest_in(part: PartId, parts: &[Value]) -> Result<Datum, Break>
+    requires fits { FromFits (map kind_of parts.now) (oldest part) }
+    ensures { (known : Known) (args : List Datum) → datum_known known (seeing args parts.now) (oldest part) ≡ given result }
+{
+    let datum = value_of(parts, part).first()?;
+    Ok(datum)
+}
+
+// What stands under a key of a part.
+#[cycle(evaluating)]
+fn under_in(
+    part: PartId,
+    key: &TextExpr,
+    args: &[Datum],
+    parts: &[Value],
+    known: &Pages,
+) -> Result<Datum, Break>
+    requires fits { FromFits (map kind_of parts.now) (under part (texts_of key.now)) }
+    ensures { datum_known (known_by known.now) (seeing args.now parts.now) (under part (texts_of key.now)) ≡ given result }
+{
+    let key = text(key, args, parts, known)?;
+    let datum = value_of(parts, part).lookup(&key)?;
+    Ok(datum)
+}
+
+// What is taken from there. Each form has a function of its own, since a function clears all its data before it begins.
 #[cycle(evaluating)]
 fn from(source: &Source, args: &[Datum], parts: &[Value], known: &Pages) -> Result<Datum, Break>
     requires fits { FromFits (map kind_of parts.now) (from_of source.now) }
@@ -98,21 +155,26 @@ fn from(source: &Source, args: &[Datum], parts: &[Value], known: &Pages) -> Resu
 {
     match source {
         Source::Parameter(param) => Ok(argument(args, *param)),
-        Source::Element(part, index) => {
-            let index = integer(index, args, parts, known)?;
-            let datum = value_of(parts, *part).element(index)?;
-            if_known(*part, index, datum, known)
-        }
-        Source::First(part) => {
-            let datum = value_of(parts, *part).first()?;
-            Ok(datum)
-        }
-        Source::Lookup(part, key) => {
-            let key = text(key, args, parts, known)?;
-            let datum = value_of(parts, *part).lookup(&key)?;
-            Ok(datum)
-        }
+        Source::Element(part, index) => element_in(*part, index, args, parts, known),
+        Source::First(part) => oldest_in(*part, parts),
+        Source::Lookup(part, key) => under_in(*part, key, args, parts, known),
     }
+}
+
+// The integer that is taken from there.
+#[cycle(evaluating)]
+fn integer_from(
+    source: &Source,
+    args: &[Datum],
+    parts: &[Value],
+    known: &Pages,
+) -> Result<u32, Break>
+    requires fits { IntegersFit (map kind_of parts.now) (taken_integer (from_of source.now)) }
+    ensures { integer_known (known_by known.now) (seeing args.now parts.now) (taken_integer (from_of source.now))
+        ≡ given result }
+{
+    let datum = from(source, args, parts, known)?;
+    Ok(integer_in(datum))
 }
 
 // The value of an expression that is an integer.
@@ -128,10 +190,7 @@ pub(crate) fn integer(
 {
     match e {
         IntegerExpr::Number(n) => Ok(*n),
-        IntegerExpr::From(source) => {
-            let datum = from(source, args, parts, known)?;
-            Ok(integer_in(datum))
-        }
+        IntegerExpr::From(source) => integer_from(source, args, parts, known),
         IntegerExpr::Count(part) => Ok(value_of(parts, *part).count()),
         IntegerExpr::Sum(first, terms) => match integer(first, args, parts, known) {
             Ok(first) => sum(first, terms, args, parts, known),
@@ -205,6 +264,31 @@ pub(crate) fn text(
     }
 }
 
+// The value of an expression that is an integer, as a datum.
+fn integer_datum(
+    e: &IntegerExpr,
+    args: &[Datum],
+    parts: &[Value],
+    known: &Pages,
+) -> Result<Datum, Break>
+    requires fits { IntegersFit (map kind_of parts.now) (integers_of e.now) }
+    ensures value { value_known (known_by known.now) (seeing args.now parts.now) (an_integer (integers_of e.now)) ≡ given result }
+    ensures sort { IfOk result (λ d. elem_of d ≡ sort_of_form (an_integer (integers_of e.now))) }
+{
+    let n = integer(e, args, parts, known)?;
+    Ok(Datum::Integer(n))
+}
+
+// The value of an expression that is a text, as a datum.
+fn text_datum(e: &TextExpr, args: &[Datum], parts: &[Value], known: &Pages) -> Result<Datum, Break>
+    requires fits { TextsFit (map kind_of parts.now) (texts_of e.now) }
+    ensures value { value_known (known_by known.now) (seeing args.now parts.now) (a_text (texts_of e.now)) ≡ given result }
+    ensures sort { IfOk result (λ d. elem_of d ≡ sort_of_form (a_text (texts_of e.now))) }
+{
+    let text = text(e, args, parts, known)?;
+    Ok(Datum::Text(text))
+}
+
 // The value of an expression.
 pub(crate) fn datum(
     e: &Expr,
@@ -217,14 +301,8 @@ pub(crate) fn datum(
     ensures sort { IfOk result (λ d. elem_of d ≡ sort_of_form (form_of e.now)) }
 {
     match e {
-        Expr::Integer(e) => {
-            let n = integer(e, args, parts, known)?;
-            Ok(Datum::Integer(n))
-        }
-        Expr::Text(e) => {
-            let text = text(e, args, parts, known)?;
-            Ok(Datum::Text(text))
-        }
+        Expr::Integer(e) => integer_datum(e, args, parts, known),
+        Expr::Text(e) => text_datum(e, args, parts, known),
     }
 }
 
@@ -242,6 +320,55 @@ fn compares(relation: Relation, first: u32, second: u32) -> bool
     }
 }
 
+// Whether two texts are the same.
+fn are_same(
+    a: &TextExpr,
+    b: &TextExpr,
+    args: &[Datum],
+    parts: &[Value],
+    known: &Pages,
+) -> Result<bool, Break>
+    requires fits { ConditionFits (map kind_of parts.now) (same_texts (texts_of a.now) (texts_of b.now)) }
+    ensures { holds_known (known_by known.now) (seeing args.now parts.now) (same_texts (texts_of a.now) (texts_of b.now))
+        ≡ given result }
+{
+    let first = text(a, args, parts, known)?;
+    let second = text(b, args, parts, known)?;
+    Ok(first == second)
+}
+
+// Whether two texts are not the same.
+fn are_other(
+    a: &TextExpr,
+    b: &TextExpr,
+    args: &[Datum],
+    parts: &[Value],
+    known: &Pages,
+) -> Result<bool, Break>
+    requires fits { ConditionFits (map kind_of parts.now) (other_texts (texts_of a.now) (texts_of b.now)) }
+    ensures { holds_known (known_by known.now) (seeing args.now parts.now) (other_texts (texts_of a.now) (texts_of b.now))
+        ≡ given result }
+{
+    let first = text(a, args, parts, known)?;
+    let second = text(b, args, parts, known)?;
+    Ok(first != second)
+}
+
+// Whether a part has a key.
+fn has_key(
+    part: PartId,
+    key: &TextExpr,
+    args: &[Datum],
+    parts: &[Value],
+    known: &Pages,
+) -> Result<bool, Break>
+    requires fits { ConditionFits (map kind_of parts.now) (has part (texts_of key.now)) }
+    ensures { holds_known (known_by known.now) (seeing args.now parts.now) (has part (texts_of key.now)) ≡ given result }
+{
+    let key = text(key, args, parts, known)?;
+    Ok(value_of(parts, part).has(&key))
+}
+
 // Whether a condition holds.
 pub(crate) fn holds(c: &Cond, args: &[Datum], parts: &[Value], known: &Pages) -> Result<bool, Break>
     requires fits { ConditionFits (map kind_of parts.now) (condition_of c.now) }
@@ -253,20 +380,9 @@ pub(crate) fn holds(c: &Cond, args: &[Datum], parts: &[Value], known: &Pages) ->
             let second = integer(b, args, parts, known)?;
             Ok(compares(*relation, first, second))
         }
-        Cond::SameTexts(a, b) => {
-            let first = text(a, args, parts, known)?;
-            let second = text(b, args, parts, known)?;
-            Ok(first == second)
-        }
-        Cond::OtherTexts(a, b) => {
-            let first = text(a, args, parts, known)?;
-            let second = text(b, args, parts, known)?;
-            Ok(first != second)
-        }
-        Cond::Has(part, key) => {
-            let key = text(key, args, parts, known)?;
-            Ok(value_of(parts, *part).has(&key))
-        }
+        Cond::SameTexts(a, b) => are_same(a, b, args, parts, known),
+        Cond::OtherTexts(a, b) => are_other(a, b, args, parts, known),
+        Cond::Has(part, key) => has_key(*part, key, args, parts, known),
         Cond::Not(c) => {
             let inner = holds(c, args, parts, known)?;
             Ok(!inner)
