@@ -25,11 +25,15 @@ pub trait Ends: Drop {
 
 /// A hand over a `DirHand` that makes its next file ahead, and keeps what it read last.
 ///
-/// - After a `retire` an empty file is made, if none is ready: the next `create` gives it, where it still lies in the folder. Where none can be
-///   made, or it lies there no more, `create` makes one, and fails as a `DirHand` does. A failure ahead is none of a call.
-/// - The last 8 reads of at most 4,096 bytes are kept (`Reads`), and a read of the same stamp, place and length as one of them is answered from memory, until
+/// - After a `retire` an empty file is made, if none is ready: the next `create` gives it, where it still lies in the
+///   folder. Where none can be
+///   made, or it lies there no more, `create` makes one, and fails as a `DirHand` does. A failure ahead is none of a
+///   call.
+/// - The last 8 reads of at most 4,096 bytes are kept (`Reads`), and a read of the same stamp, place and length as one
+///   of them is answered from memory, until
 ///   the hand retires the file: a sealed file does not change.
-/// - A file of at most 4,096 bytes that it seals is shared with the other hands of its folder (`Sealed`), and a read of one that is shared is answered from
+/// - A file of at most 4,096 bytes that it seals is shared with the other hands of its folder (`Sealed`), and a read of
+///   one that is shared is answered from
 ///   there, until one of them retires it.
 /// - `end` removes the file that is ready.
 ///

@@ -32,7 +32,8 @@ impl Kept {
 
     // These bytes are kept here in place of others, or nothing.
     fn put(&mut self, stamp: &Stamp, at: usize, bytes: &[u8])
-        ensures of { (s : IsStamp) (k : ℕ) → self.new.of ≡ Some (s, k) → (s ≡ stamp.now) × (k ≡ at) × (self.new.bytes.items ≡ bytes.now) }
+        ensures of { (s : IsStamp) (k : ℕ) → self.new.of ≡ Some (s, k) →
+            (s ≡ stamp.now) × (k ≡ at) × (self.new.bytes.items ≡ bytes.now) }
     {
         self.of = None;
         self.bytes.clear();
@@ -57,7 +58,8 @@ impl Kept {
     }
 }
 
-/// The bytes of the last 8 reads of at most 4,096 bytes: a part may have as many files. A file does not change once it is sealed.
+/// The bytes of the last 8 reads of at most 4,096 bytes: a part may have as many files. A file does not
+/// change once it is sealed.
 #[derive(Drop)]
 pub(crate) struct Reads {
     reads: Vec<Kept>,
@@ -109,7 +111,8 @@ impl Reads {
 
     /// The reads of a file that is no more are kept no more.
     pub(crate) fn forget(&mut self, number: u64)
-        ensures { (s : IsStamp) (k : ℕ) (b : List ℕ) → IsAmong self.new.reads.items s k b → IsAmong self.old.reads.items s k b × (s.number ≢ number) }
+        ensures { (s : IsStamp) (k : ℕ) (b : List ℕ) → IsAmong self.new.reads.items s k b →
+            IsAmong self.old.reads.items s k b × (s.number ≢ number) }
     {
         for kept in self.reads.iter_mut() {
             kept.forget(number);

@@ -45,8 +45,9 @@ fn none_kept(alloc: Global) -> Result<Row, AllocError>
     Ok(Row { files, oldest: 0 })
 }
 
-/// What the hands of one folder sealed last, so that a file which one of them wrote is read by another one without the system: the last 8 files of at
-/// most 4,096 bytes. A file does not change once it is sealed, and its number is that of no other one.
+/// What the hands of one folder sealed last, so that a file which one of them wrote is read by another one without the
+/// system: the last 8 files of at most 4,096 bytes. A file does not change once it is sealed, and its number is
+/// that of no other one.
 ///
 /// Nobody waits for it: where another thread is at it, nothing is kept, or found, or forgotten.
 #[derive(Drop)]

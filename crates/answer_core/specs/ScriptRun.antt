@@ -12,10 +12,12 @@ pub data IsScriptRun (source text : List ℕ) : ℕ → List ℕ → Type 0 wher
   -- there is nothing to run on, and one line says why
   told : {line : List ℕ} → IsTold source text line → IsScriptRun source text 1 line
   -- the script over the object that its first line names
-  ran : (o : Object) (end : ScriptEnd) {written : List ℕ} → IsReady source text (object_of o) → IsScript o text end written → IsScriptRun source text (script_status end) written
+  ran : (o : Object) (end : ScriptEnd) {written : List ℕ} → IsReady source text (object_of o) →
+      IsScript o text end written → IsScriptRun source text (script_status end) written
 
 -- a front of what is written
 pub data IsScriptFront (source text : List ℕ) : List ℕ → Type 0 where
   nothing : IsScriptFront source text []
   told_front : (line : List ℕ) (count : ℕ) → IsTold source text line → IsScriptFront source text (take count line)
-  ran_front : (o : Object) {written : List ℕ} → IsReady source text (object_of o) → IsFront o text written → IsScriptFront source text written
+  ran_front : (o : Object) {written : List ℕ} → IsReady source text (object_of o) → IsFront o text written →
+      IsScriptFront source text written

@@ -62,11 +62,15 @@ IsFault failures.Memory = ⊤
 
 -- a command line without a request is told as such, but for a want of memory
 abbrev pub IsUsage : UsageError → Failure → Type 0
-IsUsage error failure = (kind_of error ≡ OutOfMemory → failure ≡ failures.Memory) × ((kind_of error ≡ OutOfMemory → ⊥) → failure ≡ failures.Usage error)
+IsUsage error failure =
+    (kind_of error ≡ OutOfMemory → failure ≡ failures.Memory)
+    × ((kind_of error ≡ OutOfMemory → ⊥) → failure ≡ failures.Usage error)
 
 -- a reader that failed is told as such, but for a want of memory
 abbrev pub IsUnread : IoError → Failure → Type 0
-IsUnread error failure = (error_kind error ≡ IoKind.OutOfMemory → failure ≡ failures.Memory) × ((error_kind error ≡ IoKind.OutOfMemory → ⊥) → failure ≡ failures.ReadFault)
+IsUnread error failure =
+    (error_kind error ≡ IoKind.OutOfMemory → failure ≡ failures.Memory)
+    × ((error_kind error ≡ IoKind.OutOfMemory → ⊥) → failure ≡ failures.ReadFault)
 
 -- a fault of the paths engine, as the program tells it
 abbrev pub paths_failure : LinesFault → Failure

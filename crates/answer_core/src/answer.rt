@@ -50,11 +50,14 @@ pub fn answer_lines<R: Read, W: Write>(
     reader: &mut R,
     writer: &mut W,
 ) -> Result<u8, Failure>
-    ensures ended { IfOk result (λ status. IfSome (R.remaining reader.old) (λ text. (end : LinesEnd) × (written : List ℕ)
-        × Appends (W.contents writer.old) (W.contents writer.new) written × IsRun text end written × (status ≡ paths_status end))) }
+    ensures ended { IfOk result (λ status.
+        IfSome (R.remaining reader.old) (λ text. (end : LinesEnd) × (written : List ℕ)
+        × Appends (W.contents writer.old) (W.contents writer.new) written × IsRun text end written
+        × (status ≡ paths_status end))) }
     ensures cut { IfErr result (λ failure. IsFault failure × IfSome (R.remaining reader.old) (λ text. (written : List ℕ)
         × Appends (W.contents writer.old) (W.contents writer.new) written × IsFront text written)) }
-    ensures unread { IsErrOf result ReadFault → (text : List ℕ) × (written : List ℕ) × Consumes (R.remaining reader.old) (R.remaining reader.new) text
+    ensures unread { IsErrOf result ReadFault →
+        (text : List ℕ) × (written : List ℕ) × Consumes (R.remaining reader.old) (R.remaining reader.new) text
         × Appends (W.contents writer.old) (W.contents writer.new) written × IsRunSoFar text written }
 {
     match run_paths(alloc, reader, writer) {
@@ -66,7 +69,8 @@ pub fn answer_lines<R: Read, W: Write>(
 // What `check` answers of a source: its report, and the exit status.
 fn check_text<W: Write>(alloc: Global, source: &[u8], writer: &mut W) -> Result<u8, Failure>
     ensures ended { IfOk result (λ status. (end : CheckEnd) × (written : List ℕ)
-        × Appends (W.contents writer.old) (W.contents writer.new) written × IsCheck source.now end written × (status ≡ check_status end)) }
+        × Appends (W.contents writer.old) (W.contents writer.new) written × IsCheck source.now end written
+        × (status ≡ check_status end)) }
     ensures fault { IfErr result (λ failure. (failure ≡ WriteFault) ⊎ (failure ≡ Memory)) }
     ensures cut { IsErrOf result WriteFault → (end : CheckEnd) × (whole : List ℕ) × (count : ℕ)
         × IsCheck source.now end whole × Appends (W.contents writer.old) (W.contents writer.new) (take count whole) }
@@ -79,8 +83,8 @@ fn check_text<W: Write>(alloc: Global, source: &[u8], writer: &mut W) -> Result<
 }
 
 /// `pathserve check`: checks the objects of a source, and gives the exit status: 0 where none is refused,
-/// 1 where one is and where the source is no file of objects. Where the name of a file is given, `error` then gets why its
-/// source is refused; what is written to `writer`, and the exit status, are what they are without it.
+/// 1 where one is and where the source is no file of objects. Where the name of a file is given, `error` then gets why
+/// its source is refused; what is written to `writer`, and the exit status, are what they are without it.
 ///
 /// A failure is `ReadFault`, `WriteFault` or `Memory`. A `WriteFault` leaves a front of the report, the others
 /// leave nothing.
@@ -92,9 +96,11 @@ pub fn check_source<R: Read + Drop, W: Write, E: Write>(
     error: &mut E,
 ) -> Result<u8, Failure>
     ensures ended { IfOk result (λ status. IfSome (R.remaining reader) (λ text. (end : CheckEnd) × (written : List ℕ)
-        × Appends (W.contents writer.old) (W.contents writer.new) written × IsCheck text end written × (status ≡ check_status end))) }
+        × Appends (W.contents writer.old) (W.contents writer.new) written × IsCheck text end written
+        × (status ≡ check_status end))) }
     ensures fault { IfErr result IsFault }
-    ensures cut { IsErrOf result WriteFault → IfSome (R.remaining reader) (λ text. (end : CheckEnd) × (whole : List ℕ) × (count : ℕ)
+    ensures cut { IsErrOf result WriteFault →
+        IfSome (R.remaining reader) (λ text. (end : CheckEnd) × (whole : List ℕ) × (count : ℕ)
         × IsCheck text end whole × Appends (W.contents writer.old) (W.contents writer.new) (take count whole)) }
     ensures unread { IsErrOf result ReadFault → Keeps (W.contents writer.old) (W.contents writer.new) }
     ensures memory { IsErrOf result Memory → Keeps (W.contents writer.old) (W.contents writer.new) }

@@ -105,7 +105,8 @@ fn unnamed_said(alloc: Global) -> Result<Said, AllocError>
 
 // What is said of a trace whose first line names an object.
 fn named_said(alloc: Global, source: &[u8], text: &[u8]) -> Result<Said, AllocError>
-    ensures { (name : List ℕ) → NamesObject text.now name → IfOk result (λ said. IsAuditRun source.now text.now said.status said.line.items) }
+    ensures { (name : List ℕ) → NamesObject text.now name →
+        IfOk result (λ said. IsAuditRun source.now text.now said.status said.line.items) }
 {
     match open_script(alloc, source, text)? {
         Opened::Told(line) => Ok(lacking_said(line)),
@@ -133,10 +134,11 @@ fn audit_said(alloc: Global, source: &[u8], text: &[u8]) -> Result<Said, AllocEr
     }
 }
 
-/// `pathserve audit`: tells whether a trace is legal for the object of a source that its first line names, or its first fault,
-/// and gives the exit status: 0 where it is legal, 1 where it is not, and where there is no such object.
+/// `pathserve audit`: tells whether a trace is legal for the object of a source that its first line names, or its first
+/// fault, and gives the exit status: 0 where it is legal, 1 where it is not, and where there is no such object.
 ///
-/// A failure is `ReadFault`, `WriteFault` or `Memory`. A `WriteFault` leaves a front of the line, the others leave nothing.
+/// A failure is `ReadFault`, `WriteFault` or `Memory`. A `WriteFault` leaves a front of the line, the
+/// others leave nothing.
 pub fn audit_trace<R: Read + Drop, W: Write>(
     alloc: Global,
     source: &[u8],
@@ -144,10 +146,13 @@ pub fn audit_trace<R: Read + Drop, W: Write>(
     writer: &mut W,
 ) -> Result<u8, Failure>
     ensures ended { IfOk result (λ status. IfSome (R.remaining reader) (λ text. (written : List ℕ)
-        × Appends (W.contents writer.old) (W.contents writer.new) written × IsAuditRun source.now text status written)) }
+        × Appends (W.contents writer.old) (W.contents writer.new) written
+        × IsAuditRun source.now text status written)) }
     ensures fault { IfErr result IsFault }
-    ensures cut { IsErrOf result WriteFault → IfSome (R.remaining reader) (λ text. (status : ℕ) × (whole : List ℕ) × (count : ℕ)
-        × IsAuditRun source.now text status whole × Appends (W.contents writer.old) (W.contents writer.new) (take count whole)) }
+    ensures cut { IsErrOf result WriteFault →
+        IfSome (R.remaining reader) (λ text. (status : ℕ) × (whole : List ℕ) × (count : ℕ)
+        × IsAuditRun source.now text status whole
+        × Appends (W.contents writer.old) (W.contents writer.new) (take count whole)) }
     ensures unread { IsErrOf result ReadFault → Keeps (W.contents writer.old) (W.contents writer.new) }
     ensures memory { IsErrOf result Memory → Keeps (W.contents writer.old) (W.contents writer.new) }
 {

@@ -14,8 +14,8 @@ use script_open::head::named_object;
 use std::alloc::{AllocError, Global};
 use std::io::Write;
 
-// Writes why a source of a file is refused. Where memory for the text is refused nothing is written, and where a write fails a
-// front of it.
+// Writes why a source of a file is refused. Where memory for the text is refused nothing is written, and where a write
+// fails a front of it.
 fn push_explanation<E: Write>(
     alloc: Global,
     file: &str,
@@ -33,9 +33,9 @@ fn push_text<E: Write>(text: Result<Vec<u8>, AllocError>, error: &mut E) {
     }
 }
 
-/// Hands on what a command ended with, which no explanation changes. Where it refused something, and the name of a file is given,
-/// `error` gets first why that file's source is refused: its fault, or each object that is refused, or the one of a name. Want of
-/// memory, and a write that fails, end the explanation alone.
+/// Hands on what a command ended with, which no explanation changes. Where it refused something, and the name of a file
+/// is given, `error` gets first why that file's source is refused: its fault, or each object that is refused, or the
+/// one of a name. Want of memory, and a write that fails, end the explanation alone.
 pub fn explained<E: Write>(
     alloc: Global,
     ended: Result<u8, Failure>,

@@ -1,7 +1,7 @@
 //! What `paths`, `check`, `run` and `audit` answer, over any reader and writer.
 //!
-//! `answer` says what they do, `failure` what the program ends with where it has no answer, and `laws` what follows from the
-//! definitions alone.
+//! `answer` says what they do, `failure` what the program ends with where it has no answer, and `laws` what follows
+//! from the definitions alone.
 #![tactic(auto)]
 
 pub mod answer;

@@ -36,9 +36,11 @@ fn run_on<R: Read, W: Write>(
     writer: &mut W,
 ) -> Result<u8, Failure>
     ensures ended { IfOk result (λ status. IfSome (R.remaining reader.old) (λ rest. (end : End) × (written : List ℕ)
-        × Appends (W.contents writer.old) (W.contents writer.new) written × IsScript accepted (head.now ++ rest) end written × (status ≡ script_status end))) }
+        × Appends (W.contents writer.old) (W.contents writer.new) written
+        × IsScript accepted (head.now ++ rest) end written × (status ≡ script_status end))) }
     ensures cut { IfErr result (λ failure. IsFault failure × IfSome (R.remaining reader.old) (λ rest. (written : List ℕ)
-        × Appends (W.contents writer.old) (W.contents writer.new) written × IsFront accepted (head.now ++ rest) written)) }
+        × Appends (W.contents writer.old) (W.contents writer.new) written
+        × IsFront accepted (head.now ++ rest) written)) }
 {
     let mut text = head.chain(reader);
     match run_script(alloc, accepted, &mut text, writer) {
@@ -49,8 +51,10 @@ fn run_on<R: Read, W: Write>(
 
 // Writes the line that says why there is nothing to run on.
 fn tell<W: Write>(line: &[u8], writer: &mut W) -> Result<u8, Failure>
-    ensures ended { IfOk result (λ status. Appends (W.contents writer.old) (W.contents writer.new) line.now × (status ≡ REFUSED)) }
-    ensures cut { IfErr result (λ failure. IsFault failure × ((count : ℕ) × Appends (W.contents writer.old) (W.contents writer.new) (take count line.now))) }
+    ensures ended { IfOk result (λ status. Appends (W.contents writer.old) (W.contents writer.new) line.now
+        × (status ≡ REFUSED)) }
+    ensures cut { IfErr result (λ failure. IsFault failure
+        × ((count : ℕ) × Appends (W.contents writer.old) (W.contents writer.new) (take count line.now))) }
 {
     match write_whole(writer, line) {
         Ok(()) => Ok(REFUSED),
@@ -58,14 +62,14 @@ fn tell<W: Write>(line: &[u8], writer: &mut W) -> Result<u8, Failure>
     }
 }
 
-/// `pathserve run`: runs a script on the object of a source that its first line names, and gives the exit status: 0 where
-/// each line was answered, 1 where there is nothing to run on, or a bad line ended the script.
+/// `pathserve run`: runs a script on the object of a source that its first line names, and gives the exit status: 0
+/// where each line was answered, 1 where there is nothing to run on, or a bad line ended the script.
 ///
-/// Where the name of a file is given, `error` gets why its source, or the object, is refused; what is written to `writer`, and the
-/// exit status, are what they are without it.
+/// Where the name of a file is given, `error` gets why its source, or the object, is refused; what is written to
+/// `writer`, and the exit status, are what they are without it.
 ///
-/// A failure is `ReadFault`, `WriteFault` or `Memory`, and leaves a front of the answers. A `ReadFault` leaves those to all
-/// lines that had come whole, but nothing where it came before the first line was whole.
+/// A failure is `ReadFault`, `WriteFault` or `Memory`, and leaves a front of the answers. A `ReadFault` leaves those to
+/// all lines that had come whole, but nothing where it came before the first line was whole.
 pub fn answer_script<R: Read, W: Write, E: Write>(
     alloc: Global,
     source: &[u8],
@@ -75,7 +79,8 @@ pub fn answer_script<R: Read, W: Write, E: Write>(
     error: &mut E,
 ) -> Result<u8, Failure>
     ensures ended { IfOk result (λ status. IfSome (R.remaining reader.old) (λ text. (written : List ℕ)
-        × Appends (W.contents writer.old) (W.contents writer.new) written × IsScriptRun source.now text status written)) }
+        × Appends (W.contents writer.old) (W.contents writer.new) written
+        × IsScriptRun source.now text status written)) }
     ensures cut { IfErr result (λ failure. IsFault failure × IfSome (R.remaining reader.old) (λ text. (written : List ℕ)
         × Appends (W.contents writer.old) (W.contents writer.new) written × IsScriptFront source.now text written)) }
 {

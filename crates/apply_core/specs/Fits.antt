@@ -19,4 +19,6 @@ pub record IsNamed (operation : Operation) (p : ℕ) (kind : Kind) : Type 0 wher
 
 -- each part that an operation reads holds a value of its kind
 abbrev pub HoldsReads : Operation → List Contents → Type 0
-HoldsReads operation parts = (p : ℕ) (kind : Kind) → IsNamed operation p kind → (value : Contents) × (slice_get parts p ≡ Some value) × (kind_of value ≡ kind)
+HoldsReads operation parts =
+    (p : ℕ) (kind : Kind) → IsNamed operation p kind →
+    (value : Contents) × (slice_get parts p ≡ Some value) × (kind_of value ≡ kind)

@@ -7,7 +7,10 @@ use Rattle.value_core.specs.declared.kind.Kind.TheVariants as kind
 use Rattle.value_core.specs.Kinds.{sort_of, IsArray, IsQueue, IsTable}
 use Rattle.decl_core.specs.declared.expr.Signed.{Signed}
 use Rattle.decl_core.specs.declared.expr.Signed.TheVariants as signs
-use Rattle.decl_core.specs.Form.{From, argument, element, oldest, under, Integers, number, integer_from, count, add, subtract, Texts, literal, text_from, Form, an_integer, a_text, Condition, compare, same_texts, other_texts, has, is_not, Statement, block, set_element, set_result, append, take, store, erase, choose, refuse, Statements, nothing, first_and}
+use Rattle.decl_core.specs.Form.{From, argument, element, oldest, under, Integers, number, integer_from, count, add}
+use Rattle.decl_core.specs.Form.{subtract, Texts, literal, text_from, Form, an_integer, a_text, Condition, compare}
+use Rattle.decl_core.specs.Form.{same_texts, other_texts, has, is_not, Statement, block, set_element, set_result}
+use Rattle.decl_core.specs.Form.{append, take, store, erase, choose, refuse, Statements, nothing, first_and}
 use Rattle.decl_core.specs.Sorts.{sort_of_form}
 use Rattle.decl_core.specs.View.{integers_of}
 
@@ -66,7 +69,8 @@ ConditionFits kinds (is_not c) = ConditionFits kinds c
 abbrev mutual
   pub StatementFits : List Kind → Statement → Type 0
   StatementFits kinds (block all) = StatementsFit kinds all
-  StatementFits kinds (set_element p i x) = IsAtOf kinds IsArray p (sort_of_form x) × IntegersFit kinds i × FormFits kinds x
+  StatementFits kinds (set_element p i x) =
+      IsAtOf kinds IsArray p (sort_of_form x) × IntegersFit kinds i × FormFits kinds x
   StatementFits kinds (set_result x) = FormFits kinds x
   StatementFits kinds (append p x) = IsAtOf kinds IsQueue p (sort_of_form x) × FormFits kinds x
   StatementFits kinds (take p) = IsAt kinds IsQueue p

@@ -33,4 +33,5 @@ leads_to (end ∷ later) parts = leads_to later (left_by end.reply end.body end.
 -- A history is legal from these contents: at its place, each reply is that of the sequential object.
 abbrev pub IsLegal : List End → List Contents → Type 0
 IsLegal [] parts = Unit {0}
-IsLegal (end ∷ later) parts = IsReplyOn end.reply end.body end.arguments parts × IsLegal later (left_by end.reply end.body end.arguments parts)
+IsLegal (end ∷ later) parts =
+    IsReplyOn end.reply end.body end.arguments parts × IsLegal later (left_by end.reply end.body end.arguments parts)

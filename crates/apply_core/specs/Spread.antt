@@ -38,11 +38,13 @@ behind_it false values = values
 -- the contents of all parts, from those of the parts that are read
 abbrev pub spread : ℕ → List (Option Kind) → List Contents → List Contents
 spread bits [] values = []
-spread bits (kind ∷ kinds) values = held_by (first_read bits) values ∷ spread (bits / 2) kinds (behind_it (first_read bits) values)
+spread bits (kind ∷ kinds) values =
+    held_by (first_read bits) values ∷ spread (bits / 2) kinds (behind_it (first_read bits) values)
 
 -- these values are as many as the parts that an operation reads, and each is of its part's kind
 abbrev pub FitReads : Operation → List Contents → Type 0
-FitReads operation values = map (λ value. Some (kind_of value)) values ≡ gather (reads_of (body_of operation)) operation.kinds.items
+FitReads operation values =
+    map (λ value. Some (kind_of value)) values ≡ gather (reads_of (body_of operation)) operation.kinds.items
 
 -- the contents of all parts that an operation is done on, from those of the parts that it reads
 abbrev pub all_parts : Operation → List Contents → List Contents

@@ -9,7 +9,8 @@ ghost use Rattle.value_core.specs.Kinds.{IsArray, IsQueue, IsTable};
 ghost use Rattle.value_core.specs.Meaning.{with_element, without_oldest, with_newest, with_row, without_key};
 ghost use Rattle.text_core.specs.Plain.{IsText};
 ghost use Rattle.value_core.specs.Words.{word_of};
-ghost use Rattle.decl_core.specs.Form.{set_element as set_element_form, append as append_form, store as store_form, erase as erase_form};
+ghost use Rattle.decl_core.specs.Form.{set_element as set_element_form, append as append_form, store as store_form};
+ghost use Rattle.decl_core.specs.Form.{erase as erase_form};
 ghost use Rattle.decl_core.specs.View.{integers_of, texts_of, form_of, statement_of, all_of};
 ghost use Rattle.decl_core.specs.Meaning.{part_at, with_part, after, after_all};
 ghost use Rattle.apply_core.specs.Fitting.{IsAt, IsAtOf, StatementFits, StatementsFit};
@@ -68,7 +69,9 @@ impl From<GrowFault> for Stop {
 #[tactic(auto, using(crate::proofs::KindsKept::kinds_kept))]
 fn set(parts: &mut Vec<Value>, part: PartId, index: u32, datum: Datum) -> Result<(), Stop>
     requires at { IsAtOf (map kind_of parts.old.items) IsArray part (elem_of datum) }
-    ensures left { (reply : Option Datum) → Leaves result (with_part (changing parts.old.items reply) part (with_element (part_at parts.old.items part) index datum)) (changing parts.new.items reply) }
+    ensures left { (reply : Option Datum) →
+        Leaves result (with_part (changing parts.old.items reply) part
+        (with_element (part_at parts.old.items part) index datum)) (changing parts.new.items reply) }
     ensures kinds { map kind_of parts.new.items ≡ map kind_of parts.old.items }
 {
     let value = &mut parts[part.place() as usize];
@@ -80,7 +83,9 @@ fn set(parts: &mut Vec<Value>, part: PartId, index: u32, datum: Datum) -> Result
 #[tactic(auto, using(crate::proofs::KindsKept::kinds_kept))]
 fn append(parts: &mut Vec<Value>, part: PartId, datum: Datum) -> Result<(), Stop>
     requires at { IsAtOf (map kind_of parts.old.items) IsQueue part (elem_of datum) }
-    ensures left { (reply : Option Datum) → Leaves result (with_part (changing parts.old.items reply) part (with_newest (part_at parts.old.items part) datum)) (changing parts.new.items reply) }
+    ensures left { (reply : Option Datum) →
+        Leaves result (with_part (changing parts.old.items reply) part
+        (with_newest (part_at parts.old.items part) datum)) (changing parts.new.items reply) }
     ensures kinds { map kind_of parts.new.items ≡ map kind_of parts.old.items }
 {
     let value = &mut parts[part.place() as usize];
@@ -92,7 +97,9 @@ fn append(parts: &mut Vec<Value>, part: PartId, datum: Datum) -> Result<(), Stop
 #[tactic(auto, using(crate::proofs::KindsKept::kinds_kept))]
 fn take(parts: &mut Vec<Value>, part: PartId) -> Result<(), Stop>
     requires at { IsAt (map kind_of parts.old.items) IsQueue part }
-    ensures left { (reply : Option Datum) → Leaves result (with_part (changing parts.old.items reply) part (without_oldest (part_at parts.old.items part))) (changing parts.new.items reply) }
+    ensures left { (reply : Option Datum) →
+        Leaves result (with_part (changing parts.old.items reply) part (without_oldest (part_at parts.old.items part)))
+        (changing parts.new.items reply) }
     ensures kinds { map kind_of parts.new.items ≡ map kind_of parts.old.items }
 {
     let value = &mut parts[part.place() as usize];
@@ -104,7 +111,9 @@ fn take(parts: &mut Vec<Value>, part: PartId) -> Result<(), Stop>
 #[tactic(auto, using(crate::proofs::KindsKept::kinds_kept))]
 fn store(parts: &mut Vec<Value>, part: PartId, key: Text, datum: Datum) -> Result<(), Stop>
     requires at { IsAtOf (map kind_of parts.old.items) IsTable part (elem_of datum) }
-    ensures left { (reply : Option Datum) → Leaves result (with_part (changing parts.old.items reply) part (with_row (part_at parts.old.items part) key datum)) (changing parts.new.items reply) }
+    ensures left { (reply : Option Datum) →
+        Leaves result (with_part (changing parts.old.items reply) part
+        (with_row (part_at parts.old.items part) key datum)) (changing parts.new.items reply) }
     ensures kinds { map kind_of parts.new.items ≡ map kind_of parts.old.items }
 {
     let value = &mut parts[part.place() as usize];
@@ -116,7 +125,9 @@ fn store(parts: &mut Vec<Value>, part: PartId, key: Text, datum: Datum) -> Resul
 #[tactic(auto, using(crate::proofs::KindsKept::kinds_kept))]
 fn erase(parts: &mut Vec<Value>, part: PartId, key: Text) -> Result<(), Stop>
     requires at { IsAt (map kind_of parts.old.items) IsTable part }
-    ensures left { (reply : Option Datum) → Leaves result (with_part (changing parts.old.items reply) part (without_key (part_at parts.old.items part) key)) (changing parts.new.items reply) }
+    ensures left { (reply : Option Datum) →
+        Leaves result (with_part (changing parts.old.items reply) part (without_key (part_at parts.old.items part) key))
+        (changing parts.new.items reply) }
     ensures kinds { map kind_of parts.new.items ≡ map kind_of parts.old.items }
 {
     let value = &mut parts[part.place() as usize];
@@ -132,8 +143,11 @@ fn do_set_element(
     args: &[Datum],
     parts: &mut Vec<Value>,
 ) -> Result<(), Stop>
-    requires fits { StatementFits (map kind_of parts.old.items) (set_element_form part (integers_of index.now) (form_of e.now)) }
-    ensures left { (reply : Option Datum) → Leaves result (after args.now (set_element_form part (integers_of index.now) (form_of e.now)) (changing parts.old.items reply)) (changing parts.new.items reply) }
+    requires fits { StatementFits (map kind_of parts.old.items) (set_element_form part (integers_of index.now)
+        (form_of e.now)) }
+    ensures left { (reply : Option Datum) →
+        Leaves result (after args.now (set_element_form part (integers_of index.now) (form_of e.now))
+        (changing parts.old.items reply)) (changing parts.new.items reply) }
     ensures kinds { map kind_of parts.new.items ≡ map kind_of parts.old.items }
 {
     let index = integer(index, args, parts)?;
@@ -144,7 +158,9 @@ fn do_set_element(
 // `append(q, e)`
 fn do_append(part: PartId, e: &Expr, args: &[Datum], parts: &mut Vec<Value>) -> Result<(), Stop>
     requires fits { StatementFits (map kind_of parts.old.items) (append_form part (form_of e.now)) }
-    ensures left { (reply : Option Datum) → Leaves result (after args.now (append_form part (form_of e.now)) (changing parts.old.items reply)) (changing parts.new.items reply) }
+    ensures left { (reply : Option Datum) →
+        Leaves result (after args.now (append_form part (form_of e.now)) (changing parts.old.items reply))
+        (changing parts.new.items reply) }
     ensures kinds { map kind_of parts.new.items ≡ map kind_of parts.old.items }
 {
     let datum = datum(e, args, parts)?;
@@ -160,7 +176,9 @@ fn do_store(
     parts: &mut Vec<Value>,
 ) -> Result<(), Stop>
     requires fits { StatementFits (map kind_of parts.old.items) (store_form part (texts_of key.now) (form_of e.now)) }
-    ensures left { (reply : Option Datum) → Leaves result (after args.now (store_form part (texts_of key.now) (form_of e.now)) (changing parts.old.items reply)) (changing parts.new.items reply) }
+    ensures left { (reply : Option Datum) →
+        Leaves result (after args.now (store_form part (texts_of key.now) (form_of e.now))
+        (changing parts.old.items reply)) (changing parts.new.items reply) }
     ensures kinds { map kind_of parts.new.items ≡ map kind_of parts.old.items }
 {
     let key = text(key, args, parts)?;
@@ -176,7 +194,9 @@ fn do_erase(
     parts: &mut Vec<Value>,
 ) -> Result<(), Stop>
     requires fits { StatementFits (map kind_of parts.old.items) (erase_form part (texts_of key.now)) }
-    ensures left { (reply : Option Datum) → Leaves result (after args.now (erase_form part (texts_of key.now)) (changing parts.old.items reply)) (changing parts.new.items reply) }
+    ensures left { (reply : Option Datum) →
+        Leaves result (after args.now (erase_form part (texts_of key.now)) (changing parts.old.items reply))
+        (changing parts.new.items reply) }
     ensures kinds { map kind_of parts.new.items ≡ map kind_of parts.old.items }
 {
     let key = text(key, args, parts)?;
@@ -193,7 +213,8 @@ fn act(
     reply: &mut Option<Datum>,
 ) -> Result<(), Stop>
     requires fits { StatementFits (map kind_of parts.old.items) (statement_of s.now) }
-    ensures left { Leaves result (after args.now (statement_of s.now) (changing parts.old.items reply.old)) (changing parts.new.items reply.new) }
+    ensures left { Leaves result (after args.now (statement_of s.now) (changing parts.old.items reply.old))
+        (changing parts.new.items reply.new) }
     ensures kinds { map kind_of parts.new.items ≡ map kind_of parts.old.items }
     ensures memory { IsErrOf result Stop.Memory → 0 < length (map kind_of parts.old.items) }
 {
@@ -227,7 +248,8 @@ pub(crate) fn act_all(
     reply: &mut Option<Datum>,
 ) -> Result<(), Stop>
     requires fits { StatementsFit (map kind_of parts.old.items) (all_of all.now) }
-    ensures left { Leaves result (after_all args.now (all_of all.now) (changing parts.old.items reply.old)) (changing parts.new.items reply.new) }
+    ensures left { Leaves result (after_all args.now (all_of all.now) (changing parts.old.items reply.old))
+        (changing parts.new.items reply.new) }
     ensures kinds { map kind_of parts.new.items ≡ map kind_of parts.old.items }
     ensures memory { IsErrOf result Stop.Memory → 0 < length (map kind_of parts.old.items) }
 {

@@ -6,7 +6,8 @@ ghost use Rattle.decl_core.specs.Bodies.{body_of};
 ghost use Rattle.decl_core.specs.Meaning.{apply_body};
 ghost use Rattle.apply_core.specs.Fits.{ArgumentsFit, HoldsReads};
 ghost use Rattle.apply_core.specs.declared.act.Stop.TheVariants.{Refused};
-ghost use Rattle.apply_core.specs.Spread.{if_read, held_by, behind_it, gather as gathered, spread as spread_over, FitReads, all_parts, parts_read, ReplyTells};
+ghost use Rattle.apply_core.specs.Spread.{if_read, held_by, behind_it, gather as gathered, spread as spread_over};
+ghost use Rattle.apply_core.specs.Spread.{FitReads, all_parts, parts_read, ReplyTells};
 
 use crate::act::Stop;
 use crate::evaluate::evaluate;
@@ -33,8 +34,11 @@ pub fn apply(
 ) -> Result<(Reply, Vec<Value>), AllocError>
     requires fits { ArgumentsFit operation.now args.now }
     requires values { FitReads operation.now values.now }
-    ensures reply { IfOk result (λ r. ReplyTells r.0 (apply_body (body_of operation.now) args.now (all_parts operation.now values.now)).0) }
-    ensures values { IfOk result (λ r. r.1.items ≡ parts_read operation.now (apply_body (body_of operation.now) args.now (all_parts operation.now values.now)).1) }
+    ensures reply { IfOk result (λ r. ReplyTells r.0 (apply_body (body_of operation.now) args.now
+        (all_parts operation.now values.now)).0) }
+    ensures values { IfOk result (λ r. r.1.items
+        ≡ parts_read operation.now (apply_body (body_of operation.now) args.now
+        (all_parts operation.now values.now)).1) }
     ensures kinds { IfOk result (λ r. map kind_of r.1.items ≡ map kind_of values.now) }
 {
     let bits = reads(operation);
@@ -66,7 +70,8 @@ pub fn apply_all(
 ) -> Result<Reply, AllocError>
     requires fits { ArgumentsFit operation.now args.now }
     requires held { HoldsReads operation.now parts.old.items }
-    ensures reply { IfOk result (λ reply. ReplyTells reply (apply_body (body_of operation.now) args.now parts.old.items).0) }
+    ensures reply { IfOk result (λ reply. ReplyTells reply (apply_body (body_of operation.now) args.now
+        parts.old.items).0) }
     ensures parts { OnOk result (parts.new.items ≡ (apply_body (body_of operation.now) args.now parts.old.items).1) }
     ensures unchanged { OnErr result (parts.new.items ≡ parts.old.items) }
     ensures kinds { map kind_of parts.new.items ≡ map kind_of parts.old.items }

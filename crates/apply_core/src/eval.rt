@@ -5,8 +5,11 @@ ghost use Rattle.value_core.specs.Contents.{kind_of};
 ghost use Rattle.value_core.specs.Datum.{elem_of};
 ghost use Rattle.decl_core.specs.View.{from_of, integers_of, texts_of, form_of, condition_of};
 ghost use Rattle.decl_core.specs.Sorts.{sort_of_form};
-ghost use Rattle.decl_core.specs.Meaning.{by_word, part_at, argument_at, integer_in as in_integer, text_in as in_text, datum_from, integer_value, text_value, datum_value, compares as related, holds as is_true};
-ghost use Rattle.apply_core.specs.Fitting.{kind_at, FromFits, IntegersFit, TextsFit, SignedFits, TermsFit, FormFits, ConditionFits};
+ghost use Rattle.decl_core.specs.Meaning.{by_word, part_at, argument_at, integer_in as in_integer, text_in as in_text};
+ghost use Rattle.decl_core.specs.Meaning.{datum_from, integer_value, text_value, datum_value, compares as related};
+ghost use Rattle.decl_core.specs.Meaning.{holds as is_true};
+ghost use Rattle.apply_core.specs.Fitting.{kind_at, FromFits, IntegersFit, TextsFit, SignedFits, TermsFit, FormFits};
+ghost use Rattle.apply_core.specs.Fitting.{ConditionFits};
 ghost use Rattle.apply_core.specs.Sums.{seeing, with_signed, with_terms};
 
 use decl_core::expr::{Expr, IntegerExpr, Signed, Source, TextExpr};

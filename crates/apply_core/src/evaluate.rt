@@ -24,8 +24,10 @@ pub fn evaluate(
 ) -> Result<Option<Datum>, Stop>
     requires fits { ArgumentsFit operation.now args.now }
     requires held { HoldsReads operation.now parts.old.items }
-    ensures done { IfOk result (λ reply. apply_body (body_of operation.now) args.now parts.old.items ≡ (done reply, parts.new.items)) }
-    ensures stopped { IfErr result (λ stop. StopTells (apply_body (body_of operation.now) args.now parts.old.items).0 stop) }
+    ensures done { IfOk result (λ reply. apply_body (body_of operation.now) args.now parts.old.items
+        ≡ (done reply, parts.new.items)) }
+    ensures stopped { IfErr result (λ stop.
+        StopTells (apply_body (body_of operation.now) args.now parts.old.items).0 stop) }
     ensures kinds { map kind_of parts.new.items ≡ map kind_of parts.old.items }
     // Only a body that changes a part takes memory.
     ensures memory { IsErrOf result Stop.Memory → 0 < length parts.old.items }

@@ -1,5 +1,6 @@
 -- What a desk answers.
-use Rattle.std.specs.Prelude.{◌≡◌, ℕ, ◌+◌, ◌-◌, ◌<◌, ◌≤◌, ◌⊎◌, Bool, true, false, ◌||◌, ◌==◌, List, [], ◌∷◌, ◌++◌, take, length, slice_get, Some, None}
+use Rattle.std.specs.Prelude.{◌≡◌, ℕ, ◌+◌, ◌-◌, ◌<◌, ◌≤◌, ◌⊎◌, Bool, true, false, ◌||◌, ◌==◌, List, [], ◌∷◌, ◌++◌, take}
+use Rattle.std.specs.Prelude.{length, slice_get, Some, None}
 use Rattle.std.specs.List.{list_any}
 use Rattle.std.specs.Str.{str_to_ascii_lowercase}
 use Rattle.value_core.specs.declared.datum.Datum.{Datum}
@@ -12,7 +13,8 @@ use Rattle.run_core.specs.declared.outcome.Outcome.{Outcome}
 use Rattle.board_core.specs.declared.receipt.Receipt.{Receipt}
 use Rattle.call_core.specs.Tickets.{ticket_call}
 use Rattle.ask_core.specs.declared.answer.SubmitFault.{SubmitFault}
-use Rattle.ask_core.specs.declared.answer.SubmitFault.TheVariants.{Gone, UnknownOp, BadArgs, SessionBusy, Full, HistoryFull, Memory}
+use Rattle.ask_core.specs.declared.answer.SubmitFault.TheVariants.{Gone, UnknownOp, BadArgs, SessionBusy, Full}
+use Rattle.ask_core.specs.declared.answer.SubmitFault.TheVariants.{HistoryFull, Memory}
 use Rattle.ask_core.specs.declared.answer.Cancelled.{Cancelled}
 use Rattle.ask_core.specs.declared.answer.Cancelled.TheVariants as cancels
 use Rattle.ask_core.specs.declared.answer.Collected.{Collected}
@@ -52,7 +54,8 @@ IsUnknown b name = Every (λ x. HasName name x → ⊥) (bodies b.object)
 
 -- a call of the session waits or runs
 abbrev pub is_busy : Board → ℕ → Bool
-is_busy b session = list_any (λ w. w.call.session == session) b.waiting || list_any (λ r. r.call.session == session) b.running
+is_busy b session =
+    list_any (λ w. w.call.session == session) b.waiting || list_any (λ r. r.call.session == session) b.running
 
 -- a call of this number waits, and one runs
 abbrev pub waits_in : Board → ℕ → Bool
@@ -72,7 +75,8 @@ pub record IsAsked (b : Board) (a : Asked) (call : AcceptedCall) : Type 0 where
   pub arguments : call.arguments ≡ a.arguments
   pub fits : ArgumentsFit call.operation call.arguments
 
--- nothing speaks against it: the session is there and not busy, the operation is known, the arguments fit, and there is room
+-- nothing speaks against it: the session is there and not busy, the operation is known, the arguments
+-- fit, and there is room
 pub record IsTaken (b : Board) (a : Asked) (call : AcceptedCall) : Type 0 where
   pub here : IsGone b a.session → ⊥
   pub asked : IsAsked b a call
@@ -84,18 +88,28 @@ pub record IsTaken (b : Board) (a : Asked) (call : AcceptedCall) : Type 0 where
 abbrev pub IsRefused : Board → Asked → SubmitFault → Type 0
 IsRefused b a Gone = IsGone b a.session
 IsRefused b a UnknownOp = (IsGone b a.session → ⊥) × IsUnknown b a.name
-IsRefused b a BadArgs = (IsGone b a.session → ⊥) × ((k : ℕ) × (operation : Operation) × IsNamedAt b.object k operation a.name × (ArgumentsFit operation a.arguments → ⊥))
-IsRefused b a SessionBusy = (IsGone b a.session → ⊥) × ((call : AcceptedCall) × IsAsked b a call) × (is_busy b a.session ≡ true)
-IsRefused b a Full = (IsGone b a.session → ⊥) × ((call : AcceptedCall) × IsAsked b a call) × (is_busy b a.session ≡ false) × (256 ≤ length b.waiting + length b.running)
-IsRefused b a HistoryFull = (IsGone b a.session → ⊥) × ((call : AcceptedCall) × IsAsked b a call) × (is_busy b a.session ≡ false) × (length b.waiting + length b.running < 256) × (65536 ≤ length b.calls)
+IsRefused b a BadArgs =
+    (IsGone b a.session → ⊥) × ((k : ℕ) × (operation : Operation) × IsNamedAt b.object k operation a.name
+    × (ArgumentsFit operation a.arguments → ⊥))
+IsRefused b a SessionBusy =
+    (IsGone b a.session → ⊥) × ((call : AcceptedCall) × IsAsked b a call) × (is_busy b a.session ≡ true)
+IsRefused b a Full =
+    (IsGone b a.session → ⊥) × ((call : AcceptedCall) × IsAsked b a call) × (is_busy b a.session ≡ false)
+    × (256 ≤ length b.waiting + length b.running)
+IsRefused b a HistoryFull =
+    (IsGone b a.session → ⊥) × ((call : AcceptedCall) × IsAsked b a call) × (is_busy b a.session ≡ false)
+    × (length b.waiting + length b.running < 256) × (65536 ≤ length b.calls)
 IsRefused b a Memory = (call : AcceptedCall) × IsTaken b a call
 
 -- what a cancel answers, and what it makes of the board
 abbrev pub Cancels : Board → ℕ → Cancelled → Board → Type 0
 Cancels b n cancels.Cancelled after = (waits_in b n ≡ true) × Settles (dismissed b n) after
 Cancels b n cancels.Running after = (waits_in b n ≡ false) × (runs_in b n ≡ true) × (after ≡ b)
-Cancels b n cancels.Ended after = (waits_in b n ≡ false) × (runs_in b n ≡ false) × ((call : AcceptedCall) × (call_at b.calls n ≡ Some call)) × (after ≡ b)
-Cancels b n cancels.Unknown after = (waits_in b n ≡ false) × (runs_in b n ≡ false) × (call_at b.calls n ≡ None) × (after ≡ b)
+Cancels b n cancels.Ended after =
+    (waits_in b n ≡ false) × (runs_in b n ≡ false) × ((call : AcceptedCall) × (call_at b.calls n ≡ Some call))
+    × (after ≡ b)
+Cancels b n cancels.Unknown after =
+    (waits_in b n ≡ false) × (runs_in b n ≡ false) × (call_at b.calls n ≡ None) × (after ≡ b)
 
 -- a call of this number has finished
 abbrev pub ended_in : Board → ℕ → Bool
@@ -113,16 +127,23 @@ NoneIsLeft b n = Every (λ r. r.number ≡ n → r.taken ≡ true) b.running
 
 -- what a submitter finds, and what it makes of the board
 abbrev pub Collects : Board → ℕ → Collected → Board → Type 0
-Collects b n (collects.Ticket t) after = (k : ℕ) × (r : RunningCall) × IsLeft b n k r × (ticket_call t ≡ call_of n r.call.operation r.call.arguments r.pins) × (after ≡ taken_at b k r)
+Collects b n (collects.Ticket t) after =
+    (k : ℕ) × (r : RunningCall) × IsLeft b n k r × (ticket_call t ≡ call_of n r.call.operation r.call.arguments r.pins)
+    × (after ≡ taken_at b k r)
 Collects b n collects.Waiting after = NoneIsLeft b n × (waits_in b n ≡ true) × (after ≡ b)
-Collects b n collects.Cancelled after = NoneIsLeft b n × (waits_in b n ≡ false) × (runs_in b n ≡ false) × (ended_in b n ≡ false) × ((call : AcceptedCall) × (call_at b.calls n ≡ Some call)) × (after ≡ b)
-Collects b n collects.Unknown after = NoneIsLeft b n × (waits_in b n ≡ false) × ((runs_in b n ≡ true) ⊎ ((ended_in b n ≡ true) ⊎ (call_at b.calls n ≡ None))) × (after ≡ b)
+Collects b n collects.Cancelled after =
+    NoneIsLeft b n × (waits_in b n ≡ false) × (runs_in b n ≡ false) × (ended_in b n ≡ false)
+    × ((call : AcceptedCall) × (call_at b.calls n ≡ Some call)) × (after ≡ b)
+Collects b n collects.Unknown after =
+    NoneIsLeft b n × (waits_in b n ≡ false)
+    × ((runs_in b n ≡ true) ⊎ ((ended_in b n ≡ true) ⊎ (call_at b.calls n ≡ None))) × (after ≡ b)
 
 -- the receipt of an outcome that was left where it lay
 abbrev pub receipt_by : Finished → Outcome → Receipt
 receipt_by f o = record { place = f.place; noted = record { session = f.session; outcome = o }; free = f.free }
 
--- An outcome is that of a running call: the call has ended, its entry is the last of the history, the receipt holds what the outcome tells and its session, and frees what the call left to nobody and nobody needs.
+-- An outcome is that of a running call: the call has ended, its entry is the last of the history, the receipt holds
+-- what the outcome tells and its session, and frees what the call left to nobody and nobody needs.
 pub record Finishes (b : Board) (o : Outcome) (receipt : Receipt) (after : Board) : Type 0 where
   pub call : RunningCall
   pub runs : Among call b.running

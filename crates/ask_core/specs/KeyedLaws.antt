@@ -25,11 +25,15 @@ HasMade b a key = (n : ℕ) × (has : HasKey b.calls a.session key n) × IsSameC
 
 -- Where the session is there, a call that was made before is told exactly where the session made it under this key.
 abbrev pub KeptExactly : Type 0
-KeptExactly = (b after : Board) (a : Asked) (key : ℕ) (r : Result Keyed KeyedFault) → SubmitsKeyed b a key r after → (IsGone b a.session → ⊥) → HasMade b a key ↔ IsKeptAnswer r
+KeptExactly =
+    (b after : Board) (a : Asked) (key : ℕ) (r : Result Keyed KeyedFault) → SubmitsKeyed b a key r after →
+    (IsGone b a.session → ⊥) → HasMade b a key ↔ IsKeptAnswer r
 
--- what a submission answers and makes of the board: the next number, and the call joins; or the first refusal that applies, and all is as it was
+-- what a submission answers and makes of the board: the next number, and the call joins; or the first refusal that
+-- applies, and all is as it was
 abbrev pub Submits : Board → Asked → Result ℕ SubmitFault → Board → Type 0
-Submits b a (Ok n) after = (n ≡ length b.calls + 1) × ((call : AcceptedCall) × IsTaken b a call × Settles (joined b call) after)
+Submits b a (Ok n) after =
+    (n ≡ length b.calls + 1) × ((call : AcceptedCall) × IsTaken b a call × Settles (joined b call) after)
 Submits b a (Err fault) after = IsRefused b a fault × (after ≡ b)
 
 -- what a submission answers, told as the answer to a call under the next key
@@ -45,4 +49,6 @@ as_keyed (Err faults.Memory) = Err (Submit faults.Memory)
 
 -- A submission is a call under the session's next key.
 abbrev pub SubmitIsKeyed : Type 0
-SubmitIsKeyed = (b after : Board) (a : Asked) (r : Result ℕ SubmitFault) → Submits b a r after ↔ SubmitsKeyed b a (next_key b.calls a.session) (as_keyed r) after
+SubmitIsKeyed =
+    (b after : Board) (a : Asked) (r : Result ℕ SubmitFault) →
+    Submits b a r after ↔ SubmitsKeyed b a (next_key b.calls a.session) (as_keyed r) after

@@ -84,7 +84,8 @@ fn is_of(outcome: &Outcome, running: &Running) -> bool
 
 // The place of the running call from which an outcome comes.
 fn place_of_call(running: &[Running], outcome: &Outcome) -> Option<usize>
-    ensures some { IfSome result (λ k. (r : RunningCall) × (slice_get running.now k ≡ Some r) × IsOf (outcome_call outcome.now) r) }
+    ensures some { IfSome result (λ k. (r : RunningCall) × (slice_get running.now k ≡ Some r)
+        × IsOf (outcome_call outcome.now) r) }
     ensures none { IfNone result (Every (λ r. IsOf (outcome_call outcome.now) r → ⊥) running.now) }
 {
     for place in 0..running.len() {
@@ -97,8 +98,10 @@ fn place_of_call(running: &[Running], outcome: &Outcome) -> Option<usize>
 
 // The place of the running call that ends with an outcome, where that was not handed in before.
 pub fn place_to_end(running: &[Running], outcome: &Outcome) -> Option<usize>
-    ensures some { IfSome result (λ k. IsFresh outcome.now × ((r : RunningCall) × (slice_get running.now k ≡ Some r) × IsOf (outcome_call outcome.now) r)) }
-    ensures none { IfNone result ((IsFresh outcome.now → ⊥) ⊎ Every (λ r. IsOf (outcome_call outcome.now) r → ⊥) running.now) }
+    ensures some { IfSome result (λ k. IsFresh outcome.now
+        × ((r : RunningCall) × (slice_get running.now k ≡ Some r) × IsOf (outcome_call outcome.now) r)) }
+    ensures none { IfNone result ((IsFresh outcome.now → ⊥)
+        ⊎ Every (λ r. IsOf (outcome_call outcome.now) r → ⊥) running.now) }
 {
     if !outcome.is_fresh() {
         return None;
@@ -115,7 +118,8 @@ fn is_left(running: &Running, number: u32) -> bool
 
 // The place of the running call of this number whose ticket was not taken.
 pub fn place_of_left(running: &[Running], number: u32) -> Option<usize>
-    ensures some { IfSome result (λ k. (r : RunningCall) × (slice_get running.now k ≡ Some r) × (r.number ≡ number) × (r.taken ≡ false)) }
+    ensures some { IfSome result (λ k. (r : RunningCall) × (slice_get running.now k ≡ Some r) × (r.number ≡ number)
+        × (r.taken ≡ false)) }
     ensures none { IfNone result (Every (λ r. (r.number ≡ number) × (r.taken ≡ false) → ⊥) running.now) }
 {
     for place in 0..running.len() {

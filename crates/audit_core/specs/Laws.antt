@@ -38,7 +38,9 @@ pub record AreOpening (o : ObjectForm) (opening : List Contents) : Type 0 where
 
 -- the text of what happened is a legal trace, where it satisfies every path and its history is legal from the opening
 abbrev pub TextIsLegal : Type 0
-TextIsLegal = (o : ObjectForm) (opening : List Contents) (past : List Happened) → HasNames o → AreOpening o opening → AreCallsFor o past
+TextIsLegal =
+    (o : ObjectForm) (opening : List Contents) (past : List Happened) → HasNames o → AreOpening o opening →
+    AreCallsFor o past
     → SatisfiesAll o.paths (trace_of past) → IsLegal (history_of o past) opening
     → IsLegalTrace o (trace_text o opening (told_of past)) (length (history_of o past))
 

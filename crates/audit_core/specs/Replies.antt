@@ -28,7 +28,8 @@ IsFailure (Refused word) = ⊥
 IsFailure (Failed failure) = Unit {0}
 
 -- the body was done on all parts, in place
-pub record Did (operation : Operation) (arguments : List Datum) (before after : List Contents) (reply : Reply) : Type 0 where
+pub record Did (operation : Operation) (arguments : List Datum) (before after : List Contents)
+    (reply : Reply) : Type 0 where
   pub tells : ReplyTells reply (apply_body (body_of operation) arguments before).0
   pub leaves : after ≡ (apply_body (body_of operation) arguments before).1
   pub kinds : map kind_of after ≡ map kind_of before
@@ -48,5 +49,7 @@ pub record CanDo (o : ObjectForm) (r : Running) (parts : List Contents) : Type 0
 -- what was found of a reply, and the contents after it
 abbrev pub Tries : ObjectForm → Running → Reply → List Contents → List Contents → Bool → Type 0
 Tries o r reply before after true = CanDo o r before → IsReplyOn reply (body_at o r.operation) r.arguments.items before
-    × (after ≡ left_by reply (body_at o r.operation) r.arguments.items before) × (map kind_of after ≡ map kind_of before)
-Tries o r reply before after false = CanDo o r before → IsReplyOn reply (body_at o r.operation) r.arguments.items before → ⊥
+    × (after ≡ left_by reply (body_at o r.operation) r.arguments.items before)
+    × (map kind_of after ≡ map kind_of before)
+Tries o r reply before after false =
+    CanDo o r before → IsReplyOn reply (body_at o r.operation) r.arguments.items before → ⊥

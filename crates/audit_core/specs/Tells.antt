@@ -55,7 +55,8 @@ pub record IsPart (o : ObjectForm) (heard : Heard) (name hex : List ℕ) (value 
   pub spells : SpellsInSome bytes kind value
 
 -- a call of the operation at this place may be told to start
-pub record IsStart (o : ObjectForm) (heard : Heard) (number session : ℕ) (name : List ℕ) (arguments : List Datum) (place : ℕ) : Type 0 where
+pub record IsStart (o : ObjectForm) (heard : Heard) (number session : ℕ) (name : List ℕ) (arguments : List Datum)
+    (place : ℕ) : Type 0 where
   pub opened : IsOpened o heard
   pub number_is : IsCallNumber number
   pub fresh : IsFresh number (trace_of heard.past)
@@ -65,11 +66,22 @@ pub record IsStart (o : ObjectForm) (heard : Heard) (number session : ℕ) (name
 
 -- a line has its place behind those before it, and this is told then
 pub data Tells (o : ObjectForm) (heard : Heard) (line : List ℕ) : Heard → Type 0 where
-  object_told : {name : List ℕ} → Says line (an_object name) → IsObject o heard name → Tells o heard line (record heard { named = true })
-  part_told : {name hex : List ℕ} {value : Contents} → Says line (a_part name hex) → IsPart o heard name hex value → Tells o heard line (record heard { opening = heard.opening ++ value ∷ [] })
-  start_told : {number session place : ℕ} {name : List ℕ} {arguments : List Datum} → Says line (a_start number session name arguments) → IsStart o heard number session name arguments place
-      → Tells o heard line (record heard { past = began (record { number = number; session = session; operation = place; arguments = arguments }) ∷ heard.past })
-  end_told : {number : ℕ} {reply : Reply} {call : Called} → Says line (an_end number reply) → IsOpened o heard → IsCallNumber number → call.number ≡ number → IsRunning call heard.past
+  object_told : {name : List ℕ} → Says line (an_object name) → IsObject o heard name →
+      Tells o heard line (record heard { named = true })
+  part_told : {name hex : List ℕ} {value : Contents} → Says line (a_part name hex) → IsPart o heard name hex value →
+      Tells o heard line (record heard { opening = heard.opening ++ value ∷ [] })
+  start_told : {number session place : ℕ} {name : List ℕ} {arguments : List Datum} →
+      Says line (a_start number session name arguments) → IsStart o heard number session name arguments place
+      → Tells o heard line (record heard {
+        past = began (record {
+          number = number;
+          session = session;
+          operation = place;
+          arguments = arguments;
+        }) ∷ heard.past;
+      })
+  end_told : {number : ℕ} {reply : Reply} {call : Called} → Says line (an_end number reply) → IsOpened o heard →
+      IsCallNumber number → call.number ≡ number → IsRunning call heard.past
       → Tells o heard line (record heard { past = ended call reply ∷ heard.past })
 
 -- these lines have their places one behind another

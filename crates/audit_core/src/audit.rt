@@ -14,13 +14,14 @@ use std::alloc::{AllocError, Global};
 /// Reads a trace of an object, and tells whether it is legal, or its first fault.
 ///
 /// It is legal exactly where its bytes are a trace of the format, what happened satisfies every path at each line, and
-/// the history is legal from the contents that the part lines tell. Else the first faulty line is told, by its number from
-/// 1, and of a start that paths refuse the first such path, from 1; where the lines end before that of the last part, the line
-/// behind them is bad. `Memory` says nothing of the trace.
+/// the history is legal from the contents that the part lines tell. Else the first faulty line is told, by its number
+/// from 1, and of a start that paths refuse the first such path, from 1; where the lines end before that of the last
+/// part, the line behind them is bad. `Memory` says nothing of the trace.
 pub fn audit(alloc: Global, accepted: &Accepted, trace: &[u8]) -> Verdict
     // What is answered is so, and a legal trace is answered as legal unless memory is refused.
     ensures verdict { IsVerdict (object_of accepted.now) trace.now result }
-    ensures exact { (entries : ℕ) → IsLegalTrace (object_of accepted.now) trace.now entries → (result ≡ Verdict.Legal entries) ⊎ (result ≡ Verdict.Memory) }
+    ensures exact { (entries : ℕ) → IsLegalTrace (object_of accepted.now) trace.now entries →
+        (result ≡ Verdict.Legal entries) ⊎ (result ≡ Verdict.Memory) }
 {
     match follow(alloc, accepted.object(), trace) {
         Ok(verdict) => verdict,

@@ -2,8 +2,8 @@
 
 ghost use Rattle.audit_core.specs.Laws.{TextIsLegal, OneVerdict};
 
-/// The text of what happened is a legal trace, where what happened satisfies every path and its history is legal from the
-/// opening contents.
+/// The text of what happened is a legal trace, where what happened satisfies every path and its history is legal from
+/// the opening contents.
 pub fn text_is_legal()
     ensures { TextIsLegal }
 {}

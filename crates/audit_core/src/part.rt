@@ -16,7 +16,8 @@ use value_core::value::Value;
 
 // The bytes of a word in lower-case hexadecimal.
 fn read_hex(alloc: Global, word: &[u8]) -> Result<Option<Vec<u8>>, AllocError>
-    ensures { IfOk result (λ found. MatchOption found ((bytes : List ℕ) → IsHex word.now bytes → ⊥) (λ v. IsHex word.now v.items)) }
+    ensures { IfOk result (λ found. MatchOption found ((bytes : List ℕ) → IsHex word.now bytes → ⊥)
+        (λ v. IsHex word.now v.items)) }
 {
     match hex::decode(alloc, word) {
         Ok(bytes) => {
@@ -61,7 +62,9 @@ pub fn read_value(
     name: &[u8],
     word: &[u8],
 ) -> Result<Option<Value>, AllocError>
-    ensures { IfOk result (λ found. MatchOption found ((value : Contents) → IsPartAt (parts_of parts.now) place name.now word.now value → ⊥) (IsPartAt (parts_of parts.now) place name.now word.now)) }
+    ensures { IfOk result (λ found. MatchOption found ((value : Contents) →
+        IsPartAt (parts_of parts.now) place name.now word.now value → ⊥)
+        (IsPartAt (parts_of parts.now) place name.now word.now)) }
 {
     match parts.get(place) {
         None => Ok(None),

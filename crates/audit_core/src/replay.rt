@@ -14,7 +14,8 @@ use std::alloc::{AllocError, Global};
 use value_core::datum::Datum;
 use value_core::value::Value;
 
-/// Whether a reply is the sequential object's; the parts are those after it then. A failure is right, and changes nothing.
+/// Whether a reply is the sequential object's; the parts are those after it then. A failure is right,
+/// and changes nothing.
 pub fn is_right(
     alloc: Global,
     object: &Object,
@@ -22,7 +23,8 @@ pub fn is_right(
     told: &ToldReply,
     parts: &mut Vec<Value>,
 ) -> Result<bool, AllocError>
-    ensures { IfOk result (Tries (object_of object.now) running.now (told_view told.now) parts.old.items parts.new.items) }
+    ensures { IfOk result (Tries (object_of object.now) running.now (told_view told.now) parts.old.items
+        parts.new.items) }
 {
     if told.is_failure() {
         return Ok(true);
@@ -39,7 +41,8 @@ fn is_given(
     parts: &mut Vec<Value>,
 ) -> Result<bool, AllocError>
     requires { IsAnswer (told_view told.now) }
-    ensures { IfOk result (Tries (object_of object.now) running.now (told_view told.now) parts.old.items parts.new.items) }
+    ensures { IfOk result (Tries (object_of object.now) running.now (told_view told.now) parts.old.items
+        parts.new.items) }
 {
     match object.operations.get(running.operation as usize) {
         None => Ok(false),
@@ -47,7 +50,8 @@ fn is_given(
     }
 }
 
-// Does the body of an operation on these parts, where the arguments and the parts fit it, and tells whether that is replied.
+// Does the body of an operation on these parts, where the arguments and the parts fit it, and tells
+// whether that is replied.
 fn is_done_so(
     alloc: Global,
     operation: &Operation,

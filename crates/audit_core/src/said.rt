@@ -1,7 +1,9 @@
 //! What a line of a trace says.
 
 ghost use Rattle.std.specs.Prelude.{IfOk};
-ghost use Rattle.audit_core.specs.Said.{object_said as object_in, part_said as part_in, part_behind, start_said as start_in, start_behind, start_by as start_by_word, start_of as start_of_words, end_said as end_in, end_behind, said_by as said_in};
+ghost use Rattle.audit_core.specs.Said.{object_said as object_in, part_said as part_in, part_behind};
+ghost use Rattle.audit_core.specs.Said.{start_said as start_in, start_behind, start_by as start_by_word};
+ghost use Rattle.audit_core.specs.Said.{start_of as start_of_words, end_said as end_in, end_behind, said_by as said_in};
 ghost use Rattle.line_read.specs.Reads.{Reads};
 ghost use Rattle.audit_core.specs.View.{said_view, IsSaid};
 

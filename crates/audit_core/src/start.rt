@@ -17,7 +17,8 @@ use value_core::datum::Datum;
 // The place of the first operation of this name, in any case.
 fn operation_of(operations: &[Arc<Operation>], name: &[u8]) -> Option<OpId>
     requires { length operations.now ≤ 32 }
-    ensures place { result ≡ place_of (operation_names (operations_of operations.now)) (str_to_ascii_lowercase name.now) }
+    ensures place { result ≡ place_of (operation_names (operations_of operations.now))
+        (str_to_ascii_lowercase name.now) }
     ensures within { IfSome result (λ k. k < length operations.now) }
 {
     match operations {
@@ -41,8 +42,10 @@ pub fn operation_for(
 ) -> Option<OpId>
     requires { length operations.now ≤ 32 }
     ensures { MatchOption result
-        ((place : ℕ) → place_of (operation_names (operations_of operations.now)) (str_to_ascii_lowercase name.now) ≡ Some place → map elem_of arguments.now ≡ (body_among (operations_of operations.now) place).params → ⊥)
-        (λ place. (place_of (operation_names (operations_of operations.now)) (str_to_ascii_lowercase name.now) ≡ Some place) × (map elem_of arguments.now ≡ (body_among (operations_of operations.now) place).params)) }
+        ((place : ℕ) → place_of (operation_names (operations_of operations.now)) (str_to_ascii_lowercase name.now)
+        ≡ Some place → map elem_of arguments.now ≡ (body_among (operations_of operations.now) place).params → ⊥)
+        (λ place. (place_of (operation_names (operations_of operations.now)) (str_to_ascii_lowercase name.now)
+        ≡ Some place) × (map elem_of arguments.now ≡ (body_among (operations_of operations.now) place).params)) }
 {
     let place = operation_of(operations, name)?;
     if arguments_fit(&operations[place as usize], arguments) {

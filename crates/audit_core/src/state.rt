@@ -60,7 +60,8 @@ impl Audit {
 
     /// Whether line 1 and the lines of all parts came.
     pub fn is_opened(&self, object: &Object) -> bool
-        ensures { (heard : Heard) → Stands (object_of object.now) self.now heard → (IsTrue result ↔ IsOpened (object_of object.now) heard) }
+        ensures { (heard : Heard) → Stands (object_of object.now) self.now heard →
+            (IsTrue result ↔ IsOpened (object_of object.now) heard) }
     {
         self.named && self.parts.len() >= object.parts.len()
     }
@@ -108,7 +109,8 @@ impl Audit {
         name: &[u8],
         hex: &[u8],
     ) -> Result<Option<Fault>, AllocError>
-        ensures heard { IfOk result (λ found. HearsSaid (object_of object.now) (a_part name.now hex.now) self.old found self.new) }
+        ensures heard { IfOk result (λ found.
+            HearsSaid (object_of object.now) (a_part name.now hex.now) self.old found self.new) }
         ensures entries { self.new.entries ≡ self.old.entries }
     {
         if !self.named {
@@ -132,7 +134,9 @@ impl Audit {
         name: &[u8],
         arguments: Vec<Datum>,
     ) -> Result<Option<Fault>, AllocError>
-        ensures heard { IfOk result (λ found. HearsSaid (object_of object.now) (a_start number session name.now arguments.items) self.old found self.new) }
+        ensures heard { IfOk result (λ found.
+            HearsSaid (object_of object.now) (a_start number session name.now arguments.items) self.old found
+            self.new) }
         ensures entries { self.new.entries ≡ self.old.entries }
     {
         let Some(operation) = self.start_of(object, number, session, name, &arguments) else {
@@ -161,7 +165,8 @@ impl Audit {
         arguments: &[Datum],
     ) -> Option<OpId>
         ensures { (heard : Heard) → Stands (object_of object.now) self.now heard →
-            MatchOption result ((place : ℕ) → IsStart (object_of object.now) heard number session name.now arguments.now place → ⊥)
+            MatchOption result ((place : ℕ) →
+            IsStart (object_of object.now) heard number session name.now arguments.now place → ⊥)
             (IsStart (object_of object.now) heard number session name.now arguments.now) }
     {
         if !self.is_opened(object) || !is_call_number(number) || !is_session(session) {
@@ -181,7 +186,8 @@ impl Audit {
         told: &ToldReply,
     ) -> Result<Option<Fault>, AllocError>
         requires room { self.old.entries + 1 < 2 ^ 64 }
-        ensures heard { IfOk result (λ found. HearsSaid (object_of object.now) (an_end number (told_view told.now)) self.old found self.new) }
+        ensures heard { IfOk result (λ found.
+            HearsSaid (object_of object.now) (an_end number (told_view told.now)) self.old found self.new) }
         ensures entries { self.new.entries ≤ self.old.entries + 1 }
     {
         if !self.is_opened(object) || !is_call_number(number) {

@@ -1,13 +1,15 @@
 //! Replies as lines of a trace tell them.
 
-ghost use Rattle.std.specs.Prelude.{◌≡◌, ◌∷◌, ◌&&◌, ◌↔◌, IsTrue, false, Some, None, nat_le, length, IfOk, option_map, codes};
+ghost use Rattle.std.specs.Prelude.{◌≡◌, ◌∷◌, ◌&&◌, ◌↔◌, IsTrue, false, Some, None, nat_le, length, IfOk, option_map};
+ghost use Rattle.std.specs.Prelude.{codes};
 ghost use Rattle.std.specs.List.{list_all};
 ghost use Rattle.value_core.specs.declared.datum.Datum.TheVariants.{Integer};
 ghost use Rattle.word_core.specs.Words.{bare};
 ghost use Rattle.word_core.specs.View.{word_of};
 ghost use Rattle.apply_core.specs.declared.reply.Reply.TheVariants.{Done};
 ghost use Rattle.audit_core.specs.Replies.{IsAnswer, IsFailure};
-ghost use Rattle.audit_core.specs.Said.{refused_by as refused_in, failed_by as failed_in, reply_of as reply_of_words, reply_behind, is_lower as is_lower_letter, is_refusal_text as is_refusal_word};
+ghost use Rattle.audit_core.specs.Said.{refused_by as refused_in, failed_by as failed_in, reply_of as reply_of_words};
+ghost use Rattle.audit_core.specs.Said.{reply_behind, is_lower as is_lower_letter, is_refusal_text as is_refusal_word};
 ghost use Rattle.line_read.specs.Reads.{Reads};
 ghost use Rattle.audit_core.specs.Reads.{done_reply as done_in, text_reply as text_in};
 ghost use Rattle.audit_core.specs.View.{told_view};

@@ -19,7 +19,8 @@ use Rattle.audit_core.specs.Tells.{IsSession}
 use Rattle.audit_core.specs.Verdicts.{IsLegalTrace}
 use Rattle.audit_core.specs.Laws.{AreOpening}
 
--- an accepted call has a session within the limits, integers and texts as arguments, and its operation is the first of its name
+-- an accepted call has a session within the limits, integers and texts as arguments, and its operation is
+-- the first of its name
 pub record IsTakenBy (o : ObjectForm) (c : AcceptedCall) : Type 0 where
   pub session : IsSession c.session
   pub first : place_of (operation_names o.operations) (operation_name o c.op) ≡ Some c.op
@@ -27,6 +28,9 @@ pub record IsTakenBy (o : ObjectForm) (c : AcceptedCall) : Type 0 where
 
 -- the text of a desk's trace is a legal trace, where the history of its entries is legal from the opening contents
 abbrev pub DeskTextIsLegal : Type 0
-DeskTextIsLegal = (b : Board) (opening : List Contents) → IsSound b → HasNames (object_of b.object) → AreOpening (object_of b.object) opening
-    → Every (IsTakenBy (object_of b.object)) b.calls → Every (λ e. IsReply e.reply) b.history → IsLegal (history_of b.history) opening
+DeskTextIsLegal =
+    (b : Board) (opening : List Contents) → IsSound b → HasNames (object_of b.object) →
+    AreOpening (object_of b.object) opening
+    → Every (IsTakenBy (object_of b.object)) b.calls → Every (λ e. IsReply e.reply) b.history →
+    IsLegal (history_of b.history) opening
     → IsLegalTrace (object_of b.object) (trace_text (object_of b.object) opening (lines_told b)) (length b.history)

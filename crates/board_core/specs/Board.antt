@@ -1,5 +1,6 @@
 -- What a desk is, to whoever calls it: a board, and what each event makes of it.
-use Rattle.std.specs.Prelude.{ℕ, zero, suc, ◌+◌, ◌-◌, ◌<◌, Bool, true, false, not, ◌==◌, List, [], ◌∷◌, ◌++◌, length, filter, fold, map, slice_get, slice_set, replicate, Option, Some, None}
+use Rattle.std.specs.Prelude.{ℕ, zero, suc, ◌+◌, ◌-◌, ◌<◌, Bool, true, false, not, ◌==◌, List, [], ◌∷◌, ◌++◌, length}
+use Rattle.std.specs.Prelude.{filter, fold, map, slice_get, slice_set, replicate, Option, Some, None}
 use Rattle.path_tree.specs.Path.{Path}
 use Rattle.path_tree.specs.Trace.{Event, Start as Began, End as Ended}
 use Rattle.path_tree.specs.Satisfies.{MayStart}
@@ -22,7 +23,9 @@ use Rattle.board_core.specs.Lists.{Among}
 abbrev pub most_sessions : ℕ
 most_sessions = 1024
 
--- The object, the accepted calls in the order of their numbers from 1, what happened in order, its finished calls in order, the calls that wait and those that run, of each session whether it left, and the pins of the parts, each a page list: at the beginning, and the published ones.
+-- The object, the accepted calls in the order of their numbers from 1, what happened in order, its finished calls in
+-- order, the calls that wait and those that run, of each session whether it left, and the pins of the parts, each a
+-- page list: at the beginning, and the published ones.
 pub record Board : Type 0 where
   pub object : Object
   pub calls : List AcceptedCall
@@ -71,11 +74,26 @@ bodies o = map (λ a. arc_value a) o.operations.items
 
 -- a board without calls
 abbrev pub opened : Object → List (List Stamp) → Board
-opened object pins = record { object = object; calls = []; trace = []; history = []; waiting = []; running = []; left = replicate most_sessions false; opening = pins; pins = pins }
+opened object pins =
+    record {
+      object = object;
+      calls = [];
+      trace = [];
+      history = [];
+      waiting = [];
+      running = [];
+      left = replicate most_sessions false;
+      opening = pins;
+      pins = pins;
+    }
 
 -- a call joins those that wait, with the next number
 unfoldable pub joined : Board → AcceptedCall → Board
-joined b call = record b { calls = b.calls ++ call ∷ []; waiting = b.waiting ++ (record { number = length b.calls + 1; call = call }) ∷ [] }
+joined b call =
+    record b {
+      calls = b.calls ++ call ∷ [];
+      waiting = b.waiting ++ (record { number = length b.calls + 1; call = call }) ∷ [];
+    }
 
 -- a call waits no more
 unfoldable pub dismissed : Board → ℕ → Board
@@ -102,7 +120,12 @@ unfoldable pub started : Board → WaitingCall → Board
 started b w = record b {
   trace = b.trace ++ Start w.number ∷ [];
   waiting = filter (λ x. not (x.number == w.number)) b.waiting;
-  running = b.running ++ (record { number = w.number; call = w.call; pins = read_pins w.call.operation b.pins; taken = false }) ∷ [];
+  running = b.running ++ (record {
+    number = w.number;
+    call = w.call;
+    pins = read_pins w.call.operation b.pins;
+    taken = false;
+  }) ∷ [];
 }
 
 -- the pins with new ones in place of those of their parts
@@ -114,7 +137,8 @@ published pins (new ∷ news) = slice_set (published pins news) new.part new.pag
 abbrev pub entry_of : RunningCall → Reply → List PartPin → Noted
 entry_of r reply news = noted_of r.number r.call reply r.pins (if_done reply news)
 
--- a running call ends: its end stands in the trace and its entry in the history, and what it staged is published, if it was done
+-- a running call ends: its end stands in the trace and its entry in the history, and what it staged is
+-- published, if it was done
 unfoldable pub ended : Board → Noted → Board
 ended b e = record b {
   trace = b.trace ++ End e.number e.reply ∷ [];

@@ -17,14 +17,16 @@ pub record WaitingCall : Type 0 where
   pub number : ℕ
   pub call : AcceptedCall
 
--- a call that runs: of the pins that were published at its start those of the parts that its operation reads, and whether its ticket was taken
+-- a call that runs: of the pins that were published at its start those of the parts that its operation reads, and
+-- whether its ticket was taken
 pub record RunningCall : Type 0 where
   pub number : ℕ
   pub call : AcceptedCall
   pub pins : List PartPin
   pub taken : Bool
 
--- an entry of the history: a call that has finished, with its reply, the pins of the parts that its operation reads, and the pins that it published
+-- an entry of the history: a call that has finished, with its reply, the pins of the parts that its operation reads,
+-- and the pins that it published
 pub record Noted : Type 0 where
   pub number : ℕ
   pub session : ℕ
@@ -36,4 +38,13 @@ pub record Noted : Type 0 where
 
 -- the entry of a call
 abbrev pub noted_of : ℕ → AcceptedCall → Reply → List PartPin → List PartPin → Noted
-noted_of n call reply pins news = record { number = n; session = call.session; operation = call.operation; arguments = call.arguments; reply = reply; pins = pins; news = news }
+noted_of n call reply pins news =
+    record {
+      number = n;
+      session = call.session;
+      operation = call.operation;
+      arguments = call.arguments;
+      reply = reply;
+      pins = pins;
+      news = news;
+    }

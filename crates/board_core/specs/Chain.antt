@@ -49,11 +49,13 @@ pub record Shows (a : Assignment) (kind : Kind) (pages : List Stamp) (value : Co
   pub spells : Spells bytes kind value
 
 -- the pins of the parts are whole, and their bytes spell these contents
-pub record ShowContents (a : Assignment) (kinds : List Kind) (pins : List (List Stamp)) (contents : List Contents) : Type 0 where
+pub record ShowContents (a : Assignment) (kinds : List Kind) (pins : List (List Stamp))
+    (contents : List Contents) : Type 0 where
   pub pins_each : length pins ≡ length kinds
   pub contents_each : length contents ≡ length kinds
   pub each : (p : ℕ) (kind : Kind) → slice_get kinds p ≡ Some kind
-      → (pages : List Stamp) × (value : Contents) × (slice_get pins p ≡ Some pages) × (slice_get contents p ≡ Some value) × Shows a kind pages value
+      → (pages : List Stamp) × (value : Contents) × (slice_get pins p ≡ Some pages)
+      × (slice_get contents p ≡ Some value) × Shows a kind pages value
 
 -- what the history says of an entry: what its operation does, what it was given, and what it replied
 abbrev pub end_of : Noted → End
@@ -69,6 +71,9 @@ IsTrueEntry a e = IsTrueOf a (call_of e.number e.operation e.arguments e.pins) e
 
 -- Chained entries of which each is true are a legal history, and it leads to what the last pins spell.
 abbrev pub ChainedAreLegal : Type 0
-ChainedAreLegal = (a : Assignment) (kinds : List Kind) (opening last : List (List Stamp)) (entries : List Noted) (contents : List Contents) →
-    Every (λ e. AreOf kinds e.operation) entries → IsChained opening entries last → ShowContents a kinds opening contents → Every (IsTrueEntry a) entries →
+ChainedAreLegal =
+    (a : Assignment) (kinds : List Kind) (opening last : List (List Stamp)) (entries : List Noted)
+    (contents : List Contents) →
+    Every (λ e. AreOf kinds e.operation) entries → IsChained opening entries last →
+    ShowContents a kinds opening contents → Every (IsTrueEntry a) entries →
     IsLegal (history_of entries) contents × ShowContents a kinds last (leads_to (history_of entries) contents)

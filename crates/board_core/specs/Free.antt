@@ -30,6 +30,9 @@ IsNeeded pins running number = IsIn number pins ⊎ ((r : RunningCall) × Among 
 -- From some stamps in order, each number once, those are picked whose file is not needed; some were picked before.
 pub data Picks (Needed : ℕ → Type 0) : List Stamp → List Stamp → List Stamp → Type 0 where
   no_more : {picked : List Stamp} → Picks Needed picked [] picked
-  needed : {picked rest all : List Stamp} (s : Stamp) → Needed s.number → Picks Needed picked rest all → Picks Needed picked (s ∷ rest) all
-  again : {picked rest all : List Stamp} (s : Stamp) → HasFile s.number picked → Picks Needed picked rest all → Picks Needed picked (s ∷ rest) all
-  one_more : {picked rest all : List Stamp} (s : Stamp) → (Needed s.number → ⊥) → (HasFile s.number picked → ⊥) → Picks Needed (picked ++ s ∷ []) rest all → Picks Needed picked (s ∷ rest) all
+  needed : {picked rest all : List Stamp} (s : Stamp) → Needed s.number → Picks Needed picked rest all →
+      Picks Needed picked (s ∷ rest) all
+  again : {picked rest all : List Stamp} (s : Stamp) → HasFile s.number picked → Picks Needed picked rest all →
+      Picks Needed picked (s ∷ rest) all
+  one_more : {picked rest all : List Stamp} (s : Stamp) → (Needed s.number → ⊥) → (HasFile s.number picked → ⊥) →
+      Picks Needed (picked ++ s ∷ []) rest all → Picks Needed picked (s ∷ rest) all

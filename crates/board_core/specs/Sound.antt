@@ -112,7 +112,8 @@ ends_of [] = []
 ends_of (Start n ∷ trace) = ends_of trace
 ends_of (End n reply ∷ trace) = (n, reply) ∷ ends_of trace
 
--- What the history tells of the sessions: each has one call at most that waits or runs, later than those that have finished, and its finished calls stand in their order; the history is the ends of what happened.
+-- What the history tells of the sessions: each has one call at most that waits or runs, later than those that have
+-- finished, and its finished calls stand in their order; the history is the ends of what happened.
 pub record IsTold (b : Board) : Type 0 where
   pub one_each : (m n session : ℕ) → IsOpen b m session → IsOpen b n session → m ≡ n
   pub later : (n session : ℕ) → IsOpen b n session → Every (λ e. e.session ≡ session → e.number < n) b.history

@@ -14,7 +14,8 @@ run_of pins w = record { number = w.number; call = w.call; pins = read_pins w.ca
 abbrev pub is_number_in : List WaitingCall → ℕ → Bool
 is_number_in calls n = list_any (λ w. n == w.number) calls
 
--- Calls that waited have started, in this order: the trace ends with their starts, they run by the published pins, and all else is as it was.
+-- Calls that waited have started, in this order: the trace ends with their starts, they run by the published pins, and
+-- all else is as it was.
 pub record HasStarted (b : Board) (ones : List WaitingCall) (after : Board) : Type 0 where
   pub trace : after.trace ≡ b.trace ++ map (λ w. Start w.number) ones
   pub running : after.running ≡ b.running ++ map (run_of b.pins) ones

@@ -29,7 +29,12 @@ impl Model for Call {
 
     ghost coded = { Prim.hlevel (codes, e.the_row.coded) };
 
-    ghost view = { λ c. record { session = c.session; op = c.op; operation = arc_value c.operation; arguments = c.args } };
+    ghost view = { λ c. record {
+      session = c.session;
+      op = c.op;
+      operation = arc_value c.operation;
+      arguments = c.args;
+    } };
 }
 
 impl Call {

@@ -1,7 +1,9 @@
 //! Laws of boards and of entries, over the definitions alone.
 
 ghost use Rattle.board_core.specs.Chain.{ChainedAreLegal};
-ghost use Rattle.board_core.specs.Laws.{RunningNeverConflict, PinsStay, PickedAreFree, TruthIsNoted, AdmissionStarts, AdmissionRests, NeededIsPublished, PublishedArePicked, PinsAreNewOrOld, LeftOutAreNeeded};
+ghost use Rattle.board_core.specs.Laws.{RunningNeverConflict, PinsStay, PickedAreFree, TruthIsNoted, AdmissionStarts};
+ghost use Rattle.board_core.specs.Laws.{AdmissionRests, NeededIsPublished, PublishedArePicked, PinsAreNewOrOld};
+ghost use Rattle.board_core.specs.Laws.{LeftOutAreNeeded};
 
 /// Chained entries of which each is true are a legal history, and it leads to what the last pins spell.
 pub fn chained_are_legal()

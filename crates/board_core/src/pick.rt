@@ -52,7 +52,8 @@ fn is_there(number: u64, lists: &[PageList], stamps: &[Stamp]) -> bool
 // Whether the stamp at this place is published, or stands before it already.
 fn goes(free: &[Stamp], at: usize, lists: &[PageList]) -> bool
     requires { at < length free.now }
-    ensures { (stamp : AStamp) (rest : List AStamp) → drop at free.now ≡ stamp ∷ rest → (IsTrue result ↔ (IsIn stamp.number lists.now ⊎ HasFile stamp.number (take at free.now))) }
+    ensures { (stamp : AStamp) (rest : List AStamp) → drop at free.now ≡ stamp ∷ rest →
+        (IsTrue result ↔ (IsIn stamp.number lists.now ⊎ HasFile stamp.number (take at free.now))) }
 {
     let number = free[at].number;
     is_there(number, lists, &free[..at])

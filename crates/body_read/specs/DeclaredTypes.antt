@@ -12,7 +12,17 @@ reply_sort (Some f) = Some f.1
 
 -- what the names stand for, where the kind of each part is known, and where it is known for these
 abbrev pub all_known : Names → Types
-all_known names = record { kinds = map (λ p. Some p.1) names.parts; params = map (λ p. p.1) names.params; result = reply_sort names.function }
+all_known names =
+    record {
+      kinds = map (λ p. Some p.1) names.parts;
+      params = map (λ p. p.1) names.params;
+      result = reply_sort names.function;
+    }
 
 abbrev pub known_of : ℕ → Names → Types
-known_of reads names = record { kinds = kinds_from reads 0 names.parts; params = map (λ p. p.1) names.params; result = reply_sort names.function }
+known_of reads names =
+    record {
+      kinds = kinds_from reads 0 names.parts;
+      params = map (λ p. p.1) names.params;
+      result = reply_sort names.function;
+    }

@@ -1,7 +1,9 @@
 -- Reading an expression from left to right, step by step.
-use Rattle.std.specs.Prelude.{ℕ, zero, suc, List, [], ◌∷◌, length, Bool, true, false, Option, Some, None, nat_le, ◌&&◌, ◌||◌, is_some, bytes_eq, if◌then◌else◌}
+use Rattle.std.specs.Prelude.{ℕ, zero, suc, List, [], ◌∷◌, length, Bool, true, false, Option, Some, None, nat_le, ◌&&◌}
+use Rattle.std.specs.Prelude.{◌||◌, is_some, bytes_eq, if◌then◌else◌}
 use Rattle.path_tree.specs.declared.token.Symbol.{Symbol}
-use Rattle.path_tree.specs.declared.token.Symbol.TheVariants.{Plus, Minus, OpenParen, CloseParen, OpenBracket, CloseBracket, Comma, First, Lookup, Count}
+use Rattle.path_tree.specs.declared.token.Symbol.TheVariants.{Plus, Minus, OpenParen, CloseParen, OpenBracket}
+use Rattle.path_tree.specs.declared.token.Symbol.TheVariants.{CloseBracket, Comma, First, Lookup, Count}
 use Rattle.path_tree.specs.Lexeme.{Lexeme, symbol, number as number_lexeme, identifier, string, end_mark, same_symbol}
 use Rattle.path_tree.specs.Reading.{symbol_at}
 use Rattle.path_tree.specs.Known.{value_of}
@@ -9,11 +11,13 @@ use Rattle.text_core.specs.Limits.{most_text_bytes}
 use Rattle.value_core.specs.declared.kind.Elem.{Elem}
 use Rattle.value_core.specs.declared.kind.Elem.TheVariants as elem
 use Rattle.value_core.specs.declared.kind.Kind.{Kind}
-use Rattle.decl_core.specs.Form.{From, argument, element, oldest, under, Integers, number, integer_from, count, add, subtract, Texts, literal, text_from, Form, an_integer, a_text}
+use Rattle.decl_core.specs.Form.{From, argument, element, oldest, under, Integers, number, integer_from, count, add}
+use Rattle.decl_core.specs.Form.{subtract, Texts, literal, text_from, Form, an_integer, a_text}
 use Rattle.decl_core.specs.Sorts.{array_sort, queue_sort, table_sort}
 use Rattle.body_read.specs.Reader.{◌>>=◌, Reader}
 
--- the names declared so far: constants with their values, parameters and parts with their kinds, operations; in a function's body also which function it is, and its kind
+-- the names declared so far: constants with their values, parameters and parts with their kinds, operations; in a
+-- function's body also which function it is, and its kind
 pub record Names : Type 0 where
   pub constants : List (List ℕ × ℕ)
   pub params : List (List ℕ × Elem)
@@ -38,7 +42,9 @@ found_in (x ∷ xs) bytes = if bytes_eq x.0 bytes then Some (0, x.1) else next (
 
 -- a name is declared already
 abbrev pub is_known : Names → List ℕ → Bool
-is_known names bytes = is_some (value_of names.constants bytes) || is_some (found_in names.params bytes) || is_some (found_in names.parts bytes) || is_among names.operations bytes
+is_known names bytes =
+    is_some (value_of names.constants bytes) || is_some (found_in names.params bytes)
+    || is_some (found_in names.parts bytes) || is_among names.operations bytes
 
 -- an expression that is taken from somewhere is of that kind
 abbrev pub of_sort : Elem → From → Form
@@ -66,7 +72,8 @@ name_at (end_mark ∷ ws) = None
 -- a plus or a minus in front
 abbrev pub sign_at : Reader Bool
 sign_at [] = None
-sign_at (symbol s ∷ ws) = if same_symbol s Plus then Some (true, ws) else if same_symbol s Minus then Some (false, ws) else None
+sign_at (symbol s ∷ ws) =
+    if same_symbol s Plus then Some (true, ws) else if same_symbol s Minus then Some (false, ws) else None
 sign_at (number_lexeme n ∷ ws) = None
 sign_at (identifier bytes ∷ ws) = None
 sign_at (string bytes ∷ ws) = None
@@ -78,7 +85,8 @@ all_plain [] = true
 all_plain (b ∷ bytes) = nat_le 32 b && nat_le b 126 && all_plain bytes
 
 unfoldable pub literal_of : List ℕ → Option Form
-literal_of bytes = if nat_le (length bytes) most_text_bytes && all_plain bytes then Some (a_text (literal bytes)) else None
+literal_of bytes =
+    if nat_le (length bytes) most_text_bytes && all_plain bytes then Some (a_text (literal bytes)) else None
 
 -- one level less
 abbrev pub level_of : ℕ → Option ℕ
@@ -95,7 +103,8 @@ value_named names bytes (Some n) = Some (an_integer (number n))
 value_named names bytes None = param_named names bytes
 
 -- behind a name: an element where a bracket opens
-unfoldable pub named_in : Names → Reader Form → List ℕ → List Lexeme → Option (List Lexeme) → Option (Form × List Lexeme)
+unfoldable pub named_in : Names → Reader Form → List ℕ → List Lexeme → Option (List Lexeme) →
+    Option (Form × List Lexeme)
 named_in names nested bytes ws None = value_named names bytes (value_of names.constants bytes) >>= λ f. Some (f, ws)
 named_in names nested bytes ws (Some opened) = do
   p ← found_in names.parts bytes
@@ -147,7 +156,8 @@ group_in nested ws = do
 unfoldable pub by_symbol_in : Names → Reader Form → ℕ → Symbol → Reader Form
 by_symbol_in names nested depth s ws =
     if same_symbol s OpenParen then group_in nested ws else if same_symbol s First then first_in names depth ws
-    else if same_symbol s Count then count_in names depth ws else if same_symbol s Lookup then lookup_in names nested depth ws else None
+    else if same_symbol s Count then count_in names depth ws
+    else if same_symbol s Lookup then lookup_in names nested depth ws else None
 
 unfoldable pub term_in : Names → Reader Form → ℕ → Reader Form
 term_in names nested depth [] = None
@@ -162,7 +172,8 @@ combined true f g = add f g
 combined false f g = subtract f g
 
 -- what stands behind a term
-unfoldable pub with_more : (Integers → Reader Integers) → Reader Form → Integers → List Lexeme → Option (Bool × List Lexeme) → Option (Integers × List Lexeme)
+unfoldable pub with_more : (Integers → Reader Integers) → Reader Form → Integers → List Lexeme →
+    Option (Bool × List Lexeme) → Option (Integers × List Lexeme)
 with_more others term sum ws None = Some (sum, ws)
 with_more others term sum ws (Some o) = do
   x ← term o.1

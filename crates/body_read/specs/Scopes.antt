@@ -37,7 +37,14 @@ function_of (Some own) None = None
 function_of (Some own) (Some e) = Some (own.now, e)
 
 abbrev pub names_of : Scope → Names
-names_of s = record { constants = constants_of s.constants.now; params = params_of s.params.now; parts = parts_of s.parts.now; operations = with_own s.own (operation_names (operations_of s.operations.now)); function = function_of s.own s.result }
+names_of s =
+    record {
+      constants = constants_of s.constants.now;
+      params = params_of s.params.now;
+      parts = parts_of s.parts.now;
+      operations = with_own s.own (operation_names (operations_of s.operations.now));
+      function = function_of s.own s.result;
+    }
 
 -- an expression one level deeper, and a term, where so many levels are left
 abbrev pub nested_in : Scope → ℕ → Reader Form

@@ -1,5 +1,6 @@
 -- Reading conditions and statements from left to right, step by step.
-use Rattle.std.specs.Prelude.{ℕ, zero, suc, List, [], ◌∷◌, length, Bool, true, Option, Some, None, nat_le, ◌&&◌, bytes_eq, if◌then◌else◌}
+use Rattle.std.specs.Prelude.{ℕ, zero, suc, List, [], ◌∷◌, length, Bool, true, Option, Some, None, nat_le, ◌&&◌}
+use Rattle.std.specs.Prelude.{bytes_eq, if◌then◌else◌}
 use Rattle.path_tree.specs.declared.token.Symbol.{Symbol}
 use Rattle.path_tree.specs.declared.token.Symbol.TheVariants as symbols
 use Rattle.path_tree.specs.Lexeme.{Lexeme, symbol, number as number_lexeme, identifier, string, end_mark, same_symbol}
@@ -8,9 +9,12 @@ use Rattle.value_core.specs.declared.kind.Elem.{Elem}
 use Rattle.value_core.specs.declared.kind.Elem.TheVariants as elem
 use Rattle.decl_core.specs.declared.stmt.Relation.{Relation}
 use Rattle.decl_core.specs.declared.stmt.Relation.TheVariants as relations
-use Rattle.decl_core.specs.Form.{Form, an_integer, a_text, Condition, compare, same_texts, other_texts, has, is_not, Statement, block, set_element, set_result, append, take, store, erase, choose, refuse, Statements, nothing, first_and}
+use Rattle.decl_core.specs.Form.{Form, an_integer, a_text, Condition, compare, same_texts, other_texts, has, is_not}
+use Rattle.decl_core.specs.Form.{Statement, block, set_element, set_result, append, take, store, erase, choose, refuse}
+use Rattle.decl_core.specs.Form.{Statements, nothing, first_and}
 use Rattle.body_read.specs.Reader.{◌>>=◌, Reader}
-use Rattle.body_read.specs.Reading.{Names, found_in, integer_form, text_form, level_of, part_in, expr_in, term_in, nested_at}
+use Rattle.body_read.specs.Reading.{Names, found_in, integer_form, text_form, level_of, part_in, expr_in, term_in}
+use Rattle.body_read.specs.Reading.{nested_at}
 use Rattle.decl_core.specs.Sorts.{array_sort, queue_sort, table_sort}
 
 -- an expression with so many levels left
@@ -20,9 +24,12 @@ expr_at names most depth = expr_in (term_in names (nested_at names most depth) d
 -- a symbol that compares
 abbrev pub relation_of : Symbol → Option Relation
 relation_of s =
-    if same_symbol s symbols.Equal then Some relations.Equal else if same_symbol s symbols.Differ then Some relations.Differ
-    else if same_symbol s symbols.Less then Some relations.Less else if same_symbol s symbols.LessEqual then Some relations.LessEqual
-    else if same_symbol s symbols.Greater then Some relations.Greater else if same_symbol s symbols.GreaterEqual then Some relations.GreaterEqual else None
+    if same_symbol s symbols.Equal then Some relations.Equal
+    else if same_symbol s symbols.Differ then Some relations.Differ
+    else if same_symbol s symbols.Less then Some relations.Less
+    else if same_symbol s symbols.LessEqual then Some relations.LessEqual
+    else if same_symbol s symbols.Greater then Some relations.Greater
+    else if same_symbol s symbols.GreaterEqual then Some relations.GreaterEqual else None
 
 abbrev pub relation_at : Reader Relation
 relation_at [] = None
@@ -80,23 +87,27 @@ not_in deeper ws = do
   Some (is_not x.0, x.1)
 
 -- where no `not` stands: what stands behind `has`, or else a comparison
-unfoldable pub plain_condition_in : Names → ℕ → ℕ → List Lexeme → Option (List Lexeme) → Option (Condition × List Lexeme)
+unfoldable pub plain_condition_in : Names → ℕ → ℕ → List Lexeme → Option (List Lexeme) →
+    Option (Condition × List Lexeme)
 plain_condition_in names most depth ws (Some behind) = has_in names (nested_at names most depth) depth behind
 plain_condition_in names most depth ws None = comparison_in (expr_at names most depth) ws
 
 -- what stands behind `not`, or else a condition without one
-unfoldable pub condition_in : Names → ℕ → Reader Condition → ℕ → List Lexeme → Option (List Lexeme) → Option (Condition × List Lexeme)
+unfoldable pub condition_in : Names → ℕ → Reader Condition → ℕ → List Lexeme → Option (List Lexeme) →
+    Option (Condition × List Lexeme)
 condition_in names most deeper depth ws (Some behind) = not_in deeper behind
 condition_in names most deeper depth ws None = plain_condition_in names most depth ws (symbol_at symbols.Has ws)
 
 -- a condition behind `not`, which opens a level: with so many left before it
 unfoldable pub deeper_condition : Names → ℕ → ℕ → Reader Condition
 deeper_condition names most zero ws = None
-deeper_condition names most (suc depth) ws = condition_in names most (deeper_condition names most depth) depth ws (symbol_at symbols.Not ws)
+deeper_condition names most (suc depth) ws =
+    condition_in names most (deeper_condition names most depth) depth ws (symbol_at symbols.Not ws)
 
 -- a condition, with so many levels left
 abbrev pub condition_at : Names → ℕ → ℕ → Reader Condition
-condition_at names most depth ws = condition_in names most (deeper_condition names most depth) depth ws (symbol_at symbols.Not ws)
+condition_at names most depth ws =
+    condition_in names most (deeper_condition names most depth) depth ws (symbol_at symbols.Not ws)
 
 -- an expression of a sort
 abbrev pub sorted : Elem → Form → Option Form
@@ -187,7 +198,8 @@ all_lower [] = true
 all_lower (b ∷ bytes) = nat_le 97 b && nat_le b 122 && all_lower bytes
 
 abbrev pub word_of_refusal : List ℕ → Option (List ℕ)
-word_of_refusal bytes = if nat_le 1 (length bytes) && nat_le (length bytes) 16 && all_lower bytes then Some bytes else None
+word_of_refusal bytes =
+    if nat_le 1 (length bytes) && nat_le (length bytes) 16 && all_lower bytes then Some bytes else None
 
 -- a string in front
 abbrev pub string_at : Reader (List ℕ)
@@ -228,7 +240,8 @@ and_then nothing s = first_and s nothing
 and_then (first_and t rest) s = first_and t (and_then rest s)
 
 -- behind a statement: others behind a semicolon, or the end
-unfoldable pub statements_by : (Statements → Reader Statements) → Statements → List Lexeme → Option (List Lexeme) → Option (Statements × List Lexeme)
+unfoldable pub statements_by : (Statements → Reader Statements) → Statements → List Lexeme → Option (List Lexeme) →
+    Option (Statements × List Lexeme)
 statements_by others done ws (Some behind) = others done behind
 statements_by others done ws None = symbol_at symbols.End ws >>= λ rest. Some (done, rest)
 
@@ -246,18 +259,23 @@ block_in inner most depth ws = do
   x ← statements_at inner most nothing ws
   Some (block x.0, x.1)
 
--- what begins with a symbol; where none of these stands, the statement is empty, and all that was there stands behind it
+-- what begins with a symbol; where none of these stands, the statement is empty, and all that was
+-- there stands behind it
 unfoldable pub statement_by_symbol : Names → ℕ → Reader Statement → ℕ → List Lexeme → Symbol → Reader Statement
 statement_by_symbol names most inner depth all s ws =
-    if same_symbol s symbols.Begin then block_in inner most depth ws else if same_symbol s symbols.If then if_in names most inner depth ws
-    else if same_symbol s symbols.Append then append_in names most ws else if same_symbol s symbols.Take then take_in names ws
-    else if same_symbol s symbols.Store then store_in names most ws else if same_symbol s symbols.Erase then erase_in names most ws
+    if same_symbol s symbols.Begin then block_in inner most depth ws
+    else if same_symbol s symbols.If then if_in names most inner depth ws
+    else if same_symbol s symbols.Append then append_in names most ws
+    else if same_symbol s symbols.Take then take_in names ws
+    else if same_symbol s symbols.Store then store_in names most ws
+    else if same_symbol s symbols.Erase then erase_in names most ws
     else if same_symbol s symbols.Refuse then refuse_in ws else Some (block nothing, all)
 
 -- a statement, where `inner` reads those inside `begin` and `if`, with so many levels left
 unfoldable pub statement_in : Names → ℕ → Reader Statement → ℕ → Reader Statement
 statement_in names most inner depth [] = Some (block nothing, [])
-statement_in names most inner depth (identifier bytes ∷ ws) = assigned_in names most bytes ws (symbol_at symbols.OpenBracket ws)
+statement_in names most inner depth (identifier bytes ∷ ws) =
+    assigned_in names most bytes ws (symbol_at symbols.OpenBracket ws)
 statement_in names most inner depth (symbol s ∷ ws) = statement_by_symbol names most inner depth (symbol s ∷ ws) s ws
 statement_in names most inner depth (number_lexeme n ∷ ws) = Some (block nothing, number_lexeme n ∷ ws)
 statement_in names most inner depth (string bytes ∷ ws) = Some (block nothing, string bytes ∷ ws)

@@ -10,8 +10,12 @@ ghost use Rattle.path_tree.specs.declared.token.Symbol.TheVariants.{OpenBracket,
 ghost use Rattle.decl_core.specs.Form.{block as block_form, choose, nothing};
 ghost use Rattle.decl_core.specs.View.{form_of, condition_of, statement_of, all_of};
 ghost use Rattle.body_read.specs.Reader.{Gives};
-ghost use Rattle.body_read.specs.StatementReading.{sorted as sorted_form, result_sort as result_sort_in, string_at, word_of_refusal, element_in, result_in, assigned_in, append_in, take_in, store_in, erase_in, refuse_in, other_in, if_in, block_in, statement_by_symbol, statements_at, body_in};
-ghost use Rattle.body_read.specs.Scopes.{names_of, function_of, inner_in, statement_by, string_read, statement_read, statements_read};
+ghost use Rattle.body_read.specs.StatementReading.{sorted as sorted_form, result_sort as result_sort_in, string_at};
+ghost use Rattle.body_read.specs.StatementReading.{word_of_refusal, element_in, result_in, assigned_in, append_in};
+ghost use Rattle.body_read.specs.StatementReading.{take_in, store_in, erase_in, refuse_in, other_in, if_in, block_in};
+ghost use Rattle.body_read.specs.StatementReading.{statement_by_symbol, statements_at, body_in};
+ghost use Rattle.body_read.specs.Scopes.{names_of, function_of, inner_in, statement_by, string_read, statement_read};
+ghost use Rattle.body_read.specs.Scopes.{statements_read};
 
 use crate::condition::condition;
 use crate::front::{after, behind, start_of, start_of_second};
@@ -94,7 +98,8 @@ fn element<'t>(
     bracket: usize,
     tokens: &'t [Token],
 ) -> Read<'t, Stmt>
-    ensures { Gives statement_read result (element_in (names_of scope.now) scope.now.most bytes.now (lexemes tokens.now)) }
+    ensures { Gives statement_read result (element_in (names_of scope.now) scope.now.most bytes.now
+        (lexemes tokens.now)) }
 {
     match part_of(scope.parts, bytes) {
         None => if is_known(scope, bytes) {
@@ -124,7 +129,8 @@ fn replied<'t>(
     at: usize,
     tokens: &'t [Token],
 ) -> Read<'t, Stmt>
-    ensures { Gives statement_read result (result_in (names_of scope.now) scope.now.most bytes.now (lexemes tokens.now)) }
+    ensures { Gives statement_read result (result_in (names_of scope.now) scope.now.most bytes.now
+        (lexemes tokens.now)) }
 {
     match after(tokens, Symbol::Assign) {
         None => if is_known(scope, bytes) {
@@ -156,7 +162,8 @@ fn assigned<'t>(
     at: usize,
     tokens: &'t [Token],
 ) -> Read<'t, Stmt>
-    ensures { Gives statement_read result (assigned_in (names_of scope.now) scope.now.most bytes.now (lexemes tokens.now) (symbol_at OpenBracket (lexemes tokens.now))) }
+    ensures { Gives statement_read result (assigned_in (names_of scope.now) scope.now.most bytes.now
+        (lexemes tokens.now) (symbol_at OpenBracket (lexemes tokens.now))) }
 {
     match after(tokens, Symbol::OpenBracket) {
         None => {
@@ -293,7 +300,8 @@ fn other<'t>(
     tokens: &'t [Token],
     depth: u8,
 ) -> Read<'t, Stmt>
-    ensures { Gives statement_read result (other_in (inner_in scope.now depth) (lexemes tokens.now) (symbol_at Else (lexemes tokens.now))) }
+    ensures { Gives statement_read result (other_in (inner_in scope.now depth) (lexemes tokens.now)
+        (symbol_at Else (lexemes tokens.now))) }
 {
     match after(tokens, Symbol::Else) {
         None => Ok((empty(alloc), tokens)),
@@ -323,7 +331,8 @@ fn choice<'t>(
     tokens: &'t [Token],
     depth: u8,
 ) -> Read<'t, Stmt>
-    ensures { Gives statement_read result (if_in (names_of scope.now) scope.now.most (inner_in scope.now depth) depth (lexemes tokens.now)) }
+    ensures { Gives statement_read result (if_in (names_of scope.now) scope.now.most (inner_in scope.now depth) depth
+        (lexemes tokens.now)) }
 {
     let _left = level(depth, at)?;
     let (c, rest) = condition(alloc, scope, tokens, EXPRESSIONS)?;
@@ -343,7 +352,8 @@ fn statements<'t>(
     tokens: &'t [Token],
     depth: u8,
 ) -> Read<'t, Vec<Stmt>>
-    ensures { Gives statements_read result (statements_at (inner_in scope.now depth) scope.now.most nothing (lexemes tokens.now)) }
+    ensures { Gives statements_read result (statements_at (inner_in scope.now depth) scope.now.most nothing
+        (lexemes tokens.now)) }
 {
     let mut done = Vec::new(alloc);
     let mut rest = tokens;
@@ -373,7 +383,8 @@ fn block<'t>(
     tokens: &'t [Token],
     depth: u8,
 ) -> Read<'t, Stmt>
-    ensures { Gives statement_read result (block_in (inner_in scope.now depth) scope.now.most depth (lexemes tokens.now)) }
+    ensures { Gives statement_read result (block_in (inner_in scope.now depth) scope.now.most depth
+        (lexemes tokens.now)) }
 {
     let _left = level(depth, at)?;
     let (all, rest) = statements(alloc, scope, at, tokens, depth)?;
@@ -391,7 +402,8 @@ fn by_symbol<'t>(
     tokens: &'t [Token],
     depth: u8,
 ) -> Read<'t, Stmt>
-    ensures { Gives statement_read result (statement_by_symbol (names_of scope.now) scope.now.most (inner_in scope.now depth) depth (lexemes all.now) symbol (lexemes tokens.now)) }
+    ensures { Gives statement_read result (statement_by_symbol (names_of scope.now) scope.now.most
+        (inner_in scope.now depth) depth (lexemes all.now) symbol (lexemes tokens.now)) }
 {
     if is_same_symbol(symbol, Symbol::Begin) {
         block(alloc, scope, start_of(all), tokens, depth)

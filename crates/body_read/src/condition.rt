@@ -6,7 +6,9 @@ ghost use Rattle.std.specs.Prelude.{◌≡◌};
 ghost use Rattle.path_tree.specs.Lexeme.{lexemes};
 ghost use Rattle.decl_core.specs.View.{form_of, condition_of};
 ghost use Rattle.body_read.specs.Reader.{Gives};
-ghost use Rattle.body_read.specs.StatementReading.{expr_at, relation_of, relation_at, left_of, compared as compared_forms, comparison_in, has_in, plain_condition_in};
+ghost use Rattle.body_read.specs.StatementReading.{expr_at, relation_of, relation_at, left_of};
+ghost use Rattle.body_read.specs.StatementReading.{compared as compared_forms, comparison_in, has_in};
+ghost use Rattle.body_read.specs.StatementReading.{plain_condition_in};
 ghost use Rattle.path_tree.specs.Reading.{symbol_at};
 ghost use Rattle.path_tree.specs.declared.token.Symbol.TheVariants.{Has};
 ghost use Rattle.body_read.specs.Scopes.{names_of, nested_in, deeper_in, conditions_in, relation_read, condition_read};
@@ -105,7 +107,8 @@ fn compared(relation: Relation, left: Expr, right: Expr, at: usize) -> Result<Co
 /// Two expressions with a relation between them.
 #[tactic(auto, unfolding(crate::specs::StatementReading::comparison_in))]
 fn comparison<'t>(alloc: Global, scope: &Scope, tokens: &'t [Token], depth: u8) -> Read<'t, Cond>
-    ensures { Gives condition_read result (comparison_in (expr_at (names_of scope.now) scope.now.most depth) (lexemes tokens.now)) }
+    ensures { Gives condition_read result (comparison_in (expr_at (names_of scope.now) scope.now.most depth)
+        (lexemes tokens.now)) }
 {
     let (first, rest) = expr(alloc, scope, tokens, depth)?;
     let (relation, second) = relation(rest)?;
@@ -118,7 +121,8 @@ fn comparison<'t>(alloc: Global, scope: &Scope, tokens: &'t [Token], depth: u8) 
 /// What stands behind `has`.
 #[tactic(auto, unfolding(crate::specs::StatementReading::has_in))]
 fn has<'t>(alloc: Global, scope: &Scope, tokens: &'t [Token], depth: u8) -> Read<'t, Cond>
-    ensures { Gives condition_read result (has_in (names_of scope.now) (nested_in scope.now depth) depth (lexemes tokens.now)) }
+    ensures { Gives condition_read result (has_in (names_of scope.now) (nested_in scope.now depth) depth
+        (lexemes tokens.now)) }
 {
     let (part, kind, rest) = part(scope, tokens, depth)?;
     let _sort = table(kind, start_of_second(tokens))?;
@@ -132,7 +136,8 @@ fn has<'t>(alloc: Global, scope: &Scope, tokens: &'t [Token], depth: u8) -> Read
 /// A condition where no `not` stands.
 #[tactic(auto, unfolding(crate::specs::StatementReading::plain_condition_in))]
 fn plain<'t>(alloc: Global, scope: &Scope, tokens: &'t [Token], depth: u8) -> Read<'t, Cond>
-    ensures { Gives condition_read result (plain_condition_in (names_of scope.now) scope.now.most depth (lexemes tokens.now) (symbol_at Has (lexemes tokens.now))) }
+    ensures { Gives condition_read result (plain_condition_in (names_of scope.now) scope.now.most depth
+        (lexemes tokens.now) (symbol_at Has (lexemes tokens.now))) }
 {
     match after(tokens, Symbol::Has) {
         None => {

@@ -33,7 +33,8 @@ pub(crate) fn start_of_second(tokens: &[Token]) -> usize
 
 /// The tokens behind a symbol, or `None` where another stands here.
 pub fn after<'t>(tokens: &'t [Token], symbol: Symbol) -> Option<&'t [Token]>
-    ensures { MatchOption result (symbol_at symbol (lexemes tokens.now) ≡ None) (λ rest. symbol_at symbol (lexemes tokens.now) ≡ Some (lexemes rest.now)) }
+    ensures { MatchOption result (symbol_at symbol (lexemes tokens.now) ≡ None)
+        (λ rest. symbol_at symbol (lexemes tokens.now) ≡ Some (lexemes rest.now)) }
 {
     match tokens {
         [] => None,
@@ -79,7 +80,8 @@ pub fn name<'t>(tokens: &'t [Token]) -> Result<(&'t Name, &'t [Token]), TextFaul
 
 /// A plus or a minus, and the tokens behind it.
 pub(crate) fn operator<'t>(tokens: &'t [Token]) -> Option<(bool, &'t [Token])>
-    ensures { MatchOption result (sign_at (lexemes tokens.now) ≡ None) (λ x. sign_at (lexemes tokens.now) ≡ Some (x.0, lexemes x.1.now)) }
+    ensures { MatchOption result (sign_at (lexemes tokens.now) ≡ None)
+        (λ x. sign_at (lexemes tokens.now) ≡ Some (x.0, lexemes x.1.now)) }
 {
     match tokens {
         [] => None,

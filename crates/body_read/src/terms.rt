@@ -8,7 +8,8 @@ ghost use Rattle.path_tree.specs.Lexeme.{lexemes};
 ghost use Rattle.path_tree.specs.Reading.{symbol_at};
 ghost use Rattle.decl_core.specs.View.{form_of, integers_of};
 ghost use Rattle.body_read.specs.Reader.{Gives};
-ghost use Rattle.body_read.specs.Reading.{value_named, part_in, first_in, count_in, lookup_in, group_in, by_symbol_in, named_in, expr_in, more_at};
+ghost use Rattle.body_read.specs.Reading.{value_named, part_in, first_in, count_in, lookup_in, group_in, by_symbol_in};
+ghost use Rattle.body_read.specs.Reading.{named_in, expr_in, more_at};
 ghost use Rattle.path_tree.specs.Known.{value_of};
 ghost use Rattle.body_read.specs.Scopes.{names_of, nested_in, terms_in, form_read, integers_read, part_read};
 
@@ -29,7 +30,8 @@ pub type Read<'t, T> = Result<(T, &'t [Token]), TextFault>;
 /// A constant's value or a parameter.
 #[tactic(auto, unfolding(crate::specs::Reading::value_named, crate::specs::Reading::param_named))]
 fn value(alloc: Global, scope: &Scope, bytes: &[u8], at: usize) -> Result<Expr, TextFault>
-    ensures { Gives form_of result (value_named (names_of scope.now) bytes.now (value_of (names_of scope.now).constants bytes.now)) }
+    ensures { Gives form_of result (value_named (names_of scope.now) bytes.now
+        (value_of (names_of scope.now).constants bytes.now)) }
 {
     match constant_of(scope.constants, bytes) {
         Some(n) => Ok(Expr::Integer(IntegerExpr::Number(n))),
@@ -131,7 +133,8 @@ fn group<'t>(
 #[cycle(expressions)]
 #[tactic(auto, unfolding(crate::specs::Reading::lookup_in))]
 fn lookup<'t>(alloc: Global, scope: &Scope, tokens: &'t [Token], depth: u8) -> Read<'t, Expr>
-    ensures { Gives form_read result (lookup_in (names_of scope.now) (nested_in scope.now depth) depth (lexemes tokens.now)) }
+    ensures { Gives form_read result (lookup_in (names_of scope.now) (nested_in scope.now depth) depth
+        (lexemes tokens.now)) }
 {
     let (part, kind, rest) = part(scope, tokens, depth)?;
     let sort = table(kind, start_of_second(tokens))?;
@@ -154,7 +157,8 @@ fn named<'t>(
     tokens: &'t [Token],
     depth: u8,
 ) -> Read<'t, Expr>
-    ensures { Gives form_read result (named_in (names_of scope.now) (nested_in scope.now depth) bytes.now (lexemes tokens.now) (symbol_at OpenBracket (lexemes tokens.now))) }
+    ensures { Gives form_read result (named_in (names_of scope.now) (nested_in scope.now depth) bytes.now
+        (lexemes tokens.now) (symbol_at OpenBracket (lexemes tokens.now))) }
 {
     match after(tokens, Symbol::OpenBracket) {
         None => {
@@ -190,7 +194,8 @@ fn by_symbol<'t>(
     tokens: &'t [Token],
     depth: u8,
 ) -> Read<'t, Expr>
-    ensures { Gives form_read result (by_symbol_in (names_of scope.now) (nested_in scope.now depth) depth symbol (lexemes tokens.now)) }
+    ensures { Gives form_read result (by_symbol_in (names_of scope.now) (nested_in scope.now depth) depth symbol
+        (lexemes tokens.now)) }
 {
     if is_same_symbol(symbol, Symbol::OpenParen) {
         group(alloc, scope, at, tokens, depth)
@@ -260,7 +265,8 @@ fn more<'t>(
     tokens: &'t [Token],
     depth: u8,
 ) -> Read<'t, IntegerExpr>
-    ensures { Gives integers_read result (more_at (terms_in scope.now depth) scope.now.most (integers_of first) (lexemes tokens.now)) }
+    ensures { Gives integers_read result (more_at (terms_in scope.now depth) scope.now.most (integers_of first)
+        (lexemes tokens.now)) }
 {
     let mut terms = Vec::new(alloc);
     let mut rest = tokens;

@@ -14,7 +14,8 @@ pub record Call : Type 0 where
   pub pins : List PartPin
 
 abbrev pub call_of : ℕ → Operation → List Datum → List PartPin → Call
-call_of number operation arguments pins = record { number = number; operation = operation; arguments = arguments; pins = pins }
+call_of number operation arguments pins =
+    record { number = number; operation = operation; arguments = arguments; pins = pins }
 
 -- each part that an operation reads has a pin
 abbrev pub HasPins : Operation → List PartPin → Type 0

@@ -10,8 +10,10 @@ use Rattle.page_core.specs.PartPins.{PartPin, pin_at, pins_by}
 use Rattle.page_core.specs.Renewed.{with_sealed}
 use Rattle.judge_core.specs.declared.judge.Change.{Change}
 
--- A changed part is renewed: its old list is its pin, its bytes before are those that were read, and those after are cut into pages of the least size.
-pub record IsRenewalOf (pins : List PartPin) (read : List (List ℕ)) (change : Change) (part : PartRenewal) : Type 0 where
+-- A changed part is renewed: its old list is its pin, its bytes before are those that were read, and those after are
+-- cut into pages of the least size.
+pub record IsRenewalOf (pins : List PartPin) (read : List (List ℕ)) (change : Change)
+    (part : PartRenewal) : Type 0 where
   pub pinned : pin_at pins change.part ≡ Some part.olds
   pub there : slice_get read change.part ≡ Some part.before
   pub after : part.after ≡ change.bytes
@@ -20,21 +22,30 @@ pub record IsRenewalOf (pins : List PartPin) (read : List (List ℕ)) (change : 
   pub cut : AreCutBy size part.after part.pages
   pub some : 0 < length part.pages
 
--- in order, from this part on: each changed part is renewed, and there is a count of pages for each part, which is 0 where it was not changed
-pub data AreRenewals (pins : List PartPin) (read : List (List ℕ)) : ℕ → List Change → List PartRenewal → List ℕ → Type 0 where
+-- in order, from this part on: each changed part is renewed, and there is a count of pages for each part, which is 0
+-- where it was not changed
+pub data AreRenewals (pins : List PartPin) (read : List (List ℕ)) : ℕ → List Change → List PartRenewal → List ℕ →
+    Type 0 where
   no_part : {from : ℕ} → AreRenewals pins read from [] [] []
-  same : {from : ℕ} (changes : List Change) (parts : List PartRenewal) (counts : List ℕ) → AreRenewals pins read (from + 1) changes parts counts → AreRenewals pins read from changes parts (0 ∷ counts)
-  renewed : {from : ℕ} (change : Change) (part : PartRenewal) (changes : List Change) (parts : List PartRenewal) (counts : List ℕ) (count : ℕ) → change.part ≡ from → IsRenewalOf pins read change part → count ≡ length part.pages
-      → AreRenewals pins read (from + 1) changes parts counts → AreRenewals pins read from (change ∷ changes) (part ∷ parts) (count ∷ counts)
+  same : {from : ℕ} (changes : List Change) (parts : List PartRenewal) (counts : List ℕ) →
+      AreRenewals pins read (from + 1) changes parts counts → AreRenewals pins read from changes parts (0 ∷ counts)
+  renewed : {from : ℕ} (change : Change) (part : PartRenewal) (changes : List Change) (parts : List PartRenewal)
+      (counts : List ℕ) (count : ℕ) → change.part ≡ from → IsRenewalOf pins read change part → count ≡ length part.pages
+      → AreRenewals pins read (from + 1) changes parts counts →
+      AreRenewals pins read from (change ∷ changes) (part ∷ parts) (count ∷ counts)
 
--- the plan of the changes of a call: the counts of its new page lists, their stamps one behind the other, what is written, and what goes
-pub record IsPlanned (pins : List PartPin) (read : List (List ℕ)) (changes : List Change) (counts : List ℕ) (stamps : List Stamp) (writes : List PageWrite) (gone : List Stamp) : Type 0 where
+-- the plan of the changes of a call: the counts of its new page lists, their stamps one behind the other, what is
+-- written, and what goes
+pub record IsPlanned (pins : List PartPin) (read : List (List ℕ)) (changes : List Change) (counts : List ℕ)
+    (stamps : List Stamp) (writes : List PageWrite) (gone : List Stamp) : Type 0 where
   pub parts : List PartRenewal
   pub renewals : AreRenewals pins read 0 changes parts counts
   pub plans : ArePlanned 0 parts stamps writes gone
 
 -- what was added to three rows is the plan of a changed part, which has so many pages
-pub record IsPlannedChange (pins : List PartPin) (read : List (List ℕ)) (change : Change) (count : ℕ) (stamps stamps_after : List Stamp) (writes writes_after : List PageWrite) (gone gone_after : List Stamp) : Type 0 where
+pub record IsPlannedChange (pins : List PartPin) (read : List (List ℕ)) (change : Change) (count : ℕ)
+    (stamps stamps_after : List Stamp) (writes writes_after : List PageWrite)
+    (gone gone_after : List Stamp) : Type 0 where
   pub olds : List Stamp
   pub before : List ℕ
   pub pinned : pin_at pins change.part ≡ Some olds
@@ -46,7 +57,9 @@ pub record IsPlannedChange (pins : List PartPin) (read : List (List ℕ)) (chang
   pub counted : count ≡ length plan.pages
 
 -- what was added to three rows is the plan of changes from this part on
-pub record ArePlansFrom (pins : List PartPin) (read : List (List ℕ)) (from : ℕ) (changes : List Change) (counts : List ℕ) (stamps stamps_after : List Stamp) (writes writes_after : List PageWrite) (gone gone_after : List Stamp) : Type 0 where
+pub record ArePlansFrom (pins : List PartPin) (read : List (List ℕ)) (from : ℕ) (changes : List Change)
+    (counts : List ℕ) (stamps stamps_after : List Stamp) (writes writes_after : List PageWrite)
+    (gone gone_after : List Stamp) : Type 0 where
   pub parts : List PartRenewal
   pub renewals : AreRenewals pins read from changes parts counts
   pub more_stamps : List Stamp
@@ -57,8 +70,10 @@ pub record ArePlansFrom (pins : List PartPin) (read : List (List ℕ)) (from : �
   pub gone_are : gone_after ≡ gone ++ more_gone
   pub plans : ArePlanned (length stamps) parts more_stamps more_writes more_gone
 
--- What a call has renewed, when all that was planned is sealed: its new pins are the lists of the plan, and these files go.
-pub record AreNewPins (pins : List PartPin) (read : List (List ℕ)) (changes : List Change) (sealed : List Stamp) (news : List PartPin) (gone : List Stamp) : Type 0 where
+-- What a call has renewed, when all that was planned is sealed: its new pins are the lists of the
+-- plan, and these files go.
+pub record AreNewPins (pins : List PartPin) (read : List (List ℕ)) (changes : List Change) (sealed : List Stamp)
+    (news : List PartPin) (gone : List Stamp) : Type 0 where
   pub counts : List ℕ
   pub stamps : List Stamp
   pub writes : List PageWrite

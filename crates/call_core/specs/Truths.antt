@@ -19,10 +19,13 @@ use Rattle.call_core.specs.Calls.{Call}
 abbrev pub PinHolds : Assignment → List PartPin → ℕ → List ℕ → Type 0
 PinHolds a pins p bytes = (pages : List Stamp) × (pin_at pins p ≡ Some pages) × (list_bytes a pages ≡ Some bytes)
 
--- a part without a new pin is as it was; another one holds another value, its new pin is whole, and the bytes under it spell that value
+-- a part without a new pin is as it was; another one holds another value, its new pin is whole, and the bytes
+-- under it spell that value
 abbrev pub IsLeft : Assignment → Option Contents → Option Contents → Option (List Stamp) → Type 0
 IsLeft a before after None = after ≡ before
-IsLeft a before after (Some pages) = (value : Contents) × (after ≡ Some value) × (before ≢ Some value) × ((bytes : List ℕ) × Spells bytes (kind_of value) value × AreWhole a pages × (list_bytes a pages ≡ Some bytes))
+IsLeft a before after (Some pages) =
+    (value : Contents) × (after ≡ Some value) × (before ≢ Some value)
+    × ((bytes : List ℕ) × Spells bytes (kind_of value) value × AreWhole a pages × (list_bytes a pages ≡ Some bytes))
 
 abbrev pub AreLeft : Assignment → List PartPin → List Contents → List Contents → Type 0
 AreLeft a news before after = (p : ℕ) → IsLeft a (slice_get before p) (slice_get after p) (pin_at news p)
@@ -44,8 +47,11 @@ pub record IsPinWhole (a : Assignment) (pages : List Stamp) : Type 0 where
 
 -- each pin of a part that the operation reads is whole
 abbrev pub PinsAreWhole : Assignment → Call → Type 0
-PinsAreWhole a call = (p : ℕ) (kind : Kind) (pages : List Stamp) → IsNamed call.operation p kind → pin_at call.pins p ≡ Some pages → IsPinWhole a pages
+PinsAreWhole a call =
+    (p : ℕ) (kind : Kind) (pages : List Stamp) → IsNamed call.operation p kind → pin_at call.pins p ≡ Some pages →
+    IsPinWhole a pages
 
--- An outcome is true of an assignment where, if the pins of its reads are whole, what it replies is what the body gives on the contents that they spell, and its new pins hold what the body changed.
+-- An outcome is true of an assignment where, if the pins of its reads are whole, what it replies is what the body gives
+-- on the contents that they spell, and its new pins hold what the body changed.
 abbrev pub IsTrueOf : Assignment → Call → Reply → List PartPin → Type 0
 IsTrueOf a call reply news = PinsAreWhole a call → IsTrueAt a call reply news

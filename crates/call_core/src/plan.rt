@@ -1,6 +1,7 @@
 //! What a call writes of what its body changed.
 
-ghost use Rattle.std.specs.Prelude.{◌≡◌, ◌≢◌, ℕ, ◌+◌, ◌<◌, ◌≤◌, ◌++◌, ◌∷◌, [], IfOk, IfSome, OnOk, Option, Some, None, length, vec_capacity, slice_get, slice_set};
+ghost use Rattle.std.specs.Prelude.{◌≡◌, ◌≢◌, ℕ, ◌+◌, ◌<◌, ◌≤◌, ◌++◌, ◌∷◌, [], IfOk, IfSome, OnOk, Option, Some, None};
+ghost use Rattle.std.specs.Prelude.{length, vec_capacity, slice_get, slice_set};
 ghost use Rattle.std.specs.Result.{IsOk};
 ghost use Rattle.std.specs.Arc.{arc_value};
 ghost use Rattle.decl_core.specs.Bodies.{body_of};
@@ -42,7 +43,8 @@ pub struct PagePlan {
     // each part has at most 8 pages
     ghost short: { AreShort counts },
     // each write has a place among the stamps
-    ghost placed: { (k : ℕ) (write : AWrite) → slice_get writes.items k ≡ Some write → write.place < length stamps.items },
+    ghost placed: { (k : ℕ) (write : AWrite) → slice_get writes.items k ≡ Some write →
+        write.place < length stamps.items },
     // no more are sealed than are written
     ghost few: { length sealed.items ≤ length writes.items },
     // there is room for the file of each page
@@ -76,7 +78,8 @@ fn plan_change(
 ) -> Result<u8, AllocError>
     requires pinned { pin_at pins.now change.now.part ≢ None }
     requires read { change.now.part < length read.now }
-    ensures { IfOk result (λ count. IsPlannedChange pins.now read.now change.now count stamps.old.items stamps.new.items writes.old.items writes.new.items gone.old.items gone.new.items) }
+    ensures { IfOk result (λ count. IsPlannedChange pins.now read.now change.now count stamps.old.items stamps.new.items
+        writes.old.items writes.new.items gone.old.items gone.new.items) }
 {
     let after = change.bytes.as_slice();
     let Some(size) = cut_size(after) else {
@@ -108,7 +111,8 @@ fn plan_from(
     requires known { AreKnown pins.now (length read.now) changes.now }
     requires none { together counts.old ≡ 0 }
     requires few { part + length counts.old ≤ 16 }
-    ensures planned { OnOk result (ArePlansFrom pins.now read.now part changes.now counts.new stamps.old.items stamps.new.items writes.old.items writes.new.items gone.old.items gone.new.items) }
+    ensures planned { OnOk result (ArePlansFrom pins.now read.now part changes.now counts.new stamps.old.items
+        stamps.new.items writes.old.items writes.new.items gone.old.items gone.new.items) }
     ensures many { length counts.new ≡ length counts.old }
 {
     let Some((count, others)) = counts.split_first_mut() else {
@@ -149,7 +153,8 @@ fn plan_from(
 
 // The plan of no change. It takes no memory.
 fn no_plan(alloc: Global, pins: &PartPins, read: &[FileBytes]) -> PagePlan
-    ensures planned { IsPlanned pins.now read.now [] result.counts result.stamps.items result.writes.items result.gone.items }
+    ensures planned { IsPlanned pins.now read.now [] result.counts result.stamps.items result.writes.items
+        result.gone.items }
     ensures fresh { result.sealed.items ≡ [] }
 {
     PagePlan {
@@ -172,7 +177,8 @@ pub fn plan_pages(
 ) -> Result<PagePlan, AllocError>
     requires rising { WritesInOrder (body_of (arc_value task.now.operation)).statements 0 (parts_changed changes.now) }
     requires read { (p : ℕ) → Reads (body_of (arc_value task.now.operation)).statements p → p < length read.now }
-    ensures planned { IfOk result (λ plan. IsPlanned task.now.pins read.now changes.now plan.counts plan.stamps.items plan.writes.items plan.gone.items) }
+    ensures planned { IfOk result (λ plan.
+        IsPlanned task.now.pins read.now changes.now plan.counts plan.stamps.items plan.writes.items plan.gone.items) }
     ensures fresh { IfOk result (λ plan. plan.sealed.items ≡ []) }
     ensures none { changes.now ≡ [] → IsOk result }
 {
@@ -229,7 +235,8 @@ impl PagePlan {
     pub fn with(self, stamp: Stamp) -> PagePlan
         requires { length self.sealed.items < length self.writes.items }
         ensures counts { result.counts ≡ self.counts }
-        ensures stamps { (write : AWrite) → slice_get self.writes.items (length self.sealed.items) ≡ Some write → result.stamps.items ≡ slice_set self.stamps.items write.place stamp }
+        ensures stamps { (write : AWrite) → slice_get self.writes.items (length self.sealed.items) ≡ Some write →
+            result.stamps.items ≡ slice_set self.stamps.items write.place stamp }
         ensures writes { result.writes.items ≡ self.writes.items }
         ensures gone { result.gone.items ≡ self.gone.items }
         ensures sealed { result.sealed.items ≡ self.sealed.items ++ stamp ∷ [] }

@@ -1,5 +1,6 @@
 -- What a check of a source writes.
-use Rattle.std.specs.Prelude.{◌≡◌, ℕ, ◌+◌, ◌<◌, ◌≤◌, ◌⊎◌, Option, Some, None, List, [], ◌∷◌, ◌++◌, length, slice_get, codes, decimal}
+use Rattle.std.specs.Prelude.{◌≡◌, ℕ, ◌+◌, ◌<◌, ◌≤◌, ◌⊎◌, Option, Some, None, List, [], ◌∷◌, ◌++◌, length, slice_get}
+use Rattle.std.specs.Prelude.{codes, decimal}
 use Rattle.value_core.specs.declared.kind.Kind.{Kind}
 use Rattle.path_tree.specs.declared.lex.fault.LexFault.{LexFault}
 use Rattle.path_tree.specs.declared.lex.fault.LexFault.TheVariants as lex_faults
@@ -33,7 +34,9 @@ pair_text o i j = operation_name (slice_get o.operations i) ++ codes " " ++ oper
 
 -- pair A B path P node K
 abbrev pub pair_line : ObjectForm → Entry → List ℕ
-pair_line o e = codes "pair " ++ pair_text o e.first e.second ++ codes " path " ++ decimal e.path ++ codes " node " ++ decimal e.node ++ codes "\n"
+pair_line o e =
+    codes "pair " ++ pair_text o e.first e.second ++ codes " path " ++ decimal e.path ++ codes " node "
+    ++ decimal e.node ++ codes "\n"
 
 abbrev pub pair_lines : ObjectForm → List Entry → List ℕ
 pair_lines o [] = []
@@ -45,7 +48,9 @@ accepted_lines o entries = codes "object " ++ o.name ++ codes " accepted\n" ++ p
 
 -- object NAME refused 1 Unseparated A B PART
 abbrev pub refused_line : ObjectForm → ℕ → ℕ → ℕ → List ℕ
-refused_line o i j p = codes "object " ++ o.name ++ codes " refused 1 Unseparated " ++ pair_text o i j ++ codes " " ++ part_name (slice_get o.parts p) ++ codes "\n"
+refused_line o i j p =
+    codes "object " ++ o.name ++ codes " refused 1 Unseparated " ++ pair_text o i j ++ codes " "
+    ++ part_name (slice_get o.parts p) ++ codes "\n"
 
 -- N objects, M refused
 abbrev pub count_line : ℕ → ℕ → List ℕ
@@ -67,7 +72,8 @@ fault_line fault = fault_word fault ++ fault_text (fault_number fault) (fault_na
 
 -- what an object is told, and how many of it are refused: none or it
 pub data IsReported (o : ObjectForm) : ℕ → List ℕ → Type 0 where
-  accepted : {entries : List Entry} → IsExclusive o → IsFirstCertificate o entries → IsReported o 0 (accepted_lines o entries)
+  accepted : {entries : List Entry} → IsExclusive o → IsFirstCertificate o entries →
+      IsReported o 0 (accepted_lines o entries)
   refused : {i j p : ℕ} → IsFirstUnseparated o i j p → IsReported o 1 (refused_line o i j p)
 
 -- what objects are told one after the other, and how many of them are refused
@@ -78,7 +84,8 @@ pub data AreReported : List ObjectForm → ℕ → List ℕ → Type 0 where
 
 -- a want of memory: of the reader of objects, of the lexer, or of the reader of a path
 abbrev pub IsWantOfMemory : DeclFault → Type 0
-IsWantOfMemory fault = (fault ≡ faults.Memory) ⊎ ((fault ≡ faults.Lex lex_faults.Memory) ⊎ (fault ≡ faults.Path path_faults.Memory))
+IsWantOfMemory fault =
+    (fault ≡ faults.Memory) ⊎ ((fault ≡ faults.Lex lex_faults.Memory) ⊎ (fault ≡ faults.Path path_faults.Memory))
 
 -- A source that is no file of objects is told why: its first fault as far as its tokens go, and never a want of memory.
 pub record IsToldFault (source : List ℕ) (fault : DeclFault) : Type 0 where
@@ -87,8 +94,10 @@ pub record IsToldFault (source : List ℕ) (fault : DeclFault) : Type 0 where
   pub too_long : 65536 < length source → fault ≡ faults.Lex lex_faults.TooLong
   pub lexical : (first : LexFault) → IsFirstFault source first → length source ≤ 65536 → fault ≡ lex_fault_told first
 
--- What a check writes of a source, and how it ends: the objects one after the other and their counts, or the line of the fault alone.
+-- What a check writes of a source, and how it ends: the objects one after the other and their counts, or the
+-- line of the fault alone.
 pub data IsCheck (source : List ℕ) : CheckEnd → List ℕ → Type 0 where
-  counted : {objects : List ObjectForm} {refused : ℕ} {text : List ℕ} → AreObjectsOf source objects → AreReported objects refused text →
+  counted : {objects : List ObjectForm} {refused : ℕ} {text : List ℕ} → AreObjectsOf source objects →
+      AreReported objects refused text →
       IsCheck source (ends.Counted (length objects) refused) (text ++ count_line (length objects) refused)
   faulty : {fault : DeclFault} → IsToldFault source fault → IsCheck source ends.Faulty (fault_line fault)

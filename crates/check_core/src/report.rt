@@ -10,7 +10,8 @@ ghost use Rattle.exclude_core.specs.Certificate.{IsFirstCertificate};
 ghost use Rattle.check_core.specs.CheckFaults.{fault_number, fault_name};
 ghost use Rattle.exclude_core.specs.Exclusive.{IsExclusive};
 ghost use Rattle.exclude_core.specs.Refusals.{IsWhy};
-ghost use Rattle.check_core.specs.Report.{AreReported, IsCheck, IsReported, IsWantOfMemory, accepted_lines, count_line, fault_line, refused_line};
+ghost use Rattle.check_core.specs.Report.{AreReported, IsCheck, IsReported, IsWantOfMemory, accepted_lines, count_line};
+ghost use Rattle.check_core.specs.Report.{fault_line, refused_line};
 ghost use Rattle.exclude_core.specs.declared.certificate.Entry.{Entry};
 ghost use Rattle.check_core.specs.declared.report.CheckEnd.TheVariants.{Counted, Faulty};
 ghost use Rattle.check_core.specs.declared.report.CheckFault.TheVariants.{WriteFault, Memory};
@@ -75,7 +76,8 @@ impl CheckFault {
 /// Adds the lines of an accepted object: `object NAME accepted`, and `pair A B path P node K` for each
 /// entry of its certificate.
 pub fn push_accepted(out: &mut Vec<u8>, accepted: &Accepted) -> Result<(), AllocError>
-    ensures { OnOk result ((entries : List Entry) × IsFirstCertificate (object_of accepted.now) entries × IsExclusive (object_of accepted.now)
+    ensures { OnOk result ((entries : List Entry) × IsFirstCertificate (object_of accepted.now) entries
+        × IsExclusive (object_of accepted.now)
         × (out.new.items ≡ out.old.items ++ accepted_lines (object_of accepted.now) entries)) }
 {
     let object = accepted.object();
@@ -115,7 +117,8 @@ pub fn push_source_fault(out: &mut Vec<u8>, fault: DeclFault) -> Result<(), Allo
 // Adds the line of an object that is refused, and gives 1: so many are refused of it.
 fn push_refused(out: &mut Vec<u8>, refused: &Refused) -> Result<usize, AllocError>
     requires { IsWhy (object_of refused.now.object) refused.now.why }
-    ensures { IfOk result (λ count. (text : List ℕ) × (out.new.items ≡ out.old.items ++ text) × IsReported (object_of refused.now.object) count text) }
+    ensures { IfOk result (λ count. (text : List ℕ) × (out.new.items ≡ out.old.items ++ text)
+        × IsReported (object_of refused.now.object) count text) }
 {
     match refused.why {
         Refusal::Memory => Err(AllocError),
@@ -128,7 +131,8 @@ fn push_refused(out: &mut Vec<u8>, refused: &Refused) -> Result<usize, AllocErro
 
 // Adds the lines of an object, and gives how many of it are refused.
 fn push_object(alloc: Global, out: &mut Vec<u8>, object: Object) -> Result<usize, AllocError>
-    ensures { IfOk result (λ refused. (text : List ℕ) × (out.new.items ≡ out.old.items ++ text) × IsReported (object_of object) refused text) }
+    ensures { IfOk result (λ refused. (text : List ℕ) × (out.new.items ≡ out.old.items ++ text)
+        × IsReported (object_of object) refused text) }
 {
     match analyse(alloc, object) {
         Ok(accepted) => {
@@ -166,8 +170,10 @@ fn report_objects(
 
 // The report of the objects of a file.
 fn report_file(alloc: Global, all: IndexMap<Name, Object>) -> Result<Written, AllocError>
-    ensures { IfOk result (λ r. (refused : ℕ) × (text : List ℕ) × AreReported (objects_of (values_of all.entries)) refused text
-        × (r.end ≡ Counted (length (values_of all.entries)) refused) × (r.text.items ≡ text ++ count_line (length (values_of all.entries)) refused)) }
+    ensures { IfOk result (λ r. (refused : ℕ) × (text : List ℕ)
+        × AreReported (objects_of (values_of all.entries)) refused text
+        × (r.end ≡ Counted (length (values_of all.entries)) refused)
+        × (r.text.items ≡ text ++ count_line (length (values_of all.entries)) refused)) }
 {
     let objects = all.len();
     let (mut text, refused) = report_objects(alloc, all)?;
@@ -234,8 +240,10 @@ pub fn check_report<W: Write>(
     source: &[u8],
     writer: &mut W,
 ) -> Result<CheckEnd, CheckFault>
-    ensures ended { IfOk result (λ end. (text : List ℕ) × IsCheck source.now end text × Appends (W.contents writer.old) (W.contents writer.new) text) }
-    ensures cut { IsErrOf result WriteFault → (end : CheckEnd) × (text : List ℕ) × (count : ℕ) × IsCheck source.now end text
+    ensures ended { IfOk result (λ end. (text : List ℕ) × IsCheck source.now end text
+        × Appends (W.contents writer.old) (W.contents writer.new) text) }
+    ensures cut { IsErrOf result WriteFault →
+        (end : CheckEnd) × (text : List ℕ) × (count : ℕ) × IsCheck source.now end text
         × Appends (W.contents writer.old) (W.contents writer.new) (take count text) }
     ensures memory { IsErrOf result Memory → Keeps (W.contents writer.old) (W.contents writer.new) }
     // The objects of a file of the grammar are counted.

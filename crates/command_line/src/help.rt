@@ -94,7 +94,8 @@ pub const RUN_SCRIPT: &str =
 
 /// What `run` reads and writes.
 pub const RUN_MORE: &str =
-    "Reads FILE, and then SCRIPT: its line 1, `object NAME`, says which object of FILE is called, and each further line what
+    "Reads FILE, and then SCRIPT: its line 1, `object NAME`, says which object of FILE is called, and each further \
+line what
 happens next. Writes the answer to each line to standard output before it waits for more.
 
   call sK OP ARG ..  session K calls an operation      call N, or no FAULT
@@ -129,7 +130,8 @@ Example: the second `put` has to wait for the first one.
   started 2
 
 Where line 1 names no object the answer is `bad line 1`, where FILE lacks it `no object NAME`; a fault of FILE, or a
-refusal of the object, is told as by `check`. A line that says none of the above gives `bad line K`, and ends the script.
+refusal of the object, is told as by `check`. A line that says none of the above gives `bad line K`, and ends the \
+script.
 
 With `--explain` standard error gets why FILE, or the object, is refused, as from `check --explain`, and of a bad line
 SCRIPT:LINE:COLUMN, what is wrong with it, and the form of line that it comes closest to.
@@ -149,10 +151,12 @@ pub const AUDIT_TRACE: &str =
 
 /// What `audit` reads and writes.
 pub const AUDIT_MORE: &str =
-    "Reads FILE, and then TRACE: its line 1, `object NAME`, says which object of FILE it is of, then a line for each part tells what
+    "Reads FILE, and then TRACE: its line 1, `object NAME`, says which object of FILE it is of, then a line for each \
+part tells what
 it held at first, and each further line tells the start or the end of a call. Writes one line:
 
-  legal K               each start was allowed by all paths, each reply is that of the calls done one after the other, in the
+  legal K               each start was allowed by all paths, each reply is that of the calls done one after the other, \
+in the
                         order of their ends; K calls have ended
   line N bad            line N is no line of a trace, or has no place there
   line N breaks path P  line N starts a call that path P does not let start then; the first such path of the object
@@ -174,7 +178,8 @@ Example: a `put` that starts while another one runs.
 Where line 1 names no object the answer is `line 1 bad`, where FILE lacks it `no object NAME`; a fault of FILE, or a
 refusal of the object, is told as by `check`.
 
-With `--explain` standard error gets why FILE, or the object, is refused, as from `check --explain`, and of the first line
+With `--explain` standard error gets why FILE, or the object, is refused, as from `check --explain`, and of the first \
+line
 with a fault TRACE:LINE:COLUMN and why it is wrong: of a wrong reply which reply the object gives, of a start that
 breaks a path which path, which of its operations are active, and how often each has started and ended.
 
@@ -200,13 +205,16 @@ pub const SERVE_STOP: &str =
 
 /// What `serve` reads and writes.
 pub const SERVE_MORE: &str =
-    "Writes `listening PORT`, takes N connections, one after the other or at once, and ends when all have ended. Then it saves the
-values of all parts in DIR, with a trace for `pathserve audit`, and writes `NAME entries K` for each object that is saved.
+    "Writes `listening PORT`, takes N connections, one after the other or at once, and ends when all have ended. Then \
+it saves the
+values of all parts in DIR, with a trace for `pathserve audit`, and writes `NAME entries K` for each object that is \
+saved.
 Where an object is refused, or a saved value is damaged, a line says so, and nothing is served. One server at a
 time has DIR. With --stop-with-input it ends in order when standard input ends; ./pathserve of the repository does that
 on SIGINT, SIGTERM and SIGHUP. A kill loses what was not saved.
 
-A client says `open NAME`, `call OP ARG ..`, `cancel N` and `quit`, a line each; docs/SERVING.md has the answers. One that
+A client says `open NAME`, `call OP ARG ..`, `cancel N` and `quit`, a line each; docs/SERVING.md has the answers. One \
+that
 said `open NAME as CLIENT` can come back after its connection broke, and ask again for a call: `call #1 OP ARG ..`.
 
 Example: in another terminal, while this one waits.
@@ -223,4 +231,5 @@ Example: in another terminal, while this one waits.
   done 2 7
   bye
 
-Exit status: 0 all was served and saved, 1 something was refused or is damaged, 3 a read or write fault, 4 out of memory.";
+Exit status: 0 all was served and saved, 1 something was refused or is damaged, 3 a read or write fault, 4 out of \
+memory.";

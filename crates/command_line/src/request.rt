@@ -12,10 +12,11 @@ pub enum Request<'a> {
     Paths,
     /// `pathserve check FILE`, with the path of the file, and whether a refusal is explained.
     Check(&'a str, bool),
-    /// `pathserve run FILE SCRIPT`, with the paths of the two, and whether a refusal of the source, and a bad line, are explained.
+    /// `pathserve run FILE SCRIPT`, with the paths of the two, and whether a refusal of the source, and a bad
+    /// line, are explained.
     Run(&'a str, &'a str, bool),
-    /// `pathserve audit FILE TRACE`, with the paths of the two, and whether a refusal of the source, and a fault of the trace, are
-    /// explained.
+    /// `pathserve audit FILE TRACE`, with the paths of the two, and whether a refusal of the source, and a fault of the
+    /// trace, are explained.
     Audit(&'a str, &'a str, bool),
     /// `pathserve serve FILE DIR PORT --sessions N`.
     Serve(Serving<'a>),

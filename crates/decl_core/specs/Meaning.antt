@@ -1,5 +1,6 @@
 -- What the body of an operation means. It speaks of contents alone: parts and parameters by their numbers.
-use Rattle.std.specs.Prelude.{ℕ, List, slice_index_or, slice_set, Bool, true, false, not, nat_lt, nat_le, ◌==◌, Option, Some, None, Result, Ok, Err, []}
+use Rattle.std.specs.Prelude.{ℕ, List, slice_index_or, slice_set, Bool, true, false, not, nat_lt, nat_le, ◌==◌, Option}
+use Rattle.std.specs.Prelude.{Some, None, Result, Ok, Err, []}
 use Rattle.value_core.specs.declared.datum.Datum.{Datum}
 use Rattle.value_core.specs.declared.datum.Datum.TheVariants as datum
 use Rattle.value_core.specs.declared.refusal.Refusal.{Refusal}
@@ -9,10 +10,14 @@ use Rattle.value_core.specs.Contents.{Contents, array}
 use Rattle.value_core.specs.Datum.{zero_of}
 use Rattle.value_core.specs.Words.{word_of}
 use Rattle.text_core.specs.TextOrder.{text_eq}
-use Rattle.value_core.specs.Meaning.{element_at, with_element, oldest_of, without_oldest, with_newest, has_key, under_key, with_row, without_key, count_of, sum_of, difference_of}
+use Rattle.value_core.specs.Meaning.{element_at, with_element, oldest_of, without_oldest, with_newest, has_key}
+use Rattle.value_core.specs.Meaning.{under_key, with_row, without_key, count_of, sum_of, difference_of}
 use Rattle.decl_core.specs.declared.stmt.Relation.{Relation}
 use Rattle.decl_core.specs.declared.stmt.Relation.TheVariants as relations
-use Rattle.decl_core.specs.Form.{From, argument, element, oldest, under, Integers, number, integer_from, count, add, subtract, Texts, literal, text_from, Form, an_integer, a_text, Condition, compare, same_texts, other_texts, has, is_not, Statement, block, set_element, set_result, append, take, store, erase, choose, refuse, Statements, nothing, first_and, Body}
+use Rattle.decl_core.specs.Form.{From, argument, element, oldest, under, Integers, number, integer_from, count, add}
+use Rattle.decl_core.specs.Form.{subtract, Texts, literal, text_from, Form, an_integer, a_text, Condition, compare}
+use Rattle.decl_core.specs.Form.{same_texts, other_texts, has, is_not, Statement, block, set_element, set_result}
+use Rattle.decl_core.specs.Form.{append, take, store, erase, choose, refuse, Statements, nothing, first_and, Body}
 
 -- an answer, or the word of a refusal
 abbrev pub Answer : Type 0 → Type 0
@@ -63,7 +68,8 @@ abbrev mutual
   integer_value seen (integer_from s) = datum_from seen s >>= λ d. Ok (integer_in d)
   integer_value seen (count p) = Ok (count_of (part_at seen.parts p))
   integer_value seen (add a b) = integer_value seen a >>= λ x. integer_value seen b >>= λ y. by_word (sum_of x y)
-  integer_value seen (subtract a b) = integer_value seen a >>= λ x. integer_value seen b >>= λ y. by_word (difference_of x y)
+  integer_value seen (subtract a b) =
+      integer_value seen a >>= λ x. integer_value seen b >>= λ y. by_word (difference_of x y)
 
   pub text_value : Seen → Texts → Answer (List ℕ)
   text_value seen (literal t) = Ok t
@@ -110,12 +116,19 @@ chosen false s t = t
 abbrev mutual
   pub after : List Datum → Statement → Changed → Answer Changed
   after args (block all) c = after_all args all c
-  after args (set_element p i e) c = integer_value (seen_with args c) i >>= λ n. datum_value (seen_with args c) e >>= λ d. with_part c p (with_element (part_at c.parts p) n d)
-  after args (set_result e) c = datum_value (seen_with args c) e >>= λ d. Ok (record { parts = c.parts; reply = Some d })
-  after args (append p e) c = datum_value (seen_with args c) e >>= λ d. with_part c p (with_newest (part_at c.parts p) d)
+  after args (set_element p i e) c =
+      integer_value (seen_with args c) i >>= λ n. datum_value (seen_with args c) e >>= λ d.
+      with_part c p (with_element (part_at c.parts p) n d)
+  after args (set_result e) c =
+      datum_value (seen_with args c) e >>= λ d. Ok (record { parts = c.parts; reply = Some d })
+  after args (append p e) c =
+      datum_value (seen_with args c) e >>= λ d. with_part c p (with_newest (part_at c.parts p) d)
   after args (take p) c = with_part c p (without_oldest (part_at c.parts p))
-  after args (store p k e) c = text_value (seen_with args c) k >>= λ key. datum_value (seen_with args c) e >>= λ d. with_part c p (with_row (part_at c.parts p) key d)
-  after args (erase p k) c = text_value (seen_with args c) k >>= λ key. with_part c p (without_key (part_at c.parts p) key)
+  after args (store p k e) c =
+      text_value (seen_with args c) k >>= λ key. datum_value (seen_with args c) e >>= λ d.
+      with_part c p (with_row (part_at c.parts p) key d)
+  after args (erase p k) c =
+      text_value (seen_with args c) k >>= λ key. with_part c p (without_key (part_at c.parts p) key)
   after args (choose q s t) c = holds (seen_with args c) q >>= λ b. chosen b (after args s c) (after args t c)
   after args (refuse word) c = Err word
 
@@ -140,4 +153,5 @@ ending before (Err word) = (refused word, before)
 
 -- The meaning of a whole body: with these arguments, on these contents, it gives this reply and these contents.
 abbrev pub apply_body : Body → List Datum → List Contents → Reply × List Contents
-apply_body body args parts = ending parts (after_all args body.statements (record { parts = parts; reply = reply_before body.result }))
+apply_body body args parts =
+    ending parts (after_all args body.statements (record { parts = parts; reply = reply_before body.result }))

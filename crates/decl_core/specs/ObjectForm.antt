@@ -7,7 +7,8 @@ use Rattle.path_tree.specs.Path.{Path}
 use Rattle.decl_core.specs.Form.{Statements}
 use Rattle.decl_core.specs.Footprint.{named_in_all}
 
--- an operation: what it is given, what it replies, what it does, and of each part of the object what it holds where the operation names it
+-- an operation: what it is given, what it replies, what it does, and of each part of the object what it holds where
+-- the operation names it
 pub record OperationForm : Type 0 where
   pub name : List ℕ
   pub params : List (List ℕ × Elem)
@@ -25,8 +26,17 @@ pub record ObjectForm : Type 0 where
 -- of each part what it holds, where its bit is set; the first of them has this number
 abbrev pub kinds_from : ℕ → ℕ → List (List ℕ × Kind) → List (Option Kind)
 kinds_from reads place [] = []
-kinds_from reads place (p ∷ parts) = (if bit_at reads place == 1 then Some p.1 else None) ∷ kinds_from reads (place + 1) parts
+kinds_from reads place (p ∷ parts) =
+    (if bit_at reads place == 1 then Some p.1 else None) ∷ kinds_from reads (place + 1) parts
 
 -- an operation of an object with these parts
-abbrev pub operation_with : List (List ℕ × Kind) → List ℕ → List (List ℕ × Elem) → Option Elem → Statements → OperationForm
-operation_with parts own params result all = record { name = own; params = params; result = result; statements = all; kinds = kinds_from (named_in_all all 0) 0 parts }
+abbrev pub operation_with : List (List ℕ × Kind) → List ℕ → List (List ℕ × Elem) → Option Elem → Statements →
+    OperationForm
+operation_with parts own params result all =
+    record {
+      name = own;
+      params = params;
+      result = result;
+      statements = all;
+      kinds = kinds_from (named_in_all all 0) 0 parts;
+    }

@@ -21,13 +21,26 @@ abbrev pub parts_of : List Part → List (List ℕ × Kind)
 parts_of parts = map (λ p. (p.name, p.kind)) parts
 
 abbrev pub operation_of : Operation → OperationForm
-operation_of o = record { name = o.name; params = params_of o.params.items; result = o.result; statements = all_of o.body.items; kinds = o.kinds.items }
+operation_of o =
+    record {
+      name = o.name;
+      params = params_of o.params.items;
+      result = o.result;
+      statements = all_of o.body.items;
+      kinds = o.kinds.items;
+    }
 
 abbrev pub operations_of : {Z : Type 0} → List (Arc Operation Z) → List OperationForm
 operations_of operations = map (λ o. operation_of (arc_value o)) operations
 
 abbrev pub object_of : Object → ObjectForm
-object_of o = record { name = o.name; parts = parts_of o.parts.items; paths = o.paths.items; operations = operations_of o.operations.items }
+object_of o =
+    record {
+      name = o.name;
+      parts = parts_of o.parts.items;
+      paths = o.paths.items;
+      operations = operations_of o.operations.items;
+    }
 
 abbrev pub objects_of : List Object → List ObjectForm
 objects_of objects = map object_of objects

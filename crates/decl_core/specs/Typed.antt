@@ -1,15 +1,20 @@
--- Which bodies are well typed: each part that they use is known and holds what they ask of it, and each expression is of the sort that is due.
+-- Which bodies are well typed: each part that they use is known and holds what they ask of it, and each expression is
+-- of the sort that is due.
 use Rattle.std.specs.Prelude.{◌≡◌, ℕ, List, slice_get, Option, Some}
 use Rattle.value_core.specs.declared.kind.Elem.{Elem}
 use Rattle.value_core.specs.declared.kind.Elem.TheVariants as elem
 use Rattle.value_core.specs.declared.kind.Kind.{Kind}
 use Rattle.text_core.specs.Plain.{IsText}
 use Rattle.decl_core.specs.RefusalWord.{IsRefusalWord}
-use Rattle.decl_core.specs.Form.{From, argument, element, oldest, under, Integers, number, integer_from, count, add, subtract, Texts, literal, text_from, Form, an_integer, a_text, Condition, compare, same_texts, other_texts, has, is_not, Statement, block, set_element, set_result, append, take, store, erase, choose, refuse, Statements, nothing, first_and}
+use Rattle.decl_core.specs.Form.{From, argument, element, oldest, under, Integers, number, integer_from, count, add}
+use Rattle.decl_core.specs.Form.{subtract, Texts, literal, text_from, Form, an_integer, a_text, Condition, compare}
+use Rattle.decl_core.specs.Form.{same_texts, other_texts, has, is_not, Statement, block, set_element, set_result}
+use Rattle.decl_core.specs.Form.{append, take, store, erase, choose, refuse, Statements, nothing, first_and}
 use Rattle.decl_core.specs.Sorts.{array_sort, queue_sort, table_sort}
 use Rattle.decl_core.specs.Sorts.{sort_of_form}
 
--- what a body is given: of each part its kind, where it is known; the sorts of its arguments; and which sort it replies, if any
+-- what a body is given: of each part its kind, where it is known; the sorts of its arguments; and which
+-- sort it replies, if any
 pub record Types : Type 0 where
   pub kinds : List (Option Kind)
   pub params : List Elem
@@ -69,7 +74,8 @@ ConditionTyped t (is_not c) = ConditionTyped t c
 abbrev mutual
   pub StatementTyped : Types → Statement → Type 0
   StatementTyped t (block all) = StatementsTyped t all
-  StatementTyped t (set_element p i x) = HoldsSort t.kinds array_sort p (sort_of_form x) × IntegersTyped t i × FormTyped t x
+  StatementTyped t (set_element p i x) =
+      HoldsSort t.kinds array_sort p (sort_of_form x) × IntegersTyped t i × FormTyped t x
   StatementTyped t (set_result x) = (t.result ≡ Some (sort_of_form x)) × FormTyped t x
   StatementTyped t (append p x) = HoldsSort t.kinds queue_sort p (sort_of_form x) × FormTyped t x
   StatementTyped t (take p) = IsQueueAt t.kinds p

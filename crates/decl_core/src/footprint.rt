@@ -7,7 +7,9 @@ ghost use Rattle.std.specs.Prelude.{◌≡◌, ◌↔◌, ◌<◌, ◌==◌, ℕ
 ghost use Rattle.std.specs.Int.{bit_at};
 ghost use Rattle.decl_core.specs.View.{from_of, integers_of, texts_of, form_of, condition_of, statement_of, all_of};
 ghost use Rattle.decl_core.specs.Bodies.{body_of};
-ghost use Rattle.decl_core.specs.Footprint.{with_part, named_from, named_in_integers, named_in_texts, named_in, named_in_condition, named_in_statement, named_in_all, changed_by_statement as by_statement, changed_by_all, reads_of, writes_of};
+ghost use Rattle.decl_core.specs.Footprint.{with_part, named_from, named_in_integers, named_in_texts, named_in};
+ghost use Rattle.decl_core.specs.Footprint.{named_in_condition, named_in_statement, named_in_all};
+ghost use Rattle.decl_core.specs.Footprint.{changed_by_statement as by_statement, changed_by_all, reads_of, writes_of};
 ghost use Rattle.decl_core.specs.Terms.{named_in_signed, named_in_terms};
 ghost use Rattle.decl_core.specs.Touched.{Reads, Writes};
 

@@ -60,8 +60,10 @@ impl Operation {
         parts: &[Part],
     ) -> Result<Operation, AllocError>
         requires few { length parts.now ≤ 16 }
-        requires typed { IsWellTyped (kinds_from (named_in_all (all_of body.items) 0) 0 (parts_of parts.now)) (map (λ p. p.kind) params.items) reply (all_of body.items) }
-        ensures { IfOk result (λ o. operation_of o ≡ operation_with (parts_of parts.now) name (params_of params.items) reply (all_of body.items)) }
+        requires typed { IsWellTyped (kinds_from (named_in_all (all_of body.items) 0) 0 (parts_of parts.now))
+            (map (λ p. p.kind) params.items) reply (all_of body.items) }
+        ensures { IfOk result (λ o. operation_of o
+            ≡ operation_with (parts_of parts.now) name (params_of params.items) reply (all_of body.items)) }
     {
         let kinds = kinds(Vec::new(alloc), named_by_block(&body, 0), 0, parts)?;
         Ok(Operation {

@@ -50,7 +50,9 @@ pub struct Operation {
     pub kinds: Vec<Option<Kind>>,
     ghost few_parts: { length kinds.items ≤ 16 },
     // what the body uses is known, and each expression is of the sort that is due
-    ghost typed: { IsWellTyped kinds.items (map (λ p. p.kind) params.items) result (all_of body.items) } by { well_typed_once kinds.items (map (λ p. p.kind) params.items) result (all_of body.items) },
+    ghost typed: { IsWellTyped kinds.items (map (λ p. p.kind) params.items) result
+        (all_of body.items) } by { well_typed_once kinds.items (map (λ p. p.kind) params.items) result
+            (all_of body.items) },
 }
 
 /// An object: parts, the operations on them, and the paths that say which operations may run when.
@@ -68,5 +70,7 @@ pub struct Object {
     ghost few_paths: { length paths.items ≤ 16 },
     ghost few_operations: { length operations.items ≤ 32 },
     // what an operation knows of a part's kind is that part's kind: so one pin a part serves each operation
-    ghost of_parts: { EachKindsOf (map (λ p. p.kind) parts.items) (map (λ o. o.kinds.items) (map arc_value operations.items)) } by { each_kinds_once (map (λ p. p.kind) parts.items) (map (λ o. o.kinds.items) (map arc_value operations.items)) },
+    ghost of_parts: { EachKindsOf (map (λ p. p.kind) parts.items) (map (λ o. o.kinds.items)
+        (map arc_value operations.items)) } by { each_kinds_once (map (λ p. p.kind) parts.items)
+            (map (λ o. o.kinds.items) (map arc_value operations.items)) },
 }

@@ -1,5 +1,6 @@
 -- Reading declarations, objects and files from left to right, step by step.
-use Rattle.std.specs.Prelude.{ℕ, zero, suc, ◌+◌, ◌-◌, Bool, true, false, List, [], ◌∷◌, ◌++◌, length, map, Option, Some, None, nat_lt, nat_le, is_some, ◌&&◌, ◌||◌, not, if◌then◌else◌}
+use Rattle.std.specs.Prelude.{ℕ, zero, suc, ◌+◌, ◌-◌, Bool, true, false, List, [], ◌∷◌, ◌++◌, length, map, Option, Some}
+use Rattle.std.specs.Prelude.{None, nat_lt, nat_le, is_some, ◌&&◌, ◌||◌, not, if◌then◌else◌}
 use Rattle.path_tree.specs.declared.token.Symbol.{Symbol}
 use Rattle.path_tree.specs.declared.token.Symbol.TheVariants as symbols
 use Rattle.path_tree.specs.Path.{Path}
@@ -16,7 +17,8 @@ use Rattle.body_read.specs.Reading.{Names, is_among, is_known, name_at}
 use Rattle.body_read.specs.StatementReading.{body_in}
 use Rattle.body_read.specs.Series.{series_at}
 use Rattle.decl_core.specs.ObjectForm.{OperationForm, ObjectForm}
-use Rattle.decl_read.specs.Declarations.{begins, begins_name, each_with, names_of_parts, with_params, is_parameter, names_before, names_within, names_in_function, entry_names}
+use Rattle.decl_read.specs.Declarations.{begins, begins_name, each_with, names_of_parts, with_params, is_parameter}
+use Rattle.decl_read.specs.Declarations.{names_before, names_within, names_in_function, entry_names}
 use Rattle.decl_core.specs.ObjectForm.{operation_with}
 
 -- what was tested
@@ -61,7 +63,9 @@ size_at constants (string bytes ∷ ws) = None
 size_at constants (end_mark ∷ ws) = None
 
 abbrev pub elem_of : Symbol → Option Elem
-elem_of s = if same_symbol s symbols.Integer then Some elem.Integer else if same_symbol s symbols.Text then Some elem.Text else None
+elem_of s =
+    if same_symbol s symbols.Integer then Some elem.Integer else if same_symbol s symbols.Text then Some elem.Text
+    else None
 
 abbrev pub elem_at : Reader Elem
 elem_at [] = None
@@ -120,7 +124,8 @@ kind_in constants (string bytes ∷ ws) = None
 kind_in constants (end_mark ∷ ws) = None
 
 -- behind a name: others behind a comma, or the colon
-unfoldable pub names_by : (List (List ℕ) → Reader (List (List ℕ))) → List (List ℕ) → List Lexeme → Option (List Lexeme) → Option (List (List ℕ) × List Lexeme)
+unfoldable pub names_by : (List (List ℕ) → Reader (List (List ℕ))) → List (List ℕ) → List Lexeme →
+    Option (List Lexeme) → Option (List (List ℕ) × List Lexeme)
 names_by others before ws (Some behind) = others before behind
 names_by others before ws None = symbol_at symbols.Colon ws >>= λ rest. Some (before, rest)
 
@@ -192,7 +197,8 @@ new_operation_in constants parts before ws = do
   Some (q.0, q.1)
 
 -- behind `procedure`
-unfoldable pub procedure_in : ℕ → List (List ℕ × ℕ) → List (List ℕ × Kind) → List OperationForm → Reader (List OperationForm)
+unfoldable pub procedure_in : ℕ → List (List ℕ × ℕ) → List (List ℕ × Kind) → List OperationForm →
+    Reader (List OperationForm)
 procedure_in most constants parts before ws = do
   q ← new_operation_in constants parts before ws
   p ← params_in (names_within constants parts before q.0) q.1
@@ -203,7 +209,8 @@ procedure_in most constants parts before ws = do
   Some (before ++ operation_with parts q.0 p.0 None b.0 ∷ [], rest)
 
 -- behind `function`
-unfoldable pub function_in : ℕ → List (List ℕ × ℕ) → List (List ℕ × Kind) → List OperationForm → Reader (List OperationForm)
+unfoldable pub function_in : ℕ → List (List ℕ × ℕ) → List (List ℕ × Kind) → List OperationForm →
+    Reader (List OperationForm)
 function_in most constants parts before ws = do
   q ← new_operation_in constants parts before ws
   p ← params_in (names_within constants parts before q.0) q.1
@@ -216,11 +223,14 @@ function_in most constants parts before ws = do
   Some (before ++ operation_with parts q.0 p.0 (Some e.0) b.0 ∷ [], rest)
 
 -- behind `entry`: where no `procedure` stands, a function
-unfoldable pub entry_by : ℕ → List (List ℕ × ℕ) → List (List ℕ × Kind) → List OperationForm → List Lexeme → Option (List Lexeme) → Option (List OperationForm × List Lexeme)
+unfoldable pub entry_by : ℕ → List (List ℕ × ℕ) → List (List ℕ × Kind) → List OperationForm → List Lexeme →
+    Option (List Lexeme) → Option (List OperationForm × List Lexeme)
 entry_by most constants parts before ws (Some behind) = procedure_in most constants parts before behind
-entry_by most constants parts before ws None = symbol_at symbols.Function ws >>= λ behind. function_in most constants parts before behind
+entry_by most constants parts before ws None =
+    symbol_at symbols.Function ws >>= λ behind. function_in most constants parts before behind
 
-unfoldable pub entry_in : ℕ → List (List ℕ × ℕ) → List (List ℕ × Kind) → List OperationForm → Reader (List OperationForm)
+unfoldable pub entry_in : ℕ → List (List ℕ × ℕ) → List (List ℕ × Kind) → List OperationForm →
+    Reader (List OperationForm)
 entry_in most constants parts before ws = do
   opened ← symbol_at symbols.Entry ws
   entry_by most constants parts before opened (symbol_at symbols.Procedure opened)

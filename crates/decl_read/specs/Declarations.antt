@@ -1,5 +1,6 @@
 -- What declarations, an object and a file are, by the productions of their grammar.
-use Rattle.std.specs.Prelude.{◌≡◌, ℕ, suc, ◌<◌, ◌≤◌, ◌-◌, Bool, true, false, List, [], ◌∷◌, ◌++◌, length, map, drop, is_some, ◌||◌, ◌&&◌, if◌then◌else◌, Some, None}
+use Rattle.std.specs.Prelude.{◌≡◌, ℕ, suc, ◌<◌, ◌≤◌, ◌-◌, Bool, true, false, List, [], ◌∷◌, ◌++◌, length, map, drop}
+use Rattle.std.specs.Prelude.{is_some, ◌||◌, ◌&&◌, if◌then◌else◌, Some, None}
 use Rattle.path_tree.specs.declared.token.Symbol.{Symbol}
 use Rattle.path_tree.specs.declared.token.Symbol.TheVariants as symbols
 use Rattle.path_tree.specs.Path.{Path}
@@ -36,17 +37,21 @@ begins_name (end_mark ∷ ws) = false
 pub data IsConstant : List (List ℕ × ℕ) → List Lexeme → List (List ℕ × ℕ) → List Lexeme → Type 0 where
   constant : {before : List (List ℕ × ℕ)} {bytes : List ℕ} {n : ℕ} {rest : List Lexeme} →
       value_of before bytes ≡ None → length before < 16 →
-      IsConstant before (identifier bytes ∷ symbol symbols.Equal ∷ number n ∷ symbol symbols.Semicolon ∷ rest) (before ++ (bytes, n) ∷ []) rest
+      IsConstant before (identifier bytes ∷ symbol symbols.Equal ∷ number n ∷ symbol symbols.Semicolon ∷ rest)
+      (before ++ (bytes, n) ∷ []) rest
 
 -- consts = "const" name "=" number ";" { name "=" number ";" }
 pub data IsConsts : List (List ℕ × ℕ) → List Lexeme → List (List ℕ × ℕ) → List Lexeme → Type 0 where
   consts : {before one after : List (List ℕ × ℕ)} {ws vs rest : List Lexeme} →
-      IsConstant before ws one vs → IsSeries IsConstant begins_name 16 one vs after rest → IsConsts before (symbol symbols.Const ∷ ws) after rest
+      IsConstant before ws one vs → IsSeries IsConstant begins_name 16 one vs after rest →
+      IsConsts before (symbol symbols.Const ∷ ws) after rest
 
 -- path ";"  one of at most 16; these are the names that it may use
-pub data IsPathItem (constants : List (List ℕ × ℕ)) (operations : List (List ℕ)) : List Path → List Lexeme → List Path → List Lexeme → Type 0 where
+pub data IsPathItem (constants : List (List ℕ × ℕ)) (operations : List (List ℕ)) : List Path → List Lexeme → List Path →
+    List Lexeme → Type 0 where
   a_path : {before : List Path} {ws rest : List Lexeme} {tree : Path} {to : ℕ} →
-      length before < 16 → IsPathAt (record { operations = operations; constants = constants }) ws 0 tree to → drop to ws ≡ symbol symbols.Semicolon ∷ rest →
+      length before < 16 → IsPathAt (record { operations = operations; constants = constants }) ws 0 tree to →
+      drop to ws ≡ symbol symbols.Semicolon ∷ rest →
       IsPathItem constants operations before ws (before ++ tree ∷ []) rest
 
 -- size = number | name of a constant
@@ -62,10 +67,14 @@ pub data IsElem : Symbol → Elem → Type 0 where
 -- kind = "array" "[" size "]" "of" elem | "queue" "of" elem | "table" "of" elem
 -- a size is 1 to 1024
 pub data IsKind (constants : List (List ℕ × ℕ)) : List Lexeme → Kind → List Lexeme → Type 0 where
-  an_array : {w : Lexeme} {n : ℕ} {s : Symbol} {e : Elem} {rest : List Lexeme} → IsSize constants w n → 1 ≤ n → n ≤ 1024 → IsElem s e →
-      IsKind constants (symbol symbols.Array ∷ symbol symbols.OpenBracket ∷ w ∷ symbol symbols.CloseBracket ∷ symbol symbols.Of ∷ symbol s ∷ rest) (kind.Array n e) rest
-  a_queue : {s : Symbol} {e : Elem} {rest : List Lexeme} → IsElem s e → IsKind constants (symbol symbols.Queue ∷ symbol symbols.Of ∷ symbol s ∷ rest) (kind.Queue e) rest
-  a_table : {s : Symbol} {e : Elem} {rest : List Lexeme} → IsElem s e → IsKind constants (symbol symbols.Table ∷ symbol symbols.Of ∷ symbol s ∷ rest) (kind.Table e) rest
+  an_array : {w : Lexeme} {n : ℕ} {s : Symbol} {e : Elem} {rest : List Lexeme} → IsSize constants w n → 1 ≤ n →
+      n ≤ 1024 → IsElem s e →
+      IsKind constants (symbol symbols.Array ∷ symbol symbols.OpenBracket ∷ w ∷ symbol symbols.CloseBracket
+      ∷ symbol symbols.Of ∷ symbol s ∷ rest) (kind.Array n e) rest
+  a_queue : {s : Symbol} {e : Elem} {rest : List Lexeme} → IsElem s e →
+      IsKind constants (symbol symbols.Queue ∷ symbol symbols.Of ∷ symbol s ∷ rest) (kind.Queue e) rest
+  a_table : {s : Symbol} {e : Elem} {rest : List Lexeme} → IsElem s e →
+      IsKind constants (symbol symbols.Table ∷ symbol symbols.Of ∷ symbol s ∷ rest) (kind.Table e) rest
 
 -- name { "," name } ":"  so many more at most, each a new one: all with those before
 pub data IsNames (names : Names) : ℕ → List (List ℕ) → List Lexeme → List (List ℕ) → List Lexeme → Type 0 where
@@ -73,7 +82,8 @@ pub data IsNames (names : Names) : ℕ → List (List ℕ) → List Lexeme → L
       is_known names bytes ≡ false → is_among before bytes ≡ false →
       IsNames names (suc left) before (identifier bytes ∷ symbol symbols.Colon ∷ rest) (before ++ bytes ∷ []) rest
   name_and : {left : ℕ} {before all : List (List ℕ)} {bytes : List ℕ} {ws rest : List Lexeme} →
-      is_known names bytes ≡ false → is_among before bytes ≡ false → IsNames names left (before ++ bytes ∷ []) ws all rest →
+      is_known names bytes ≡ false → is_among before bytes ≡ false →
+      IsNames names left (before ++ bytes ∷ []) ws all rest →
       IsNames names (suc left) before (identifier bytes ∷ symbol symbols.Comma ∷ ws) all rest
 
 -- each of these names with this
@@ -82,38 +92,47 @@ each_with a all = map (λ bytes. (bytes, a)) all
 
 -- the names that a part must not have: those of constants and of other parts
 abbrev pub names_of_parts : List (List ℕ × ℕ) → List (List ℕ × Kind) → Names
-names_of_parts constants parts = record { constants = constants; params = []; parts = parts; operations = []; function = None }
+names_of_parts constants parts =
+    record { constants = constants; params = []; parts = parts; operations = []; function = None }
 
 -- part = name { "," name } ":" kind  with its ";": at most 16 in all
-pub data IsPartGroup (constants : List (List ℕ × ℕ)) : List (List ℕ × Kind) → List Lexeme → List (List ℕ × Kind) → List Lexeme → Type 0 where
+pub data IsPartGroup (constants : List (List ℕ × ℕ)) : List (List ℕ × Kind) → List Lexeme → List (List ℕ × Kind) →
+    List Lexeme → Type 0 where
   part_group : {before : List (List ℕ × Kind)} {new : List (List ℕ)} {k : Kind} {ws vs rest : List Lexeme} →
-      IsNames (names_of_parts constants before) (16 - length before) [] ws new vs → IsKind constants vs k (symbol symbols.Semicolon ∷ rest) →
+      IsNames (names_of_parts constants before) (16 - length before) [] ws new vs →
+      IsKind constants vs k (symbol symbols.Semicolon ∷ rest) →
       IsPartGroup constants before ws (before ++ each_with k new) rest
 
 -- parts = "var" part ";" { part ";" }
-pub data IsVar (constants : List (List ℕ × ℕ)) : List (List ℕ × Kind) → List Lexeme → List (List ℕ × Kind) → List Lexeme → Type 0 where
+pub data IsVar (constants : List (List ℕ × ℕ)) : List (List ℕ × Kind) → List Lexeme → List (List ℕ × Kind) →
+    List Lexeme → Type 0 where
   var : {before one after : List (List ℕ × Kind)} {ws vs rest : List Lexeme} →
-      IsPartGroup constants before ws one vs → IsSeries (IsPartGroup constants) begins_name 16 one vs after rest → IsVar constants before (symbol symbols.Var ∷ ws) after rest
+      IsPartGroup constants before ws one vs → IsSeries (IsPartGroup constants) begins_name 16 one vs after rest →
+      IsVar constants before (symbol symbols.Var ∷ ws) after rest
 
 -- these names with these parameters
 abbrev pub with_params : Names → List (List ℕ × Elem) → Names
 with_params names params = record names { params = params }
 
 -- group = name { "," name } ":" elem  at most 8 parameters in all
-pub data IsGroup (names : Names) : List (List ℕ × Elem) → List Lexeme → List (List ℕ × Elem) → List Lexeme → Type 0 where
+pub data IsGroup (names : Names) : List (List ℕ × Elem) → List Lexeme → List (List ℕ × Elem) → List Lexeme →
+    Type 0 where
   group : {before : List (List ℕ × Elem)} {new : List (List ℕ)} {s : Symbol} {e : Elem} {ws rest : List Lexeme} →
       IsNames (with_params names before) (8 - length before) [] ws new (symbol s ∷ rest) → IsElem s e →
       IsGroup names before ws (before ++ each_with e new) rest
 
 -- ";" group
-pub data IsNextGroup (names : Names) : List (List ℕ × Elem) → List Lexeme → List (List ℕ × Elem) → List Lexeme → Type 0 where
-  next_group : {before after : List (List ℕ × Elem)} {ws rest : List Lexeme} → IsGroup names before ws after rest → IsNextGroup names before (symbol symbols.Semicolon ∷ ws) after rest
+pub data IsNextGroup (names : Names) : List (List ℕ × Elem) → List Lexeme → List (List ℕ × Elem) → List Lexeme →
+    Type 0 where
+  next_group : {before after : List (List ℕ × Elem)} {ws rest : List Lexeme} → IsGroup names before ws after rest →
+      IsNextGroup names before (symbol symbols.Semicolon ∷ ws) after rest
 
 -- [ params ], params = "(" group { ";" group } ")"
 pub data IsParams (names : Names) : List Lexeme → List (List ℕ × Elem) → List Lexeme → Type 0 where
   no_params : {ws : List Lexeme} → symbol_at symbols.OpenParen ws ≡ None → IsParams names ws [] ws
   some_params : {one all : List (List ℕ × Elem)} {ws vs rest : List Lexeme} →
-      IsGroup names [] ws one vs → IsSeries (IsNextGroup names) (begins symbols.Semicolon) 8 one vs all (symbol symbols.CloseParen ∷ rest) →
+      IsGroup names [] ws one vs → IsSeries (IsNextGroup names) (begins symbols.Semicolon) 8 one vs all
+      (symbol symbols.CloseParen ∷ rest) →
       IsParams names (symbol symbols.OpenParen ∷ ws) all rest
 
 -- a parameter of one of these operations has this name
@@ -123,11 +142,19 @@ is_parameter (o ∷ operations) bytes = is_some (found_in o.params bytes) || is_
 
 -- the names declared before an operation
 abbrev pub names_before : List (List ℕ × ℕ) → List (List ℕ × Kind) → List OperationForm → Names
-names_before constants parts before = record { constants = constants; params = []; parts = parts; operations = operation_names before; function = None }
+names_before constants parts before =
+    record { constants = constants; params = []; parts = parts; operations = operation_names before; function = None }
 
 -- the names declared in an operation: its own too
 abbrev pub names_within : List (List ℕ × ℕ) → List (List ℕ × Kind) → List OperationForm → List ℕ → Names
-names_within constants parts before own = record { constants = constants; params = []; parts = parts; operations = own ∷ operation_names before; function = None }
+names_within constants parts before own =
+    record {
+      constants = constants;
+      params = [];
+      parts = parts;
+      operations = own ∷ operation_names before;
+      function = None;
+    }
 
 -- the names declared in the body of a function: that of its result too
 abbrev pub names_in_function : Names → List ℕ → Elem → Names
@@ -136,17 +163,28 @@ names_in_function names own e = record names { function = Some (own, e) }
 -- entry = "entry" "procedure" name [ params ] ";" block ";"
 --       | "entry" "function" name [ params ] ":" elem ";" block ";"
 -- a new name, which no parameter has, one of at most 32
-pub data IsEntry (constants : List (List ℕ × ℕ)) (parts : List (List ℕ × Kind)) : List OperationForm → List Lexeme → List OperationForm → List Lexeme → Type 0 where
-  a_procedure : {before : List OperationForm} {own : List ℕ} {params : List (List ℕ × Elem)} {all : Statements} {ws vs rest : List Lexeme} →
-      is_known (names_before constants parts before) own ≡ false → is_parameter before own ≡ false → length before < 32 →
-      IsParams (names_within constants parts before own) ws params (symbol symbols.Semicolon ∷ symbol symbols.Begin ∷ vs) →
-      IsStmts (with_params (names_within constants parts before own) params) 31 vs all (symbol symbols.Semicolon ∷ rest) →
-      IsEntry constants parts before (symbol symbols.Entry ∷ symbol symbols.Procedure ∷ identifier own ∷ ws) (before ++ operation_with parts own params None all ∷ []) rest
-  a_function : {before : List OperationForm} {own : List ℕ} {params : List (List ℕ × Elem)} {all : Statements} {s : Symbol} {e : Elem} {ws vs rest : List Lexeme} →
-      is_known (names_before constants parts before) own ≡ false → is_parameter before own ≡ false → length before < 32 →
-      IsParams (names_within constants parts before own) ws params (symbol symbols.Colon ∷ symbol s ∷ symbol symbols.Semicolon ∷ symbol symbols.Begin ∷ vs) → IsElem s e →
-      IsStmts (names_in_function (with_params (names_within constants parts before own) params) own e) 31 vs all (symbol symbols.Semicolon ∷ rest) →
-      IsEntry constants parts before (symbol symbols.Entry ∷ symbol symbols.Function ∷ identifier own ∷ ws) (before ++ operation_with parts own params (Some e) all ∷ []) rest
+pub data IsEntry (constants : List (List ℕ × ℕ)) (parts : List (List ℕ × Kind)) : List OperationForm → List Lexeme →
+    List OperationForm → List Lexeme → Type 0 where
+  a_procedure : {before : List OperationForm} {own : List ℕ} {params : List (List ℕ × Elem)} {all : Statements}
+      {ws vs rest : List Lexeme} →
+      is_known (names_before constants parts before) own ≡ false → is_parameter before own ≡ false →
+      length before < 32 →
+      IsParams (names_within constants parts before own) ws params (symbol symbols.Semicolon ∷ symbol symbols.Begin
+      ∷ vs) →
+      IsStmts (with_params (names_within constants parts before own) params) 31 vs all
+      (symbol symbols.Semicolon ∷ rest) →
+      IsEntry constants parts before (symbol symbols.Entry ∷ symbol symbols.Procedure ∷ identifier own ∷ ws)
+      (before ++ operation_with parts own params None all ∷ []) rest
+  a_function : {before : List OperationForm} {own : List ℕ} {params : List (List ℕ × Elem)} {all : Statements}
+      {s : Symbol} {e : Elem} {ws vs rest : List Lexeme} →
+      is_known (names_before constants parts before) own ≡ false → is_parameter before own ≡ false →
+      length before < 32 →
+      IsParams (names_within constants parts before own) ws params (symbol symbols.Colon ∷ symbol s
+      ∷ symbol symbols.Semicolon ∷ symbol symbols.Begin ∷ vs) → IsElem s e →
+      IsStmts (names_in_function (with_params (names_within constants parts before own) params) own e) 31 vs all
+      (symbol symbols.Semicolon ∷ rest) →
+      IsEntry constants parts before (symbol symbols.Entry ∷ symbol symbols.Function ∷ identifier own ∷ ws)
+      (before ++ operation_with parts own params (Some e) all ∷ []) rest
 
 abbrev pub is_entry : Opening → Bool
 is_entry openings.Nothing = false
@@ -157,7 +195,8 @@ is_entry openings.Operation = false
 abbrev pub opening_after : Opening → Lexeme → Opening
 opening_after opening (symbol s) =
     if same_symbol s symbols.Entry then openings.Entry
-    else if is_entry opening && (same_symbol s symbols.Procedure || same_symbol s symbols.Function) then openings.Operation else openings.Nothing
+    else if is_entry opening && (same_symbol s symbols.Procedure || same_symbol s symbols.Function) then
+    openings.Operation else openings.Nothing
 opening_after opening (number n) = openings.Nothing
 opening_after opening (identifier bytes) = openings.Nothing
 opening_after opening (string bytes) = openings.Nothing
@@ -180,25 +219,32 @@ is_object_word (identifier bytes) = false
 is_object_word (string bytes) = false
 is_object_word end_mark = false
 
--- The names that a path may use: the identifiers that directly follow `entry procedure` or `entry function`, up to the next word `object`.
+-- The names that a path may use: the identifiers that directly follow `entry procedure` or `entry function`, up to
+-- the next word `object`.
 abbrev pub entry_names : Opening → List Lexeme → List (List ℕ)
 entry_names opening [] = []
-entry_names opening (w ∷ ws) = if is_object_word w then [] else name_behind opening w ++ entry_names (opening_after opening w) ws
+entry_names opening (w ∷ ws) =
+    if is_object_word w then [] else name_behind opening w ++ entry_names (opening_after opening w) ws
 
 -- object = "object" name ";" { consts } { path ";" } { parts } { entry } "end" ";"
 pub data IsObject : List Lexeme → ObjectForm → List Lexeme → Type 0 where
-  object : {bytes : List ℕ} {constants : List (List ℕ × ℕ)} {paths : List Path} {parts : List (List ℕ × Kind)} {operations : List OperationForm} {ws us vs ys rest : List Lexeme} →
+  object : {bytes : List ℕ} {constants : List (List ℕ × ℕ)} {paths : List Path} {parts : List (List ℕ × Kind)}
+      {operations : List OperationForm} {ws us vs ys rest : List Lexeme} →
       IsSeries IsConsts (begins symbols.Const) 16 [] ws constants us →
       IsSeries (IsPathItem constants (entry_names openings.Nothing ws)) (begins symbols.Path) 16 [] us paths vs →
       IsSeries (IsVar constants) (begins symbols.Var) 16 [] vs parts ys →
-      IsSeries (IsEntry constants parts) (begins symbols.Entry) 32 [] ys operations (symbol symbols.End ∷ symbol symbols.Semicolon ∷ rest) →
-      IsObject (symbol symbols.Object ∷ identifier bytes ∷ symbol symbols.Semicolon ∷ ws) (record { name = bytes; parts = parts; paths = paths; operations = operations }) rest
+      IsSeries (IsEntry constants parts) (begins symbols.Entry) 32 [] ys operations
+      (symbol symbols.End ∷ symbol symbols.Semicolon ∷ rest) →
+      IsObject (symbol symbols.Object ∷ identifier bytes ∷ symbol symbols.Semicolon ∷ ws)
+      (record { name = bytes; parts = parts; paths = paths; operations = operations }) rest
 
 -- an object of another name than those before
 pub data IsNextObject : List ObjectForm → List Lexeme → List ObjectForm → List Lexeme → Type 0 where
   next_object : {before : List ObjectForm} {o : ObjectForm} {ws rest : List Lexeme} →
-      IsObject ws o rest → is_among (map (λ x. x.name) before) o.name ≡ false → IsNextObject before ws (before ++ o ∷ []) rest
+      IsObject ws o rest → is_among (map (λ x. x.name) before) o.name ≡ false →
+      IsNextObject before ws (before ++ o ∷ []) rest
 
 -- file = { object }  at most 16 of them, up to the end mark
 pub data IsFile : List Lexeme → List ObjectForm → Type 0 where
-  file : {ws : List Lexeme} {objects : List ObjectForm} → IsSeries IsNextObject (begins symbols.Object) 16 [] ws objects (end_mark ∷ []) → IsFile ws objects
+  file : {ws : List Lexeme} {objects : List ObjectForm} →
+      IsSeries IsNextObject (begins symbols.Object) 16 [] ws objects (end_mark ∷ []) → IsFile ws objects

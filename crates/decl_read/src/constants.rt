@@ -70,7 +70,8 @@ fn more_constants<'t>(
     left: u8,
     tokens: &'t [Token],
 ) -> Read<'t, Vec<Constant>>
-    ensures { Gives constants_read result (series_at constant_in a_name_begins left (constants_of so_far.items) (lexemes tokens.now)) }
+    ensures { Gives constants_read result (series_at constant_in a_name_begins left (constants_of so_far.items)
+        (lexemes tokens.now)) }
 {
     if !begins_name(tokens) {
         return Ok((so_far, tokens));
@@ -115,7 +116,8 @@ pub(crate) fn constants<'t>(
     left: u8,
     tokens: &'t [Token],
 ) -> Read<'t, Vec<Constant>>
-    ensures { Gives constants_read result (series_at consts_in (begins_with Const) left (constants_of so_far.items) (lexemes tokens.now)) }
+    ensures { Gives constants_read result (series_at consts_in (begins_with Const) left (constants_of so_far.items)
+        (lexemes tokens.now)) }
 {
     if !begins(tokens, Symbol::Const) {
         return Ok((so_far, tokens));

@@ -64,7 +64,8 @@ fn is_param(params: &[Param], text: &[u8]) -> bool
 /// Whether a constant, a part, an operation or a parameter of an operation before has this name.
 fn is_taken(constants: &[Constant], parts: &[Part], before: &[Arc<Operation>], text: &[u8]) -> bool
     requires { length parts.now ≤ 16 }
-    ensures { result ≡ (is_known (names_before (constants_of constants.now) (parts_of parts.now) (operations_of before.now)) text.now || is_a_parameter (operations_of before.now) text.now) }
+    ensures { result ≡ (is_known (names_before (constants_of constants.now) (parts_of parts.now)
+        (operations_of before.now)) text.now || is_a_parameter (operations_of before.now) text.now) }
 {
     constant_of(constants, text).is_some()
         || place_of(parts, text).is_some()
@@ -81,7 +82,8 @@ fn new_operation<'t>(
     tokens: &'t [Token],
 ) -> Result<(&'t Name, &'t [Token]), TextFault>
     requires { length parts.now ≤ 16 }
-    ensures { Gives (λ x. (x.0.now, lexemes x.1.now)) result (new_operation_in (constants_of constants.now) (parts_of parts.now) (operations_of before.now) (lexemes tokens.now)) }
+    ensures { Gives (λ x. (x.0.now, lexemes x.1.now)) result (new_operation_in (constants_of constants.now)
+        (parts_of parts.now) (operations_of before.now) (lexemes tokens.now)) }
 {
     let (name, rest) = name(tokens)?;
     if is_taken(constants, parts, before, name.as_bytes()) {
@@ -104,8 +106,10 @@ fn with_operation(
     body: Vec<Stmt>,
 ) -> Result<Vec<Arc<Operation>>, TextFault>
     requires few { length parts.now ≤ 16 }
-    requires typed { IsWellTyped (kinds_from (named_in_all (all_of body.items) 0) 0 (parts_of parts.now)) (map (λ p. p.kind) params.items) reply (all_of body.items) }
-    ensures { Gives (λ v. operations_of v.items) result (Some (operations_of before.items ++ operation_with (parts_of parts.now) own.now (params_of params.items) reply (all_of body.items) ∷ [])) }
+    requires typed { IsWellTyped (kinds_from (named_in_all (all_of body.items) 0) 0 (parts_of parts.now))
+        (map (λ p. p.kind) params.items) reply (all_of body.items) }
+    ensures { Gives (λ v. operations_of v.items) result (Some (operations_of before.items
+        ++ operation_with (parts_of parts.now) own.now (params_of params.items) reply (all_of body.items) ∷ [])) }
 {
     let mut all = before;
     let name = own.copy(alloc)?;
@@ -124,7 +128,8 @@ fn procedure<'t>(
     tokens: &'t [Token],
 ) -> Read<'t, Vec<Arc<Operation>>>
     requires { length parts.now ≤ 16 }
-    ensures { Gives operations_read result (procedure_in 131072 (constants_of constants.now) (parts_of parts.now) (operations_of before.items) (lexemes tokens.now)) }
+    ensures { Gives operations_read result (procedure_in 131072 (constants_of constants.now) (parts_of parts.now)
+        (operations_of before.items) (lexemes tokens.now)) }
 {
     let (own, rest) = new_operation(constants, parts, &before, tokens)?;
     let scope = Scope {
@@ -164,7 +169,8 @@ fn function<'t>(
     tokens: &'t [Token],
 ) -> Read<'t, Vec<Arc<Operation>>>
     requires { length parts.now ≤ 16 }
-    ensures { Gives operations_read result (function_in 131072 (constants_of constants.now) (parts_of parts.now) (operations_of before.items) (lexemes tokens.now)) }
+    ensures { Gives operations_read result (function_in 131072 (constants_of constants.now) (parts_of parts.now)
+        (operations_of before.items) (lexemes tokens.now)) }
 {
     let (own, rest) = new_operation(constants, parts, &before, tokens)?;
     let scope = Scope {
@@ -206,7 +212,8 @@ fn entry<'t>(
     tokens: &'t [Token],
 ) -> Read<'t, Vec<Arc<Operation>>>
     requires { length parts.now ≤ 16 }
-    ensures { Gives operations_read result (entry_in 131072 (constants_of constants.now) (parts_of parts.now) (operations_of before.items) (lexemes tokens.now)) }
+    ensures { Gives operations_read result (entry_in 131072 (constants_of constants.now) (parts_of parts.now)
+        (operations_of before.items) (lexemes tokens.now)) }
 {
     let opened = behind(tokens, Symbol::Entry)?;
     match after(opened, Symbol::Procedure) {
@@ -228,7 +235,8 @@ pub(crate) fn entries<'t>(
     tokens: &'t [Token],
 ) -> Read<'t, Vec<Arc<Operation>>>
     requires { length parts.now ≤ 16 }
-    ensures { Gives operations_read result (series_at (entry_in 131072 (constants_of constants.now) (parts_of parts.now)) (begins_with Entry) left (operations_of so_far.items) (lexemes tokens.now)) }
+    ensures { Gives operations_read result (series_at (entry_in 131072 (constants_of constants.now)
+        (parts_of parts.now)) (begins_with Entry) left (operations_of so_far.items) (lexemes tokens.now)) }
 {
     if !begins(tokens, Symbol::Entry) {
         return Ok((so_far, tokens));

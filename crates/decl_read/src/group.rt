@@ -76,7 +76,8 @@ fn some_names<'t>(
     left: u8,
     tokens: &'t [Token],
 ) -> Read<'t, Vec<Name>>
-    ensures read { Gives names_read result (names_with (names_of scope.now) (names_at (names_of scope.now) left) so_far.items (lexemes tokens.now)) }
+    ensures read { Gives names_read result (names_with (names_of scope.now) (names_at (names_of scope.now) left)
+        so_far.items (lexemes tokens.now)) }
     ensures few { IfOk result (λ x. length x.0.items ≤ length so_far.items + left + 1) }
 {
     let mut all = so_far;

@@ -3,7 +3,8 @@
 ghost use Rattle.std.specs.Prelude.{◌≡◌};
 ghost use Rattle.path_tree.specs.Known.{constants_of};
 ghost use Rattle.path_tree.specs.Lexeme.{lexemes};
-ghost use Rattle.decl_read.specs.DeclarationReading.{allowed as allowed_of, size_in, elem_of, elem_at, of_elem_in, array_in, queue_in, table_in, kind_by_symbol, kind_in};
+ghost use Rattle.decl_read.specs.DeclarationReading.{allowed as allowed_of, size_in, elem_of, elem_at, of_elem_in};
+ghost use Rattle.decl_read.specs.DeclarationReading.{array_in, queue_in, table_in, kind_by_symbol, kind_in};
 ghost use Rattle.body_read.specs.Reader.{Gives};
 
 use crate::group::is_among;
@@ -34,7 +35,8 @@ fn allowed(n: u32, at: usize) -> Result<u16, TextFault>
 /// declared are known, and no constants.
 #[tactic(auto, unfolding(crate::specs::DeclarationReading::size_in))]
 fn size<'t>(scope: &Scope, group: &[Name], tokens: &'t [Token]) -> Read<'t, u16>
-    ensures { Gives (λ x. (x.0, lexemes x.1.now)) result (size_in (constants_of scope.now.constants.now) (lexemes tokens.now)) }
+    ensures { Gives (λ x. (x.0, lexemes x.1.now)) result (size_in (constants_of scope.now.constants.now)
+        (lexemes tokens.now)) }
 {
     match tokens {
         [] => Err(TextFault::Syntax(0)),
@@ -106,7 +108,8 @@ fn of_elem<'t>(tokens: &'t [Token]) -> Read<'t, Elem>
 /// What stands behind `array`.
 #[tactic(auto, unfolding(crate::specs::DeclarationReading::array_in))]
 fn array<'t>(scope: &Scope, group: &[Name], tokens: &'t [Token]) -> Read<'t, PartKind>
-    ensures { Gives (λ x. (x.0, lexemes x.1.now)) result (array_in (constants_of scope.now.constants.now) (lexemes tokens.now)) }
+    ensures { Gives (λ x. (x.0, lexemes x.1.now)) result (array_in (constants_of scope.now.constants.now)
+        (lexemes tokens.now)) }
 {
     let opened = behind(tokens, Symbol::OpenBracket)?;
     let (size, rest) = size(scope, group, opened)?;
@@ -142,7 +145,8 @@ fn by_symbol<'t>(
     at: usize,
     tokens: &'t [Token],
 ) -> Read<'t, PartKind>
-    ensures { Gives (λ x. (x.0, lexemes x.1.now)) result (kind_by_symbol (constants_of scope.now.constants.now) symbol (lexemes tokens.now)) }
+    ensures { Gives (λ x. (x.0, lexemes x.1.now)) result (kind_by_symbol (constants_of scope.now.constants.now) symbol
+        (lexemes tokens.now)) }
 {
     if is_same_symbol(symbol, Symbol::Array) {
         array(scope, group, tokens)
@@ -158,7 +162,8 @@ fn by_symbol<'t>(
 /// What a part holds, and the tokens behind; `group` are the names before the colon.
 #[tactic(auto, unfolding(crate::specs::DeclarationReading::kind_in))]
 pub(crate) fn kind<'t>(scope: &Scope, group: &[Name], tokens: &'t [Token]) -> Read<'t, PartKind>
-    ensures { Gives (λ x. (x.0, lexemes x.1.now)) result (kind_in (constants_of scope.now.constants.now) (lexemes tokens.now)) }
+    ensures { Gives (λ x. (x.0, lexemes x.1.now)) result (kind_in (constants_of scope.now.constants.now)
+        (lexemes tokens.now)) }
 {
     match tokens {
         [] => Err(TextFault::Syntax(0)),

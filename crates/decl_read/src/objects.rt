@@ -86,7 +86,8 @@ fn no_room(before: &Catalog, tokens: &[Token]) -> TextFault {
 /// The objects that stand here, behind those before; so many more at most.
 fn objects<'t>(alloc: Global, so_far: Catalog, left: u8, tokens: &'t [Token]) -> Read<'t, Catalog>
     requires { length tokens.now ≤ 65537 }
-    ensures { Gives objects_read result (series_at (next_object_in 131072) (begins_with ObjectWord) left (objects_of so_far) (lexemes tokens.now)) }
+    ensures { Gives objects_read result (series_at (next_object_in 131072) (begins_with ObjectWord) left
+        (objects_of so_far) (lexemes tokens.now)) }
 {
     if !begins(tokens, Symbol::Object) {
         return Ok((so_far, tokens));

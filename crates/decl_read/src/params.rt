@@ -54,7 +54,8 @@ fn group<'t>(
     tokens: &'t [Token],
 ) -> Read<'t, Vec<Param>>
     requires few { length before.items ≤ 8 }
-    ensures read { Gives params_read result (group_of_params (names_of scope.now) (params_of before.items) (lexemes tokens.now)) }
+    ensures read { Gives params_read result (group_of_params (names_of scope.now) (params_of before.items)
+        (lexemes tokens.now)) }
     ensures few { IfOk result (λ x. length x.0.items ≤ 8) }
 {
     let inner = Scope {
@@ -81,7 +82,8 @@ fn next_group<'t>(
     tokens: &'t [Token],
 ) -> Read<'t, Vec<Param>>
     requires few { length before.items ≤ 8 }
-    ensures read { Gives params_read result (next_group_in (names_of scope.now) (params_of before.items) (lexemes tokens.now)) }
+    ensures read { Gives params_read result (next_group_in (names_of scope.now) (params_of before.items)
+        (lexemes tokens.now)) }
     ensures few { IfOk result (λ x. length x.0.items ≤ 8) }
 {
     let opened = behind(tokens, Symbol::Semicolon)?;
@@ -98,7 +100,8 @@ fn more_groups<'t>(
     tokens: &'t [Token],
 ) -> Read<'t, Vec<Param>>
     requires few { length so_far.items ≤ 8 }
-    ensures read { Gives params_read result (series_at (next_group_in (names_of scope.now)) (begins_with Semicolon) left (params_of so_far.items) (lexemes tokens.now)) }
+    ensures read { Gives params_read result (series_at (next_group_in (names_of scope.now)) (begins_with Semicolon) left
+        (params_of so_far.items) (lexemes tokens.now)) }
     ensures few { IfOk result (λ x. length x.0.items ≤ 8) }
 {
     if !begins(tokens, Symbol::Semicolon) {

@@ -5,7 +5,8 @@ ghost use Rattle.path_tree.specs.declared.token.Symbol.TheVariants.{Var};
 ghost use Rattle.path_tree.specs.Known.{constants_of};
 ghost use Rattle.path_tree.specs.Lexeme.{lexemes};
 ghost use Rattle.value_core.specs.Kinds.{IsKind};
-ghost use Rattle.decl_read.specs.Declarations.{begins as begins_with, begins_name as a_name_begins, each_with, names_of_parts};
+ghost use Rattle.decl_read.specs.Declarations.{begins as begins_with, begins_name as a_name_begins, each_with};
+ghost use Rattle.decl_read.specs.Declarations.{names_of_parts};
 ghost use Rattle.decl_read.specs.DeclarationReading.{part_group_in, var_in};
 ghost use Rattle.body_read.specs.Reader.{Gives};
 ghost use Rattle.decl_read.specs.Views.{parts_read};
@@ -79,7 +80,8 @@ fn part_group<'t>(
     tokens: &'t [Token],
 ) -> Read<'t, Vec<Part>>
     requires few { length before.items ≤ 16 }
-    ensures read { Gives parts_read result (part_group_in (constants_of constants.now) (parts_of before.items) (lexemes tokens.now)) }
+    ensures read { Gives parts_read result (part_group_in (constants_of constants.now) (parts_of before.items)
+        (lexemes tokens.now)) }
     ensures few { IfOk result (λ x. length x.0.items ≤ 16) }
 {
     let scope = scope_of(constants, &before);
@@ -99,7 +101,8 @@ fn more_parts<'t>(
     tokens: &'t [Token],
 ) -> Read<'t, Vec<Part>>
     requires few { length so_far.items ≤ 16 }
-    ensures read { Gives parts_read result (series_at (part_group_in (constants_of constants.now)) a_name_begins left (parts_of so_far.items) (lexemes tokens.now)) }
+    ensures read { Gives parts_read result (series_at (part_group_in (constants_of constants.now)) a_name_begins left
+        (parts_of so_far.items) (lexemes tokens.now)) }
     ensures few { IfOk result (λ x. length x.0.items ≤ 16) }
 {
     if !begins_name(tokens) {
@@ -121,7 +124,8 @@ fn var<'t>(
     tokens: &'t [Token],
 ) -> Read<'t, Vec<Part>>
     requires few { length before.items ≤ 16 }
-    ensures read { Gives parts_read result (var_in (constants_of constants.now) (parts_of before.items) (lexemes tokens.now)) }
+    ensures read { Gives parts_read result (var_in (constants_of constants.now) (parts_of before.items)
+        (lexemes tokens.now)) }
     ensures few { IfOk result (λ x. length x.0.items ≤ 16) }
 {
     let opened = behind(tokens, Symbol::Var)?;
@@ -161,7 +165,8 @@ pub(crate) fn parts<'t>(
     tokens: &'t [Token],
 ) -> Read<'t, Vec<Part>>
     requires few { length so_far.items ≤ 16 }
-    ensures read { Gives parts_read result (series_at (var_in (constants_of constants.now)) (begins_with Var) left (parts_of so_far.items) (lexemes tokens.now)) }
+    ensures read { Gives parts_read result (series_at (var_in (constants_of constants.now)) (begins_with Var) left
+        (parts_of so_far.items) (lexemes tokens.now)) }
     ensures few { IfOk result (λ x. length x.0.items ≤ 16) }
 {
     if !begins(tokens, Symbol::Var) {

@@ -50,7 +50,8 @@ pub(crate) fn path<'t>(
 ) -> Read<'t, PathTree>
     requires few { length names.now ≤ 65535 }
     requires bounded { length tokens.now ≤ 65537 }
-    ensures { Gives path_read result (read_path (known_with constants.now names.now) (length tokens.now + 1) (lexemes tokens.now)) }
+    ensures { Gives path_read result (read_path (known_with constants.now names.now) (length tokens.now + 1)
+        (lexemes tokens.now)) }
 {
     if tokens.is_empty() {
         return Err(TextFault::Syntax(0));
@@ -75,7 +76,8 @@ fn path_item<'t>(
 ) -> Read<'t, Vec<PathTree>>
     requires few { length names.now ≤ 65535 }
     requires bounded { length tokens.now ≤ 65537 }
-    ensures { Gives paths_read result (path_item_in (constants_of constants.now) names.now so_far.items (lexemes tokens.now)) }
+    ensures { Gives paths_read result (path_item_in (constants_of constants.now) names.now so_far.items
+        (lexemes tokens.now)) }
 {
     let mut paths = so_far;
     if paths.len() >= MOST_PATHS {
@@ -98,7 +100,8 @@ pub(crate) fn paths<'t>(
 ) -> Read<'t, Vec<PathTree>>
     requires few { length names.now ≤ 65535 }
     requires bounded { length tokens.now ≤ 65537 }
-    ensures { Gives paths_read result (series_at (path_item_in (constants_of constants.now) names.now) (begins_with Path) left so_far.items (lexemes tokens.now)) }
+    ensures { Gives paths_read result (series_at (path_item_in (constants_of constants.now) names.now)
+        (begins_with Path) left so_far.items (lexemes tokens.now)) }
 {
     if !begins(tokens, Symbol::Path) {
         return Ok((so_far, tokens));

@@ -1,5 +1,6 @@
 -- The tables of a desk.
-use Rattle.std.specs.Prelude.{◌≡◌, ◌≢◌, ℕ, zero, suc, ◌+◌, ◌*◌, ◌≤◌, ◌<◌, List, length, map, slice_get, Option, Some, None, vec_capacity}
+use Rattle.std.specs.Prelude.{◌≡◌, ◌≢◌, ℕ, zero, suc, ◌+◌, ◌*◌, ◌≤◌, ◌<◌, List, length, map, slice_get, Option, Some}
+use Rattle.std.specs.Prelude.{None, vec_capacity}
 use Rattle.std.specs.Arc.{arc_value}
 use Rattle.path_count.specs.Stands.{StandsFor}
 use Rattle.board_core.specs.declared.event.TraceEvent.{TraceEvent}
@@ -61,7 +62,8 @@ pub record HasRoom (d : Inside) : Type 0 where
   pub history : length d.history.items + length d.waiting + length d.running.items ≤ vec_capacity d.history
   pub running : length d.waiting + length d.running.items ≤ vec_capacity d.running
 
--- a board that is sound, counters that stand for it, marks and places of its entries, the numbers of each session's calls, and room
+-- a board that is sound, counters that stand for it, marks and places of its entries, the numbers of each
+-- session's calls, and room
 pub record IsKept (d : Inside) : Type 0 where
   pub marks : Every (IsMarkIn (length d.history.items)) d.marks.items
   pub places : ArePlaces d.history.items (length d.calls.items) d.places.items

@@ -1,6 +1,7 @@
 //! A desk: its tables, in which no waiting call may start.
 
-ghost use Rattle.std.specs.Prelude.{◌≡◌, ◌+◌, ◌<◌, ◌≤◌, ◌⊎◌, ◌↔◌, length, IfOk, IfErr, OnOk, IfSome, IfNone, IsTrue, true, false, Some, None, slice_get};
+ghost use Rattle.std.specs.Prelude.{◌≡◌, ◌+◌, ◌<◌, ◌≤◌, ◌⊎◌, ◌↔◌, length, IfOk, IfErr, OnOk, IfSome, IfNone, IsTrue};
+ghost use Rattle.std.specs.Prelude.{true, false, Some, None, slice_get};
 ghost use Rattle.std.specs.Arc.{arc_value};
 ghost use Rattle.board_core.specs.Calls.{AcceptedCall};
 ghost use Rattle.board_core.specs.Board.{opened, joined, released, marked, call_at, Rests};
@@ -11,7 +12,8 @@ ghost use Rattle.board_core.specs.Sound.{IsSound};
 ghost use Rattle.decl_core.specs.ObjectMap.{object_of};
 ghost use Rattle.trace_core.specs.Text.{trace_text as text_of};
 ghost use Rattle.desk_core.specs.Told.{lines_told};
-ghost use Rattle.ask_core.specs.Answers.{IsGone, IsTaken, IsRefused, Cancels, Collects, Finishes, IsStranger, receipt_by, waits_in, runs_in, runs_by};
+ghost use Rattle.ask_core.specs.Answers.{IsGone, IsTaken, IsRefused, Cancels, Collects, Finishes, IsStranger};
+ghost use Rattle.ask_core.specs.Answers.{receipt_by, waits_in, runs_in, runs_by};
 
 use crate::roster::{MOST_SESSIONS, Roster};
 use ask_core::answer::{
@@ -95,8 +97,12 @@ impl Desk {
     /// takes no number and changes nothing. All the memory that the call will need is taken here.
     pub fn submit(&mut self, session: u32, op: &str, args: &[Datum]) -> Result<u32, SubmitFault>
         ensures number { IfOk result (λ n. n ≡ length self.old.calls + 1) }
-        ensures board { OnOk result ((call : AcceptedCall) × IsTaken self.old (record { session = session; name = op.now; arguments = args.now }) call × Settles (joined self.old call) self.new) }
-        ensures refused { IfErr result (λ f. IsRefused self.old (record { session = session; name = op.now; arguments = args.now }) f × (self.new ≡ self.old)) }
+        ensures board { OnOk result ((call : AcceptedCall)
+            × IsTaken self.old (record { session = session; name = op.now; arguments = args.now }) call
+            × Settles (joined self.old call) self.new) }
+        ensures refused { IfErr result (λ f.
+            IsRefused self.old (record { session = session; name = op.now; arguments = args.now }) f
+            × (self.new ≡ self.old)) }
         ensures history { self.new.history ≡ self.old.history }
         ensures pins { self.new.pins ≡ self.old.pins }
     {
@@ -118,9 +124,15 @@ impl Desk {
         args: &[Datum],
     ) -> Result<(u32, Arc<Call>), SubmitFault>
         ensures number { IfOk result (λ r. r.0 ≡ length self.old.calls + 1) }
-        ensures taken { IfOk result (λ r. IsTaken self.old (record { session = session; name = op.now; arguments = args.now }) (arc_value r.1)) }
+        ensures taken { IfOk result (λ r. IsTaken self.old (record {
+          session = session;
+          name = op.now;
+          arguments = args.now;
+        }) (arc_value r.1)) }
         ensures board { IfOk result (λ r. Settles (joined self.old (arc_value r.1)) self.new) }
-        ensures refused { IfErr result (λ f. IsRefused self.old (record { session = session; name = op.now; arguments = args.now }) f × (self.new ≡ self.old)) }
+        ensures refused { IfErr result (λ f.
+            IsRefused self.old (record { session = session; name = op.now; arguments = args.now }) f
+            × (self.new ≡ self.old)) }
         ensures history { self.new.history ≡ self.old.history }
         ensures pins { self.new.pins ≡ self.old.pins }
     {
@@ -137,9 +149,10 @@ impl Desk {
         }
     }
 
-    /// What is known of a key of a session, for a call of the operation of this name, in any case, with these arguments: the
-    /// call that the session made under it, or `None` where it is the key of the session's next call. The key of a call is
-    /// its rank, from 1, among the accepted calls of its session, cancelled ones included. No search grows with the history.
+    /// What is known of a key of a session, for a call of the operation of this name, in any case, with these
+    /// arguments: the call that the session made under it, or `None` where it is the key of the session's next call.
+    /// The key of a call is its rank, from 1, among the accepted calls of its session, cancelled ones included. No
+    /// search grows with the history.
     ///
     /// The errors are the first three of [`KeyedFault`], of which the first that applies is told.
     pub fn kept(
@@ -154,12 +167,12 @@ impl Desk {
         self.roster.kept(session, key, op.as_bytes(), args)
     }
 
-    /// Takes a call of a session under a key. Under the key of the session's next call it is a [`Desk::submit`]. Under that
-    /// of an earlier one, which has to be of the same operation and arguments, it answers what became of that call, also
-    /// while a call of the session waits or runs: nothing is changed then, and no memory is taken.
+    /// Takes a call of a session under a key. Under the key of the session's next call it is a [`Desk::submit`]. Under
+    /// that of an earlier one, which has to be of the same operation and arguments, it answers what became of that
+    /// call, also while a call of the session waits or runs: nothing is changed then, and no memory is taken.
     ///
-    /// The errors, of which the first that applies is told, are those of [`KeyedFault`]; a refused call takes no key and
-    /// changes nothing.
+    /// The errors, of which the first that applies is told, are those of [`KeyedFault`]; a refused call takes no key
+    /// and changes nothing.
     pub fn submit_keyed(
         &mut self,
         session: u32,
@@ -167,7 +180,8 @@ impl Desk {
         op: &str,
         args: &[Datum],
     ) -> Result<Keyed, KeyedFault>
-        ensures board { SubmitsKeyed self.old (record { session = session; name = op.now; arguments = args.now }) key result self.new }
+        ensures board { SubmitsKeyed self.old (record { session = session; name = op.now; arguments = args.now }) key
+            result self.new }
         ensures history { self.new.history ≡ self.old.history }
         ensures pins { self.new.pins ≡ self.old.pins }
     {
@@ -181,7 +195,8 @@ impl Desk {
     // Takes a call under the session's next key.
     fn submit_next(&mut self, session: u32, op: &str, args: &[Datum]) -> Result<Keyed, KeyedFault>
         requires here { IsGone self.old session → ⊥ }
-        ensures board { SubmitsKeyed self.old (record { session = session; name = op.now; arguments = args.now }) (next_key self.old.calls session) result self.new }
+        ensures board { SubmitsKeyed self.old (record { session = session; name = op.now; arguments = args.now })
+            (next_key self.old.calls session) result self.new }
         ensures history { self.new.history ≡ self.old.history }
         ensures pins { self.new.pins ≡ self.old.pins }
     {
@@ -251,7 +266,8 @@ impl Desk {
     /// changed.
     pub fn finish_in_place(&mut self, outcome: &mut Outcome) -> Option<Finished>
         ensures board { IfSome result (λ f. Finishes self.old outcome.old (receipt_by f outcome.new) self.new) }
-        ensures stranger { IfNone result ((self.new ≡ self.old) × (outcome.new ≡ outcome.old) × IsStranger self.old outcome.old) }
+        ensures stranger { IfNone result ((self.new ≡ self.old) × (outcome.new ≡ outcome.old)
+            × IsStranger self.old outcome.old) }
     {
         let Some(place) = self.roster.place_to_end(outcome) else {
             return None;
@@ -307,8 +323,8 @@ impl Desk {
         self.roster.admit();
     }
 
-    /// A session is back: where it had left, its submissions are taken again, and nothing else changes. It answers whether
-    /// there is such a session: they have the numbers from 1 to 1,024. It takes no memory.
+    /// A session is back: where it had left, its submissions are taken again, and nothing else changes. It answers
+    /// whether there is such a session: they have the numbers from 1 to 1,024. It takes no memory.
     pub fn resume(&mut self, session: u32) -> bool
         ensures back { 0 < session → session ≤ 1024 → (result ≡ true) × (self.new ≡ resumed self.old session) }
         ensures none { (session ≡ 0) ⊎ (1024 < session) → (result ≡ false) × (self.new ≡ self.old) }
@@ -357,8 +373,8 @@ impl Desk {
         self.roster.accepted()
     }
 
-    /// What happened to the calls, in order. No event has to be looked for or copied: a desk keeps the reply of an end once,
-    /// in its entry.
+    /// What happened to the calls, in order. No event has to be looked for or copied: a desk keeps the reply of an end
+    /// once, in its entry.
     pub fn trace(&self) -> Trace<'_>
         ensures { result.desk.now ≡ self.now }
     {
@@ -368,7 +384,8 @@ impl Desk {
     /// The text of the trace (docs/LANGUAGE.md), with these opening values, one for each part, in order: what happened
     /// to the calls, the oldest first. The error is that memory was refused.
     pub fn trace_text(&self, opening: &[Value]) -> Result<Vec<u8>, AllocError>
-        ensures { IfOk result (λ text. text.items ≡ text_of (object_of self.now.object) opening.now (lines_told self.now)) }
+        ensures { IfOk result (λ text. text.items
+            ≡ text_of (object_of self.now.object) opening.now (lines_told self.now)) }
     {
         self.roster.trace_text(opening)
     }

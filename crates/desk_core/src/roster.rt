@@ -1,6 +1,8 @@
 //! The tables of a desk.
 
-ghost use Rattle.std.specs.Prelude.{◌≡◌, ◌≢◌, ℕ, ◌+◌, ◌*◌, ◌<◌, ◌≤◌, [], ◌∷◌, ◌++◌, length, IfOk, IfErr, OnOk, OnErr, IfSome, IfNone, Some, None, true, false, IsTrue, ◌↔◌, slice_get, slice_set, take, drop, not, ◌==◌, vec_capacity};
+ghost use Rattle.std.specs.Prelude.{◌≡◌, ◌≢◌, ℕ, ◌+◌, ◌*◌, ◌<◌, ◌≤◌, [], ◌∷◌, ◌++◌, length, IfOk, IfErr, OnOk, OnErr};
+ghost use Rattle.std.specs.Prelude.{IfSome, IfNone, Some, None, true, false, IsTrue, ◌↔◌, slice_get, slice_set, take};
+ghost use Rattle.std.specs.Prelude.{drop, not, ◌==◌, vec_capacity};
 ghost use Rattle.std.specs.Arc.{arc_value};
 ghost use Rattle.path_count.specs.Stands.{StandsFor};
 ghost use Rattle.decl_core.specs.declared.object.Operation.{Operation};
@@ -15,10 +17,12 @@ ghost use Rattle.decl_core.specs.Bodies.{body_of};
 ghost use Rattle.decl_core.specs.Touched.{Writes};
 ghost use Rattle.page_core.specs.PartPins.{pin_at};
 ghost use Rattle.run_core.specs.Outcomes.{outcome_call, if_done, IsFresh};
-ghost use Rattle.board_core.specs.Board.{Board, bodies, call_at, opened, joined, dismissed, released, taken_at, marked, started, ended, entry_of, published, read_pins, IsNext, Rests, Admits};
+ghost use Rattle.board_core.specs.Board.{Board, bodies, call_at, opened, joined, dismissed, released, taken_at, marked};
+ghost use Rattle.board_core.specs.Board.{started, ended, entry_of, published, read_pins, IsNext, Rests, Admits};
 ghost use Rattle.key_core.specs.Keys.{next_key, resumed};
 ghost use Rattle.ask_core.specs.Keyed.{IsStateOf, Finds};
-ghost use Rattle.ask_core.specs.Answers.{HasName, IsGone, is_busy, waits_in, runs_in, runs_by, ended_in, IsLeft, NoneIsLeft, IsTaken, IsRefused, IsStranger};
+ghost use Rattle.ask_core.specs.Answers.{HasName, IsGone, is_busy, waits_in, runs_in, runs_by, ended_in, IsLeft};
+ghost use Rattle.ask_core.specs.Answers.{NoneIsLeft, IsTaken, IsRefused, IsStranger};
 ghost use Rattle.board_core.specs.Free.{IsNeeded, Picks};
 ghost use Rattle.board_core.specs.Outcomes.{IsOf};
 ghost use Rattle.desk_core.specs.Publishing.{ArePageLists, with_pin};
@@ -105,7 +109,8 @@ impl Model for Roster {
 // Whether arguments fit the operation at this place.
 fn fits(object: &Object, place: usize, args: &[Datum]) -> bool
     requires { place < length object.now.operations.items }
-    ensures { (operation : Operation) → slice_get (bodies object.now) place ≡ Some operation → (IsTrue result ↔ ArgumentsFit operation args.now) }
+    ensures { (operation : Operation) → slice_get (bodies object.now) place ≡ Some operation →
+        (IsTrue result ↔ ArgumentsFit operation args.now) }
 {
     arguments_fit(&object.operations[place], args)
 }
@@ -120,7 +125,8 @@ fn counters_of(alloc: Global, object: &Object) -> Result<Counters, AllocError>
 // The number and the operation of the call at this place.
 fn asked_at(waiting: &[Waiting], place: usize) -> (u32, OpId)
     requires { place < length waiting.now }
-    ensures { (w : WaitingCall) → slice_get waiting.now place ≡ Some w → (result.0 ≡ w.number) × (result.1 ≡ w.call.op) }
+    ensures { (w : WaitingCall) → slice_get waiting.now place ≡ Some w →
+        (result.0 ≡ w.number) × (result.1 ≡ w.call.op) }
 {
     let asked = &waiting[place];
     (asked.number(), asked.op())
@@ -132,7 +138,10 @@ fn start_at(waiting: &mut Queue, running: &mut Vec<Running>, place: usize, pins:
     requires room { length running.old.items < vec_capacity running.old }
     requires few { length pins.now ≤ 16 }
     ensures waiting { waiting.new ≡ take place waiting.old ++ drop (place + 1) waiting.old }
-    ensures running { (w : WaitingCall) → slice_get waiting.old place ≡ Some w → running.new.items ≡ running.old.items ++ (record { number = w.number; call = w.call; pins = read_pins w.call.operation pins.now; taken = false }) ∷ [] }
+    ensures running { (w : WaitingCall) → slice_get waiting.old place ≡ Some w →
+        running.new.items ≡ running.old.items
+        ++ (record { number = w.number; call = w.call; pins = read_pins w.call.operation pins.now; taken = false })
+        ∷ [] }
     ensures running_room { vec_capacity running.new ≡ vec_capacity running.old }
 {
     let asked = waiting.take(place);
@@ -150,9 +159,19 @@ fn asked_of(
     pins: &Pins,
 ) -> Result<Waiting, AllocError>
     requires place { place < length object.now.operations.items }
-    requires fits { (operation : Operation) → slice_get (bodies object.now) place ≡ Some operation → ArgumentsFit operation args.now }
+    requires fits { (operation : Operation) → slice_get (bodies object.now) place ≡ Some operation →
+        ArgumentsFit operation args.now }
     ensures op { IfOk result (λ w. w.call.op < 32) }
-    ensures call { IfOk result (λ w. (operation : Operation) → slice_get (bodies object.now) place ≡ Some operation → w ≡ record { number = number; call = record { session = session; op = place; operation = operation; arguments = args.now } }) }
+    ensures call { IfOk result (λ w. (operation : Operation) → slice_get (bodies object.now) place ≡ Some operation →
+        w ≡ record {
+          number = number;
+          call = record {
+            session = session;
+            op = place;
+            operation = operation;
+            arguments = args.now;
+          };
+        }) }
 {
     let operation = &object.operations[place];
     Waiting::new(alloc, number, session, place as OpId, operation, args, pins)
@@ -178,8 +197,10 @@ fn make_room(
     ensures running_kept { vec_capacity running.old ≤ vec_capacity running.new }
     ensures calls_room { OnOk result (length calls.old.items < vec_capacity calls.new) }
     ensures places_room { OnOk result (length places.old.items < vec_capacity places.new) }
-    ensures marks_room { OnOk result (length marks.old.items + 2 * waits + length running.old.items + 2 ≤ vec_capacity marks.new) }
-    ensures history_room { OnOk result (length history.old.items + waits + length running.old.items + 1 ≤ vec_capacity history.new) }
+    ensures marks_room { OnOk result (length marks.old.items + 2 * waits + length running.old.items + 2
+        ≤ vec_capacity marks.new) }
+    ensures history_room { OnOk result (length history.old.items + waits + length running.old.items + 1
+        ≤ vec_capacity history.new) }
     ensures running_room { OnOk result (waits + length running.old.items + 1 ≤ vec_capacity running.new) }
 {
     let runs = running.len();
@@ -195,10 +216,13 @@ fn make_room(
 fn ticket_at(running: &mut Vec<Running>, place: usize, pins: &Pins) -> Option<Ticket>
     requires place { place < length running.old.items }
     requires few { length pins.now ≤ 16 }
-    requires pins { (r : RunningCall) → slice_get running.old.items place ≡ Some r → (read_pins r.call.operation pins.now ≡ r.pins) × HasPins r.call.operation r.pins }
-    ensures some { IfSome result (λ t. (r : RunningCall) → slice_get running.old.items place ≡ Some r → (r.taken ≡ false) × (ticket_call t ≡ call_of r.number r.call.operation r.call.arguments r.pins)) }
+    requires pins { (r : RunningCall) → slice_get running.old.items place ≡ Some r →
+        (read_pins r.call.operation pins.now ≡ r.pins) × HasPins r.call.operation r.pins }
+    ensures some { IfSome result (λ t. (r : RunningCall) → slice_get running.old.items place ≡ Some r →
+        (r.taken ≡ false) × (ticket_call t ≡ call_of r.number r.call.operation r.call.arguments r.pins)) }
     ensures none { IfNone result ((r : RunningCall) → slice_get running.old.items place ≡ Some r → r.taken ≡ true) }
-    ensures items { (r : RunningCall) → slice_get running.old.items place ≡ Some r → running.new.items ≡ slice_set running.old.items place (record r { taken = true }) }
+    ensures items { (r : RunningCall) → slice_get running.old.items place ≡ Some r →
+        running.new.items ≡ slice_set running.old.items place (record r { taken = true }) }
     ensures room { vec_capacity running.new ≡ vec_capacity running.old }
 {
     running[place].ticket(pins)
@@ -244,7 +268,8 @@ fn publish(pins: &mut Pins, news: Option<&PartPins>)
 // The number, the session and the operation of the running call at this place.
 fn running_at(running: &[Running], place: usize) -> (u32, u32, OpId)
     requires { place < length running.now }
-    ensures { (r : RunningCall) → slice_get running.now place ≡ Some r → (result.0 ≡ r.number) × (result.1 ≡ r.call.session) × (result.2 ≡ r.call.op) }
+    ensures { (r : RunningCall) → slice_get running.now place ≡ Some r →
+        (result.0 ≡ r.number) × (result.1 ≡ r.call.session) × (result.2 ≡ r.call.op) }
 {
     let asked = &running[place];
     (asked.number(), asked.session(), asked.call().op())
@@ -289,7 +314,8 @@ impl Roster {
 
     // The place of the waiting call that is next to start.
     fn next_start(&self) -> Option<usize>
-        ensures some { IfSome result (λ k. (w : WaitingCall) × (slice_get self.now.waiting k ≡ Some w) × IsNext self.now w) }
+        ensures some { IfSome result (λ k. (w : WaitingCall) × (slice_get self.now.waiting k ≡ Some w)
+            × IsNext self.now w) }
         ensures none { IfNone result (Rests self.now) }
     {
         self.waiting.next(&self.counters)
@@ -327,14 +353,23 @@ impl Roster {
         args: &[Datum],
     ) -> Result<(u32, Arc<Call>), AllocError>
         requires place { place < length self.old.object.operations.items }
-        requires fits { (operation : Operation) → slice_get (bodies self.old.object) place ≡ Some operation → ArgumentsFit operation args.now }
+        requires fits { (operation : Operation) → slice_get (bodies self.old.object) place ≡ Some operation →
+            ArgumentsFit operation args.now }
         requires few { length self.old.calls < 65536 }
         requires open_few { length self.old.waiting + length self.old.running < 256 }
         requires free { is_busy self.old session ≡ false }
         requires session { (0 < session) × (session ≤ 1024) }
         ensures number { IfOk result (λ r. r.0 ≡ length self.old.calls + 1) }
-        ensures shared { IfOk result (λ r. (operation : Operation) → slice_get (bodies self.old.object) place ≡ Some operation → arc_value r.1 ≡ record { session = session; op = place; operation = operation; arguments = args.now }) }
-        ensures ok { OnOk result ((operation : Operation) → slice_get (bodies self.old.object) place ≡ Some operation → self.new ≡ joined self.old (record { session = session; op = place; operation = operation; arguments = args.now })) }
+        ensures shared { IfOk result (λ r. (operation : Operation) →
+            slice_get (bodies self.old.object) place ≡ Some operation →
+            arc_value r.1 ≡ record { session = session; op = place; operation = operation; arguments = args.now }) }
+        ensures ok { OnOk result ((operation : Operation) → slice_get (bodies self.old.object) place ≡ Some operation →
+            self.new ≡ joined self.old (record {
+              session = session;
+              op = place;
+              operation = operation;
+              arguments = args.now;
+            })) }
         ensures err { OnErr result (self.new ≡ self.old) }
     {
         let number = self.calls.len() as u32 + 1;
@@ -403,11 +438,13 @@ impl Roster {
         news: Option<&PartPins>,
         kept: PartPins,
     ) -> u32
-        requires there { (r : RunningCall) × (slice_get self.old.running place ≡ Some r) × ((p : ℕ) → pin_at (if_done reply.now kept) p ≢ None → Writes (body_of r.call.operation).statements p) }
+        requires there { (r : RunningCall) × (slice_get self.old.running place ≡ Some r)
+            × ((p : ℕ) → pin_at (if_done reply.now kept) p ≢ None → Writes (body_of r.call.operation).statements p) }
         requires some { IfSome news (λ n. n.now ≡ if_done reply.now kept) }
         requires none { IfNone news (if_done reply.now kept ≡ []) }
         requires sized { AreSized (if_done reply.now kept) }
-        ensures board { (r : RunningCall) → slice_get self.old.running place ≡ Some r → self.new ≡ ended self.old (entry_of r reply.now kept) }
+        ensures board { (r : RunningCall) → slice_get self.old.running place ≡ Some r →
+            self.new ≡ ended self.old (entry_of r reply.now kept) }
         ensures session { (r : RunningCall) → slice_get self.old.running place ≡ Some r → result ≡ r.call.session }
     {
         let (number, session, op) = running_at(&self.running, place);
@@ -455,8 +492,11 @@ impl Roster {
         name: &[u8],
         args: &[Datum],
     ) -> Result<usize, SubmitFault>
-        ensures taken { IfOk result (λ k. (operation : Operation) × IsTaken self.now (record { session = session; name = name.now; arguments = args.now }) (record { session = session; op = k; operation = operation; arguments = args.now })) }
-        ensures refused { IfErr result (λ f. IsRefused self.now (record { session = session; name = name.now; arguments = args.now }) f) }
+        ensures taken { IfOk result (λ k. (operation : Operation)
+            × IsTaken self.now (record { session = session; name = name.now; arguments = args.now })
+            (record { session = session; op = k; operation = operation; arguments = args.now })) }
+        ensures refused { IfErr result (λ f.
+            IsRefused self.now (record { session = session; name = name.now; arguments = args.now }) f) }
     {
         if self.is_gone(session) {
             return Err(SubmitFault::Gone);
@@ -508,7 +548,8 @@ impl Roster {
 
     // Whether the call of this number is of the operation of this name, with these arguments.
     fn is_same(&self, number: u32, name: &[u8], args: &[Datum]) -> bool
-        ensures { IsTrue result ↔ ((call : AcceptedCall) × (call_at self.now.calls number ≡ Some call) × HasName name.now call.operation × (call.arguments ≡ args.now)) }
+        ensures { IsTrue result ↔ ((call : AcceptedCall) × (call_at self.now.calls number ≡ Some call)
+            × HasName name.now call.operation × (call.arguments ≡ args.now)) }
     {
         match self.call(number) {
             Some(call) => is_same_call(call, name, args),
@@ -549,7 +590,8 @@ impl Roster {
 
     // The place of the running call that ends with an outcome, where that was not handed in before.
     pub(crate) fn place_to_end(&self, outcome: &Outcome) -> Option<usize>
-        ensures some { IfSome result (λ k. IsFresh outcome.now × ((r : RunningCall) × (slice_get self.now.running k ≡ Some r) × IsOf (outcome_call outcome.now) r)) }
+        ensures some { IfSome result (λ k. IsFresh outcome.now
+            × ((r : RunningCall) × (slice_get self.now.running k ≡ Some r) × IsOf (outcome_call outcome.now) r)) }
         ensures none { IfNone result (IsStranger self.now outcome.now) }
     {
         place_to_end(&self.running, outcome)
@@ -610,7 +652,8 @@ impl Roster {
 
     // The text of the trace.
     pub(crate) fn trace_text(&self, opening: &[Value]) -> Result<Vec<u8>, AllocError>
-        ensures { IfOk result (λ text. text.items ≡ text_of (object_of self.now.object) opening.now (lines_told self.now)) }
+        ensures { IfOk result (λ text. text.items
+            ≡ text_of (object_of self.now.object) opening.now (lines_told self.now)) }
     {
         let object = self.accepted.object();
         let mut out = Vec::new(self.alloc);
@@ -660,9 +703,11 @@ impl Roster {
     // Takes the ticket of the running call at this place, where it was not taken.
     pub(crate) fn collect(&mut self, place: usize) -> Option<Ticket>
         requires { (r : RunningCall) × (slice_get self.old.running place ≡ Some r) }
-        ensures some { IfSome result (λ t. (r : RunningCall) → slice_get self.old.running place ≡ Some r → (r.taken ≡ false) × (ticket_call t ≡ call_of r.number r.call.operation r.call.arguments r.pins)) }
+        ensures some { IfSome result (λ t. (r : RunningCall) → slice_get self.old.running place ≡ Some r →
+            (r.taken ≡ false) × (ticket_call t ≡ call_of r.number r.call.operation r.call.arguments r.pins)) }
         ensures none { IfNone result ((r : RunningCall) → slice_get self.old.running place ≡ Some r → r.taken ≡ true) }
-        ensures board { (r : RunningCall) → slice_get self.old.running place ≡ Some r → self.new ≡ taken_at self.old place r }
+        ensures board { (r : RunningCall) → slice_get self.old.running place ≡ Some r →
+            self.new ≡ taken_at self.old place r }
     {
         ticket_at(&mut self.running, place, &self.pins)
     }

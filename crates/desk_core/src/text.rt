@@ -38,7 +38,8 @@ fn push_event(
     calls: &[Arc<Call>],
     event: &TraceEvent,
 ) -> Result<(), AllocError>
-    ensures { OnOk result (out.new.items ≡ out.old.items ++ line_of (event_words (object_of object.now) (line_told (map (λ c. arc_value c) calls.now) event.now))) }
+    ensures { OnOk result (out.new.items ≡ out.old.items
+        ++ line_of (event_words (object_of object.now) (line_told (map (λ c. arc_value c) calls.now) event.now))) }
 {
     match event {
         TraceEvent::Start(number) => match call_of(calls, *number) {
@@ -62,7 +63,9 @@ pub(crate) fn push_marks(
     marks: &[Mark],
 ) -> Result<(), AllocError>
     requires { Every (IsMarkIn (length history.now)) marks.now }
-    ensures { OnOk result (out.new.items ≡ out.old.items ++ lines_of (map (event_words (object_of object.now)) (map (line_told (map (λ c. arc_value c) calls.now)) (events_of history.now marks.now)))) }
+    ensures { OnOk result (out.new.items ≡ out.old.items
+        ++ lines_of (map (event_words (object_of object.now)) (map (line_told (map (λ c. arc_value c) calls.now))
+        (events_of history.now marks.now)))) }
 {
     for mark in marks {
         let event = event_of(history, *mark);

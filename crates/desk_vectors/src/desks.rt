@@ -1,5 +1,5 @@
-//! What a finish publishes and which files it frees: of a call that is DONE, of one whose device FAILED, and of one that
-//! met a damaged part.
+//! What a finish publishes and which files it frees: of a call that is DONE, of one whose device FAILED, and of one
+//! that met a damaged part.
 
 use crate::make::{Bytes, CELL, FIRST_ZERO, ZERO, desk_of, pinned, receipt_of};
 use apply_core::reply::{Failure, Reply};
@@ -125,7 +125,8 @@ end;
 // A call, the files that it frees, and the files of both parts then.
 type Row = (&'static str, &'static [u64], [&'static [u64]; 2]);
 
-// Whether a file that both parts have is freed when the second one has it no more, or at once where one call replaces both.
+// Whether a file that both parts have is freed when the second one has it no more, or at once where
+// one call replaces both.
 fn are_freed_once(alloc: Global, desk: &mut Desk, hand: &mut MemHand, rows: &[Row]) -> bool {
     for (op, free, pins) in rows {
         if !comes_to(

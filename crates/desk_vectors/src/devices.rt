@@ -1,6 +1,6 @@
-//! Devices that fail, and files that are damaged or missing, under a desk: what a call replies, which files it leaves to
-//! nobody, which of them are given back when all are to be retired, what the published files hold then, and what the call
-//! that waited reads.
+//! Devices that fail, and files that are damaged or missing, under a desk: what a call replies, which files it leaves
+//! to nobody, which of them are given back when all are to be retired, what the published files hold then, and what the
+//! call that waited reads.
 
 use crate::desks::are_files;
 use crate::make::{Bytes, CELL, ZERO, accepted, desk_of, outcome_of, receipt_of};
@@ -178,7 +178,8 @@ const OF_WIDE: [Row; 11] = [
     (10, DONE, &[1, 5], &[5], 3),
 ];
 
-// The bytes of an array of 1,024 integers of which the first and the last have this byte last, and all others are zeros.
+// The bytes of an array of 1,024 integers of which the first and the last have this byte last, and
+// all others are zeros.
 fn spelled(rt: &impl Abort, alloc: Global, ends: u8) -> Vec<u8> {
     let mut bytes = Vec::new(alloc);
     bytes
@@ -208,8 +209,8 @@ fn a_device_fails_each_call_of_a_part_of_five_pages_in_turn(rt: HostRuntime) {
     }
 }
 
-// The first four bytes of an array of 1,024 zeros and its last page, as they were written over (or the file of this page is
-// missing), and what `get` of an element replies.
+// The first four bytes of an array of 1,024 zeros and its last page, as they were written over (or the file of this
+// page is missing), and what `get` of an element replies.
 type Damage = (&'static [u8], Option<Bytes>, u32, Reply);
 
 const ARRAY: Bytes = &[2, 1, 4, 0];
@@ -260,8 +261,8 @@ fn damaged(
     Pins::new(&[list.expect(rt, "a cut")])
 }
 
-// Whether `get` of this element replies so and leaves no file to nobody, and the pages of the one part then stand in the
-// first five files.
+// Whether `get` of this element replies so and leaves no file to nobody, and the pages of the one part then stand in
+// the first five files.
 fn tells(alloc: Global, desk: &mut Desk, hand: &mut MemHand, element: u32, reply: Reply) -> bool {
     match receipt_of(alloc, desk, hand, "get", &[Datum::Integer(element)]) {
         Some(receipt) => {

@@ -86,8 +86,8 @@ pub fn are_taken(desk: &mut Desk, below: u32) -> bool {
     true
 }
 
-// Whether a session's `put 7` under its next key gets a number at the first or at the second try, and a refusal takes no
-// key.
+// Whether a session's `put 7` under its next key gets a number at the first or at the second try, and a refusal takes
+// no key.
 fn is_taken_keyed(desk: &mut Desk, session: u32, key: u32, number: u32) -> bool {
     let before = look(desk);
     let first = desk.submit_keyed(session, key, "put", &[Datum::Integer(7)]);

@@ -1,5 +1,5 @@
-//! Desks and receipts that go from one thread to another, and a desk that threads read. (Threads that lock one are those of
-//! `office_vectors`.)
+//! Desks and receipts that go from one thread to another, and a desk that threads read. (Threads that lock one are
+//! those of `office_vectors`.)
 
 use crate::make::{CELL, ZERO, desk_of, pinned, receipt_of};
 use board_core::receipt::Receipt;

@@ -46,23 +46,28 @@ pub record Passes {H C : Type 0} (old new : FailingHand H C) : Type 0 where
   pub counted : blown_of new ≡ blown_of old
 
 -- a call that counts: it is failed where it is chosen, and else the hand inside makes it
-pub record Counts {H C : Type 0} (chosen : C → ℕ → Type 0) (makes : H → Made → H → Type 0) (old : FailingHand H C) (call : Made) (new : FailingHand H C) : Type 0 where
+pub record Counts {H C : Type 0} (chosen : C → ℕ → Type 0) (makes : H → Made → H → Type 0) (old : FailingHand H C)
+    (call : Made) (new : FailingHand H C) : Type 0 where
   pub down : CountsDown old new
   pub failed : IsNextChosen chosen old → Fails call × Blows old new
   pub passed : (IsNextChosen chosen old → ⊥) → Passes old new × makes (inner_of old) call (inner_of new)
 
 -- a call that does not count: the hand inside makes it
-pub record PassesOn {H C : Type 0} (makes : H → Made → H → Type 0) (old : FailingHand H C) (call : Made) (new : FailingHand H C) : Type 0 where
+pub record PassesOn {H C : Type 0} (makes : H → Made → H → Type 0) (old : FailingHand H C) (call : Made)
+    (new : FailingHand H C) : Type 0 where
   pub left : left_of new ≡ left_of old
   pub choice : new.choice ≡ old.choice
   pub counted : blown_of new ≡ blown_of old
   pub made : makes (inner_of old) call (inner_of new)
 
 -- what it does: a discard does not count
-abbrev pub FailingMakes : {H C : Type 0} → (C → ℕ → Type 0) → (H → Made → H → Type 0) → FailingHand H C → Made → FailingHand H C → Type 0
+abbrev pub FailingMakes : {H C : Type 0} → (C → ℕ → Type 0) → (H → Made → H → Type 0) → FailingHand H C → Made →
+    FailingHand H C → Type 0
 FailingMakes chosen makes old (creates answer) new = Counts chosen makes old (creates answer) new
-FailingMakes chosen makes old (appends number bytes answer) new = Counts chosen makes old (appends number bytes answer) new
+FailingMakes chosen makes old (appends number bytes answer) new =
+    Counts chosen makes old (appends number bytes answer) new
 FailingMakes chosen makes old (seals pen answer) new = Counts chosen makes old (seals pen answer) new
 FailingMakes chosen makes old (discards pen) new = PassesOn makes old (discards pen) new
-FailingMakes chosen makes old (reads stamp at bytes answer) new = Counts chosen makes old (reads stamp at bytes answer) new
+FailingMakes chosen makes old (reads stamp at bytes answer) new =
+    Counts chosen makes old (reads stamp at bytes answer) new
 FailingMakes chosen makes old (retires stamp answer) new = Counts chosen makes old (retires stamp answer) new

@@ -38,7 +38,8 @@ struct Reading<F> {
     file: F,
 }
 
-// Whether a read ends with the last byte of a file of this stamp. It tells by itself whether the file has as many bytes.
+// Whether a read ends with the last byte of a file of this stamp. It tells by itself whether the
+// file has as many bytes.
 fn ends_with(stamp: &Stamp, at: usize, count: usize) -> bool {
     count > 0 && at.checked_add(count) == Some(stamp.len)
 }

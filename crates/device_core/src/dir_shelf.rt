@@ -130,7 +130,8 @@ impl<R: Files + AllocGlobal> DirShelf<R> {
 ///
 /// - Another name than the ones above fails by `Device`, and no file is touched.
 /// - `load` answers `None` where the file is not there.
-/// - `store` writes another file first (`Kept`), has it go to the disk, and then renames it. Where the write fails, what
+/// - `store` writes another file first (`Kept`), has it go to the disk, and then renames it. Where the write fails,
+///   what
 ///   was there stays; where the renaming fails, either is there. The other file is removed then.
 impl<R: Files + AllocGlobal> Shelf for DirShelf<R> {
     // No clause can say what a folder holds.

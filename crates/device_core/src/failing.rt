@@ -53,7 +53,8 @@ impl<H: Hand, C: Choice> FailingHand<H, C> {
         ensures down { CountsDown self.old self.new }
         ensures passed { OnTrue result ((IsNextChosen C.chosen self.old → ⊥) × Passes self.old self.new) }
         ensures failed { OnFalse result (IsNextChosen C.chosen self.old × Blows self.old self.new) }
-        ensures spares { (n : ℕ) → Spares C.chosen self.old.choice self.old.left (n + 1) → Spares C.chosen self.new.choice self.new.left n }
+        ensures spares { (n : ℕ) → Spares C.chosen self.old.choice self.old.left (n + 1) →
+            Spares C.chosen self.new.choice self.new.left n }
         ensures spared { Spares C.chosen self.old.choice self.old.left 1 → IsNextChosen C.chosen self.old → ⊥ }
     {
         let chosen = self.choice.is_chosen(self.left);

@@ -88,7 +88,8 @@ impl Shelf for MemShelf {
     ghost failed = { λ _. 0 };
 
     fn load(&mut self, alloc: Global, name: &[u8]) -> Result<Option<Vec<u8>>, HandFault>
-        ensures agrees { (papers : Papers) → (papers ≡ self.new) ↔ (papers ≡ self.old) × LoadAgrees papers name.now result }
+        ensures agrees { (papers : Papers) →
+            (papers ≡ self.new) ↔ (papers ≡ self.old) × LoadAgrees papers name.now result }
         ensures counted { 0 ≤ 0 }
         ensures cause { IfErr result (λ e. FaultCause 0 0 e) }
         // What this shelf promises besides: a copy of what was last stored, and only memory can be refused.
@@ -103,8 +104,10 @@ impl Shelf for MemShelf {
     }
 
     fn store(&mut self, name: &[u8], bytes: &[u8]) -> Result<(), HandFault>
-        ensures agrees { (papers : Papers) → papers ≡ self.new → (before : Papers) × (before ≡ self.old) × StoreAgrees before name.now bytes.now result papers }
-        ensures follows { (before : Papers) → before ≡ self.old → (papers : Papers) × (papers ≡ self.new) × StoreAgrees before name.now bytes.now result papers }
+        ensures agrees { (papers : Papers) → papers ≡ self.new →
+            (before : Papers) × (before ≡ self.old) × StoreAgrees before name.now bytes.now result papers }
+        ensures follows { (before : Papers) → before ≡ self.old →
+            (papers : Papers) × (papers ≡ self.new) × StoreAgrees before name.now bytes.now result papers }
         ensures counted { 0 ≤ 0 }
         ensures cause { IfErr result (λ e. FaultCause 0 0 e) }
         // What this shelf promises besides: the bytes are there or nothing changed, and only memory can be refused.

@@ -52,14 +52,16 @@ impl MemHand {
 }
 
 impl Hand for MemHand {
-    ghost use Rattle.std.specs.Prelude.{◌≡◌, ◌≢◌, ◌↔◌, ◌⊎◌, ◌+◌, ◌^◌, ◌<◌, ◌≤◌, ◌++◌, [], List, ℕ, length, IfOk, IsOkAnd, OnOk, OnErr, IfErr};
+    ghost use Rattle.std.specs.Prelude.{◌≡◌, ◌≢◌, ◌↔◌, ◌⊎◌, ◌+◌, ◌^◌, ◌<◌, ◌≤◌, ◌++◌, [], List, ℕ, length, IfOk};
+    ghost use Rattle.std.specs.Prelude.{IsOkAnd, OnOk, OnErr, IfErr};
     ghost use Rattle.std.specs.Result.{IsErrOf, IsErr};
     ghost use Rattle.device_core.specs.declared.file.State.TheVariants.{Open, Sealed, Retired, Discarded};
     ghost use Rattle.hand_core.specs.Device.{Assignment, SealAgrees, ReadAgrees, FaultCause, IsFree};
     ghost use Rattle.hand_core.specs.Made.{creates, appends, seals, discards, reads, retires, IsDeviceErr, IsSealErr};
     ghost use Rattle.hand_core.specs.declared.hand.Stamp.{Stamp};
     ghost use Rattle.device_core.specs.MadeFiles.{Makes};
-    ghost use Rattle.device_core.specs.Files.{HasFiles, IsOpen, IsKept, Serves, Becomes, files_of, failures_of, failures_after, more_failures};
+    ghost use Rattle.device_core.specs.Files.{HasFiles, IsOpen, IsKept, Serves, Becomes, files_of, failures_of};
+    ghost use Rattle.device_core.specs.Files.{failures_after, more_failures};
 
     ghost agrees = { λ h a. HasFiles (files_of h) a };
 
@@ -78,9 +80,11 @@ impl Hand for MemHand {
     /// `Device` exactly at 2^63 files; `Memory` where memory is refused.
     fn create(&mut self) -> Result<Pen, HandFault>
         ensures pen { IfOk result (λ pen. IsOpen (files_of self.new) pen.number []) }
-        ensures unused { IfOk result (λ pen. IsFree (HasFiles (files_of self.new)) (IsOpen (files_of self.old)) pen.number) }
+        ensures unused { IfOk result (λ pen.
+            IsFree (HasFiles (files_of self.new)) (IsOpen (files_of self.old)) pen.number) }
         ensures others { (n : ℕ) (b : List ℕ) → IsOpen (files_of self.old) n b → IsOpen (files_of self.new) n b }
-        ensures earlier { (n : ℕ) (b : List ℕ) → IsOpen (files_of self.new) n b → IsOpen (files_of self.old) n b ⊎ IsOkAnd result (λ pen. pen.number ≡ n) }
+        ensures earlier { (n : ℕ) (b : List ℕ) → IsOpen (files_of self.new) n b →
+            IsOpen (files_of self.old) n b ⊎ IsOkAnd result (λ pen. pen.number ≡ n) }
         ensures agrees { (a : Assignment) → HasFiles (files_of self.new) a ↔ HasFiles (files_of self.old) a }
         ensures serves { (s : Stamp) → Serves (files_of self.old) s → Serves (files_of self.new) s }
         ensures works { (n : ℕ) → Unit {0} → Unit {0} }
@@ -91,7 +95,8 @@ impl Hand for MemHand {
         ensures counted { failures_of self.old ≤ failures_of self.new }
         ensures cause { IfErr result (λ e. FaultCause (failures_of self.old) (failures_of self.new) e) }
         ensures fresh { IfOk result (λ pen. pen.number ≡ length (files_of self.old) + 1) }
-        ensures begins { OnOk result (Becomes (files_of self.old) (files_of self.new) (length (files_of self.old) + 1) Open []) }
+        ensures begins { OnOk result (Becomes (files_of self.old) (files_of self.new) (length (files_of self.old) + 1)
+            Open []) }
         ensures more { OnOk result (length (files_of self.new) ≡ length (files_of self.old) + 1) }
         ensures same { OnErr result (files_of self.new ≡ files_of self.old) }
         ensures exact { IsErrOf result HandFault.Device ↔ 2 ^ 63 ≤ length (files_of self.old) }
@@ -112,23 +117,30 @@ impl Hand for MemHand {
     /// `Device` exactly where the pen is not open; `Memory` where memory is refused.
     fn append(&mut self, pen: &mut Pen, bytes: &[u8]) -> Result<(), HandFault>
         ensures number { pen.new.number ≡ pen.old.number }
-        ensures pen { OnOk result ((b : List ℕ) → IsOpen (files_of self.old) pen.old.number b → IsOpen (files_of self.new) pen.old.number (b ++ bytes.now)) }
-        ensures others { (n : ℕ) (b : List ℕ) → n ≢ pen.old.number → IsOpen (files_of self.old) n b → IsOpen (files_of self.new) n b }
-        ensures earlier { (n : ℕ) (b : List ℕ) → n ≢ pen.old.number → IsOpen (files_of self.new) n b → IsOpen (files_of self.old) n b }
+        ensures pen { OnOk result ((b : List ℕ) → IsOpen (files_of self.old) pen.old.number b →
+            IsOpen (files_of self.new) pen.old.number (b ++ bytes.now)) }
+        ensures others { (n : ℕ) (b : List ℕ) → n ≢ pen.old.number → IsOpen (files_of self.old) n b →
+            IsOpen (files_of self.new) n b }
+        ensures earlier { (n : ℕ) (b : List ℕ) → n ≢ pen.old.number → IsOpen (files_of self.new) n b →
+            IsOpen (files_of self.old) n b }
         ensures agrees { (a : Assignment) → HasFiles (files_of self.new) a ↔ HasFiles (files_of self.old) a }
         ensures serves { (s : Stamp) → Serves (files_of self.old) s → Serves (files_of self.new) s }
         ensures works { (n : ℕ) → Unit {0} → Unit {0} }
-        ensures in_order { Unit {0} → (b : List ℕ) → IsOpen (files_of self.old) pen.old.number b → IsDeviceErr result → ⊥ }
+        ensures in_order { Unit {0} → (b : List ℕ) → IsOpen (files_of self.old) pen.old.number b → IsDeviceErr result →
+            ⊥ }
         ensures fails { ⊥ → IsDeviceErr result }
         ensures makes { Makes (files_of self.old) (files_of self.new) (appends pen.old.number bytes.now result) }
         ensures rises { failures_of self.old < failures_of self.new → IsDeviceErr result }
         ensures counted { failures_of self.old ≤ failures_of self.new }
         ensures cause { IfErr result (λ e. FaultCause (failures_of self.old) (failures_of self.new) e) }
         ensures length { length (files_of self.new) ≡ length (files_of self.old) }
-        ensures grows { OnOk result ((b : List ℕ) → IsOpen (files_of self.old) pen.old.number b → Becomes (files_of self.old) (files_of self.new) pen.old.number Open (b ++ bytes.now)) }
-        ensures stays { OnErr result ((b : List ℕ) → IsOpen (files_of self.old) pen.old.number b → Becomes (files_of self.old) (files_of self.new) pen.old.number Open b) }
+        ensures grows { OnOk result ((b : List ℕ) → IsOpen (files_of self.old) pen.old.number b →
+            Becomes (files_of self.old) (files_of self.new) pen.old.number Open (b ++ bytes.now)) }
+        ensures stays { OnErr result ((b : List ℕ) → IsOpen (files_of self.old) pen.old.number b →
+            Becomes (files_of self.old) (files_of self.new) pen.old.number Open b) }
         ensures same { IsErrOf result HandFault.Device → files_of self.new ≡ files_of self.old }
-        ensures exact { IsErrOf result HandFault.Device ↔ ((b : List ℕ) → IsOpen (files_of self.old) pen.old.number b → ⊥) }
+        ensures exact { IsErrOf result HandFault.Device
+            ↔ ((b : List ℕ) → IsOpen (files_of self.old) pen.old.number b → ⊥) }
         ensures failures { failures_of self.new ≡ failures_after (failures_of self.old) result }
     {
         match file::append(&mut self.files, pen.number, bytes) {
@@ -144,11 +156,15 @@ impl Hand for MemHand {
     /// `Device` exactly where the pen is not open.
     fn seal(&mut self, pen: Pen) -> Result<Stamp, (Pen, HandFault)>
         ensures number { IfErr result (λ e. e.0.number ≡ pen.number) }
-        ensures others { (n : ℕ) (b : List ℕ) → n ≢ pen.number → IsOpen (files_of self.old) n b → IsOpen (files_of self.new) n b }
-        ensures earlier { (n : ℕ) (b : List ℕ) → n ≢ pen.number → IsOpen (files_of self.new) n b → IsOpen (files_of self.old) n b }
-        ensures agrees { (b : List ℕ) → IsOpen (files_of self.old) pen.number b → (a : Assignment) → HasFiles (files_of self.new) a ↔ HasFiles (files_of self.old) a × SealAgrees a b result }
+        ensures others { (n : ℕ) (b : List ℕ) → n ≢ pen.number → IsOpen (files_of self.old) n b →
+            IsOpen (files_of self.new) n b }
+        ensures earlier { (n : ℕ) (b : List ℕ) → n ≢ pen.number → IsOpen (files_of self.new) n b →
+            IsOpen (files_of self.old) n b }
+        ensures agrees { (b : List ℕ) → IsOpen (files_of self.old) pen.number b → (a : Assignment) →
+            HasFiles (files_of self.new) a ↔ HasFiles (files_of self.old) a × SealAgrees a b result }
         ensures kept { (a : Assignment) → HasFiles (files_of self.new) a → HasFiles (files_of self.old) a }
-        ensures failing { OnErr result ((a : Assignment) → HasFiles (files_of self.new) a ↔ HasFiles (files_of self.old) a) }
+        ensures failing { OnErr result ((a : Assignment) →
+            HasFiles (files_of self.new) a ↔ HasFiles (files_of self.old) a) }
         ensures served { IfOk result (λ stamp. Serves (files_of self.new) stamp) }
         ensures serves { (s : Stamp) → Serves (files_of self.old) s → Serves (files_of self.new) s }
         ensures works { (n : ℕ) → Unit {0} → Unit {0} }
@@ -160,7 +176,8 @@ impl Hand for MemHand {
         ensures counted { failures_of self.old ≤ failures_of self.new }
         ensures cause { IfErr result (λ e. FaultCause (failures_of self.old) (failures_of self.new) e.1) }
         ensures length { length (files_of self.new) ≡ length (files_of self.old) }
-        ensures seals { OnOk result ((b : List ℕ) → IsOpen (files_of self.old) pen.number b → Becomes (files_of self.old) (files_of self.new) pen.number Sealed b) }
+        ensures seals { OnOk result ((b : List ℕ) → IsOpen (files_of self.old) pen.number b →
+            Becomes (files_of self.old) (files_of self.new) pen.number Sealed b) }
         ensures same { OnErr result (files_of self.new ≡ files_of self.old) }
         ensures exact { IsErr result ↔ ((b : List ℕ) → IsOpen (files_of self.old) pen.number b → ⊥) }
         ensures fault { IfErr result (λ e. e.1 ≡ HandFault.Device) }
@@ -181,8 +198,10 @@ impl Hand for MemHand {
 
     /// A pen that is not open changes nothing.
     fn discard(&mut self, pen: Pen)
-        ensures others { (n : ℕ) (b : List ℕ) → n ≢ pen.number → IsOpen (files_of self.old) n b → IsOpen (files_of self.new) n b }
-        ensures earlier { (n : ℕ) (b : List ℕ) → n ≢ pen.number → IsOpen (files_of self.new) n b → IsOpen (files_of self.old) n b }
+        ensures others { (n : ℕ) (b : List ℕ) → n ≢ pen.number → IsOpen (files_of self.old) n b →
+            IsOpen (files_of self.new) n b }
+        ensures earlier { (n : ℕ) (b : List ℕ) → n ≢ pen.number → IsOpen (files_of self.new) n b →
+            IsOpen (files_of self.old) n b }
         ensures agrees { (a : Assignment) → HasFiles (files_of self.new) a ↔ HasFiles (files_of self.old) a }
         ensures serves { (s : Stamp) → Serves (files_of self.old) s → Serves (files_of self.new) s }
         ensures works { (n : ℕ) → Unit {0} → Unit {0} }
@@ -190,8 +209,10 @@ impl Hand for MemHand {
         ensures given_up { IsFree (HasFiles (files_of self.new)) (IsOpen (files_of self.new)) pen.number }
         ensures counted { failures_of self.new ≡ failures_of self.old }
         ensures length { length (files_of self.new) ≡ length (files_of self.old) }
-        ensures ends { (b : List ℕ) → IsOpen (files_of self.old) pen.number b → Becomes (files_of self.old) (files_of self.new) pen.number Discarded b }
-        ensures same { ((b : List ℕ) → IsOpen (files_of self.old) pen.number b → ⊥) → files_of self.new ≡ files_of self.old }
+        ensures ends { (b : List ℕ) → IsOpen (files_of self.old) pen.number b →
+            Becomes (files_of self.old) (files_of self.new) pen.number Discarded b }
+        ensures same { ((b : List ℕ) → IsOpen (files_of self.old) pen.number b → ⊥) →
+            files_of self.new ≡ files_of self.old }
     {
         let Pen { number } = pen;
         file::discard(&mut self.files, number);
@@ -202,7 +223,9 @@ impl Hand for MemHand {
         requires { at + length into.old ≤ stamp.now.len }
         ensures others { (n : ℕ) (b : List ℕ) → IsOpen (files_of self.old) n b → IsOpen (files_of self.new) n b }
         ensures earlier { (n : ℕ) (b : List ℕ) → IsOpen (files_of self.new) n b → IsOpen (files_of self.old) n b }
-        ensures agrees { (a : Assignment) → HasFiles (files_of self.new) a ↔ HasFiles (files_of self.old) a × ReadAgrees a stamp.now.number at into.new result }
+        ensures agrees { (a : Assignment) →
+            HasFiles (files_of self.new) a
+            ↔ HasFiles (files_of self.old) a × ReadAgrees a stamp.now.number at into.new result }
         ensures serves { (s : Stamp) → Serves (files_of self.old) s → Serves (files_of self.new) s }
         ensures works { (n : ℕ) → Unit {0} → Unit {0} }
         ensures in_order { Unit {0} → Serves (files_of self.old) stamp.now → IsDeviceErr result → ⊥ }
@@ -212,7 +235,8 @@ impl Hand for MemHand {
         ensures counted { failures_of self.old ≤ failures_of self.new }
         ensures cause { IfErr result (λ e. FaultCause (failures_of self.old) (failures_of self.new) e) }
         ensures same { files_of self.new ≡ files_of self.old }
-        ensures exact { IsErrOf result HandFault.Device ↔ ((b : List ℕ) → IsKept (files_of self.old) stamp.now.number b → length b < stamp.now.len) }
+        ensures exact { IsErrOf result HandFault.Device
+            ↔ ((b : List ℕ) → IsKept (files_of self.old) stamp.now.number b → length b < stamp.now.len) }
         ensures fault { IfErr result (λ e. e ≡ HandFault.Device) }
         ensures failures { failures_of self.new ≡ failures_after (failures_of self.old) result }
     {
@@ -228,7 +252,8 @@ impl Hand for MemHand {
         ensures others { (n : ℕ) (b : List ℕ) → IsOpen (files_of self.old) n b → IsOpen (files_of self.new) n b }
         ensures earlier { (n : ℕ) (b : List ℕ) → IsOpen (files_of self.new) n b → IsOpen (files_of self.old) n b }
         ensures agrees { (a : Assignment) → HasFiles (files_of self.new) a ↔ HasFiles (files_of self.old) a }
-        ensures serves { (s : Stamp) → s.number ≢ stamp.now.number → Serves (files_of self.old) s → Serves (files_of self.new) s }
+        ensures serves { (s : Stamp) → s.number ≢ stamp.now.number → Serves (files_of self.old) s →
+            Serves (files_of self.new) s }
         ensures works { (n : ℕ) → Unit {0} → Unit {0} }
         ensures in_order { Unit {0} → Serves (files_of self.old) stamp.now → IsDeviceErr result → ⊥ }
         ensures fails { ⊥ → IsDeviceErr result }
@@ -237,9 +262,11 @@ impl Hand for MemHand {
         ensures counted { failures_of self.old ≤ failures_of self.new }
         ensures cause { IfErr result (λ e. FaultCause (failures_of self.old) (failures_of self.new) e) }
         ensures length { length (files_of self.new) ≡ length (files_of self.old) }
-        ensures retires { OnOk result ((b : List ℕ) → IsKept (files_of self.old) stamp.now.number b → Becomes (files_of self.old) (files_of self.new) stamp.now.number Retired b) }
+        ensures retires { OnOk result ((b : List ℕ) → IsKept (files_of self.old) stamp.now.number b →
+            Becomes (files_of self.old) (files_of self.new) stamp.now.number Retired b) }
         ensures same { OnErr result (files_of self.new ≡ files_of self.old) }
-        ensures exact { IsErrOf result HandFault.Device ↔ ((b : List ℕ) → IsKept (files_of self.old) stamp.now.number b → length b < stamp.now.len) }
+        ensures exact { IsErrOf result HandFault.Device
+            ↔ ((b : List ℕ) → IsKept (files_of self.old) stamp.now.number b → length b < stamp.now.len) }
         ensures fault { IfErr result (λ e. e ≡ HandFault.Device) }
         ensures failures { failures_of self.new ≡ failures_after (failures_of self.old) result }
     {

@@ -27,7 +27,8 @@ pub record IsSound (o : ObjectForm) (e : Entry) : Type 0 where
 
 -- no node before that of the entry separates its operations
 abbrev pub IsOfFirst : ObjectForm → Entry → Type 0
-IsOfFirst o e = (path node : ℕ) → SeparatedBy o path node e.first e.second → (e.path < path) ⊎ ((e.path ≡ path) × (e.node ≤ node))
+IsOfFirst o e =
+    (path node : ℕ) → SeparatedBy o path node e.first e.second → (e.path < path) ⊎ ((e.path ≡ path) × (e.node ≤ node))
 
 -- The entries are the pairs of operations that conflict, in order, one each, and each entry's node separates its pair.
 pub record IsCertificate (o : ObjectForm) (entries : List Entry) : Type 0 where

@@ -11,4 +11,5 @@ CertifiedIsExclusive = (o : ObjectForm) (entries : List Entry) → IsCertificate
 
 -- Two certificates of one object, each entry with the first path and in it the first node that separates, are the same.
 abbrev pub OneFirstCertificate : Type 0
-OneFirstCertificate = (o : ObjectForm) (es fs : List Entry) → IsFirstCertificate o es → IsFirstCertificate o fs → es ≡ fs
+OneFirstCertificate =
+    (o : ObjectForm) (es fs : List Entry) → IsFirstCertificate o es → IsFirstCertificate o fs → es ≡ fs

@@ -7,7 +7,9 @@ use Rattle.exclude_core.specs.Separates.{Separates}
 
 -- the operations of these numbers conflict at this part
 abbrev pub ConflictsAt : ObjectForm → ℕ → ℕ → ℕ → Type 0
-ConflictsAt o i j p = (a : OperationForm) × (b : OperationForm) × (slice_get o.operations i ≡ Some a) × (slice_get o.operations j ≡ Some b) × ConflictAt a.statements b.statements p
+ConflictsAt o i j p =
+    (a : OperationForm) × (b : OperationForm) × (slice_get o.operations i ≡ Some a)
+    × (slice_get o.operations j ≡ Some b) × ConflictAt a.statements b.statements p
 
 -- they conflict at some part
 abbrev pub Conflicts : ObjectForm → ℕ → ℕ → Type 0
@@ -15,13 +17,15 @@ Conflicts o i j = (p : ℕ) × ConflictsAt o i j p
 
 -- this node of this path, paths counted from 1, separates the operations of these numbers
 abbrev pub SeparatedBy : ObjectForm → ℕ → ℕ → ℕ → ℕ → Type 0
-SeparatedBy o path node i j = (k : ℕ) × (e : Path) × (path ≡ k + 1) × (slice_get o.paths k ≡ Some e) × Separates e node i j
+SeparatedBy o path node i j =
+    (k : ℕ) × (e : Path) × (path ≡ k + 1) × (slice_get o.paths k ≡ Some e) × Separates e node i j
 
 -- some node of some path separates them
 abbrev pub AreSeparated : ObjectForm → ℕ → ℕ → Type 0
 AreSeparated o i j = (path : ℕ) × (node : ℕ) × SeparatedBy o path node i j
 
--- An object is exclusive where each two operations that conflict, an operation and itself included, are separated by a node of one of its paths.
+-- An object is exclusive where each two operations that conflict, an operation and itself included, are separated by a
+-- node of one of its paths.
 abbrev pub IsExclusive : ObjectForm → Type 0
 IsExclusive o = (i j : ℕ) → Conflicts o i j → AreSeparated o i j
 

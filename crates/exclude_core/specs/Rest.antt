@@ -16,7 +16,8 @@ pub record IsEntryFrom (o : ObjectForm) (Fits : Entry → Type 0) (i j : ℕ) (e
   pub conflict : Conflicts o e.first e.second
   pub fits : Fits e
 
--- The entries are the pairs of operations that conflict, from the pair i, j on, in order, one each, and the node of each fits.
+-- The entries are the pairs of operations that conflict, from the pair i, j on, in order, one each, and
+-- the node of each fits.
 pub record IsRest (o : ObjectForm) (Fits : Entry → Type 0) (i j : ℕ) (entries : List Entry) : Type 0 where
   pub rising : AreRising entries
   pub each : Each (IsEntryFrom o Fits i j) entries
@@ -34,7 +35,8 @@ IsRestOf o i j entries = IsRest o (NodeSeparates o) i j entries
 abbrev pub NodeIsFirst : ObjectForm → Entry → Type 0
 NodeIsFirst o e = NodeSeparates o e × IsOfFirst o e
 
--- These are the entries of a first certificate up to the pair i, j: with those from there on they are a whole one, and each two operations that conflict before it are separated.
+-- These are the entries of a first certificate up to the pair i, j: with those from there on they are a whole one, and
+-- each two operations that conflict before it are separated.
 pub record IsCertified (o : ObjectForm) (i j : ℕ) (entries : List Entry) : Type 0 where
   pub whole : (more : List Entry) → IsRest o (NodeIsFirst o) i j more → IsRest o (NodeIsFirst o) 0 0 (entries ++ more)
   pub separated : (a b : ℕ) → a ≤ b → PairBefore a b i j → Conflicts o a b → AreSeparated o a b

@@ -56,5 +56,7 @@ abbrev mutual
   -- whether the node of this number of some members separates two operations, where the first node of the first one has
   -- number 0
   pub one_separates_at : Paths → ℕ → ℕ → ℕ → Bool
-  one_separates_at (two e f) k a b = if nat_lt k (node_count e) then separates_at e k a b else separates_at f (k - node_count e) a b
-  one_separates_at (more e rest) k a b = if nat_lt k (node_count e) then separates_at e k a b else one_separates_at rest (k - node_count e) a b
+  one_separates_at (two e f) k a b =
+      if nat_lt k (node_count e) then separates_at e k a b else separates_at f (k - node_count e) a b
+  one_separates_at (more e rest) k a b =
+      if nat_lt k (node_count e) then separates_at e k a b else one_separates_at rest (k - node_count e) a b

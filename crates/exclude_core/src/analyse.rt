@@ -37,7 +37,8 @@ impl Model for Accepted {
 
     ghost view = { λ a. a.object };
 
-    ghost invariant = { λ a. IsExclusive (object_of a.object) × IsFirstCertificate (object_of a.object) a.certificate.entries.items };
+    ghost invariant = { λ a. IsExclusive (object_of a.object)
+        × IsFirstCertificate (object_of a.object) a.certificate.entries.items };
 }
 
 impl Accepted {
@@ -133,7 +134,8 @@ fn certify_pair(
 ) -> Result<(), Refusal>
     requires in_order { first ≤ second }
     requires so_far { IsCertified (object_of object.now) first second entries.old.items }
-    ensures { MatchResult result (λ _. IsCertified (object_of object.now) first (second + 1) entries.new.items) (λ why. IsWhy (object_of object.now) why) }
+    ensures { MatchResult result (λ _. IsCertified (object_of object.now) first (second + 1) entries.new.items)
+        (λ why. IsWhy (object_of object.now) why) }
 {
     match conflict_of(object, first, second) {
         None => Ok(()),
@@ -155,7 +157,8 @@ fn certify_pair(
 // Adds the entries of an operation with itself and with those after it.
 fn certify_row(object: &Object, first: usize, entries: &mut Vec<Entry>) -> Result<(), Refusal>
     requires so_far { IsCertified (object_of object.now) first first entries.old.items }
-    ensures { MatchResult result (λ _. IsCertified (object_of object.now) (first + 1) (first + 1) entries.new.items) (λ why. IsWhy (object_of object.now) why) }
+    ensures { MatchResult result (λ _. IsCertified (object_of object.now) (first + 1) (first + 1) entries.new.items)
+        (λ why. IsWhy (object_of object.now) why) }
 {
     for second in first..object.operations.len() {
         certify_pair(object, first, second, entries)?;
@@ -165,7 +168,8 @@ fn certify_row(object: &Object, first: usize, entries: &mut Vec<Entry>) -> Resul
 
 // The certificate of an object.
 fn certify(alloc: Global, object: &Object) -> Result<Certificate, Refusal>
-    ensures { MatchResult result (λ c. IsExclusive (object_of object.now) × IsFirstCertificate (object_of object.now) c.entries.items) (λ why. IsWhy (object_of object.now) why) }
+    ensures { MatchResult result (λ c. IsExclusive (object_of object.now)
+        × IsFirstCertificate (object_of object.now) c.entries.items) (λ why. IsWhy (object_of object.now) why) }
 {
     let mut entries = Vec::new(alloc);
     for first in 0..object.operations.len() {

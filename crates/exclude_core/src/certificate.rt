@@ -71,7 +71,8 @@ fn behind_entry<'a>(
 
 // Whether an entry is of these two operations and its node separates them.
 fn is_entry_of(object: &Object, first: usize, second: usize, entry: &Entry) -> bool
-    ensures { IsTrue result ↔ ((entry.now.first ≡ first) × (entry.now.second ≡ second) × NodeSeparates (object_of object.now) entry.now) }
+    ensures { IsTrue result ↔ ((entry.now.first ≡ first) × (entry.now.second ≡ second)
+        × NodeSeparates (object_of object.now) entry.now) }
 {
     entry.first == first
         && entry.second == second

@@ -23,14 +23,16 @@ fn contested(first: Footprint, second: Footprint) -> u16
 
 // The parts at which two operations conflict.
 fn conflict(first: &Operation, second: &Operation) -> u16
-    ensures { (p : ℕ) → (bit_at result p ≡ 1) ↔ ConflictAt (body_of first.now).statements (body_of second.now).statements p }
+    ensures { (p : ℕ) → (bit_at result p ≡ 1)
+        ↔ ConflictAt (body_of first.now).statements (body_of second.now).statements p }
 {
     contested(footprint(first), footprint(second))
 }
 
 // The first of these parts.
 fn first_part(parts: u16) -> Option<usize>
-    ensures { MatchOption result ((p : ℕ) → bit_at parts p ≡ 1 → ⊥) (λ p. (bit_at parts p ≡ 1) × ((q : ℕ) → bit_at parts q ≡ 1 → p ≤ q)) }
+    ensures { MatchOption result ((p : ℕ) → bit_at parts p ≡ 1 →
+        ⊥) (λ p. (bit_at parts p ≡ 1) × ((q : ℕ) → bit_at parts q ≡ 1 → p ≤ q)) }
 {
     if parts == 0 {
         return None;
@@ -49,7 +51,8 @@ fn operation_at(object: &Object, number: usize) -> Option<&Operation>
 /// The first part at which the operations of these numbers conflict.
 pub fn conflict_of(object: &Object, first: usize, second: usize) -> Option<usize>
     ensures { MatchOption result ((p : ℕ) → ConflictsAt (object_of object.now) first second p → ⊥)
-        (λ p. ConflictsAt (object_of object.now) first second p × ((q : ℕ) → ConflictsAt (object_of object.now) first second q → p ≤ q)) }
+        (λ p. ConflictsAt (object_of object.now) first second p
+        × ((q : ℕ) → ConflictsAt (object_of object.now) first second q → p ≤ q)) }
 {
     let a = operation_at(object, first)?;
     let b = operation_at(object, second)?;

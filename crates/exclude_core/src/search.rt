@@ -25,7 +25,8 @@ pub struct Place {
 pub fn separation_of(object: &Object, first: usize, second: usize) -> Option<Place>
     ensures { MatchOption result (AreSeparated (object_of object.now) first second → ⊥)
         (λ at. SeparatedBy (object_of object.now) at.path at.node first second
-        × ((path node : ℕ) → SeparatedBy (object_of object.now) path node first second → (at.path < path) ⊎ ((at.path ≡ path) × (at.node ≤ node)))) }
+        × ((path node : ℕ) → SeparatedBy (object_of object.now) path node first second →
+        (at.path < path) ⊎ ((at.path ≡ path) × (at.node ≤ node)))) }
 {
     for (place, path) in object.paths.iter().enumerate() {
         if let Some(node) = separation_in(path, first, second) {

@@ -4,7 +4,8 @@ ghost use Rattle.std.specs.Prelude.{◌≡◌, ◌<◌, ◌+◌, ◌^◌, ◌==�
 ghost use Rattle.path_tree.specs.Path.{path_of, paths_of};
 ghost use Rattle.path_tree.specs.Names.{names, some_names};
 ghost use Rattle.path_tree.specs.Limits.{node_count, count_of_all};
-ghost use Rattle.exclude_core.specs.Search.{meets, some_meets, separation, separation_among, further as further_on, first_of};
+ghost use Rattle.exclude_core.specs.Search.{meets, some_meets, separation, separation_among, further as further_on};
+ghost use Rattle.exclude_core.specs.Search.{first_of};
 
 use path_tree::node::{Members, Node};
 
@@ -68,7 +69,8 @@ fn beside(here: Found, there: Found) -> Found
     requires there_within { IfSome there.at (λ k. k < there.nodes) }
     ensures first { result.first ≡ (here.first || there.first) }
     ensures second { result.second ≡ (here.second || there.second) }
-    ensures meet { result.meet ≡ (here.meet || (there.meet || ((here.first && there.second) || (here.second && there.first)))) }
+    ensures meet { result.meet ≡ (here.meet
+        || (there.meet || ((here.first && there.second) || (here.second && there.first)))) }
     ensures at { result.at ≡ first_of here.at (further_on here.nodes there.at) }
     ensures nodes { result.nodes ≡ here.nodes + there.nodes }
     ensures within { IfSome result.at (λ k. k < result.nodes) }

@@ -3,7 +3,8 @@
 use note_core::tokens::{begins, find_name, first_tokens, is_symbol, tokens_from};
 use path_tree::token::{Kind, Symbol, Token};
 
-/// Why a path that names two operations keeps them not apart, with the number of the token in the path where that stands.
+/// Why a path that names two operations keeps them not apart, with the number of the token in the
+/// path where that stands.
 #[derive(Clone, Copy)]
 pub(crate) enum Around {
     /// No bound stands around both.

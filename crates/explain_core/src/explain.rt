@@ -167,11 +167,12 @@ fn push_source(
     }
 }
 
-/// What a person is told of a source in this file: of its first fault, or of each of its objects that is refused, in order, or
-/// of the one of a name. It is empty where there is nothing to tell.
+/// What a person is told of a source in this file: of its first fault, or of each of its objects that is refused, in
+/// order, or of the one of a name. It is empty where there is nothing to tell.
 ///
-/// Each note has the file, and line and column of a place as `place_of` counts them, a sentence, and the line of the source with
-/// a caret below; each byte that is no character of ASCII is shown as `?`, and a long line by a piece of it.
+/// Each note has the file, and line and column of a place as `place_of` counts them, a sentence, and the line of the
+/// source with a caret below; each byte that is no character of ASCII is shown as `?`, and a long
+/// line by a piece of it.
 pub fn explain(
     alloc: Global,
     file: &[u8],

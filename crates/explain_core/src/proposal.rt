@@ -133,8 +133,8 @@ fn header_end(object: &[Token]) -> &[Token] {
     tokens_from(object, parts.min(operations).saturating_sub(1))
 }
 
-/// A path with which the object of this number is accepted, where it stands at this byte: it was put there, and the source was
-/// read and analysed again. `None` where none was found.
+/// A path with which the object of this number is accepted, where it stands at this byte: it was put there, and the
+/// source was read and analysed again. `None` where none was found.
 pub(crate) fn proposal(
     alloc: Global,
     source: &[u8],

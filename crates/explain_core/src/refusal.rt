@@ -169,7 +169,8 @@ fn push_around(
             let sentence = if is_same {
                 "`%` stands in this burst, and what stands in one burst may run together, inside of a bound of 1 too"
             } else {
-                "`%` and `$` stand in this burst, and what stands in one burst may run together, inside of a bound of 1 too"
+                "`%` and `$` stand in this burst, and what stands in one burst may run together, inside of a bound of \
+                    1 too"
             };
             push_at(out, page, path, number, sentence, case.names)
         }

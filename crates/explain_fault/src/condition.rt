@@ -171,7 +171,8 @@ pub(crate) fn in_condition(before: &[Token], here: &[Token]) -> Option<Said> {
     if begins(here, Symbol::Then) && ends_value(before) && !is_open(plain) {
         return Some(say(
             "before `then` nothing is compared",
-            "a condition is `x = y`, `x <> y`, `x < y`, `x <= y`, `x > y`, `x >= y`, `has(t, k)` or `not` before one of these",
+            "a condition is `x = y`, `x <> y`, `x < y`, `x <= y`, `x > y`, `x >= y`, `has(t, k)` or `not` before one \
+                of these",
         ));
     }
     None

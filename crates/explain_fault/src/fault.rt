@@ -35,7 +35,8 @@ fn full_stop(before: &[Token], behind: &[u8]) -> Said {
         [b'A'..=b'Z', ..] | [b'a'..=b'z', ..] => if is_at_name(last(before)) {
             say(
                 "`.` is not a sign of the language",
-                "nothing is reached through another object: an operation has the parts of its own object, by their names",
+                "nothing is reached through another object: an operation has the parts of its own object, by their \
+                    names",
             )
         } else {
             end_of_object()
@@ -194,7 +195,8 @@ fn in_path(fault: PathFault, before: &[Token], here: &[Token]) -> Said {
         ),
         PathFault::TooMany | PathFault::Memory => say(
             "a path of this source has more than 256 nodes",
-            "names, bounds, bursts, and lists and sequences of two members or more are nodes; cut the path into several, which hold together",
+            "names, bounds, bursts, and lists and sequences of two members or more are nodes; cut the path into \
+                several, which hold together",
         ),
     }
 }
@@ -209,7 +211,8 @@ fn repeated(before: &[Token]) -> Said {
     } else {
         say(
             "`%` is declared already",
-            "constants, parts and operations of an object have different names, and a parameter has another name than these; case is ignored",
+            "constants, parts and operations of an object have different names, and a parameter has another name than \
+                these; case is ignored",
         )
     }
 }

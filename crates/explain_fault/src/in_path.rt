@@ -9,7 +9,8 @@ use path_tree::token::{Symbol, Token};
 
 // What a path is made of.
 const MADE_OF: &str =
-    "a path is made of names, `a, b`, `a; b`, bounds `3:( .. )`, bursts `[ .. ]` and parentheses, and is closed by `end`";
+    "a path is made of names, `a, b`, `a; b`, bounds `3:( .. )`, bursts `[ .. ]` and parentheses, and is closed by \
+        `end`";
 
 /// Whether these tokens end in a path: the last `path` among them has no `end`.
 pub(crate) fn ends_in_path(before: &[Token]) -> bool {
@@ -26,7 +27,8 @@ pub(crate) fn bad_byte_in_path(byte: u8) -> Said {
         ),
         b'*' => say(
             "`%` cannot stand in a path",
-            "a path repeats without a sign: each of its names may run again and again, as far as its bounds and its `;` let it",
+            "a path repeats without a sign: each of its names may run again and again, as far as its bounds and its \
+                `;` let it",
         ),
         _ => say("`%` cannot stand in a path", MADE_OF),
     }

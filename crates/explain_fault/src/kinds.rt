@@ -126,7 +126,8 @@ pub(crate) fn in_kind(before: &[Token], here: &[Token]) -> Option<Said> {
     if is_at_elem(here) && ends(before, Symbol::Colon) {
         return Some(say(
             "`%` alone is not a kind of a part",
-            "a part is an array, a queue or a table; one value is an array of one element, as in `v : array [1] of integer;`",
+            "a part is an array, a queue or a table; one value is an array of one element, as in `v : array [1] of \
+                integer;`",
         ));
     }
     if is_at_kind(here) && ends(before, Symbol::Colon) {

@@ -1,8 +1,8 @@
-//! What a person is told who asks why a source is not taken: where its fault stands, what is wrong in a sentence, and what would
-//! help.
+//! What a person is told who asks why a source is not taken: where its fault stands, what is wrong in a sentence, and
+//! what would help.
 //!
-//! `fault::push_fault` gives the text. That it is safe to make, and ends, is proved; what it says is tested by the cases of
-//! `cases/check`.
+//! `fault::push_fault` gives the text. That it is safe to make, and ends, is proved; what it says is tested by the
+//! cases of `cases/check`.
 #![tactic(auto)]
 
 mod condition;

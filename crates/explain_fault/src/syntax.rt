@@ -77,7 +77,8 @@ fn by_sign(before: &[Token], here: &[Token]) -> Said {
     if begins(here, Symbol::Assign) {
         return say(
             "`:=` cannot stand here",
-            "`:=` puts a value into the element of an array or into a function's own name; `=` compares, and gives a constant its value",
+            "`:=` puts a value into the element of an array or into a function's own name; `=` compares, and gives a \
+                constant its value",
         );
     }
     if begins(here, Symbol::Equal) {
@@ -167,7 +168,8 @@ fn by_semicolon(before: &[Token], here: &[Token]) -> Said {
     if ends_value(before) && opens_statement(here) {
         return say(
             "between `$` and `%` something is missing",
-            "a `;` closes a declaration and stands between two statements, and after the condition of an `if` comes `then`",
+            "a `;` closes a declaration and stands between two statements, and after the condition of an `if` comes \
+                `then`",
         );
     }
     match in_kind(before, here) {
@@ -187,7 +189,8 @@ fn by_name_before(before: &[Token], here: &[Token]) -> Said {
     if is_at_name(last(before)) {
         return say(
             "`%` cannot stand here, after `$`",
-            "a statement that begins with a name puts a value in its place: `a[i] := e`, and in the function f `f := e`",
+            "a statement that begins with a name puts a value in its place: `a[i] := e`, and in the function f `f := \
+                e`",
         );
     }
     say(

@@ -17,7 +17,8 @@ fn asked_by_word(before: &[Token]) -> Option<Said> {
     {
         return Some(say(
             "`%` is not a queue",
-            "`append`, `take` and `first` are of queues; an array has `a[i]`, a table `lookup(t, k)` and `store(t, k, e)`",
+            "`append`, `take` and `first` are of queues; an array has `a[i]`, a table `lookup(t, k)` and `store(t, k, \
+                e)`",
         ));
     }
     if ends_before_last(before, Symbol::Store)
@@ -27,7 +28,8 @@ fn asked_by_word(before: &[Token]) -> Option<Said> {
     {
         return Some(say(
             "`%` is not a table",
-            "`store`, `erase`, `lookup` and `has` are of tables; an array has `a[i]`, a queue `first(q)` and `append(q, e)`",
+            "`store`, `erase`, `lookup` and `has` are of tables; an array has `a[i]`, a queue `first(q)` and \
+                `append(q, e)`",
         ));
     }
     if ends_before_last(before, Symbol::Count) {
@@ -148,11 +150,13 @@ fn wrong_sort(before: &[Token], here: &[Token]) -> Said {
     match sort_here(before, here) {
         Some(Sort::Integer) => say(
             "an integer stands here where a text is due",
-            "keys are texts; an element has the kind of its part, a reply that of its function; `=` and `<>` compare two of one kind",
+            "keys are texts; an element has the kind of its part, a reply that of its function; `=` and `<>` compare \
+                two of one kind",
         ),
         Some(Sort::Text) => say(
             "a text stands here where an integer is due",
-            "`+`, `-`, `<`, `<=`, `>`, `>=` and an index take integers; an element has the kind of its part, a reply that of its function",
+            "`+`, `-`, `<`, `<=`, `>`, `>=` and an index take integers; an element has the kind of its part, a reply \
+                that of its function",
         ),
         None => say(
             "this expression is of the wrong kind",
@@ -207,13 +211,15 @@ fn unknown_name(here: &[Token]) -> Said {
     if begins(next, Symbol::OpenParen) {
         return say(
             "`%` is not declared above",
-            "operations do not call each other; in a body there are `append`, `take`, `store`, `erase`, `refuse`, `first`, `lookup`, `count` and `has`",
+            "operations do not call each other; in a body there are `append`, `take`, `store`, `erase`, `refuse`, \
+                `first`, `lookup`, `count` and `has`",
         );
     }
     if begins(next, Symbol::Assign) {
         return say(
             "`%` is not declared above",
-            "there are no single variables: what stays is a part, as in `v : array [1] of integer;`, set by `v[0] := e`",
+            "there are no single variables: what stays is a part, as in `v : array [1] of integer;`, set by `v[0] := \
+                e`",
         );
     }
     say(
@@ -261,7 +267,8 @@ fn past_limit_of_names(before: &[Token]) -> Said {
     if begins(from_last(object, Symbol::Var), Symbol::Var) {
         return say(
             "`%` is the 17th part of the object",
-            "an object has at most 16 parts; several values can be the elements of one array, or stand under keys of one table",
+            "an object has at most 16 parts; several values can be the elements of one array, or stand under keys of \
+                one table",
         );
     }
     say(

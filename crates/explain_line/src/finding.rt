@@ -100,7 +100,8 @@ fn at_word(
 pub fn no_word() -> Said {
     say(
         "this is not a text",
-        "a text stands in apostrophes, as in 'tea', has at most 1000 bytes of 32 to 126, and a space comes after it; in it an apostrophe is written twice",
+        "a text stands in apostrophes, as in 'tea', has at most 1000 bytes of 32 to 126, and a space comes after it; \
+            in it an apostrophe is written twice",
     )
 }
 

@@ -143,7 +143,8 @@ fn of_first_word(words: &LineWords<'_>, object: &Object) -> Said {
     }
     say(
         "no line of a script begins with `%`",
-        "the lines are `call sK OP ARG ..`, `call sK #J OP ARG ..`, `step N ok`, `step N fail`, `steps N`, `finish N`, `cancel N`, `drop sK`, `resume sK`, `show` and `trace`",
+        "the lines are `call sK OP ARG ..`, `call sK #J OP ARG ..`, `step N ok`, `step N fail`, `steps N`, `finish N`, \
+            `cancel N`, `drop sK`, `resume sK`, `show` and `trace`",
     )
 }
 

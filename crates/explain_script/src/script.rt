@@ -79,8 +79,8 @@ fn push_first(
     Ok(())
 }
 
-/// What a person is told of the line that ended a script, or of a first line that names no object of the source. It is empty
-/// where the script did not end so, and where the source, or the object, is refused: `explain` tells why.
+/// What a person is told of the line that ended a script, or of a first line that names no object of the source. It is
+/// empty where the script did not end so, and where the source, or the object, is refused: `explain` tells why.
 pub fn explain_script(
     alloc: Global,
     files: Files<'_>,

@@ -242,7 +242,8 @@ fn hear(
     Ok(())
 }
 
-/// What the lines of a text before the one of this number tell, and where that one stands: at the end where the text has none.
+/// What the lines of a text before the one of this number tell, and where that one stands: at the end
+/// where the text has none.
 pub(crate) fn story_before(
     alloc: Global,
     object: &Object,

@@ -77,8 +77,8 @@ fn push_verdict(
     }
 }
 
-/// What a person is told of the first faulty line of a trace, or of a first line that names no object of the source. It is
-/// empty where the trace is legal, and where the source, or the object, is refused: `explain` tells why.
+/// What a person is told of the first faulty line of a trace, or of a first line that names no object of the source. It
+/// is empty where the trace is legal, and where the source, or the object, is refused: `explain` tells why.
 pub fn explain_trace(
     alloc: Global,
     files: Files<'_>,

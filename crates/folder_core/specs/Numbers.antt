@@ -8,4 +8,5 @@ value_name n = decimal n ++ codes ".val"
 -- it is the first number from 1 on that is above all of these
 abbrev pub IsFirstAbove : List ℕ → ℕ → Type 0
 IsFirstAbove numbers first =
-    (1 ≤ first) × All (λ n. n < first) numbers × ((other : ℕ) → 1 ≤ other → All (λ n. n < other) numbers → first ≤ other)
+    (1 ≤ first) × All (λ n. n < first) numbers
+    × ((other : ℕ) → 1 ≤ other → All (λ n. n < other) numbers → first ≤ other)

@@ -1,5 +1,5 @@
-//! The value files of a folder: which names they have, the numbers that a server begins with, and where those go that an earlier
-//! run left.
+//! The value files of a folder: which names they have, the numbers that a server begins with, and where those go that
+//! an earlier run left.
 
 ghost use Rattle.std.specs.Prelude.{◌≡◌, ◌↔◌, ◌+◌, ◌<◌, ◌≤◌, ◌^◌, ℕ, IsTrue, IfSome, IfNone, All, decimal};
 ghost use Rattle.folder_core.specs.Numbers.{value_name, IsFirstAbove};
@@ -45,7 +45,8 @@ fn number_of(digits: &str) -> Option<u64>
     }
 }
 
-/// The number of a file that a run may have made, by its name: N of `N.val`, in decimal without leading zeros and below 2^64.
+/// The number of a file that a run may have made, by its name: N of `N.val`, in decimal without leading
+/// zeros and below 2^64.
 /// `None` for any other name.
 pub fn file_number(name: &str) -> Option<u64>
     ensures some { IfSome result (λ n. (n < 2 ^ 64) × (name.now ≡ value_name n)) }
@@ -57,8 +58,8 @@ pub fn file_number(name: &str) -> Option<u64>
     }
 }
 
-/// The number of a value file that an earlier run left, by its name: N of `N.val`, in decimal without leading zeros and below
-/// 2^63. `None` for any other name.
+/// The number of a value file that an earlier run left, by its name: N of `N.val`, in decimal without leading zeros and
+/// below 2^63. `None` for any other name.
 pub fn value_number(name: &str) -> Option<u64>
     ensures some { IfSome result (λ n. (n < 2 ^ 63) × (name.now ≡ value_name n)) }
     ensures none { IfNone result ((n : ℕ) → n < 2 ^ 63 → name.now ≡ value_name n → ⊥) }
@@ -169,9 +170,9 @@ fn tell_values<E: Write>(
     Ok(())
 }
 
-/// Moves the value files of these numbers, which a run left that did not save all, from a folder into a folder of their own in
-/// `FOLDER/left`, so that none is written over, and tells `error` where they are: `moved to left/K: N.val ..`, or `not
-/// moved: N.val ..` of those that stay where they were.
+/// Moves the value files of these numbers, which a run left that did not save all, from a folder into a folder of their
+/// own in `FOLDER/left`, so that none is written over, and tells `error` where they are: `moved to left/K: N.val ..`,
+/// or `not moved: N.val ..` of those that stay where they were.
 ///
 /// The error is that memory was refused for these lines; nothing was moved then.
 pub fn move_left<R: Files, E: Write>(
@@ -206,8 +207,8 @@ pub fn move_left<R: Files, E: Write>(
     tell_values(&mut stays, fronts.1, error)
 }
 
-/// Removes the value files of a folder whose numbers are from the first one up to the last one, which is left. One that can't be
-/// removed is left too.
+/// Removes the value files of a folder whose numbers are from the first one up to the last one, which is left. One that
+/// can't be removed is left too.
 ///
 /// The error is that of reading the folder.
 pub fn remove_between<R: Files + AllocGlobal + Clone + Drop>(

@@ -1,5 +1,6 @@
 -- What is assumed of devices: what was written is what is read.
-use Rattle.std.specs.Prelude.{◌≡◌, ℕ, ◌+◌, ◌-◌, ◌^◌, ◌<◌, ◌≤◌, ◌⊎◌, List, length, take, drop, Option, Some, None, Result, Ok, Err, slice_get}
+use Rattle.std.specs.Prelude.{◌≡◌, ℕ, ◌+◌, ◌-◌, ◌^◌, ◌<◌, ◌≤◌, ◌⊎◌, List, length, take, drop, Option, Some, None}
+use Rattle.std.specs.Prelude.{Result, Ok, Err, slice_get}
 use Rattle.std.specs.Ordering.{nat_cmp}
 use Rattle.std.specs.FinMap.{FinMap, get}
 use Rattle.hand_core.specs.declared.hand.HandFault.{HandFault}
@@ -16,7 +17,8 @@ pub record Holds (a : Assignment) (stamp : Stamp) (bytes : List ℕ) : Type 0 wh
   pub assigned : get a stamp.number ≡ Some bytes
   pub len : stamp.len ≡ length bytes
 
--- A seal agrees with an assignment where its stamp's number is assigned exactly the appended bytes, and its length is theirs. A failed one tells nothing.
+-- A seal agrees with an assignment where its stamp's number is assigned exactly the appended bytes, and its length is
+-- theirs. A failed one tells nothing.
 abbrev pub SealAgrees : Assignment → List ℕ → Result Stamp (Pen × HandFault) → Type 0
 SealAgrees a bytes (Ok stamp) = Holds a stamp bytes
 SealAgrees a bytes (Err e) = Unit {0}

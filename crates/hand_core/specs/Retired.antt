@@ -8,13 +8,16 @@ use Rattle.hand_core.specs.Made.{Made, retires}
 abbrev pub Left : Type 0
 Left = Stamp × HandFault
 
--- Each of these files was retired once, in order, by calls from this hand on: those whose retire failed are left, in order.
+-- Each of these files was retired once, in order, by calls from this hand on: those whose retire
+-- failed are left, in order.
 pub data RetiresAll {H : Type 0} (makes : H → Made → H → Type 0) (old : H) : List Stamp → List Left → H → Type 0 where
   none : RetiresAll makes old [] [] old
   went : (stamps : List Stamp) (left : List Left) (hand next : H) (stamp : Stamp)
-      → RetiresAll makes old stamps left hand → makes hand (retires stamp (Ok tt)) next → RetiresAll makes old (stamps ++ stamp ∷ []) left next
+      → RetiresAll makes old stamps left hand → makes hand (retires stamp (Ok tt)) next →
+      RetiresAll makes old (stamps ++ stamp ∷ []) left next
   failed : (stamps : List Stamp) (left : List Left) (hand next : H) (stamp : Stamp) (fault : HandFault)
-      → RetiresAll makes old stamps left hand → makes hand (retires stamp (Err fault)) next → RetiresAll makes old (stamps ++ stamp ∷ []) (left ++ (stamp, fault) ∷ []) next
+      → RetiresAll makes old stamps left hand → makes hand (retires stamp (Err fault)) next →
+      RetiresAll makes old (stamps ++ stamp ∷ []) (left ++ (stamp, fault) ∷ []) next
 
 -- the files that are left
 abbrev pub files_left : List Left → List Stamp

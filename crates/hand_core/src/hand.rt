@@ -59,9 +59,11 @@ pub struct Stamp {
 /// agrees with the hand after a call exactly where it agreed before and agrees with that call. They say too
 /// when a device is in order, so that a call does not fail for it, and what it can read then.
 pub trait Hand {
-    ghost use Rattle.std.specs.Prelude.{◌≡◌, ◌≢◌, ◌↔◌, ◌⊎◌, ◌+◌, ◌<◌, ◌≤◌, ◌++◌, [], List, ℕ, length, IfOk, IsOkAnd, OnOk, OnErr, IfErr};
+    ghost use Rattle.std.specs.Prelude.{◌≡◌, ◌≢◌, ◌↔◌, ◌⊎◌, ◌+◌, ◌<◌, ◌≤◌, ◌++◌, [], List, ℕ, length, IfOk, IsOkAnd};
+    ghost use Rattle.std.specs.Prelude.{OnOk, OnErr, IfErr};
     ghost use Rattle.hand_core.specs.Device.{Assignment, SealAgrees, ReadAgrees, FaultCause, IsFree};
-    ghost use Rattle.hand_core.specs.Made.{Made, creates, appends, seals, discards, reads, retires, IsDeviceErr, IsSealErr};
+    ghost use Rattle.hand_core.specs.Made.{Made, creates, appends, seals, discards, reads, retires, IsDeviceErr};
+    ghost use Rattle.hand_core.specs.Made.{IsSealErr};
     ghost use Rattle.hand_core.specs.declared.hand.Stamp.{Stamp};
 
     /// The assignments that agree with each call so far.
@@ -91,7 +93,8 @@ pub trait Hand {
         ensures pen { IfOk result (λ pen. pending self.new pen.number []) }
         ensures unused { IfOk result (λ pen. IsFree (agrees self.new) (pending self.old) pen.number) }
         ensures others { (n : ℕ) (b : List ℕ) → pending self.old n b → pending self.new n b }
-        ensures earlier { (n : ℕ) (b : List ℕ) → pending self.new n b → pending self.old n b ⊎ IsOkAnd result (λ pen. pen.number ≡ n) }
+        ensures earlier { (n : ℕ) (b : List ℕ) → pending self.new n b →
+            pending self.old n b ⊎ IsOkAnd result (λ pen. pen.number ≡ n) }
         ensures agrees { (a : Assignment) → agrees self.new a ↔ agrees self.old a }
         ensures serves { (s : Stamp) → serves self.old s → serves self.new s }
         ensures works { (n : ℕ) → works_for self.old (n + 1) → works_for self.new n }
@@ -105,13 +108,15 @@ pub trait Hand {
     /// Adds bytes to a file. A pen whose append failed can only be discarded.
     fn append(&mut self, pen: &mut Pen, bytes: &[u8]) -> Result<(), HandFault>
         ensures number { pen.new.number ≡ pen.old.number }
-        ensures pen { OnOk result ((b : List ℕ) → pending self.old pen.old.number b → pending self.new pen.old.number (b ++ bytes.now)) }
+        ensures pen { OnOk result ((b : List ℕ) → pending self.old pen.old.number b →
+            pending self.new pen.old.number (b ++ bytes.now)) }
         ensures others { (n : ℕ) (b : List ℕ) → n ≢ pen.old.number → pending self.old n b → pending self.new n b }
         ensures earlier { (n : ℕ) (b : List ℕ) → n ≢ pen.old.number → pending self.new n b → pending self.old n b }
         ensures agrees { (a : Assignment) → agrees self.new a ↔ agrees self.old a }
         ensures serves { (s : Stamp) → serves self.old s → serves self.new s }
         ensures works { (n : ℕ) → works_for self.old (n + 1) → works_for self.new n }
-        ensures in_order { works_for self.old 1 → (b : List ℕ) → pending self.old pen.old.number b → IsDeviceErr result → ⊥ }
+        ensures in_order { works_for self.old 1 → (b : List ℕ) → pending self.old pen.old.number b →
+            IsDeviceErr result → ⊥ }
         ensures fails { fails self.old → IsDeviceErr result }
         ensures makes { makes self.old (appends pen.old.number bytes.now result) self.new }
         ensures rises { failed self.old < failed self.new → IsDeviceErr result }
@@ -123,7 +128,8 @@ pub trait Hand {
         ensures number { IfErr result (λ e. e.0.number ≡ pen.number) }
         ensures others { (n : ℕ) (b : List ℕ) → n ≢ pen.number → pending self.old n b → pending self.new n b }
         ensures earlier { (n : ℕ) (b : List ℕ) → n ≢ pen.number → pending self.new n b → pending self.old n b }
-        ensures agrees { (b : List ℕ) → pending self.old pen.number b → (a : Assignment) → agrees self.new a ↔ agrees self.old a × SealAgrees a b result }
+        ensures agrees { (b : List ℕ) → pending self.old pen.number b → (a : Assignment) →
+            agrees self.new a ↔ agrees self.old a × SealAgrees a b result }
         ensures kept { (a : Assignment) → agrees self.new a → agrees self.old a }
         ensures failing { OnErr result ((a : Assignment) → agrees self.new a ↔ agrees self.old a) }
         ensures sealed { OnOk result (IsFree (agrees self.new) (pending self.new) pen.number) }
@@ -153,7 +159,8 @@ pub trait Hand {
         requires { at + length into.old ≤ stamp.now.len }
         ensures others { (n : ℕ) (b : List ℕ) → pending self.old n b → pending self.new n b }
         ensures earlier { (n : ℕ) (b : List ℕ) → pending self.new n b → pending self.old n b }
-        ensures agrees { (a : Assignment) → agrees self.new a ↔ agrees self.old a × ReadAgrees a stamp.now.number at into.new result }
+        ensures agrees { (a : Assignment) →
+            agrees self.new a ↔ agrees self.old a × ReadAgrees a stamp.now.number at into.new result }
         ensures serves { (s : Stamp) → serves self.old s → serves self.new s }
         ensures works { (n : ℕ) → works_for self.old (n + 1) → works_for self.new n }
         ensures in_order { works_for self.old 1 → serves self.old stamp.now → IsDeviceErr result → ⊥ }

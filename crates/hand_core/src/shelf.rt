@@ -20,16 +20,19 @@ pub trait Shelf {
 
     /// What was last stored under a name, or `None` where nothing was.
     fn load(&mut self, alloc: Global, name: &[u8]) -> Result<Option<Vec<u8>>, HandFault>
-        ensures agrees { (papers : Papers) → holds self.new papers ↔ holds self.old papers × LoadAgrees papers name.now result }
+        ensures agrees { (papers : Papers) →
+            holds self.new papers ↔ holds self.old papers × LoadAgrees papers name.now result }
         ensures counted { failed self.old ≤ failed self.new }
         ensures cause { IfErr result (λ e. FaultCause (failed self.old) (failed self.new) e) };
 
     /// Puts bytes under a name, in place of what was there. After a failure either may be there.
     fn store(&mut self, name: &[u8], bytes: &[u8]) -> Result<(), HandFault>
         // What it may hold has come of something that it may have held.
-        ensures agrees { (papers : Papers) → holds self.new papers → (before : Papers) × holds self.old before × StoreAgrees before name.now bytes.now result papers }
+        ensures agrees { (papers : Papers) → holds self.new papers →
+            (before : Papers) × holds self.old before × StoreAgrees before name.now bytes.now result papers }
         // Whatever it may have held has become something that it may hold.
-        ensures follows { (before : Papers) → holds self.old before → (papers : Papers) × holds self.new papers × StoreAgrees before name.now bytes.now result papers }
+        ensures follows { (before : Papers) → holds self.old before →
+            (papers : Papers) × holds self.new papers × StoreAgrees before name.now bytes.now result papers }
         ensures counted { failed self.old ≤ failed self.new }
         ensures cause { IfErr result (λ e. FaultCause (failed self.old) (failed self.new) e) };
 

@@ -11,10 +11,12 @@ use std::alloc::{AllocError, Global};
 ///
 /// The first call that fails gives the error; the file is given up then.
 pub fn put<H: Hand>(hand: &mut H, bytes: &[u8]) -> Result<Stamp, HandFault>
-    ensures ok { IfOk result (λ stamp. (a : Assignment) → H.agrees hand.new a ↔ H.agrees hand.old a × Holds a stamp bytes.now) }
+    ensures ok { IfOk result (λ stamp. (a : Assignment) →
+        H.agrees hand.new a ↔ H.agrees hand.old a × Holds a stamp bytes.now) }
     ensures err { OnErr result ((a : Assignment) → H.agrees hand.new a ↔ H.agrees hand.old a) }
     // It leaves no file that is being written.
-    ensures closed { (a : Assignment) → H.agrees hand.new a → (n : ℕ) (b : List ℕ) → H.pending hand.new n b → H.pending hand.old n b }
+    ensures closed { (a : Assignment) → H.agrees hand.new a → (n : ℕ) (b : List ℕ) → H.pending hand.new n b →
+        H.pending hand.old n b }
     ensures served { IfOk result (λ stamp. H.serves hand.new stamp) }
     ensures serves { (s : Stamp) → H.serves hand.old s → H.serves hand.new s }
     ensures works { Always (H.works_for hand.old) → Always (H.works_for hand.new) }
@@ -40,7 +42,8 @@ pub fn put<H: Hand>(hand: &mut H, bytes: &[u8]) -> Result<Stamp, HandFault>
 ///
 /// `Memory` where memory for the bytes is refused; else the error is that of the read.
 pub fn fetch<H: Hand>(alloc: Global, hand: &mut H, stamp: &Stamp) -> Result<Vec<u8>, HandFault>
-    ensures ok { IfOk result (λ v. (a : Assignment) → H.agrees hand.new a ↔ H.agrees hand.old a × (bytes_of a stamp.now ≡ Some v.items)) }
+    ensures ok { IfOk result (λ v. (a : Assignment) →
+        H.agrees hand.new a ↔ H.agrees hand.old a × (bytes_of a stamp.now ≡ Some v.items)) }
     ensures len { IfOk result (λ v. length v.items ≡ stamp.now.len) }
     ensures err { OnErr result ((a : Assignment) → H.agrees hand.new a ↔ H.agrees hand.old a) }
     ensures serves { (s : Stamp) → H.serves hand.old s → H.serves hand.new s }

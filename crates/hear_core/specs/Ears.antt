@@ -23,7 +23,8 @@ IsDoneFor is_open (Some nexts.End) action = ⊥
 IsDoneFor is_open (Some nexts.LineTooLong) action = ⊥
 IsDoneFor is_open (Some nexts.Memory) action = ⊥
 
--- what is heard where this came next: the end is told with its cause, and only a want of memory has none that is said here
+-- what is heard where this came next: the end is told with its cause, and only a want of memory has
+-- none that is said here
 abbrev pub IsHeardOf : Bool → Option Next → Heard → Type 0
 IsHeardOf is_open next (heards.Action action) = IsDoneFor is_open next action
 IsHeardOf is_open next heards.Nothing = next ≡ None
@@ -50,13 +51,14 @@ abbrev pub IsHushed : Bool → Heard → Type 0
 IsHushed true heard = heard ≡ heards.End None
 IsHushed false heard = heard ≡ heards.Nothing
 
--- What is heard next. Once the hearing has ended it is that end, again and again. Behind `quit` no line is heard. Else it is what the next line asks for, and
--- the bytes of that line go.
+-- What is heard next. Once the hearing has ended it is that end, again and again. Behind `quit` no line is heard. Else
+-- it is what the next line asks for, and the bytes of that line go.
 abbrev pub Hears : Hearing → Heard → Hearing → Type 0
 Hears s heard t =
     ((fault : Option HearFault) × (s.end ≡ Some fault) × (heard ≡ heards.End fault) × (t ≡ s))
     ⊎ ((s.end ≡ None) × (s.quits ≡ true) × IsHushed s.lines.ended heard × (t ≡ record s { end = end_by heard }))
-    ⊎ ((s.end ≡ None) × (s.quits ≡ false) × ((next : Option Next) × Tells s.lines next t.lines × IsHeardOf s.is_open next heard)
+    ⊎ ((s.end ≡ None) × (s.quits ≡ false) × ((next : Option Next) × Tells s.lines next t.lines
+    × IsHeardOf s.is_open next heard)
     × (t ≡ record s { lines = t.lines; quits = t.quits; end = end_by heard }) × (IsTrue t.quits ↔ IsQuit heard))
 
 -- the end that a read brings, or that there was
@@ -71,7 +73,9 @@ let_go false lines = lines
 
 -- one read, and its fault, if it met one
 abbrev pub ReadsOnce : Hearing → Hearing → Type 0
-ReadsOnce s t = (found : Option HearFault) × (lines : Unread) × Brings s.lines found lines × (t ≡ record s { lines = let_go s.quits lines; end = end_met s.end found })
+ReadsOnce s t =
+    (found : Option HearFault) × (lines : Unread) × Brings s.lines found lines
+    × (t ≡ record s { lines = let_go s.quits lines; end = end_met s.end found })
 
 -- an object was opened, at this place and for this session
 abbrev pub opened_at : ℕ × ℕ → Hearing → Hearing

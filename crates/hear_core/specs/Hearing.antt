@@ -3,7 +3,8 @@ use Rattle.std.specs.Prelude.{ℕ, Bool, Option}
 use Rattle.hear_core.specs.declared.fault.HearFault.{HearFault}
 use Rattle.hear_core.specs.Lines.{Unread}
 
--- The lines, whether an object is opened and where (its place, and the session there), whether `quit` was heard, and what ended the hearing, once something did.
+-- The lines, whether an object is opened and where (its place, and the session there), whether `quit` was heard, and
+-- what ended the hearing, once something did.
 pub record Hearing : Type 0 where
   pub lines : Unread
   pub is_open : Bool

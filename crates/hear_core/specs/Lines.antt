@@ -1,5 +1,6 @@
 -- What a line of a session's input is, and what comes next in the bytes that were read.
-use Rattle.std.specs.Prelude.{◌≡◌, ◌≢◌, ◌⊎◌, ℕ, ◌+◌, ◌<◌, ◌≤◌, List, [], ◌∷◌, ◌++◌, length, take, All, Bool, true, false, Option, Some, None, IsTrue, ◌↔◌, IsUtf8, string_bytes, Result, Ok, Err}
+use Rattle.std.specs.Prelude.{◌≡◌, ◌≢◌, ◌⊎◌, ℕ, ◌+◌, ◌<◌, ◌≤◌, List, [], ◌∷◌, ◌++◌, length, take, All, Bool, true}
+use Rattle.std.specs.Prelude.{false, Option, Some, None, IsTrue, ◌↔◌, IsUtf8, string_bytes, Result, Ok, Err}
 use Rattle.std.specs.Io.KnownBytes.{Consumes, IsAtEnd}
 use Rattle.tokio_util.specs.Codec.Lines.{without_carriage_return}
 use Rattle.hear_core.specs.declared.fault.HearFault.{HearFault}
@@ -31,17 +32,21 @@ IsRest bytes = IsUnbroken bytes × (length bytes ≤ most_line_bytes)
 abbrev pub IsTooLong : List ℕ → Type 0
 IsTooLong bytes = (most_line_bytes < length bytes) × IsUnbroken (take (most_line_bytes + 1) bytes)
 
--- What comes next in these bytes, and the bytes that are left behind it, by whether the input ended with them. A CR that ends a line is no part of its text.
+-- What comes next in these bytes, and the bytes that are left behind it, by whether the input ended with them. A CR
+-- that ends a line is no part of its text.
 -- Where a line is too long or memory is refused, nothing is said of what is left.
 abbrev pub Finds : Bool → List ℕ → Option Next → List ℕ → Type 0
 Finds ended bytes None left = (ended ≡ false) × IsRest bytes × (left ≡ bytes)
-Finds ended bytes (Some (nexts.Line text)) left = (raw : List ℕ) × IsLine bytes raw left × (string_bytes text ≡ without_carriage_return raw)
+Finds ended bytes (Some (nexts.Line text)) left =
+    (raw : List ℕ) × IsLine bytes raw left × (string_bytes text ≡ without_carriage_return raw)
 Finds ended bytes (Some (nexts.Rest text)) left =
-    (ended ≡ true) × IsRest bytes × (0 < length (string_bytes text)) × (string_bytes text ≡ without_carriage_return bytes) × (left ≡ [])
+    (ended ≡ true) × IsRest bytes × (0 < length (string_bytes text))
+    × (string_bytes text ≡ without_carriage_return bytes) × (left ≡ [])
 Finds ended bytes (Some nexts.NoText) left =
     ((raw : List ℕ) × IsLine bytes raw left × (IsUtf8 (without_carriage_return raw) → ⊥))
     ⊎ ((ended ≡ true) × IsRest bytes × (IsUtf8 (without_carriage_return bytes) → ⊥) × (left ≡ []))
-Finds ended bytes (Some nexts.End) left = (ended ≡ true) × IsRest bytes × (without_carriage_return bytes ≡ []) × (left ≡ bytes)
+Finds ended bytes (Some nexts.End) left =
+    (ended ≡ true) × IsRest bytes × (without_carriage_return bytes ≡ []) × (left ≡ bytes)
 Finds ended bytes (Some nexts.LineTooLong) left = IsTooLong bytes
 Finds ended bytes (Some nexts.Memory) left = Unit {0}
 
@@ -55,8 +60,8 @@ IsLast (Some nexts.End) = ⊥
 IsLast (Some nexts.LineTooLong) = Unit {0}
 IsLast (Some nexts.Memory) = Unit {0}
 
--- What was read and not told yet, whether a read found the end of the input, whether nothing more comes since a line was too long or memory was refused,
--- and the bytes that the reader will still give, where they are known.
+-- What was read and not told yet, whether a read found the end of the input, whether nothing more comes since a line
+-- was too long or memory was refused, and the bytes that the reader will still give, where they are known.
 pub record Unread : Type 0 where
   pub bytes : List ℕ
   pub ended : Bool
@@ -67,7 +72,8 @@ pub record Unread : Type 0 where
 abbrev pub Tells : Unread → Option Next → Unread → Type 0
 Tells s next t =
     ((s.over ≡ true) × (next ≡ Some nexts.End) × (t ≡ s))
-    ⊎ ((s.over ≡ false) × Finds s.ended s.bytes next t.bytes × (t.ended ≡ s.ended) × (t.remaining ≡ s.remaining) × (IsTrue t.over ↔ IsLast next))
+    ⊎ ((s.over ≡ false) × Finds s.ended s.bytes next t.bytes × (t.ended ≡ s.ended) × (t.remaining ≡ s.remaining)
+    × (IsTrue t.over ↔ IsLast next))
 
 -- what one read adds to the bytes that were read, whether it found the end, and a fault by which no more were added
 abbrev pub ComesOnce : Option (List ℕ) → Option (List ℕ) → List ℕ → List ℕ → Result Bool HearFault → Type 0
@@ -75,8 +81,8 @@ ComesOnce old new bytes grown (Ok true) = (grown ≡ bytes) × Consumes old new 
 ComesOnce old new bytes grown (Ok false) = (more : List ℕ) × (grown ≡ bytes ++ more) × Consumes old new more
 ComesOnce old new bytes grown (Err fault) = (fault ≢ faults.LineTooLong) × (grown ≡ bytes)
 
--- What a read brings: bytes behind those that were read, or the end, or a fault, by which nothing is known to be lost but where memory is refused. It never
--- tells that a line is too long.
+-- What a read brings: bytes behind those that were read, or the end, or a fault, by which nothing is known to be lost
+-- but where memory is refused. It never tells that a line is too long.
 abbrev pub Brings : Unread → Option HearFault → Unread → Type 0
 Brings s None t =
     (more : List ℕ) × (t.bytes ≡ s.bytes ++ more) × Consumes s.remaining t.remaining more × (t.over ≡ s.over)

@@ -11,7 +11,8 @@ use Rattle.hear_core.specs.declared.reader.Next.TheVariants as nexts
 -- a line that is too long, a want of memory, or else a line that is no text
 abbrev pub IsToldAs : LinesCodecError → Next → Type 0
 IsToldAs MaxLineLengthExceeded next = next ≡ nexts.LineTooLong
-IsToldAs (Io e) next = ((error_kind e ≡ OutOfMemory) × (next ≡ nexts.Memory)) ⊎ ((error_kind e ≢ OutOfMemory) × (next ≡ nexts.NoText))
+IsToldAs (Io e) next =
+    ((error_kind e ≡ OutOfMemory) × (next ≡ nexts.Memory)) ⊎ ((error_kind e ≢ OutOfMemory) × (next ≡ nexts.NoText))
 
 -- a line, or what stands behind the last line end, by whether no line ends there
 abbrev pub told_last : Bool → String Global → Next

@@ -28,8 +28,8 @@ impl Bell {
     }
 }
 
-/// A reader whose input ends when a bell has rung. A read that waits then is not broken off: it has to return by itself, as one whose time
-/// runs out does.
+/// A reader whose input ends when a bell has rung. A read that waits then is not broken off: it has to return by
+/// itself, as one whose time runs out does.
 #[derive(Drop)]
 pub struct UntilBell<'a, I: Read + Drop> {
     reader: I,

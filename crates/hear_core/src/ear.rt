@@ -44,7 +44,13 @@ impl<I: Read + Drop> Model for Ear<I> {
 
     ghost Value = { Hearing };
 
-    ghost view = { λ e. record { lines = e.lines; is_open = e.session.is_open; opened = e.opened; quits = e.quits; end = e.end } };
+    ghost view = { λ e. record {
+      lines = e.lines;
+      is_open = e.session.is_open;
+      opened = e.opened;
+      quits = e.quits;
+      end = e.end;
+    } };
 }
 
 // What is done for what was fed, or the end where memory was refused.
@@ -108,7 +114,18 @@ fn met(end: Option<Option<HearFault>>, found: Option<HearFault>) -> Option<Optio
 impl<I: Read + Drop> Ear<I> {
     /// Nothing is heard yet.
     pub fn new(alloc: Global, reader: I) -> Ear<I>
-        ensures { result ≡ record { lines = record { bytes = []; ended = false; over = false; remaining = I.remaining reader }; is_open = false; opened = None; quits = false; end = None } }
+        ensures { result ≡ record {
+          lines = record {
+            bytes = [];
+            ended = false;
+            over = false;
+            remaining = I.remaining reader;
+          };
+          is_open = false;
+          opened = None;
+          quits = false;
+          end = None;
+        } }
     {
         Ear {
             lines: LineReader::new(alloc, reader),

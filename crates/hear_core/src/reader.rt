@@ -58,9 +58,15 @@ impl<I: Read + Drop> Model for LineReader<I> {
 
     ghost Value = { Unread };
 
-    ghost view = { λ r. record { bytes = r.buffer.items; ended = r.ended; over = r.over; remaining = I.remaining r.reader } };
+    ghost view = { λ r. record {
+      bytes = r.buffer.items;
+      ended = r.ended;
+      over = r.over;
+      remaining = I.remaining r.reader;
+    } };
 
-    ghost invariant = { λ r. r.over ≡ false → Resumes gives_lines (at_line_start 4096) r.buffer.items r.codec r.buffer.items };
+    ghost invariant = { λ r. r.over ≡ false →
+        Resumes gives_lines (at_line_start 4096) r.buffer.items r.codec r.buffer.items };
 }
 
 /// Whether a read or a write did nothing because it was interrupted, or its time ran out.
@@ -115,7 +121,8 @@ fn refused(error: LinesCodecError) -> Next
 fn next_line(codec: &mut LinesCodec, buffer: &mut BytesMut) -> Option<Next>
     requires { Resumes gives_lines (at_line_start 4096) buffer.old.items codec.old buffer.old.items }
     ensures found { Finds false buffer.old.items result buffer.new.items }
-    ensures goes_on { (IsLast result → ⊥) → Resumes gives_lines (at_line_start 4096) buffer.new.items codec.new buffer.new.items }
+    ensures goes_on { (IsLast result → ⊥) →
+        Resumes gives_lines (at_line_start 4096) buffer.new.items codec.new buffer.new.items }
 {
     match codec.decode(buffer) {
         Ok(Some(line)) => Some(Next::Line(line)),
@@ -128,7 +135,8 @@ fn next_line(codec: &mut LinesCodec, buffer: &mut BytesMut) -> Option<Next>
 fn last_line(codec: &mut LinesCodec, buffer: &mut BytesMut) -> Option<Next>
     requires { Resumes gives_lines (at_line_start 4096) buffer.old.items codec.old buffer.old.items }
     ensures found { Finds true buffer.old.items result buffer.new.items }
-    ensures goes_on { (IsLast result → ⊥) → Resumes gives_lines (at_line_start 4096) buffer.new.items codec.new buffer.new.items }
+    ensures goes_on { (IsLast result → ⊥) →
+        Resumes gives_lines (at_line_start 4096) buffer.new.items codec.new buffer.new.items }
 {
     let is_rest = is_unbroken(buffer.as_slice());
     match codec.decode_eof(buffer) {
@@ -194,8 +202,8 @@ impl<I: Read + Drop> LineReader<I> {
         self.ended
     }
 
-    /// What comes next in the bytes that were read, or `None` where more have to be read for it. Behind a line that is too long, and behind a want of
-    /// memory, it is the end.
+    /// What comes next in the bytes that were read, or `None` where more have to be read for it. Behind a line that is
+    /// too long, and behind a want of memory, it is the end.
     pub fn ready(&mut self) -> Option<Next>
         ensures { Tells self.old result self.new }
     {
@@ -211,8 +219,8 @@ impl<I: Read + Drop> LineReader<I> {
         next
     }
 
-    /// Reads once, and gives the fault that it met. A read that was interrupted, or whose time ran out, brings nothing and is
-    /// no fault.
+    /// Reads once, and gives the fault that it met. A read that was interrupted, or whose time ran out, brings nothing
+    /// and is no fault.
     pub fn read(&mut self) -> Option<HearFault>
         ensures { Brings self.old result self.new }
     {

@@ -27,13 +27,21 @@ pub record IsReadInto (p k : ℕ) (read after : List (List ℕ)) (page : List �
 
 -- What was read stays known when a page of the whole bytes is read into its place, and is known with it.
 abbrev pub KnownGrows : Type 0
-KnownGrows = (operation : Operation) (old new : List ℕ) (p k : ℕ) (read after whole : List (List ℕ)) (bytes : List ℕ) → IsWanted operation p → IsOneMore old new p k → slice_get whole p ≡ Some bytes → IsReadInto p k read after (page_at k bytes)
+KnownGrows =
+    (operation : Operation) (old new : List ℕ) (p k : ℕ) (read after whole : List (List ℕ)) (bytes : List ℕ) →
+    IsWanted operation p → IsOneMore old new p k → slice_get whole p ≡ Some bytes →
+    IsReadInto p k read after (page_at k bytes)
     → AreKnown old operation read (ReadAs whole) → AreKnown new operation after (ReadAs whole)
 
 -- Of an array of integers the first page is known where it was read.
 abbrev pub FirstIsKnown : Type 0
-FirstIsKnown = (masks : List ℕ) (p : ℕ) (filled whole : List ℕ) → slice_index masks p ≡ 1 → AreBytes filled → AreBytes whole → length whole ≡ length filled → page_at 0 whole ≡ page_at 0 filled → IsFilled (pages_of masks p) filled whole
+FirstIsKnown =
+    (masks : List ℕ) (p : ℕ) (filled whole : List ℕ) → slice_index masks p ≡ 1 → AreBytes filled → AreBytes whole →
+    length whole ≡ length filled → page_at 0 whole ≡ page_at 0 filled → IsFilled (pages_of masks p) filled whole
 
 -- Where the first page and the length show no frame, the part is damaged, whatever stands in its other pages.
 abbrev pub MissIsDamaged : Type 0
-MissIsDamaged = (operation : Operation) (p n : ℕ) (filled whole : List ℕ) (wholes : List (List ℕ)) → IsNamed operation p (kind.Array n elem.Integer) → ReadAs wholes p whole → length whole ≡ length filled → page_at 0 whole ≡ page_at 0 filled → (HasFrame n filled → ⊥) → IsDamaged (ReadAs wholes) operation
+MissIsDamaged =
+    (operation : Operation) (p n : ℕ) (filled whole : List ℕ) (wholes : List (List ℕ)) →
+    IsNamed operation p (kind.Array n elem.Integer) → ReadAs wholes p whole → length whole ≡ length filled →
+    page_at 0 whole ≡ page_at 0 filled → (HasFrame n filled → ⊥) → IsDamaged (ReadAs wholes) operation

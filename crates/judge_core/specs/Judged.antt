@@ -18,7 +18,8 @@ use Rattle.judge_core.specs.Wholes.{AreChangesOf}
 
 -- what the body gives on the contents that the whole bytes spell; want of memory says nothing
 abbrev pub JudgedOn : List ℕ → Operation → List Datum → List (List ℕ) → List (List ℕ) → Verdict → Type 0
-JudgedOn masks operation arguments read whole (Done reply changes) = IsDone (ReadAs whole) operation arguments reply (AreChangesOf masks operation read (ReadAs whole) changes.items)
+JudgedOn masks operation arguments read whole (Done reply changes) =
+    IsDone (ReadAs whole) operation arguments reply (AreChangesOf masks operation read (ReadAs whole) changes.items)
 JudgedOn masks operation arguments read whole (Refused word) = IsRefused (ReadAs whole) operation arguments word
 JudgedOn masks operation arguments read whole (Needs p k) = IsDue masks (ReadAs whole) operation arguments p k
 JudgedOn masks operation arguments read whole Damaged = IsDamaged (ReadAs whole) operation
@@ -34,7 +35,8 @@ IsNextOf masks operation Memory = Unit {0}
 
 -- only parts of its writes are changed, each once, in order
 abbrev pub OnlyWrites : Operation → Verdict → Type 0
-OnlyWrites operation (Done reply changes) = Rising (body_of operation).statements 0 changes.items × (length changes.items ≤ 16)
+OnlyWrites operation (Done reply changes) =
+    Rising (body_of operation).statements 0 changes.items × (length changes.items ≤ 16)
 OnlyWrites operation (Refused word) = Unit {0}
 OnlyWrites operation (Needs p k) = Unit {0}
 OnlyWrites operation Damaged = Unit {0}

@@ -28,7 +28,8 @@ IsKnownAs (kind.Queue e) pages filled whole = filled ≡ whole
 IsKnownAs (kind.Table e) pages filled whole = filled ≡ whole
 
 -- what was read of a part, and its whole bytes
-pub record IsKnownPart (masks : List ℕ) (read : List (List ℕ)) (at : ℕ → List ℕ → Type 0) (p : ℕ) (k : Kind) : Type 0 where
+pub record IsKnownPart (masks : List ℕ) (read : List (List ℕ)) (at : ℕ → List ℕ → Type 0) (p : ℕ)
+    (k : Kind) : Type 0 where
   pub filled : List ℕ
   pub there : ReadAs read p filled
   pub whole : List ℕ
@@ -39,8 +40,10 @@ pub record IsKnownPart (masks : List ℕ) (read : List (List ℕ)) (at : ℕ →
 abbrev pub AreKnown : List ℕ → Operation → List (List ℕ) → (ℕ → List ℕ → Type 0) → Type 0
 AreKnown masks operation read at = (p : ℕ) (k : Kind) → IsNamed operation p k → IsKnownPart masks read at p k
 
--- A body comes to a page that is not known: on the contents that the whole bytes spell, over what is known of them, it comes to an element in it.
-pub record IsDue (masks : List ℕ) (at : ℕ → List ℕ → Type 0) (operation : Operation) (arguments : List Datum) (p k : ℕ) : Type 0 where
+-- A body comes to a page that is not known: on the contents that the whole bytes spell, over what is known of them, it
+-- comes to an element in it.
+pub record IsDue (masks : List ℕ) (at : ℕ → List ℕ → Type 0) (operation : Operation) (arguments : List Datum)
+    (p k : ℕ) : Type 0 where
   pub parts : List Contents
   pub spelled : AreSpelled at operation parts
   pub element : ℕ

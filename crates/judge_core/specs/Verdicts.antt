@@ -35,15 +35,18 @@ HasReads operation read = (p : ℕ) → Reads (body_of operation).statements p �
 
 -- where the operation reads part p, its bytes spell this value
 abbrev pub IsPart : Operation → List (List ℕ) → ℕ → Contents → Type 0
-IsPart operation read p value = (kind : Kind) → IsNamed operation p kind → (bytes : List ℕ) × ReadAs read p bytes × Spells bytes kind value
+IsPart operation read p value =
+    (kind : Kind) → IsNamed operation p kind → (bytes : List ℕ) × ReadAs read p bytes × Spells bytes kind value
 
 -- the new bytes of a part that holds this value now: none where they are the bytes before
 abbrev pub IsChangeOf : List ℕ → ℕ → Contents → Option Change → Type 0
 IsChangeOf before p value None = Spells before (kind_of value) value
-IsChangeOf before p value (Some change) = (change.part ≡ p) × Spells change.bytes (kind_of value) value × (change.bytes ≢ before)
+IsChangeOf before p value (Some change) =
+    (change.part ≡ p) × Spells change.bytes (kind_of value) value × (change.bytes ≢ before)
 
 -- the change of a part that is written
-pub record IsRewritten (statements : Statements) (read : List (List ℕ)) (after : List Contents) (p : ℕ) (change : Option Change) : Type 0 where
+pub record IsRewritten (statements : Statements) (read : List (List ℕ)) (after : List Contents) (p : ℕ)
+    (change : Option Change) : Type 0 where
   pub written : Writes statements p
   pub bytes : List ℕ
   pub there : ReadAs read p bytes
@@ -53,7 +56,8 @@ pub record IsRewritten (statements : Statements) (read : List (List ℕ)) (after
 
 -- a part that is not written has no change
 abbrev pub IsStep : Statements → List (List ℕ) → List Contents → ℕ → Option Change → Type 0
-IsStep statements read after p change = IsRewritten statements read after p change ⊎ ((Writes statements p → ⊥) × (change ≡ None))
+IsStep statements read after p change =
+    IsRewritten statements read after p change ⊎ ((Writes statements p → ⊥) × (change ≡ None))
 
 -- from these contents, which its bytes spell, an operation may leave those
 pub record MayLeave (operation : Operation) (read : List (List ℕ)) (before after : List Contents) : Type 0 where

@@ -12,7 +12,8 @@ use Rattle.judge_core.specs.Given.{AreChanges}
 use Rattle.judge_core.specs.Verdicts.{ReadAs}
 use Rattle.judge_core.specs.Reads.{pages_of}
 
--- Two pairs of bytes of an array of integers, before and after a body: those that were read of it, and the whole ones. A page that is known is the same in both afterwards; any other one is as it was in each.
+-- Two pairs of bytes of an array of integers, before and after a body: those that were read of it, and the whole ones.
+-- A page that is known is the same in both afterwards; any other one is as it was in each.
 pub record AreNewPages (pages : ℕ → Bool) (filled bytes before after : List ℕ) : Type 0 where
   pub long : length bytes ≡ length filled
   pub long_whole : length after ≡ length before
@@ -29,7 +30,8 @@ AreNewAs (kind.Queue e) pages filled bytes before after = after ≡ bytes
 AreNewAs (kind.Table e) pages filled bytes before after = after ≡ bytes
 
 -- of a change of what was read of a part, the change of the whole part
-pub record IsWholeChange (masks : List ℕ) (operation : Operation) (read : List (List ℕ)) (at : ℕ → List ℕ → Type 0) (change whole : Change) : Type 0 where
+pub record IsWholeChange (masks : List ℕ) (operation : Operation) (read : List (List ℕ)) (at : ℕ → List ℕ → Type 0)
+    (change whole : Change) : Type 0 where
   pub part : whole.part ≡ change.part
   pub kind : Kind
   pub named : IsNamed operation change.part kind
@@ -40,14 +42,17 @@ pub record IsWholeChange (masks : List ℕ) (operation : Operation) (read : List
   pub made : AreNewAs kind (pages_of masks change.part) filled change.bytes before whole.bytes
 
 -- one for one
-abbrev pub AreWholeChanges : List ℕ → Operation → List (List ℕ) → (ℕ → List ℕ → Type 0) → List Change → List Change → Type 0
+abbrev pub AreWholeChanges : List ℕ → Operation → List (List ℕ) → (ℕ → List ℕ → Type 0) → List Change → List Change →
+    Type 0
 AreWholeChanges masks operation read at [] [] = Unit {0}
 AreWholeChanges masks operation read at [] (whole ∷ wholes) = ⊥
 AreWholeChanges masks operation read at (change ∷ changes) [] = ⊥
-AreWholeChanges masks operation read at (change ∷ changes) (whole ∷ wholes) = IsWholeChange masks operation read at change whole × AreWholeChanges masks operation read at changes wholes
+AreWholeChanges masks operation read at (change ∷ changes) (whole ∷ wholes) =
+    IsWholeChange masks operation read at change whole × AreWholeChanges masks operation read at changes wholes
 
 -- What a body left of whole contents, by the changes of what was read of them.
-pub record AreChangesOf (masks : List ℕ) (operation : Operation) (read : List (List ℕ)) (at : ℕ → List ℕ → Type 0) (changes : List Change) (before after : List Contents) : Type 0 where
+pub record AreChangesOf (masks : List ℕ) (operation : Operation) (read : List (List ℕ)) (at : ℕ → List ℕ → Type 0)
+    (changes : List Change) (before after : List Contents) : Type 0 where
   pub wholes : List Change
   pub made : AreWholeChanges masks operation read at changes wholes
   pub are : AreChanges wholes before after

@@ -13,7 +13,8 @@ ghost use Rattle.apply_core.specs.Fits.{ArgumentsFit};
 ghost use Rattle.known_core.specs.Wanted.{AreMasksFor};
 ghost use Rattle.known_core.specs.declared.act.Stop.TheVariants as stops;
 ghost use Rattle.judge_core.specs.Given.{AreSpelled, IsDamaged, AreChanges};
-ghost use Rattle.judge_core.specs.Verdicts.{ReadAs, Rising, AreBits, ReadsNone, HasReads, IsPart, IsChangeOf, IsStep, MayLeave};
+ghost use Rattle.judge_core.specs.Verdicts.{ReadAs, Rising, AreBits, ReadsNone, HasReads, IsPart, IsChangeOf, IsStep};
+ghost use Rattle.judge_core.specs.Verdicts.{MayLeave};
 
 use decl_core::footprint::{is_in, reads, writes};
 use decl_core::id::PartId;
@@ -201,7 +202,8 @@ fn changes_of(
 ) -> Result<Vec<Change>, AllocError>
     requires few { length after.now ≤ 16 }
     requires read { HasReads operation.now read.now }
-    ensures changes { IfOk result (λ changes. (before : List Contents) → MayLeave operation.now read.now before after.now → AreChanges changes.items before after.now) }
+    ensures changes { IfOk result (λ changes. (before : List Contents) →
+        MayLeave operation.now read.now before after.now → AreChanges changes.items before after.now) }
     ensures rising { IfOk result (λ changes. Rising (body_of operation.now).statements 0 changes.items) }
     ensures few { IfOk result (λ changes. length changes.items ≤ length after.now) }
     ensures none { after.now ≡ [] → IsOkAnd result (λ changes. changes.items ≡ []) }
@@ -251,7 +253,8 @@ fn judge_parts(
     requires masks { AreMasksFor operation.now known.now }
     requires spelled { AreSpelled (ReadAs read.now) operation.now parts.items }
     requires few { length parts.items ≤ 16 }
-    ensures judged { (whole : List (List ℕ)) → AreKnown known.now operation.now read.now (ReadAs whole) → JudgedOn known.now operation.now args.now read.now whole result }
+    ensures judged { (whole : List (List ℕ)) → AreKnown known.now operation.now read.now (ReadAs whole) →
+        JudgedOn known.now operation.now args.now read.now whole result }
     ensures next { IsNextOf known.now operation.now result }
     ensures writes { OnlyWrites operation.now result }
     ensures settled { parts.items ≡ [] → Settled result }
@@ -265,8 +268,8 @@ fn judge_parts(
     }
 }
 
-/// What becomes of a body on what was read of its parts. The bytes of part p stand at place p, where the operation reads
-/// it; in the place of a page that is not known stand any.
+/// What becomes of a body on what was read of its parts. The bytes of part p stand at place p, where the operation
+/// reads it; in the place of a page that is not known stand any.
 pub fn judge(
     alloc: Global,
     operation: &Operation,
@@ -278,7 +281,8 @@ pub fn judge(
     requires read { HasReads operation.now read.now }
     requires masks { AreMasksFor operation.now known.now }
     // Whatever the whole bytes are of which these were read, it tells of the contents that they spell.
-    ensures judged { (whole : List (List ℕ)) → AreKnown known.now operation.now read.now (ReadAs whole) → JudgedOn known.now operation.now args.now read.now whole result }
+    ensures judged { (whole : List (List ℕ)) → AreKnown known.now operation.now read.now (ReadAs whole) →
+        JudgedOn known.now operation.now args.now read.now whole result }
     // A page that it needs is there and not known.
     ensures next { IsNextOf known.now operation.now result }
     // It changes parts of its writes alone, at most 16, each once.

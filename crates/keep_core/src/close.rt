@@ -44,8 +44,8 @@ pub struct Closing<S: Shelf + Drop, T: Shelf + Drop, H: Hand + Drop> {
     pub trouble: Trouble,
 }
 
-/// An object at the end: its name, its office, the values with which its parts opened, and the seats and receipts that its
-/// sessions left.
+/// An object at the end: its name, its office, the values with which its parts opened, and the seats and receipts that
+/// its sessions left.
 #[derive(Drop)]
 pub struct Ending {
     pub name: Name,
@@ -106,7 +106,8 @@ fn push_refused(line: &mut Vec<u8>, name: &[u8]) -> Result<(), AllocError> {
 
 // Adds `NAME entries K`.
 fn push_entries(line: &mut Vec<u8>, name: &[u8], entries: usize) -> Result<(), AllocError>
-    ensures { OnOk result (line.new.items ≡ line.old.items ++ (name.now ++ reply (codes " entries ") (decimal entries))) }
+    ensures { OnOk result (line.new.items ≡ line.old.items
+        ++ (name.now ++ reply (codes " entries ") (decimal entries))) }
 {
     line.extend_from_slice(name)?;
     push_count(line, b" entries ", entries as u64)
@@ -120,7 +121,9 @@ fn tell_entries<W: Write>(
     entries: usize,
     writer: &mut W,
 ) -> Result<(), LinesFault>
-    ensures kept { OnOk result (IsKept became → Appends (W.contents writer.old) (W.contents writer.new) (name.now ++ reply (codes " entries ") (decimal entries))) }
+    ensures kept { OnOk result (IsKept became →
+        Appends (W.contents writer.old) (W.contents writer.new) (name.now
+        ++ reply (codes " entries ") (decimal entries))) }
     ensures not { (IsKept became → ⊥) → Keeps (W.contents writer.old) (W.contents writer.new) }
 {
     if !is_kept(became) {
@@ -149,7 +152,8 @@ fn tell_damaged<W: Write>(
     tell(writer, line.as_slice(), made)
 }
 
-// Says on standard error which files hold the value of a part that is not saved, page by page: `OBJECT.PART not saved: N.val ..`.
+// Says on standard error which files hold the value of a part that is not saved, page by page: `OBJECT.PART
+// not saved: N.val ..`.
 fn tell_unsaved<E: Write>(
     line: &mut Vec<u8>,
     object: &Object,
@@ -205,7 +209,8 @@ fn first_unsaved(fault: SaveFault) -> usize {
 // Writes the trace of an object, in place of the one that is there.
 fn store_trace<T: Shelf>(desk: &Desk, opening: &[Value], traces: &mut T) -> Result<(), HandFault>
     ensures { OnOk result ((papers : Papers) → T.holds traces.new papers → (before : Papers) × T.holds traces.old before
-        × (papers ≡ insert before desk.now.object.name (text_of (object_of desk.now.object) opening.now (lines_told desk.now)))) }
+        × (papers ≡ insert before desk.now.object.name (text_of (object_of desk.now.object) opening.now
+        (lines_told desk.now)))) }
 {
     let Ok(text) = desk.trace_text(opening) else {
         return Err(HandFault::Memory);
@@ -239,8 +244,8 @@ impl<S: Shelf + Drop, T: Shelf + Drop, H: Hand + Drop> Closing<S, T, H> {
         (&mut self.parts, &mut self.hand)
     }
 
-    // Saves each part from this one on that can be saved by itself, and says which files hold the value of each other one. It answers
-    // whether all of them are saved.
+    // Saves each part from this one on that can be saved by itself, and says which files hold the value of each other
+    // one. It answers whether all of them are saved.
     fn save_each<W: Write, E: Write>(
         &mut self,
         alloc: Global,
@@ -285,8 +290,9 @@ impl<S: Shelf + Drop, T: Shelf + Drop, H: Hand + Drop> Closing<S, T, H> {
         all
     }
 
-    // Saves the parts of an object. Where that fails each part is tried by itself, so what is wrong with one of them keeps no other one from
-    // being saved, and neither does memory that was refused once. It answers whether all are saved.
+    // Saves the parts of an object. Where that fails each part is tried by itself, so what is wrong with one of them
+    // keeps no other one from being saved, and neither does memory that was refused once. It answers
+    // whether all are saved.
     fn save<W: Write, E: Write>(
         &mut self,
         alloc: Global,
@@ -340,8 +346,9 @@ impl<S: Shelf + Drop, T: Shelf + Drop, H: Hand + Drop> Closing<S, T, H> {
         }
     }
 
-    /// Closes one object, saves its parts, writes its trace, and says how many entries its history has, where all of this was done. A fault is
-    /// noted, and what does not hang on it is still done: an object that does not close is saved all the same.
+    /// Closes one object, saves its parts, writes its trace, and says how many entries its history has, where all of
+    /// this was done. A fault is noted, and what does not hang on it is still done: an object that does not close
+    /// is saved all the same.
     pub fn close_one<W: Write, E: Write>(
         &mut self,
         alloc: Global,

@@ -1,6 +1,7 @@
 //! The numbers of the calls of each session, in order: a call is found by its session and key without a search.
 
-ghost use Rattle.std.specs.Prelude.{◌≡◌, ℕ, List, [], ◌∷◌, ◌++◌, ◌-◌, ◌<◌, ◌≤◌, length, replicate, slice_get, slice_set, Some, map, vec_capacity, ◌+◌, IfOk, OnOk, OnErr};
+ghost use Rattle.std.specs.Prelude.{◌≡◌, ℕ, List, [], ◌∷◌, ◌++◌, ◌-◌, ◌<◌, ◌≤◌, length, replicate, slice_get};
+ghost use Rattle.std.specs.Prelude.{slice_set, Some, map, vec_capacity, ◌+◌, IfOk, OnOk, OnErr};
 ghost use Rattle.key_core.specs.Index.{number_in};
 
 use std::alloc::{AllocError, Global};
@@ -71,7 +72,8 @@ impl Index {
     /// The next call of this session has this number. The error is that memory was refused, and changes nothing.
     pub fn add(&mut self, session: u32, number: u32) -> Result<(), AllocError>
         requires { (0 < session) × (session ≤ 1024) }
-        ensures ok { OnOk result ((row : List ℕ) → slice_get self.old (session - 1) ≡ Some row → self.new ≡ slice_set self.old (session - 1) (row ++ number ∷ [])) }
+        ensures ok { OnOk result ((row : List ℕ) → slice_get self.old (session - 1) ≡ Some row →
+            self.new ≡ slice_set self.old (session - 1) (row ++ number ∷ [])) }
         ensures err { OnErr result (self.new ≡ self.old) }
     {
         add(&mut self.rows[session as usize - 1], number)?;

@@ -42,9 +42,12 @@ pub record IsNextPage (masks : List ℕ) (operation : Operation) (p k : ℕ) : T
 
 -- Where a page more is known of an array of integers that the operation reads, they are masks for it as before.
 abbrev pub MasksGrow : Type 0
-MasksGrow = (operation : Operation) (old new : List ℕ) (p k : ℕ) → IsWanted operation p → IsOneMore old new p k → AreMasksFor operation old → AreMasksFor operation new
+MasksGrow =
+    (operation : Operation) (old new : List ℕ) (p k : ℕ) → IsWanted operation p → IsOneMore old new p k →
+    AreMasksFor operation old → AreMasksFor operation new
 
--- the mask of a part, where that of an array of integers that the operation reads is given; of all else each page is known
+-- the mask of a part, where that of an array of integers that the operation reads is given; of all
+-- else each page is known
 abbrev pub IsFitOf : Operation → (p mask fit : ℕ) → Type 0
 IsFitOf operation p mask fit = (IsWanted operation p × (fit ≡ mask)) ⊎ ((IsWanted operation p → ⊥) × (fit ≡ 255))
 

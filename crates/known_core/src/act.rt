@@ -9,7 +9,8 @@ ghost use Rattle.value_core.specs.Kinds.{IsArray, IsQueue, IsTable};
 ghost use Rattle.value_core.specs.Meaning.{with_element, without_oldest, with_newest, with_row, without_key};
 ghost use Rattle.text_core.specs.Plain.{IsText};
 ghost use Rattle.value_core.specs.Words.{word_of};
-ghost use Rattle.decl_core.specs.Form.{set_element as set_element_form, set_result as set_result_form, append as append_form, store as store_form, erase as erase_form};
+ghost use Rattle.decl_core.specs.Form.{set_element as set_element_form, set_result as set_result_form};
+ghost use Rattle.decl_core.specs.Form.{append as append_form, store as store_form, erase as erase_form};
 ghost use Rattle.decl_core.specs.View.{integers_of, texts_of, form_of, statement_of, all_of};
 ghost use Rattle.decl_core.specs.Meaning.{part_at};
 ghost use Rattle.known_core.specs.Partly.{◌>>>◌, if_known, with_contents, after_known, all_known};
@@ -90,7 +91,10 @@ fn set(
     known: &Pages,
 ) -> Result<(), Stop>
     requires at { IsAtOf (map kind_of parts.old.items) IsArray part (elem_of datum) }
-    ensures left { (reply : Option Datum) → Leaves result (with_contents (changing parts.old.items reply) part (with_element (part_at parts.old.items part) index datum) >>> λ x. if_known (known_by known.now) part index x) (changing parts.new.items reply) }
+    ensures left { (reply : Option Datum) →
+        Leaves result (with_contents (changing parts.old.items reply) part
+        (with_element (part_at parts.old.items part) index datum) >>> λ x. if_known (known_by known.now) part index x)
+        (changing parts.new.items reply) }
     ensures kinds { map kind_of parts.new.items ≡ map kind_of parts.old.items }
 {
     let value = &mut parts[part.place() as usize];
@@ -106,7 +110,9 @@ fn set(
 #[tactic(auto, using(apply_core::proofs::KindsKept::kinds_kept))]
 fn append(parts: &mut Vec<Value>, part: PartId, datum: Datum) -> Result<(), Stop>
     requires at { IsAtOf (map kind_of parts.old.items) IsQueue part (elem_of datum) }
-    ensures left { (reply : Option Datum) → Leaves result (with_contents (changing parts.old.items reply) part (with_newest (part_at parts.old.items part) datum)) (changing parts.new.items reply) }
+    ensures left { (reply : Option Datum) →
+        Leaves result (with_contents (changing parts.old.items reply) part
+        (with_newest (part_at parts.old.items part) datum)) (changing parts.new.items reply) }
     ensures kinds { map kind_of parts.new.items ≡ map kind_of parts.old.items }
 {
     let value = &mut parts[part.place() as usize];
@@ -118,7 +124,9 @@ fn append(parts: &mut Vec<Value>, part: PartId, datum: Datum) -> Result<(), Stop
 #[tactic(auto, using(apply_core::proofs::KindsKept::kinds_kept))]
 fn take(parts: &mut Vec<Value>, part: PartId) -> Result<(), Stop>
     requires at { IsAt (map kind_of parts.old.items) IsQueue part }
-    ensures left { (reply : Option Datum) → Leaves result (with_contents (changing parts.old.items reply) part (without_oldest (part_at parts.old.items part))) (changing parts.new.items reply) }
+    ensures left { (reply : Option Datum) →
+        Leaves result (with_contents (changing parts.old.items reply) part
+        (without_oldest (part_at parts.old.items part))) (changing parts.new.items reply) }
     ensures kinds { map kind_of parts.new.items ≡ map kind_of parts.old.items }
 {
     let value = &mut parts[part.place() as usize];
@@ -130,7 +138,9 @@ fn take(parts: &mut Vec<Value>, part: PartId) -> Result<(), Stop>
 #[tactic(auto, using(apply_core::proofs::KindsKept::kinds_kept))]
 fn store(parts: &mut Vec<Value>, part: PartId, key: Text, datum: Datum) -> Result<(), Stop>
     requires at { IsAtOf (map kind_of parts.old.items) IsTable part (elem_of datum) }
-    ensures left { (reply : Option Datum) → Leaves result (with_contents (changing parts.old.items reply) part (with_row (part_at parts.old.items part) key datum)) (changing parts.new.items reply) }
+    ensures left { (reply : Option Datum) →
+        Leaves result (with_contents (changing parts.old.items reply) part
+        (with_row (part_at parts.old.items part) key datum)) (changing parts.new.items reply) }
     ensures kinds { map kind_of parts.new.items ≡ map kind_of parts.old.items }
 {
     let value = &mut parts[part.place() as usize];
@@ -142,7 +152,9 @@ fn store(parts: &mut Vec<Value>, part: PartId, key: Text, datum: Datum) -> Resul
 #[tactic(auto, using(apply_core::proofs::KindsKept::kinds_kept))]
 fn erase(parts: &mut Vec<Value>, part: PartId, key: Text) -> Result<(), Stop>
     requires at { IsAt (map kind_of parts.old.items) IsTable part }
-    ensures left { (reply : Option Datum) → Leaves result (with_contents (changing parts.old.items reply) part (without_key (part_at parts.old.items part) key)) (changing parts.new.items reply) }
+    ensures left { (reply : Option Datum) →
+        Leaves result (with_contents (changing parts.old.items reply) part
+        (without_key (part_at parts.old.items part) key)) (changing parts.new.items reply) }
     ensures kinds { map kind_of parts.new.items ≡ map kind_of parts.old.items }
 {
     let value = &mut parts[part.place() as usize];
@@ -159,8 +171,11 @@ fn do_set_element(
     parts: &mut Vec<Value>,
     known: &Pages,
 ) -> Result<(), Stop>
-    requires fits { StatementFits (map kind_of parts.old.items) (set_element_form part (integers_of index.now) (form_of e.now)) }
-    ensures left { (reply : Option Datum) → Leaves result (after_known (known_by known.now) args.now (set_element_form part (integers_of index.now) (form_of e.now)) (changing parts.old.items reply)) (changing parts.new.items reply) }
+    requires fits { StatementFits (map kind_of parts.old.items) (set_element_form part (integers_of index.now)
+        (form_of e.now)) }
+    ensures left { (reply : Option Datum) →
+        Leaves result (after_known (known_by known.now) args.now (set_element_form part (integers_of index.now)
+        (form_of e.now)) (changing parts.old.items reply)) (changing parts.new.items reply) }
     ensures kinds { map kind_of parts.new.items ≡ map kind_of parts.old.items }
 {
     let index = integer(index, args, parts, known)?;
@@ -177,7 +192,9 @@ fn do_append(
     known: &Pages,
 ) -> Result<(), Stop>
     requires fits { StatementFits (map kind_of parts.old.items) (append_form part (form_of e.now)) }
-    ensures left { (reply : Option Datum) → Leaves result (after_known (known_by known.now) args.now (append_form part (form_of e.now)) (changing parts.old.items reply)) (changing parts.new.items reply) }
+    ensures left { (reply : Option Datum) →
+        Leaves result (after_known (known_by known.now) args.now (append_form part (form_of e.now))
+        (changing parts.old.items reply)) (changing parts.new.items reply) }
     ensures kinds { map kind_of parts.new.items ≡ map kind_of parts.old.items }
 {
     let datum = datum(e, args, parts, known)?;
@@ -194,7 +211,9 @@ fn do_store(
     known: &Pages,
 ) -> Result<(), Stop>
     requires fits { StatementFits (map kind_of parts.old.items) (store_form part (texts_of key.now) (form_of e.now)) }
-    ensures left { (reply : Option Datum) → Leaves result (after_known (known_by known.now) args.now (store_form part (texts_of key.now) (form_of e.now)) (changing parts.old.items reply)) (changing parts.new.items reply) }
+    ensures left { (reply : Option Datum) →
+        Leaves result (after_known (known_by known.now) args.now (store_form part (texts_of key.now) (form_of e.now))
+        (changing parts.old.items reply)) (changing parts.new.items reply) }
     ensures kinds { map kind_of parts.new.items ≡ map kind_of parts.old.items }
 {
     let key = text(key, args, parts, known)?;
@@ -211,7 +230,9 @@ fn do_erase(
     known: &Pages,
 ) -> Result<(), Stop>
     requires fits { StatementFits (map kind_of parts.old.items) (erase_form part (texts_of key.now)) }
-    ensures left { (reply : Option Datum) → Leaves result (after_known (known_by known.now) args.now (erase_form part (texts_of key.now)) (changing parts.old.items reply)) (changing parts.new.items reply) }
+    ensures left { (reply : Option Datum) →
+        Leaves result (after_known (known_by known.now) args.now (erase_form part (texts_of key.now))
+        (changing parts.old.items reply)) (changing parts.new.items reply) }
     ensures kinds { map kind_of parts.new.items ≡ map kind_of parts.old.items }
 {
     let key = text(key, args, parts, known)?;
@@ -248,7 +269,8 @@ fn act(
     reply: &mut Option<Datum>,
 ) -> Result<(), Stop>
     requires fits { StatementFits (map kind_of parts.old.items) (statement_of s.now) }
-    ensures left { Leaves result (after_known (known_by known.now) args.now (statement_of s.now) (changing parts.old.items reply.old)) (changing parts.new.items reply.new) }
+    ensures left { Leaves result (after_known (known_by known.now) args.now (statement_of s.now)
+        (changing parts.old.items reply.old)) (changing parts.new.items reply.new) }
     ensures kinds { map kind_of parts.new.items ≡ map kind_of parts.old.items }
     ensures memory { IsErrOf result Stop.Memory → 0 < length (map kind_of parts.old.items) }
 {
@@ -279,7 +301,8 @@ pub(crate) fn act_all(
     reply: &mut Option<Datum>,
 ) -> Result<(), Stop>
     requires fits { StatementsFit (map kind_of parts.old.items) (all_of all.now) }
-    ensures left { Leaves result (all_known (known_by known.now) args.now (all_of all.now) (changing parts.old.items reply.old)) (changing parts.new.items reply.new) }
+    ensures left { Leaves result (all_known (known_by known.now) args.now (all_of all.now)
+        (changing parts.old.items reply.old)) (changing parts.new.items reply.new) }
     ensures kinds { map kind_of parts.new.items ≡ map kind_of parts.old.items }
     ensures memory { IsErrOf result Stop.Memory → 0 < length (map kind_of parts.old.items) }
 {

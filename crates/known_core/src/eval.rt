@@ -17,13 +17,16 @@ ghost use Rattle.decl_core.specs.Form.{
 };
 ghost use Rattle.decl_core.specs.View.{from_of, integers_of, texts_of, form_of, condition_of};
 ghost use Rattle.decl_core.specs.Sorts.{sort_of_form};
-ghost use Rattle.decl_core.specs.Meaning.{part_at, argument_at, integer_in as in_integer, text_in as in_text, compares as related};
-ghost use Rattle.known_core.specs.Partly.{if_known as where_known, datum_known, integer_known, text_known, value_known, holds_known};
+ghost use Rattle.decl_core.specs.Meaning.{part_at, argument_at, integer_in as in_integer, text_in as in_text};
+ghost use Rattle.decl_core.specs.Meaning.{compares as related};
+ghost use Rattle.known_core.specs.Partly.{if_known as where_known, datum_known, integer_known, text_known, value_known};
+ghost use Rattle.known_core.specs.Partly.{holds_known};
 ghost use Rattle.known_core.specs.Known.{Known};
 ghost use Rattle.known_core.specs.Masks.{known_by};
 ghost use Rattle.known_core.specs.Breaks.{given};
 ghost use Rattle.known_core.specs.declared.eval.Break.TheVariants.{Refused};
-ghost use Rattle.apply_core.specs.Fitting.{kind_at, FromFits, IntegersFit, TextsFit, SignedFits, TermsFit, FormFits, ConditionFits};
+ghost use Rattle.apply_core.specs.Fitting.{kind_at, FromFits, IntegersFit, TextsFit, SignedFits, TermsFit, FormFits};
+ghost use Rattle.apply_core.specs.Fitting.{ConditionFits};
 ghost use Rattle.known_core.specs.Sums.{seeing, with_signed, with_terms};
 
 use crate::pages::Pages;
@@ -124,7 +127,8 @@ fn element_in(
 // The oldest element of a part.
 fn oldest_in(part: PartId, parts: &[Value]) -> Result<Datum, Break>
     requires fits { FromFits (map kind_of parts.now) (oldest part) }
-    ensures { (known : Known) (args : List Datum) → datum_known known (seeing args parts.now) (oldest part) ≡ given result }
+    ensures { (known : Known) (args : List Datum) →
+        datum_known known (seeing args parts.now) (oldest part) ≡ given result }
 {
     let datum = value_of(parts, part).first()?;
     Ok(datum)
@@ -140,7 +144,8 @@ fn under_in(
     known: &Pages,
 ) -> Result<Datum, Break>
     requires fits { FromFits (map kind_of parts.now) (under part (texts_of key.now)) }
-    ensures { datum_known (known_by known.now) (seeing args.now parts.now) (under part (texts_of key.now)) ≡ given result }
+    ensures { datum_known (known_by known.now) (seeing args.now parts.now) (under part (texts_of key.now))
+        ≡ given result }
 {
     let key = text(key, args, parts, known)?;
     let datum = value_of(parts, part).lookup(&key)?;
@@ -272,7 +277,8 @@ fn integer_datum(
     known: &Pages,
 ) -> Result<Datum, Break>
     requires fits { IntegersFit (map kind_of parts.now) (integers_of e.now) }
-    ensures value { value_known (known_by known.now) (seeing args.now parts.now) (an_integer (integers_of e.now)) ≡ given result }
+    ensures value { value_known (known_by known.now) (seeing args.now parts.now) (an_integer (integers_of e.now))
+        ≡ given result }
     ensures sort { IfOk result (λ d. elem_of d ≡ sort_of_form (an_integer (integers_of e.now))) }
 {
     let n = integer(e, args, parts, known)?;
@@ -282,7 +288,8 @@ fn integer_datum(
 // The value of an expression that is a text, as a datum.
 fn text_datum(e: &TextExpr, args: &[Datum], parts: &[Value], known: &Pages) -> Result<Datum, Break>
     requires fits { TextsFit (map kind_of parts.now) (texts_of e.now) }
-    ensures value { value_known (known_by known.now) (seeing args.now parts.now) (a_text (texts_of e.now)) ≡ given result }
+    ensures value { value_known (known_by known.now) (seeing args.now parts.now) (a_text (texts_of e.now))
+        ≡ given result }
     ensures sort { IfOk result (λ d. elem_of d ≡ sort_of_form (a_text (texts_of e.now))) }
 {
     let text = text(e, args, parts, known)?;
@@ -329,7 +336,8 @@ fn are_same(
     known: &Pages,
 ) -> Result<bool, Break>
     requires fits { ConditionFits (map kind_of parts.now) (same_texts (texts_of a.now) (texts_of b.now)) }
-    ensures { holds_known (known_by known.now) (seeing args.now parts.now) (same_texts (texts_of a.now) (texts_of b.now))
+    ensures { holds_known (known_by known.now) (seeing args.now parts.now)
+        (same_texts (texts_of a.now) (texts_of b.now))
         ≡ given result }
 {
     let first = text(a, args, parts, known)?;
@@ -346,7 +354,8 @@ fn are_other(
     known: &Pages,
 ) -> Result<bool, Break>
     requires fits { ConditionFits (map kind_of parts.now) (other_texts (texts_of a.now) (texts_of b.now)) }
-    ensures { holds_known (known_by known.now) (seeing args.now parts.now) (other_texts (texts_of a.now) (texts_of b.now))
+    ensures { holds_known (known_by known.now) (seeing args.now parts.now)
+        (other_texts (texts_of a.now) (texts_of b.now))
         ≡ given result }
 {
     let first = text(a, args, parts, known)?;
@@ -363,7 +372,8 @@ fn has_key(
     known: &Pages,
 ) -> Result<bool, Break>
     requires fits { ConditionFits (map kind_of parts.now) (has part (texts_of key.now)) }
-    ensures { holds_known (known_by known.now) (seeing args.now parts.now) (has part (texts_of key.now)) ≡ given result }
+    ensures { holds_known (known_by known.now) (seeing args.now parts.now) (has part (texts_of key.now))
+        ≡ given result }
 {
     let key = text(key, args, parts, known)?;
     Ok(value_of(parts, part).has(&key))

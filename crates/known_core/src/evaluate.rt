@@ -18,8 +18,8 @@ use value_core::datum::Datum;
 use value_core::kind::Elem;
 use value_core::value::Value;
 
-/// Does the body of an operation on values, in place: that of part p stands at place p, where the operation reads it, and
-/// in the place of an element that is not known stands any. A body that ends otherwise leaves them changed in part.
+/// Does the body of an operation on values, in place: that of part p stands at place p, where the operation reads it,
+/// and in the place of an element that is not known stands any. A body that ends otherwise leaves them changed in part.
 pub fn evaluate(
     operation: &Operation,
     args: &[Datum],
@@ -28,8 +28,10 @@ pub fn evaluate(
 ) -> Result<Option<Datum>, Stop>
     requires fits { ArgumentsFit operation.now args.now }
     requires held { HoldsReads operation.now parts.old.items }
-    ensures done { IfOk result (λ reply. partly_done (known_by known.now) (body_of operation.now) args.now parts.old.items ≡ Ok (changing parts.new.items reply)) }
-    ensures stopped { IfErr result (λ stop. StopTells (partly_done (known_by known.now) (body_of operation.now) args.now parts.old.items) stop) }
+    ensures done { IfOk result (λ reply. partly_done (known_by known.now) (body_of operation.now) args.now
+        parts.old.items ≡ Ok (changing parts.new.items reply)) }
+    ensures stopped { IfErr result (λ stop.
+        StopTells (partly_done (known_by known.now) (body_of operation.now) args.now parts.old.items) stop) }
     ensures kinds { map kind_of parts.new.items ≡ map kind_of parts.old.items }
     // Only a body that changes a part takes memory.
     ensures memory { IsErrOf result Stop.Memory → 0 < length parts.old.items }

@@ -1,10 +1,10 @@
 //! Bodies over what is known of their parts.
 //!
-//! Of an array of integers some pages may be known and others not (`Pages`). `evaluate` does the body of an operation over
-//! what is known: it is done, it is refused, or it comes to an element that is not known and names it. In the place of
-//! such an element stands any, so that what a body is done on are values like any others. `specs/Partly.antt` says what a
-//! body means over what is known, and `laws` ties that to what it means on whole contents. Runs evaluate with it; audits, which
-//! have whole contents, with `apply_core`.
+//! Of an array of integers some pages may be known and others not (`Pages`). `evaluate` does the body of an operation
+//! over what is known: it is done, it is refused, or it comes to an element that is not known and names it. In the
+//! place of such an element stands any, so that what a body is done on are values like any others. `specs/Partly.antt`
+//! says what a body means over what is known, and `laws` ties that to what it means on whole contents. Runs evaluate
+//! with it; audits, which have whole contents, with `apply_core`.
 #![tactic(auto)]
 
 pub mod act;

@@ -1,6 +1,7 @@
 //! The engine: from pieces of a text to lines, and from answers to writes.
 
-ghost use Rattle.std.specs.Prelude.{◌≡◌, ◌+◌, ◌*◌, ◌≤◌, ◌<◌, ◌^◌, ◌++◌, ◌∷◌, [], ℕ, List, Bool, true, false, MatchOption, IfOk, OnOk, OnErr, IsErrOf, length, vec_len};
+ghost use Rattle.std.specs.Prelude.{◌≡◌, ◌+◌, ◌*◌, ◌≤◌, ◌<◌, ◌^◌, ◌++◌, ◌∷◌, [], ℕ, List, Bool, true, false};
+ghost use Rattle.std.specs.Prelude.{MatchOption, IfOk, OnOk, OnErr, IsErrOf, length, vec_len};
 ghost use Rattle.std.specs.Io.KnownBytes.{Appends, Consumes};
 ghost use Rattle.std.specs.Str.Lines.{strip_carriage_return};
 ghost use Rattle.line_core.specs.Runs.{NoLineFeed};
@@ -81,7 +82,8 @@ impl Pending {
         ensures held { result ≡ Ok true → NoLineFeed self.new.held.items }
         ensures room { OnOk result (self.new.number ≤ self.old.number + length piece.now) }
         ensures fed { IfOk result (λ goes. (answers : List ℕ) × (self.new.out.items ≡ self.old.out.items ++ answers)
-            × Fed M.gives machine.old self.old.number (self.old.held.items ++ piece.now) goes answers machine.new self.new.number self.new.held.items) }
+            × Fed M.gives machine.old self.old.number (self.old.held.items ++ piece.now) goes answers machine.new
+            self.new.number self.new.held.items) }
     {
         let mut rest = piece;
         while let Some((front, back)) = split_line(rest) {
@@ -99,7 +101,8 @@ impl Pending {
     fn finish<M: Machine>(&mut self, machine: &mut M) -> Result<bool, AllocError>
         requires { NoLineFeed self.old.held.items }
         ensures number { self.new.number ≡ self.old.number }
-        ensures finished { IfOk result (λ goes. (answers : List ℕ) × (self.new.out.items ≡ self.old.out.items ++ answers)
+        ensures finished { IfOk result (λ goes. (answers : List ℕ)
+            × (self.new.out.items ≡ self.old.out.items ++ answers)
             × Finished M.gives machine.old self.old.number self.old.held.items goes answers machine.new) }
     {
         if self.held.is_empty() {

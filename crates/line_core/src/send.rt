@@ -47,7 +47,8 @@ fn send_some<W: Write>(writer: &mut W, bytes: &[u8]) -> Result<usize, LinesFault
 /// made again, at most 16,777,216 times in a row.
 pub fn write_whole<W: Write>(writer: &mut W, bytes: &[u8]) -> Result<(), LinesFault>
     ensures ok { OnOk result (Appends (W.contents writer.old) (W.contents writer.new) bytes.now) }
-    ensures err { OnErr result ((count : ℕ) × Appends (W.contents writer.old) (W.contents writer.new) (take count bytes.now)) }
+    ensures err { OnErr result ((count : ℕ)
+        × Appends (W.contents writer.old) (W.contents writer.new) (take count bytes.now)) }
     ensures fault { IfErr result (λ fault. fault ≡ LinesFault.WriteFault) }
 {
     let mut sent = 0;

@@ -55,7 +55,8 @@ fn section_at(section: Option<Symbol>, token: &Token) -> Option<Symbol> {
     }
 }
 
-/// The first place where these tokens declare a name, and what it is; what stands in a path or in a body declares nothing.
+/// The first place where these tokens declare a name, and what it is; what stands in a path or in a
+/// body declares nothing.
 pub fn declared_in<'t>(tokens: &'t [Token], name: &[u8]) -> Option<(&'t [Token], What)> {
     let mut section = None;
     let mut before = None;

@@ -25,7 +25,9 @@ AreSeatsOf r seats = AreSeats r.given (length r.board.history) (parked_of r.clie
 
 -- a receipt tells of the entry at its place
 abbrev pub Stands : List Noted → Receipt → Type 0
-Stands history r = (0 < r.place) × ((e : Noted) × (slice_get history (r.place - 1) ≡ Some e) × IsEntryOf r.noted.session r.noted.outcome e)
+Stands history r =
+    (0 < r.place) × ((e : Noted) × (slice_get history (r.place - 1) ≡ Some e)
+    × IsEntryOf r.noted.session r.noted.outcome e)
 
 -- the receipt at this index is of this place, the entry there is another one, and each receipt before it stands
 pub record Misses (X : Type 0) (stands : X → Type 0) (place_of : X → ℕ) (receipts : List X) (k place : ℕ) : Type 0 where
@@ -46,12 +48,15 @@ module _ (X : Type 0) (stands : List Noted → X → Type 0) (place_of : X → �
   abbrev pub IsWhyBy : RoomState → List Seat → List X → CloseFault → Type 0
   IsWhyBy r seats receipts Outstanding = IsIdle r.board → ⊥
   IsWhyBy r seats receipts SeatMissing = IsIdle r.board × (AreSeatsOf r seats → ⊥)
-  IsWhyBy r seats receipts (Mismatch k place) = IsIdle r.board × AreSeatsOf r seats × Misses X (stands r.board.history) place_of receipts k place
+  IsWhyBy r seats receipts (Mismatch k place) =
+      IsIdle r.board × AreSeatsOf r seats × Misses X (stands r.board.history) place_of receipts k place
 
   -- A room is closed where nothing is missing; a refusal hands room and seats back.
   abbrev pub ClosesBy : RoomState → List Seat → List X → Result Closed CloseRefused → Type 0
-  ClosesBy r seats receipts (Ok closed) = IsIdle r.board × AreSeatsOf r seats × Every (stands r.board.history) receipts × (closed.desk ≡ r.board)
-  ClosesBy r seats receipts (Err refused) = IsWhyBy r seats receipts refused.why × (refused.room ≡ r) × (refused.seats.items ≡ seats)
+  ClosesBy r seats receipts (Ok closed) =
+      IsIdle r.board × AreSeatsOf r seats × Every (stands r.board.history) receipts × (closed.desk ≡ r.board)
+  ClosesBy r seats receipts (Err refused) =
+      IsWhyBy r seats receipts refused.why × (refused.room ≡ r) × (refused.seats.items ≡ seats)
 
 abbrev pub place_of_receipt : Receipt → ℕ
 place_of_receipt r = r.place

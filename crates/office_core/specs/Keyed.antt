@@ -21,7 +21,8 @@ abbrev pub answer_of : Result Resubmitted KeyedFault → Result Keyed KeyedFault
 answer_of (Ok r) = Ok (keyed_of r)
 answer_of (Err fault) = Err fault
 
--- What is told of a call under a key: a new one is of what was asked, and of the board's call of its number; an old one is the call of this key that a sound board has; a sound board refuses by this fault.
+-- What is told of a call under a key: a new one is of what was asked, and of the board's call of its number; an old one
+-- is the call of this key that a sound board has; a sound board refuses by this fault.
 abbrev pub Resubmits : Board → Asked → ℕ → Result Resubmitted KeyedFault → Type 0
 Resubmits b a key (Ok (asked.New s)) = Asks a.name a.arguments s × IsOf b s
 Resubmits b a key (Ok (asked.Kept kept)) = IsSound b × IsKeptCall b a key kept

@@ -1,5 +1,6 @@
 -- Seats that are given out under a name, and parked.
-use Rattle.std.specs.Prelude.{◌≡◌, ◌≢◌, ℕ, ◌+◌, ◌<◌, ◌≤◌, ◌⊎◌, ◌++◌, ◌∷◌, [], List, true, false, slice_get, slice_set, Some, None, Result, Ok, Err}
+use Rattle.std.specs.Prelude.{◌≡◌, ◌≢◌, ℕ, ◌+◌, ◌<◌, ◌≤◌, ◌⊎◌, ◌++◌, ◌∷◌, [], List, true, false, slice_get, slice_set}
+use Rattle.std.specs.Prelude.{Some, None, Result, Ok, Err}
 use Rattle.board_core.specs.Lists.{Every}
 use Rattle.board_core.specs.Board.{released, marked}
 use Rattle.board_core.specs.Started.{Settles}
@@ -43,10 +44,12 @@ pub record IsGivenNew (old : RoomState) (name : List ℕ) (seat : Seat) (new : R
   pub given : new.given ≡ old.given + 1
   pub clients : new.clients ≡ old.clients ++ (record { name = name; session = old.given + 1; seat = None }) ∷ []
 
--- What it answers to give a seat out under a name, and what that makes of the room; a refusal, the first that applies, changes nothing.
+-- What it answers to give a seat out under a name, and what that makes of the room; a refusal, the first that
+-- applies, changes nothing.
 abbrev pub GivesNamed : RoomState → List ℕ → Result Seat NameFault → RoomState → Type 0
 GivesNamed old name (Ok seat) new = IsGivenAgain old name seat new ⊎ IsGivenNew old name seat new
-GivesNamed old name (Err InUse) new = ((k : ℕ) × (c : Client) × IsAt old.clients name k c × (c.seat ≡ None)) × (new ≡ old)
+GivesNamed old name (Err InUse) new =
+    ((k : ℕ) × (c : Client) × IsAt old.clients name k c × (c.seat ≡ None)) × (new ≡ old)
 GivesNamed old name (Err SeatsFull) new = IsNew old name × (1024 ≤ old.given) × (new ≡ old)
 GivesNamed old name (Err Memory) new = IsNew old name × (old.given < 1024) × (new ≡ old)
 
@@ -61,8 +64,12 @@ pub record IsParked (old : RoomState) (seat : Seat) (new : RoomState) : Type 0 w
   pub given : new.given ≡ old.given
   pub clients : new.clients ≡ slice_set old.clients place (record client { seat = Some seat })
 
--- What it answers to park a seat, and what that makes of the room; a refusal, the first that applies, hands the seat back and changes nothing.
+-- What it answers to park a seat, and what that makes of the room; a refusal, the first that applies, hands the seat
+-- back and changes nothing.
 abbrev pub Parks : RoomState → Seat → Result (Unit {0}) (Seat × ParkFault) → RoomState → Type 0
 Parks old seat (Ok done) new = IsParked old seat new
-Parks old seat (Err (back, Stranger)) new = (back ≡ seat) × Every (λ (c : Client). IsOut seat.session c → ⊥) old.clients × (new ≡ old)
-Parks old seat (Err (back, Running)) new = (back ≡ seat) × ((k : ℕ) × (c : Client) × (slice_get old.clients k ≡ Some c) × IsOut seat.session c) × (runs_by old.board seat.session ≡ true) × (new ≡ old)
+Parks old seat (Err (back, Stranger)) new =
+    (back ≡ seat) × Every (λ (c : Client). IsOut seat.session c → ⊥) old.clients × (new ≡ old)
+Parks old seat (Err (back, Running)) new =
+    (back ≡ seat) × ((k : ℕ) × (c : Client) × (slice_get old.clients k ≡ Some c) × IsOut seat.session c)
+    × (runs_by old.board seat.session ≡ true) × (new ≡ old)

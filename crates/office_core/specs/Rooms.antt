@@ -17,7 +17,9 @@ pub record RoomState : Type 0 where
 abbrev pub KeepsSeats : RoomState → RoomState → Type 0
 KeepsSeats old new = (new.given ≡ old.given) × (new.clients ≡ old.clients)
 
--- what a submission answers and makes of the board: the next number, and the call joins; or the first refusal that applies, and all is as it was
+-- what a submission answers and makes of the board: the next number, and the call joins; or the first refusal that
+-- applies, and all is as it was
 abbrev pub Submits : Board → Asked → Result ℕ SubmitFault → Board → Type 0
-Submits b a (Ok n) after = (n ≡ length b.calls + 1) × ((call : AcceptedCall) × IsTaken b a call × Settles (joined b call) after)
+Submits b a (Ok n) after =
+    (n ≡ length b.calls + 1) × ((call : AcceptedCall) × IsTaken b a call × Settles (joined b call) after)
 Submits b a (Err fault) after = IsRefused b a fault × (after ≡ b)

@@ -13,7 +13,8 @@ use Rattle.office_core.specs.declared.seat.CompleteFault.{CompleteFault}
 use Rattle.office_core.specs.declared.seat.CompleteFault.TheVariants.{Front, Stranger}
 use Rattle.office_core.specs.Rooms.{RoomState, KeepsSeats}
 
--- What a `complete` tells of an outcome and of the seat: a receipt whose outcome tells the same, at a place past all that the seat had seen; or the outcome back, and the seat as it was.
+-- What a `complete` tells of an outcome and of the seat: a receipt whose outcome tells the same, at a place past all
+-- that the seat had seen; or the outcome back, and the seat as it was.
 abbrev pub Receives : Seat → Outcome → Result Receipt CompleteFault → Seat → Type 0
 Receives old o (Ok r) new = TellsSame o r.noted.outcome × (old.seen < r.place) × Advances old r.place new
 Receives old o (Err (Front seen found back)) new = (seen ≡ old.seen) × (found ≤ seen) × (back ≡ o) × (new ≡ old)
@@ -23,7 +24,8 @@ Receives old o (Err (Stranger back)) new = (back ≡ o) × (new ≡ old)
 -- outcome, which stays where it lies, tells the same; or outcome and seat are as they were.
 abbrev pub ReceivesInPlace : Seat → Outcome → Result Finished NotTaken → Outcome → Seat → Type 0
 ReceivesInPlace old o (Ok f) after new = TellsSame o after × (old.seen < f.place) × Advances old f.place new
-ReceivesInPlace old o (Err (missed seen found)) after new = (seen ≡ old.seen) × (found ≤ seen) × (after ≡ o) × (new ≡ old)
+ReceivesInPlace old o (Err (missed seen found)) after new =
+    (seen ≡ old.seen) × (found ≤ seen) × (after ≡ o) × (new ≡ old)
 ReceivesInPlace old o (Err unknown) after new = (after ≡ o) × (new ≡ old)
 
 -- why it was not taken, with the outcome
@@ -35,15 +37,19 @@ fault_with unknown o = Stranger o
 abbrev pub IsAhead : RoomState → Seat → Type 0
 IsAhead r seat = seat.seen < length r.board.history + 1
 
--- What a `complete` makes of the room: what `finish` makes of the desk's board, where the next place is past all that the seat has seen; else it is as it was.
+-- What a `complete` makes of the room: what `finish` makes of the desk's board, where the next place is past all that
+-- the seat has seen; else it is as it was.
 abbrev pub Completes : RoomState → Seat → Outcome → Result Receipt CompleteFault → RoomState → Type 0
 Completes old seat o (Ok r) new = IsAhead old seat × Finishes old.board o r new.board × KeepsSeats old new
-Completes old seat o (Err (Front seen found back)) new = (found ≡ length old.board.history + 1) × (found ≤ seat.seen) × (new ≡ old)
+Completes old seat o (Err (Front seen found back)) new =
+    (found ≡ length old.board.history + 1) × (found ≤ seat.seen) × (new ≡ old)
 Completes old seat o (Err (Stranger back)) new = IsAhead old seat × IsStranger old.board o × (new ≡ old)
 
 -- What a `complete_in_place` makes of the room: what `finish` makes of the desk's board, where the next place is past
 -- all that the seat has seen; else it is as it was.
 abbrev pub CompletesInPlace : RoomState → Seat → Outcome → Result Finished NotTaken → Outcome → RoomState → Type 0
-CompletesInPlace old seat o (Ok f) after new = IsAhead old seat × Finishes old.board o (receipt_by f after) new.board × KeepsSeats old new
-CompletesInPlace old seat o (Err (missed seen found)) after new = (found ≡ length old.board.history + 1) × (found ≤ seat.seen) × (new ≡ old)
+CompletesInPlace old seat o (Ok f) after new =
+    IsAhead old seat × Finishes old.board o (receipt_by f after) new.board × KeepsSeats old new
+CompletesInPlace old seat o (Err (missed seen found)) after new =
+    (found ≡ length old.board.history + 1) × (found ≤ seat.seen) × (new ≡ old)
 CompletesInPlace old seat o (Err unknown) after new = IsAhead old seat × IsStranger old.board o × (new ≡ old)

@@ -66,9 +66,14 @@ IsStartOf s (started.Ticket t) = IsTicketOf s t
 IsStartOf s started.Cancelled = WasCancelled s
 IsStartOf s (started.Stranger back) = back ≡ s
 
--- what a look for a start makes of the room: what `collect` makes of the desk's board, where the call of that number is of the submission
+-- what a look for a start makes of the room: what `collect` makes of the desk's board, where the call of that number
+-- is of the submission
 abbrev pub Tries : RoomState → Submitted → Tried → RoomState → Type 0
-Tries old s (Ticket t) new = IsOf old.board s × Collects old.board s.number (collected.Ticket t) new.board × KeepsSeats old new
-Tries old s Cancelled new = IsOf old.board s × Collects old.board s.number collected.Cancelled new.board × KeepsSeats old new
-Tries old s (Waiting back) new = IsOf old.board s × Collects old.board s.number collected.Waiting new.board × KeepsSeats old new
-Tries old s (Stranger back) new = (IsOf old.board s → Collects old.board s.number collected.Unknown new.board) × (new ≡ old)
+Tries old s (Ticket t) new =
+    IsOf old.board s × Collects old.board s.number (collected.Ticket t) new.board × KeepsSeats old new
+Tries old s Cancelled new =
+    IsOf old.board s × Collects old.board s.number collected.Cancelled new.board × KeepsSeats old new
+Tries old s (Waiting back) new =
+    IsOf old.board s × Collects old.board s.number collected.Waiting new.board × KeepsSeats old new
+Tries old s (Stranger back) new =
+    (IsOf old.board s → Collects old.board s.number collected.Unknown new.board) × (new ≡ old)

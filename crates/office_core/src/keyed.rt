@@ -26,8 +26,8 @@ pub enum Resubmitted {
 }
 
 impl Room {
-    /// What is known of a key of this seat's session, as the desk's `kept` tells: the call that the session made under it, or `None` where it
-    /// is the key of its next call. The errors are those of `kept`, in its order.
+    /// What is known of a key of this seat's session, as the desk's `kept` tells: the call that the session made under
+    /// it, or `None` where it is the key of its next call. The errors are those of `kept`, in its order.
     pub fn kept(
         &self,
         seat: &Seat,
@@ -35,15 +35,20 @@ impl Room {
         op: &str,
         args: &[Datum],
     ) -> Result<Option<Kept>, KeyedFault>
-        ensures finds { Finds self.now.board (record { session = seat.now.session; name = op.now; arguments = args.now }) key result }
+        ensures finds { Finds self.now.board (record {
+          session = seat.now.session;
+          name = op.now;
+          arguments = args.now;
+        }) key result }
         ensures sound { IsSound self.now.board }
     {
         let _history = self.desk.history();
         self.desk.kept(seat.session(), key, op, args)
     }
 
-    /// Takes a call of this seat's session under a key, as the desk's `submit_keyed` does: under the key of the session's next call it is a
-    /// [`Room::submit`]; under that of an earlier one it answers what became of that call, changes nothing and takes no memory.
+    /// Takes a call of this seat's session under a key, as the desk's `submit_keyed` does: under the key of the
+    /// session's next call it is a [`Room::submit`]; under that of an earlier one it answers what became of that call,
+    /// changes nothing and takes no memory.
     ///
     /// The errors are those of `submit_keyed`, in its order, and change nothing.
     pub fn submit_keyed(
@@ -53,8 +58,16 @@ impl Room {
         op: &str,
         args: &[Datum],
     ) -> Result<Resubmitted, KeyedFault>
-        ensures told { Resubmits self.new.board (record { session = seat.old.session; name = op.now; arguments = args.now }) key result }
-        ensures board { SubmitsKeyed self.old.board (record { session = seat.old.session; name = op.now; arguments = args.now }) key (answer_of result) self.new.board }
+        ensures told { Resubmits self.new.board (record {
+          session = seat.old.session;
+          name = op.now;
+          arguments = args.now;
+        }) key result }
+        ensures board { SubmitsKeyed self.old.board (record {
+          session = seat.old.session;
+          name = op.now;
+          arguments = args.now;
+        }) key (answer_of result) self.new.board }
         ensures given { KeepsSeats self.old self.new }
         ensures seat { seat.new ≡ seat.old }
     {
@@ -74,8 +87,16 @@ impl Room {
     ) -> Result<Resubmitted, KeyedFault>
         requires here { IsGone self.old.board seat.old.session → ⊥ }
         requires sound { IsSound self.old.board }
-        ensures told { Resubmits self.new.board (record { session = seat.old.session; name = op.now; arguments = args.now }) (next_key self.old.board.calls seat.old.session) result }
-        ensures board { SubmitsKeyed self.old.board (record { session = seat.old.session; name = op.now; arguments = args.now }) (next_key self.old.board.calls seat.old.session) (answer_of result) self.new.board }
+        ensures told { Resubmits self.new.board (record {
+          session = seat.old.session;
+          name = op.now;
+          arguments = args.now;
+        }) (next_key self.old.board.calls seat.old.session) result }
+        ensures board { SubmitsKeyed self.old.board (record {
+          session = seat.old.session;
+          name = op.now;
+          arguments = args.now;
+        }) (next_key self.old.board.calls seat.old.session) (answer_of result) self.new.board }
         ensures given { KeepsSeats self.old self.new }
         ensures seat { seat.new ≡ seat.old }
     {
@@ -87,7 +108,8 @@ impl Room {
 
     /// The key of the next call of this seat's session, from 1.
     pub fn next_key(&self, seat: &Seat) -> u32
-        ensures { 0 < seat.now.session → seat.now.session ≤ 1024 → result ≡ next_key self.now.board.calls seat.now.session }
+        ensures { 0 < seat.now.session → seat.now.session ≤ 1024 →
+            result ≡ next_key self.now.board.calls seat.now.session }
     {
         self.desk.next_key(seat.session())
     }
@@ -103,13 +125,17 @@ impl Office {
         op: &str,
         args: &[Datum],
     ) -> Result<Option<Kept>, KeyedFault>
-        ensures { (b : Board) × IsSound b × Finds b (record { session = seat.now.session; name = op.now; arguments = args.now }) key result }
+        ensures { (b : Board) × IsSound b × Finds b (record {
+          session = seat.now.session;
+          name = op.now;
+          arguments = args.now;
+        }) key result }
     {
         self.enter(rt).kept(seat, key, op, args)
     }
 
-    /// Submits a call of this seat's session under a key, as [`Room::submit_keyed`]. Of a call that the session made before it answers what
-    /// some board of this office has of it.
+    /// Submits a call of this seat's session under a key, as [`Room::submit_keyed`]. Of a call that the session made
+    /// before it answers what some board of this office has of it.
     pub fn submit_keyed<R: Wait>(
         &self,
         rt: &R,
@@ -118,7 +144,11 @@ impl Office {
         op: &str,
         args: &[Datum],
     ) -> Result<Resubmitted, KeyedFault>
-        ensures told { (b : Board) × Resubmits b (record { session = seat.old.session; name = op.now; arguments = args.now }) key result }
+        ensures told { (b : Board) × Resubmits b (record {
+          session = seat.old.session;
+          name = op.now;
+          arguments = args.now;
+        }) key result }
         ensures seat { seat.new ≡ seat.old }
     {
         // The only call that a submission may start is its own, for which nobody waits yet.
@@ -127,7 +157,8 @@ impl Office {
 
     /// The key of the next call of this seat's session, from 1, as some board of this office has it.
     pub fn next_key<R: Wait>(&self, rt: &R, seat: &Seat) -> u32
-        ensures { (b : Board) × (0 < seat.now.session → seat.now.session ≤ 1024 → result ≡ next_key b.calls seat.now.session) }
+        ensures { (b : Board) × (0 < seat.now.session → seat.now.session ≤ 1024 →
+            result ≡ next_key b.calls seat.now.session) }
     {
         self.enter(rt).next_key(seat)
     }

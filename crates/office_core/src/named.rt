@@ -32,8 +32,8 @@ pub enum ParkFault {
 }
 
 impl Room {
-    /// The seat that was given out under this name and parked: its session is back, and it has seen what it had seen. A new name gets the
-    /// next session, and with it the room that [`Room::park`] needs.
+    /// The seat that was given out under this name and parked: its session is back, and it has seen what it had seen. A
+    /// new name gets the next session, and with it the room that [`Room::park`] needs.
     ///
     /// The errors, of which the first that applies is told, are those of [`NameFault`]; they change nothing.
     pub fn seat_named(&mut self, name: &Name) -> Result<Seat, NameFault>
@@ -49,7 +49,8 @@ impl Room {
     // The seat of the client at this place, where it is parked. Its session is back.
     fn seat_again(&mut self, place: usize) -> Result<Seat, NameFault>
         requires { (c : AClient) × (slice_get self.old.clients place ≡ Some c) }
-        ensures gives { (c : AClient) → slice_get self.old.clients place ≡ Some c → GivesNamed self.old c.name result self.new }
+        ensures gives { (c : AClient) → slice_get self.old.clients place ≡ Some c →
+            GivesNamed self.old c.name result self.new }
         ensures within { IfOk result (λ seat. (0 < seat.session) × (seat.session ≤ 1024)) }
     {
         match self.clients.take_at(place) {
@@ -79,11 +80,12 @@ impl Room {
         }
     }
 
-    /// Parks the seat of a name: its waiting call is cancelled and its session leaves, until [`Room::seat_named`] gives the seat out again. It
-    /// takes no memory.
+    /// Parks the seat of a name: its waiting call is cancelled and its session leaves, until [`Room::seat_named`] gives
+    /// the seat out again. It takes no memory.
     ///
-    /// The errors, of which the first that applies is told, are those of [`ParkFault`]; they hand the seat back and change nothing. A seat
-    /// does not tell of which room it is: that of another room is a stranger only where its session has no name here whose seat is out.
+    /// The errors, of which the first that applies is told, are those of [`ParkFault`]; they hand the seat back and
+    /// change nothing. A seat does not tell of which room it is: that of another room is a stranger only where its
+    /// session has no name here whose seat is out.
     pub fn park(&mut self, seat: Seat) -> Result<(), (Seat, ParkFault)>
         ensures { Parks self.old seat result self.new }
     {
@@ -120,7 +122,8 @@ impl Office {
 
     /// Parks the seat of a name, as [`Room::park`]: who waits for a call of its session is told that it was cancelled.
     ///
-    /// The errors, of which the first that applies is told, are those of [`ParkFault`]; they hand the seat back and change nothing.
+    /// The errors, of which the first that applies is told, are those of [`ParkFault`]; they hand the seat
+    /// back and change nothing.
     pub fn park<R: Wait>(&self, rt: &R, seat: Seat) -> Result<(), (Seat, ParkFault)>
         ensures { IfErr result (λ e. e.0 ≡ seat) }
     {

@@ -25,14 +25,16 @@ use std::time::{Clock, Duration};
 use turn_core::turns::Pace;
 use value_core::datum::Datum;
 
-/// How often a thread looks whether the room is free before it sleeps. A room is held for a microsecond or two, and a thread that sleeps is
-/// woken in tens of them. One pause between two looks lasts up to 140 cycles: with more of them a room that is free stands empty. So long, some
-/// 80 microseconds, since each thread that comes while one sleeps sleeps too.
+/// How often a thread looks whether the room is free before it sleeps. A room is held for a microsecond or two, and a
+/// thread that sleeps is woken in tens of them. One pause between two looks lasts up to 140 cycles: with more of them a
+/// room that is free stands empty. So long, some 80 microseconds, since each thread that comes while
+/// one sleeps sleeps too.
 const LOOKS: usize = 1024;
 
-/// How often a thread looks whether the call that its own would wait for has ended, before it sleeps or submits all the same. Between two looks
-/// it pauses a little and lets another thread run, for who looks may stand in the way of the one that is waited for. A call that writes one
-/// small file ends in less than half of that time: so mostly somebody looks when it does, and nobody has to be woken.
+/// How often a thread looks whether the call that its own would wait for has ended, before it sleeps or submits all the
+/// same. Between two looks it pauses a little and lets another thread run, for who looks may stand in the way of the
+/// one that is waited for. A call that writes one small file ends in less than half of that time: so mostly somebody
+/// looks when it does, and nobody has to be woken.
 const GLANCES: usize = 160;
 
 const PAUSES: usize = 4;
@@ -43,12 +45,13 @@ const LOOKS_A_CLOCK: usize = 16;
 /// How long it sleeps then, in microseconds, if nobody wakes it.
 const NAP: u64 = 1000;
 
-/// How often it does so at most before it submits its call all the same. A queue of calls stays a queue as long as calls join it, and each of them lasts
-/// as long as a thread takes to be woken: in so many naps one of fifteen ends also where that is a millisecond.
+/// How often it does so at most before it submits its call all the same. A queue of calls stays a queue as long as
+/// calls join it, and each of them lasts as long as a thread takes to be woken: in so many naps one of fifteen ends
+/// also where that is a millisecond.
 const NAPS: usize = 16;
 
-/// How long it is held back at most by [`Office::submit_and_try`], in milliseconds, however busy the machine is, but for the time until the thread
-/// runs again.
+/// How long it is held back at most by [`Office::submit_and_try`], in milliseconds, however busy the machine is, but
+/// for the time until the thread runs again.
 const HOLD: u64 = 10;
 
 /// How many places there are at which waiters sleep: session `n` sleeps at `n % BEDS`.
@@ -152,7 +155,8 @@ impl Office {
         self.room.lock(rt)
     }
 
-    // Looks for some microseconds whether there were more notifications at the door than these, but no longer than the watch tells.
+    // Looks for some microseconds whether there were more notifications at the door than these, but no longer
+    // than the watch tells.
     fn glance<R: Clock>(&self, rt: &R, seen: u64, late: &mut Late, most: Duration) -> bool {
         for look in 0..GLANCES {
             if self.door.notifications() != seen {
@@ -169,9 +173,10 @@ impl Office {
         false
     }
 
-    // The room, once a call of this operation would not wait long. Nothing where the watch tells before that that so much time has passed. A
-    // call that is submitted while one runs that excludes it stands in a queue: its thread has to be woken for its turn, and no other call of
-    // its operation can run until it is. One that is submitted when the other has ended starts at once.
+    // The room, once a call of this operation would not wait long. Nothing where the watch tells before that that so
+    // much time has passed. A call that is submitted while one runs that excludes it stands in a queue: its thread has
+    // to be woken for its turn, and no other call of its operation can run until it is. One that is submitted when the
+    // other has ended starts at once.
     fn enter_in_turn<R: Wait + Clock>(
         &self,
         rt: &R,
@@ -243,8 +248,8 @@ impl Office {
         self.enter(rt).submit(seat, op, args)
     }
 
-    /// Submits a call of this seat's session, and looks under the same lock whether it has started. It answers the number of the
-    /// call, and what the look tells. A fault is one of `submit`.
+    /// Submits a call of this seat's session, and looks under the same lock whether it has started. It answers the
+    /// number of the call, and what the look tells. A fault is one of `submit`.
     ///
     /// While a call runs that this one would wait for, it holds the submission back, for 10 milliseconds at most.
     pub fn submit_and_try<R: Wait + Clock>(
@@ -278,7 +283,8 @@ impl Office {
         late: &mut Late,
         most: Duration,
     ) -> Option<Result<(u32, Tried), SubmitFault>>
-        ensures tells { IfSome result (λ found. IfOk found (λ r. (s : Ask) × Asks op.now args.now s × (r.0 ≡ s.number) × Tells s r.1)) }
+        ensures tells { IfSome result (λ found.
+            IfOk found (λ r. (s : Ask) × Asks op.now args.now s × (r.0 ≡ s.number) × Tells s r.1)) }
         ensures seat { seat.new ≡ seat.old }
     {
         let mut guard = match self.enter_in_turn(rt, op, late, most) {

@@ -75,8 +75,8 @@ pub struct SeatsFull {
 pub enum CloseFault {
     /// A call waits or runs.
     Outstanding,
-    /// The seats, with those that are parked here, are not those of the sessions given out, each once, or their counts do not add up to the
-    /// history's length.
+    /// The seats, with those that are parked here, are not those of the sessions given out, each once, or their counts
+    /// do not add up to the history's length.
     SeatMissing,
     /// The receipt or slip of this index, from 0, the first such one, does not tell of the entry at its place.
     Mismatch { receipt: usize, place: usize },
@@ -143,11 +143,13 @@ impl Room {
         &self.desk
     }
 
-    /// The next session, from 1 to 1,024, under no name. The error is that there is none left, and tells how many were given out; nothing is
-    /// changed.
+    /// The next session, from 1 to 1,024, under no name. The error is that there is none left, and tells how many were
+    /// given out; nothing is changed.
     pub fn seat(&mut self) -> Result<Seat, SeatsFull>
-        ensures ok { IfOk result (λ seat. IsFresh (self.old.given + 1) seat × (self.old.given < 1024) × (self.new.given ≡ self.old.given + 1)) }
-        ensures full { IfErr result (λ e. (e.given ≡ self.old.given) × (1024 ≤ e.given) × (self.new.given ≡ self.old.given)) }
+        ensures ok { IfOk result (λ seat. IsFresh (self.old.given + 1) seat × (self.old.given < 1024)
+            × (self.new.given ≡ self.old.given + 1)) }
+        ensures full { IfErr result (λ e. (e.given ≡ self.old.given) × (1024 ≤ e.given)
+            × (self.new.given ≡ self.old.given)) }
         ensures board { self.new.board ≡ self.old.board }
         ensures clients { self.new.clients ≡ self.old.clients }
     {
@@ -167,9 +169,12 @@ impl Room {
         args: &[Datum],
     ) -> Result<Submitted, SubmitFault>
         ensures asks { IfOk result (λ s. Asks op.now args.now s) }
-        ensures board { IfOk result (λ s. Submits self.old.board (record { session = seat.old.session; name = op.now; arguments = args.now }) (Ok s.number) self.new.board) }
+        ensures board { IfOk result (λ s. Submits self.old.board (record
+            { session = seat.old.session; name = op.now; arguments = args.now }) (Ok s.number) self.new.board) }
         ensures accepted { IfOk result (λ s. IsOf self.new.board s) }
-        ensures refused { IfErr result (λ fault. Submits self.old.board (record { session = seat.old.session; name = op.now; arguments = args.now }) (Err fault) self.new.board) }
+        ensures refused { IfErr result (λ fault.
+            Submits self.old.board (record { session = seat.old.session; name = op.now; arguments = args.now })
+            (Err fault) self.new.board) }
         ensures given { KeepsSeats self.old self.new }
         ensures seat { seat.new ≡ seat.old }
     {
@@ -294,10 +299,11 @@ impl Room {
         self.desk.cancel(number)
     }
 
-    /// A session leaves, as by the desk's `disconnect`: that of a name is back once its seat was parked and is given out again. It takes no
-    /// memory.
+    /// A session leaves, as by the desk's `disconnect`: that of a name is back once its seat was parked and is given
+    /// out again. It takes no memory.
     pub fn leave(&mut self, session: u32)
-        ensures left { 0 < session → session ≤ 1024 → Settles (marked (released self.old.board session) session) self.new.board }
+        ensures left { 0 < session → session ≤ 1024 →
+            Settles (marked (released self.old.board session) session) self.new.board }
         ensures none { (session ≡ 0) ⊎ (1024 < session) → self.new.board ≡ self.old.board }
         ensures given { KeepsSeats self.old self.new }
     {
@@ -331,8 +337,9 @@ impl Room {
         Closed { desk }
     }
 
-    /// Ends the work: where no call waits or runs, the seats, with those that are parked here, are those of the sessions given out, each once,
-    /// their counts add up to the history's length, and each receipt tells of the entry at its place. It takes no memory.
+    /// Ends the work: where no call waits or runs, the seats, with those that are parked here, are those of the
+    /// sessions given out, each once, their counts add up to the history's length, and each receipt tells of the entry
+    /// at its place. It takes no memory.
     ///
     /// The errors hand room and seats back, with the first cause of [`CloseFault`] that applies.
     pub fn close(self, seats: Vec<Seat>, receipts: &[Receipt]) -> Result<Closed, CloseRefused>

@@ -197,7 +197,8 @@ fn numbered(rt: &impl Abort, alloc: Global, number: u32) -> Name {
     name(rt, alloc, &bytes)
 }
 
-// Gives a seat out under each numbered name from this one to the last, and parks it, where the next session is the number of the name.
+// Gives a seat out under each numbered name from this one to the last, and parks it, where the next session is
+// the number of the name.
 fn seat_and_park(rt: &impl Abort, alloc: Global, room: &mut Room, first: u32) -> bool {
     for number in first..MOST_SESSIONS + 1 {
         let Ok(seat) = room.seat_named(&numbered(rt, alloc, number)) else {

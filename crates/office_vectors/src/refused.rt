@@ -133,7 +133,8 @@ fn are_seated(rt: &impl Abort, alloc: Global, room: &mut Room) -> bool {
     true
 }
 
-// Whether a seat's `put 7` under this key gets this number and starts, at the first or at the second try, and a refusal takes no key.
+// Whether a seat's `put 7` under this key gets this number and starts, at the first or at the second try, and a
+// refusal takes no key.
 fn is_taken_under<R: Wait>(
     rt: &R,
     alloc: Global,

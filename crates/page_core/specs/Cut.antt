@@ -14,7 +14,8 @@ page_sizes = 1024 ∷ 2048 ∷ 4096 ∷ 8192 ∷ 16384 ∷ 32768 ∷ 65536 ∷ 1
 -- of these sizes this is the first of which as many pages as a part may have hold so many bytes
 abbrev pub IsFirstFor : ℕ → List ℕ → ℕ → Type 0
 IsFirstFor count [] size = ⊥
-IsFirstFor count (first ∷ more) size = ((count ≤ most_pages * first) × (size ≡ first)) ⊎ ((most_pages * first < count) × IsFirstFor count more size)
+IsFirstFor count (first ∷ more) size =
+    ((count ≤ most_pages * first) × (size ≡ first)) ⊎ ((most_pages * first < count) × IsFirstFor count more size)
 
 -- so many bytes are cut into pages of this size: the least that a page may have
 abbrev pub IsPageSize : ℕ → ℕ → Type 0

@@ -25,5 +25,6 @@ pub stamps_again : (a : Inside) → IsKept a → inside_of (stamps_of a) ≡ a
 stamps_again a is =
     let len : length (take a.len a.row) ≡ a.len = omega (arith, length-take a.len a.row, is.len, is.whole) in
     let row : take a.len a.row ++ replicate (most_pages - length (take a.len a.row)) no_stamp ≡ a.row =
-    ap (λ n. take a.len a.row ++ replicate (most_pages - n) no_stamp) len ∙ ap (λ (t : List Stamp). take a.len a.row ++ t) (sym is.rest) ∙ take-append-drop a.len a.row in
+    ap (λ n. take a.len a.row ++ replicate (most_pages - n) no_stamp) len
+    ∙ ap (λ (t : List Stamp). take a.len a.row ++ t) (sym is.rest) ∙ take-append-drop a.len a.row in
     λ i. record { row = row i; len = len i }

@@ -1,5 +1,6 @@
 -- The pins of some parts of an object, and how they are kept one behind the other.
-use Rattle.std.specs.Prelude.{◌≡◌, ℕ, zero, suc, ◌+◌, ◌==◌, Bool, true, false, if◌then◌else◌, List, [], ◌∷◌, length, take, drop, Option, Some, None}
+use Rattle.std.specs.Prelude.{◌≡◌, ℕ, zero, suc, ◌+◌, ◌==◌, Bool, true, false, if◌then◌else◌, List, [], ◌∷◌, length}
+use Rattle.std.specs.Prelude.{take, drop, Option, Some, None}
 use Rattle.std.specs.Int.{bit_at}
 use Rattle.hand_core.specs.declared.hand.Stamp.{Stamp}
 use Rattle.page_core.specs.declared.part_pins.PartPins.TheInside.{Inside}
@@ -10,11 +11,13 @@ pub record PartPin : Type 0 where
   pub part : ℕ
   pub pages : List Stamp
 
--- of stamps, the pins of the parts from this one on, as many stamps each as its count; a part without a stamp has no pin
+-- of stamps, the pins of the parts from this one on, as many stamps each as its count; a part
+-- without a stamp has no pin
 abbrev pub pins_by : ℕ → List ℕ → List Stamp → List PartPin
 pins_by p [] stamps = []
 pins_by p (zero ∷ counts) stamps = pins_by (p + 1) counts stamps
-pins_by p (suc n ∷ counts) stamps = record { part = p; pages = take (suc n) stamps } ∷ pins_by (p + 1) counts (drop (suc n) stamps)
+pins_by p (suc n ∷ counts) stamps =
+    record { part = p; pages = take (suc n) stamps } ∷ pins_by (p + 1) counts (drop (suc n) stamps)
 
 abbrev pub part_pins_of : Inside → List PartPin
 part_pins_of a = pins_by 0 a.counts a.stamps.items
@@ -37,7 +40,8 @@ put_if false x xs = xs
 -- of page lists, the first of which is of part p, those of the parts in a set, each with its part
 abbrev pub pins_in : ℕ → ℕ → List (List Stamp) → List PartPin
 pins_in parts p [] = []
-pins_in parts p (pages ∷ more) = put_if (bit_at parts p == 1) (record { part = p; pages = pages }) (pins_in parts (p + 1) more)
+pins_in parts p (pages ∷ more) =
+    put_if (bit_at parts p == 1) (record { part = p; pages = pages }) (pins_in parts (p + 1) more)
 
 -- as many stamps as those of so many parts that are in a set may have, of which the first is p
 abbrev pub room_in : ℕ → ℕ → ℕ → ℕ

@@ -32,5 +32,6 @@ pub pins_again : (a : Inside) → IsKept a → inside_of (pins_of a) ≡ a
 pins_again a is =
     let len : length (take a.len a.row) ≡ a.len = omega (arith, length-take a.len a.row, is.len, is.whole) in
     let row : take a.len a.row ++ replicate (most_pins - length (take a.len a.row)) no_pages ≡ a.row =
-    ap (λ n. take a.len a.row ++ replicate (most_pins - n) no_pages) len ∙ ap (λ (t : List (List Stamp)). take a.len a.row ++ t) (sym is.rest) ∙ take-append-drop a.len a.row in
+    ap (λ n. take a.len a.row ++ replicate (most_pins - n) no_pages) len
+    ∙ ap (λ (t : List (List Stamp)). take a.len a.row ++ t) (sym is.rest) ∙ take-append-drop a.len a.row in
     λ i. record { row = row i; len = len i }

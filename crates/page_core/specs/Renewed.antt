@@ -15,8 +15,10 @@ AreOf pages [] = Unit {0}
 AreOf pages (write ∷ writes) = (slice_get pages write.place ≡ Some write.bytes) × AreOf pages writes
 
 -- each stamp of a new list is good at its place, for the page there, but where such a page is still to be written
-pub record Renews (Good : ℕ → Stamp → List ℕ → Type 0) (pages : List (List ℕ)) (stamps : List Stamp) (writes : List PageWrite) : Type 0 where
-  pub each : (k : ℕ) (stamp : Stamp) (bytes : List ℕ) → slice_get stamps k ≡ Some stamp → slice_get pages k ≡ Some bytes → Good k stamp bytes ⊎ IsWritten writes k bytes
+pub record Renews (Good : ℕ → Stamp → List ℕ → Type 0) (pages : List (List ℕ)) (stamps : List Stamp)
+    (writes : List PageWrite) : Type 0 where
+  pub each : (k : ℕ) (stamp : Stamp) (bytes : List ℕ) → slice_get stamps k ≡ Some stamp →
+      slice_get pages k ≡ Some bytes → Good k stamp bytes ⊎ IsWritten writes k bytes
   pub many : length stamps ≡ length pages
   pub of : AreOf pages writes
 

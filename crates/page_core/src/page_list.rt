@@ -48,7 +48,8 @@ impl PageList {
         // It is refused exactly where there is no stamp, and where the lengths are those of no cut.
         ensures cut { IsOk result ↔ AreCutLengths (lengths stamps.now) }
         ensures empty { IsErrOf result PageFault.Empty ↔ (stamps.now ≡ []) }
-        ensures bad_length { IsErrOf result PageFault.BadLength ↔ ((stamps.now ≢ []) × (AreCutLengths (lengths stamps.now) → ⊥)) }
+        ensures bad_length { IsErrOf result PageFault.BadLength
+            ↔ ((stamps.now ≢ []) × (AreCutLengths (lengths stamps.now) → ⊥)) }
     {
         if stamps.is_empty() {
             return Err(PageFault::Empty);

@@ -1,6 +1,7 @@
 //! The pins of some parts of an object.
 
-ghost use Rattle.std.specs.Prelude.{◌≡◌, ◌↔◌, ◌+◌, ◌-◌, ◌*◌, ◌<◌, ◌≤◌, ◌++◌, [], IsTrue, IfSome, IfNone, Option, Some, None, length, take, vec_capacity, List, ◌==◌, if◌then◌else◌};
+ghost use Rattle.std.specs.Prelude.{◌≡◌, ◌↔◌, ◌+◌, ◌-◌, ◌*◌, ◌<◌, ◌≤◌, ◌++◌, [], IsTrue, IfSome, IfNone, Option, Some};
+ghost use Rattle.std.specs.Prelude.{None, length, take, vec_capacity, List, ◌==◌, if◌then◌else◌};
 ghost use Rattle.page_core.specs.Cut.{together};
 ghost use Rattle.page_core.specs.PartPins.{pins_by, pin_at, pins_in, room_in, count_pages, added_if};
 ghost use Rattle.std.specs.Int.{bit_at};
@@ -105,7 +106,8 @@ fn fill(counts: &mut [u8], out: &mut Vec<Stamp>, parts: u16, part: usize, lists:
     requires each { length lists.now ≤ length counts.old }
     requires few { part + length lists.now ≤ 16 }
     requires room { length out.old.items + room_in parts part (length lists.now) ≤ vec_capacity out.old }
-    ensures filled { (more : List AStamp) × (out.new.items ≡ out.old.items ++ more) × (pins_by part counts.new more ≡ pins_in parts part lists.now) × (together counts.new ≡ length more) }
+    ensures filled { (more : List AStamp) × (out.new.items ≡ out.old.items ++ more)
+        × (pins_by part counts.new more ≡ pins_in parts part lists.now) × (together counts.new ≡ length more) }
     ensures many { length counts.new ≡ length counts.old }
 {
     let Some((list, rest)) = lists.split_first() else {

@@ -31,7 +31,8 @@ fn add(stamps: &mut Vec<Stamp>, stamp: &Stamp) -> Result<(), AllocError>
 
 // Adds a write.
 fn push(writes: &mut Vec<PageWrite>, place: usize, bytes: FileBytes) -> Result<(), AllocError>
-    ensures { OnOk result ((write : AWrite) × (write.place ≡ place) × (write.bytes ≡ bytes) × (writes.new.items ≡ writes.old.items ++ write ∷ [])) }
+    ensures { OnOk result ((write : AWrite) × (write.place ≡ place) × (write.bytes ≡ bytes)
+        × (writes.new.items ≡ writes.old.items ++ write ∷ [])) }
 {
     match writes.push(PageWrite { place, bytes }) {
         Ok(()) => Ok(()),
@@ -47,7 +48,8 @@ fn write_page(
     writes: &mut Vec<PageWrite>,
 ) -> Result<(), AllocError>
     ensures stamps { OnOk result ((stamp : AStamp) × (stamps.new.items ≡ stamps.old.items ++ stamp ∷ [])) }
-    ensures writes { OnOk result ((write : AWrite) × (write.place ≡ length stamps.old.items) × (write.bytes ≡ page.now) × (writes.new.items ≡ writes.old.items ++ write ∷ [])) }
+    ensures writes { OnOk result ((write : AWrite) × (write.place ≡ length stamps.old.items) × (write.bytes ≡ page.now)
+        × (writes.new.items ≡ writes.old.items ++ write ∷ [])) }
 {
     let bytes = FileBytes::new(page.to_vec(alloc)?);
     push(writes, stamps.len(), bytes)?;
@@ -98,7 +100,8 @@ pub fn plan_part(
     gone: &mut Vec<Stamp>,
 ) -> Result<(), AllocError>
     requires size { 0 < size }
-    ensures { OnOk result (IsPlan size old.now before.now after.now stamps.old.items stamps.new.items writes.old.items writes.new.items gone.old.items gone.new.items) }
+    ensures { OnOk result (IsPlan size old.now before.now after.now stamps.old.items stamps.new.items writes.old.items
+        writes.new.items gone.old.items gone.new.items) }
 {
     if after.is_empty() {
         return add_all(gone, old);

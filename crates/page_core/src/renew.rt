@@ -50,9 +50,12 @@ pub fn renew<H: Hand>(
     requires size { 0 < size }
     ensures kept { (a : Assignment) → H.agrees hand.new a → H.agrees hand.old a }
     // Where the old list is whole and has the bytes before, the new one is whole and has the bytes after.
-    ensures told { result.fault ≡ None → (a : Assignment) → H.agrees hand.new a → list_bytes a old.now ≡ Some before.now → AreWhole a old.now → (list_bytes a result.stamps.items ≡ Some after.now) × AreWhole a result.stamps.items }
+    ensures told { result.fault ≡ None → (a : Assignment) → H.agrees hand.new a →
+        list_bytes a old.now ≡ Some before.now → AreWhole a old.now →
+        (list_bytes a result.stamps.items ≡ Some after.now) × AreWhole a result.stamps.items }
     // Each of its stamps stood at the same place of the old list, or was sealed here.
-    ensures stamps { result.fault ≡ None → (k : ℕ) (stamp : AStamp) → slice_get result.stamps.items k ≡ Some stamp → (slice_get old.now k ≡ Some stamp) ⊎ IsIn stamp result.sealed.items }
+    ensures stamps { result.fault ≡ None → (k : ℕ) (stamp : AStamp) → slice_get result.stamps.items k ≡ Some stamp →
+        (slice_get old.now k ≡ Some stamp) ⊎ IsIn stamp result.sealed.items }
     ensures rises { H.failed hand.old < H.failed hand.new → result.fault ≡ Some faults.Device }
     ensures counted { H.failed hand.old ≤ H.failed hand.new }
     ensures cause { result.fault ≡ Some faults.Device → DeviceFailed (H.failed hand.old) (H.failed hand.new) }

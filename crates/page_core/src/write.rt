@@ -1,6 +1,7 @@
 //! Pages that are written at once.
 
-ghost use Rattle.std.specs.Prelude.{◌≡◌, ◌+◌, ◌<◌, ◌≤◌, ◌++◌, ◌∷◌, [], List, Some, None, IfOk, IfErr, length, vec_capacity, slice_set};
+ghost use Rattle.std.specs.Prelude.{◌≡◌, ◌+◌, ◌<◌, ◌≤◌, ◌++◌, ◌∷◌, [], List, Some, None, IfOk, IfErr, length};
+ghost use Rattle.std.specs.Prelude.{vec_capacity, slice_set};
 ghost use Rattle.hand_core.specs.declared.hand.HandFault.TheVariants as faults;
 ghost use Rattle.hand_core.specs.declared.hand.Stamp.{Stamp as AStamp};
 ghost use Rattle.hand_core.specs.Device.{Assignment, FaultCause, Holds, Failed as DeviceFailed};
@@ -58,7 +59,8 @@ pub fn write_pages<H: Hand>(
 ) -> (Vec<Stamp>, Option<HandFault>)
     requires room { length sealed.items + length writes.now ≤ vec_capacity sealed }
     ensures kept { (a : Assignment) → H.agrees hand.new a → H.agrees hand.old a }
-    ensures sealed { (more : List AStamp) × (result.0.items ≡ sealed.items ++ more) × ((a : Assignment) → H.agrees hand.new a → AreSealed a writes.now more) }
+    ensures sealed { (more : List AStamp) × (result.0.items ≡ sealed.items ++ more)
+        × ((a : Assignment) → H.agrees hand.new a → AreSealed a writes.now more) }
     ensures all { result.1 ≡ None → length result.0.items ≡ length sealed.items + length writes.now }
     ensures rises { H.failed hand.old < H.failed hand.new → result.1 ≡ Some faults.Device }
     ensures counted { H.failed hand.old ≤ H.failed hand.new }

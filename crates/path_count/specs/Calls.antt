@@ -11,7 +11,8 @@ pub data StartAnswer (paths : List Path) (t : List Event) (op : ℕ) (name : Lis
   spent : started_calls t ≡ 65536 → StartAnswer paths t op name (reply (codes "spent") []) t
   started : {call : Call} → started_calls t < 65536 → MayStart paths op t → call.operation ≡ op → IsFresh call.number t
       → StartAnswer paths t op name (reply (codes "started ") name) (Start call ∷ t)
-  blocked : started_calls t ≢ 65536 → (MayStart paths op t → ⊥) → StartAnswer paths t op name (reply (codes "blocked ") name) t
+  blocked : started_calls t ≢ 65536 → (MayStart paths op t → ⊥) →
+      StartAnswer paths t op name (reply (codes "blocked ") name) t
 
 -- the answer to a finish, and the trace after it; any running call of the operation may be the one that ends
 pub data FinishAnswer (t : List Event) (op : ℕ) (name : List ℕ) : List ℕ → List Event → Type 0 where

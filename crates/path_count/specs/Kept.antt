@@ -20,5 +20,8 @@ abbrev mutual
   KeptEach (more a rest) at w t = Kept a (at + 1) w t × KeptEach rest ((at + 1) + slots a) w t
 
   pub KeptTurns : Paths → ℕ → List ℕ → List Event → Type 0
-  KeptTurns (two a b) at w t = (slice_index w at ≡ ended a t - started b t) × Kept a (at + 1) w t × Kept b ((at + 1) + slots a) w t
-  KeptTurns (more a rest) at w t = (slice_index w at ≡ ended a t - first_started rest t) × Kept a (at + 1) w t × KeptTurns rest ((at + 1) + slots a) w t
+  KeptTurns (two a b) at w t =
+      (slice_index w at ≡ ended a t - started b t) × Kept a (at + 1) w t × Kept b ((at + 1) + slots a) w t
+  KeptTurns (more a rest) at w t =
+      (slice_index w at ≡ ended a t - first_started rest t) × Kept a (at + 1) w t
+      × KeptTurns rest ((at + 1) + slots a) w t

@@ -16,7 +16,8 @@ all_slots (p ∷ paths) = slots p + all_slots paths
 abbrev pub programs_of : (Path → ℕ → ℕ → List Step) → List Path → ℕ → ℕ → List (List Step)
 programs_of steps [] at op = []
 programs_of steps (p ∷ paths) at op =
-    if names p op then steps p at op ∷ programs_of steps paths (at + slots p) op else programs_of steps paths (at + slots p) op
+    if names p op then steps p at op ∷ programs_of steps paths (at + slots p) op
+    else programs_of steps paths (at + slots p) op
 
 -- each program admits the start
 abbrev pub all_have_room : List (List Step) → List ℕ → Bool

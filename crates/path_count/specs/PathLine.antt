@@ -14,7 +14,8 @@ IsPathEnd ws = (ws ≡ end_mark ∷ []) ⊎ (ws ≡ symbol Semicolon ∷ end_mar
 -- the place of what follows a path: of the first token behind it, or behind the semicolon there
 pub data StandsBehind : List Placed → ℕ → Type 0 where
   next : {t : Placed} {more : List Placed} → t.lexeme ≢ symbol Semicolon → StandsBehind (t ∷ more) t.start
-  behind_semicolon : {s t : Placed} {more : List Placed} → s.lexeme ≡ symbol Semicolon → StandsBehind (s ∷ t ∷ more) t.start
+  behind_semicolon : {s t : Placed} {more : List Placed} → s.lexeme ≡ symbol Semicolon →
+      StandsBehind (s ∷ t ∷ more) t.start
 
 abbrev pub lexemes_of : List Placed → List Lexeme
 lexemes_of all = map (λ t. t.lexeme) all

@@ -20,8 +20,10 @@ use Rattle.path_count.specs.PathLine.{IsPathLine, IsPathEnd, StandsBehind, lexem
 
 -- what a line is told that is no path
 abbrev pub line_fault_text : LineFault → List ℕ
-line_fault_text (faults.Lexical f) = codes "lex " ++ fault_text (lexical.fault_number f) (lexical.fault_name f) (lexical.fault_place f)
-line_fault_text (faults.Syntax f) = codes "path " ++ fault_text (syntactic.fault_number f) (syntactic.fault_name f) (syntactic.fault_place f)
+line_fault_text (faults.Lexical f) =
+    codes "lex " ++ fault_text (lexical.fault_number f) (lexical.fault_name f) (lexical.fault_place f)
+line_fault_text (faults.Syntax f) =
+    codes "path " ++ fault_text (syntactic.fault_number f) (syntactic.fault_name f) (syntactic.fault_place f)
 
 -- where a path stands, the fault is that of what follows it, and it is told there
 abbrev pub IsToldBehind : List (List ℕ) → List Placed → PathFault → Type 0
@@ -29,8 +31,8 @@ IsToldBehind names all fault =
     (tree : Path) (to : ℕ) → IsPathAt (known_with [] names) (lexemes_of all) 0 tree to
     → (at : ℕ) × StandsBehind (drop to all) at × (fault ≡ Expected at)
 
--- A line has this fault: its first lexical one, or, where it has tokens, one of these, never a want of memory; what follows a
--- path is told with its place.
+-- A line has this fault: its first lexical one, or, where it has tokens, one of these, never a want of memory; what
+-- follows a path is told with its place.
 abbrev pub IsLineFault : List (List ℕ) → List ℕ → LineFault → Type 0
 IsLineFault names line (faults.Lexical f) =
     ((65536 < length line) × (f ≡ TooLong)) ⊎ ((length line ≤ 65536) × IsFirstFault line f)
@@ -40,7 +42,8 @@ IsLineFault names line (faults.Syntax f) =
 -- what a line is: a path of operations below their number, or no path, with its fault
 abbrev pub IsReadLine : List (List ℕ) → List ℕ → PathLine → Type 0
 IsReadLine names line (lines.Path tree) = IsPathLine names line tree × NamesBelow tree (length names)
-IsReadLine names line (lines.Refused fault) = ((tree : Path) → IsPathLine names line tree → ⊥) × IsLineFault names line fault
+IsReadLine names line (lines.Refused fault) =
+    ((tree : Path) → IsPathLine names line tree → ⊥) × IsLineFault names line fault
 
 -- a path stands at the front of these lexemes, and nothing stands behind it but one semicolon
 abbrev pub IsWholePath : List (List ℕ) → List Lexeme → Path → Type 0

@@ -57,7 +57,8 @@ impl Counters {
     pub fn start(&mut self, op: OpId) -> bool
         ensures answer { (n : ℕ) (paths : List Path) (t : List Event) → StandsFor self.old n paths t →
             (IsTrue result ↔ ((op < n) × MayStart paths op t × (started_calls t < 65536))) }
-        ensures taken { IsTrue result → (n : ℕ) (paths : List Path) (t : List Event) (call : Call) → StandsFor self.old n paths t →
+        ensures taken { IsTrue result → (n : ℕ) (paths : List Path) (t : List Event) (call : Call) →
+            StandsFor self.old n paths t →
             call.operation ≡ op → IsFresh call.number t → StandsFor self.new n paths (Start call ∷ t) }
         ensures refused { result ≡ false → self.new ≡ self.old }
     {
@@ -80,7 +81,8 @@ impl Counters {
     pub fn finish(&mut self, op: OpId) -> bool
         ensures answer { (n : ℕ) (paths : List Path) (t : List Event) → StandsFor self.old n paths t →
             (IsTrue result ↔ ((op < n) × (ends op t < starts op t))) }
-        ensures ended { IsTrue result → (n : ℕ) (paths : List Path) (t : List Event) (call : Call) → StandsFor self.old n paths t →
+        ensures ended { IsTrue result → (n : ℕ) (paths : List Path) (t : List Event) (call : Call) →
+            StandsFor self.old n paths t →
             call.operation ≡ op → IsAmong call (running_calls t) → StandsFor self.new n paths (End call ∷ t) }
         ensures refused { result ≡ false → self.new ≡ self.old }
     {

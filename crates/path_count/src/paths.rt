@@ -33,16 +33,20 @@ pub fn run_paths<R: Read, W: Write>(
     writer: &mut W,
 ) -> Result<PathsEnd, PathsFault>
     // Of any reader: what was written is the run over the text that was read and what is known to be left.
-    ensures any { IfOk result (λ end. (text : List ℕ) × (written : List ℕ) × Consumes (R.remaining reader.old) (R.remaining reader.new) text
-        × Appends (W.contents writer.old) (W.contents writer.new) written × IsRun (text ++ unwrap_or (R.remaining reader.new) []) end written) }
+    ensures any { IfOk result (λ end. (text : List ℕ) × (written : List ℕ)
+        × Consumes (R.remaining reader.old) (R.remaining reader.new) text
+        × Appends (W.contents writer.old) (W.contents writer.new) written
+        × IsRun (text ++ unwrap_or (R.remaining reader.new) []) end written) }
 
     // Of a reader whose text is known: the run over that text, and after a fault a front of it.
     ensures known { IfOk result (λ end. IfSome (R.remaining reader.old) (λ text.
-        (written : List ℕ) × Appends (W.contents writer.old) (W.contents writer.new) written × IsRun text end written)) }
+        (written : List ℕ) × Appends (W.contents writer.old) (W.contents writer.new) written
+        × IsRun text end written)) }
     ensures fault { OnErr result (IfSome (R.remaining reader.old) (λ text.
         (written : List ℕ) × Appends (W.contents writer.old) (W.contents writer.new) written × IsFront text written)) }
     // Each line that has come whole is answered before the next read: any read may fail.
-    ensures unread { IsErrOf result ReadFault → (text : List ℕ) × (written : List ℕ) × Consumes (R.remaining reader.old) (R.remaining reader.new) text
+    ensures unread { IsErrOf result ReadFault →
+        (text : List ℕ) × (written : List ℕ) × Consumes (R.remaining reader.old) (R.remaining reader.new) text
         × Appends (W.contents writer.old) (W.contents writer.new) written × IsRunSoFar text written }
 {
     let mut machine = Paths::new(alloc)?;

@@ -3,7 +3,8 @@ use Rattle.std.specs.Prelude.{◌≡◌, ℕ, ◌<◌, List, [], ◌∷◌, ◌+
 use Rattle.path_tree.specs.declared.token.Symbol.TheVariants.{Path as PathWord, End}
 use Rattle.path_tree.specs.Lexeme.{Lexeme, symbol}
 use Rattle.path_tree.specs.Path.{Path, Paths, name, list, sequence, bound, burst, two, more}
-use Rattle.path_tree.specs.Grammar.{ListText, last_seq, seq_and, SeqText, last_item, item_and, ItemText, operation, limited, in_burst, in_group, Limit, a_number, a_constant, list_lexemes}
+use Rattle.path_tree.specs.Grammar.{ListText, last_seq, seq_and, SeqText, last_item, item_and, ItemText, operation}
+use Rattle.path_tree.specs.Grammar.{limited, in_burst, in_group, Limit, a_number, a_constant, list_lexemes}
 
 -- the name of the operation of this number
 abbrev pub name_of : List (List ℕ) → ℕ → List ℕ

@@ -28,7 +28,8 @@ ClosesStars source at = (slice_index source at ≡ 42) × (slice_index source (a
 abbrev pub OpensComment : List ℕ → ℕ → Type 0
 OpensComment source at = OpensBraces source at ⊎ OpensStars source at
 
--- a comment stands from one place to the other: it ends with its own closing mark, at the first one after its opening mark
+-- a comment stands from one place to the other: it ends with its own closing mark, at the first one
+-- after its opening mark
 abbrev pub IsComment : List ℕ → ℕ → ℕ → Type 0
 IsComment source from to =
     (close : ℕ) × ((OpensBraces source from × IsFirst (ClosesBraces source) (from + 1) close × (to ≡ close + 1))

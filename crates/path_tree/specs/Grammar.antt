@@ -1,6 +1,7 @@
 -- What a path is, by the productions of its grammar.
 use Rattle.std.specs.Prelude.{◌≡◌, ℕ, ◌-◌, ◌<◌, ◌≤◌, List, [], ◌∷◌, ◌++◌, Option, Some, drop, length, unwrap_or}
-use Rattle.path_tree.specs.declared.token.Symbol.TheVariants.{Comma, Semicolon, Colon, OpenParen, CloseParen, OpenBracket, CloseBracket, Path as PathWord, End}
+use Rattle.path_tree.specs.declared.token.Symbol.TheVariants.{Comma, Semicolon, Colon, OpenParen, CloseParen}
+use Rattle.path_tree.specs.declared.token.Symbol.TheVariants.{OpenBracket, CloseBracket, Path as PathWord, End}
 use Rattle.path_tree.specs.Path.{Path, name, bound, burst}
 use Rattle.path_tree.specs.Names.{NamesOnce}
 use Rattle.path_tree.specs.Limits.{node_count}
@@ -47,7 +48,8 @@ abbrev mutual
 
   pub item_lexemes : ItemText → List Lexeme
   item_lexemes (operation bytes) = identifier bytes ∷ []
-  item_lexemes (limited n l) = limit_lexeme n ∷ symbol Colon ∷ symbol OpenParen ∷ (list_lexemes l ++ symbol CloseParen ∷ [])
+  item_lexemes (limited n l) =
+      limit_lexeme n ∷ symbol Colon ∷ symbol OpenParen ∷ (list_lexemes l ++ symbol CloseParen ∷ [])
   item_lexemes (in_burst l) = symbol OpenBracket ∷ (list_lexemes l ++ symbol CloseBracket ∷ [])
   item_lexemes (in_group l) = symbol OpenParen ∷ (list_lexemes l ++ symbol CloseParen ∷ [])
 

@@ -14,10 +14,16 @@ sum_active (more a rest) t = active a t + sum_active rest t
 abbrev mutual
   pub Counted : Path → List Event → Type 0
   Counted (name op) t = ended (name op) t ≤ started (name op) t
-  Counted (list ms) t = EachCounted ms t × (ended (list ms) t ≤ started (list ms) t) × (active (list ms) t ≡ sum_active ms t)
-  Counted (sequence ms) t = EachCounted ms t × (ended (sequence ms) t ≤ started (sequence ms) t) × (sum_active ms t ≤ active (sequence ms) t)
-  Counted (bound n e) t = Counted e t × (ended (bound n e) t ≤ started (bound n e) t) × (active (bound n e) t ≡ active e t) × (active e t ≤ n)
-  Counted (burst e) t = Counted e t × (ended (burst e) t ≤ started (burst e) t) × (active (burst e) t ≡ (if nat_lt 0 (active e t) then 1 else 0))
+  Counted (list ms) t =
+      EachCounted ms t × (ended (list ms) t ≤ started (list ms) t) × (active (list ms) t ≡ sum_active ms t)
+  Counted (sequence ms) t =
+      EachCounted ms t × (ended (sequence ms) t ≤ started (sequence ms) t) × (sum_active ms t ≤ active (sequence ms) t)
+  Counted (bound n e) t =
+      Counted e t × (ended (bound n e) t ≤ started (bound n e) t) × (active (bound n e) t ≡ active e t)
+      × (active e t ≤ n)
+  Counted (burst e) t =
+      Counted e t × (ended (burst e) t ≤ started (burst e) t)
+      × (active (burst e) t ≡ (if nat_lt 0 (active e t) then 1 else 0))
 
   pub EachCounted : Paths → List Event → Type 0
   EachCounted (two a b) t = Counted a t × Counted b t

@@ -1,10 +1,13 @@
--- Reading a path from left to right, step by step, for the functions inside `parse_path`. That it reads the grammar is proved.
-use Rattle.std.specs.Prelude.{◌≡◌, ℕ, zero, suc, List, [], ◌∷◌, ◌++◌, Bool, Option, Some, None, Result, Ok, Err, nat_le, ◌==◌, ◌&&◌, if◌then◌else◌}
+-- Reading a path from left to right, step by step, for the functions inside `parse_path`. That it reads
+-- the grammar is proved.
+use Rattle.std.specs.Prelude.{◌≡◌, ℕ, zero, suc, List, [], ◌∷◌, ◌++◌, Bool, Option, Some, None, Result, Ok, Err, nat_le}
+use Rattle.std.specs.Prelude.{◌==◌, ◌&&◌, if◌then◌else◌}
 use Rattle.std.specs.List.{list_any}
 use Rattle.path_tree.specs.declared.path_fault.PathFault.{PathFault}
 use Rattle.path_tree.specs.declared.path_fault.PathFault.TheVariants as faults
 use Rattle.path_tree.specs.declared.token.Symbol.{Symbol}
-use Rattle.path_tree.specs.declared.token.Symbol.TheVariants.{Comma, Semicolon, Colon, OpenParen, CloseParen, OpenBracket, CloseBracket, Path as PathWord, End}
+use Rattle.path_tree.specs.declared.token.Symbol.TheVariants.{Comma, Semicolon, Colon, OpenParen, CloseParen}
+use Rattle.path_tree.specs.declared.token.Symbol.TheVariants.{OpenBracket, CloseBracket, Path as PathWord, End}
 use Rattle.std.specs.Borrow.{Bor}
 use Rattle.path_tree.specs.declared.token.Token.{Token}
 use Rattle.path_tree.specs.declared.node.Node.{Node}
@@ -52,7 +55,8 @@ symbol_at s (identifier bytes ∷ ws) = None
 symbol_at s (string bytes ∷ ws) = None
 symbol_at s (end_mark ∷ ws) = None
 
--- a reader is given the names seen so far and the lexemes, and answers what it read, the names seen then and the lexemes after it.
+-- a reader is given the names seen so far and the lexemes, and answers what it read, the names seen then and
+-- the lexemes after it.
 abbrev pub Reader : Type 0 → Type 0
 Reader A = List ℕ → List Lexeme → Option (A × List ℕ × List Lexeme)
 
@@ -92,13 +96,16 @@ bounded_in nested n seen ws = do
   Some (bound limit x.0, x.1, x.2)
 
 -- behind a name: a constant's where a colon follows, else an operation's
-unfoldable pub named_in : Known → Reader Path → List ℕ → List Lexeme → Option (List Lexeme) → List ℕ → Option (Path × List ℕ × List Lexeme)
+unfoldable pub named_in : Known → Reader Path → List ℕ → List Lexeme → Option (List Lexeme) → List ℕ →
+    Option (Path × List ℕ × List Lexeme)
 named_in known nested bytes ws (Some behind) seen = value_of known.constants bytes >>= λ n. bounded_in nested n seen ws
 named_in known nested bytes ws None seen = name_at known bytes seen ws
 
 -- behind a symbol that opens
 unfoldable pub opened_in : Reader Path → Symbol → Reader Path
-opened_in nested s seen ws = if same_symbol s OpenParen then group_in nested seen ws else if same_symbol s OpenBracket then burst_in nested seen ws else None
+opened_in nested s seen ws =
+    if same_symbol s OpenParen then group_in nested seen ws
+    else if same_symbol s OpenBracket then burst_in nested seen ws else None
 
 unfoldable pub item_in : Known → Reader Path → Reader Path
 item_in known nested seen [] = None
@@ -109,7 +116,8 @@ item_in known nested seen (string bytes ∷ ws) = None
 item_in known nested seen (end_mark ∷ ws) = None
 
 -- one member and, behind a separator, others
-unfoldable pub with_others : Reader SomePaths → Path × List ℕ × List Lexeme → Option (List Lexeme) → Option (SomePaths × List ℕ × List Lexeme)
+unfoldable pub with_others : Reader SomePaths → Path × List ℕ × List Lexeme → Option (List Lexeme) →
+    Option (SomePaths × List ℕ × List Lexeme)
 with_others others x None = Some (one x.0, x.1, x.2)
 with_others others x (Some behind) = do
   y ← others x.1 behind

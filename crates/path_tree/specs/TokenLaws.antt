@@ -13,4 +13,5 @@ OneFirstFault = (source : List ℕ) (a b : LexFault) → IsFirstFault source a �
 
 -- a source with a fault has no tokens
 abbrev pub FaultOrTokens : Type 0
-FaultOrTokens = (source : List ℕ) (fault : LexFault) (all : List Placed) → IsFirstFault source fault → AreTokens source all → ⊥
+FaultOrTokens =
+    (source : List ℕ) (fault : LexFault) (all : List Placed) → IsFirstFault source fault → AreTokens source all → ⊥

@@ -1,5 +1,6 @@
 -- The tokens of a source, and where they stand.
-use Rattle.std.specs.Prelude.{◌≡◌, ◌≢◌, ◌==◌, if◌then◌else◌, ℕ, ◌+◌, ◌<◌, ◌≤◌, ◌⊎◌, List, [], ◌∷◌, ◌++◌, map, length, slice_index, slice_range}
+use Rattle.std.specs.Prelude.{◌≡◌, ◌≢◌, ◌==◌, if◌then◌else◌, ℕ, ◌+◌, ◌<◌, ◌≤◌, ◌⊎◌, List, [], ◌∷◌, ◌++◌, map, length}
+use Rattle.std.specs.Prelude.{slice_index, slice_range}
 use Rattle.std.specs.Str.{str_to_ascii_lowercase}
 use Rattle.std.specs.Str.Parse.{digits_value}
 use Rattle.path_tree.specs.declared.token.Token.{Token}
@@ -7,7 +8,8 @@ use Rattle.path_tree.specs.declared.token.Symbol.{Symbol}
 use Rattle.path_tree.specs.declared.lex.fault.LexFault.{LexFault}
 use Rattle.path_tree.specs.declared.lex.fault.LexFault.TheVariants as faults
 use Rattle.path_tree.specs.Identifier.{IsLetter, IsWordByte, IsDigit}
-use Rattle.path_tree.specs.Lexeme.{Lexeme, symbol, number, identifier, string, end_mark, symbol_number, symbol_text, lexeme_of}
+use Rattle.path_tree.specs.Lexeme.{Lexeme, symbol, number, identifier, string, end_mark, symbol_number, symbol_text}
+use Rattle.path_tree.specs.Lexeme.{lexeme_of}
 use Rattle.path_tree.specs.Gap.{IsBlank, IsGap, OpensComment, IsOpenComment}
 
 -- a lexeme and its span, from its first byte up to, not including, its end
@@ -36,7 +38,8 @@ IsRun P source from to =
     (from < to) × (to ≤ length source) × ((k : ℕ) → from ≤ k → k < to → P (slice_index source k))
     × (to < length source → P (slice_index source to) → ⊥)
 
--- an identifier or a reserved word: a letter, and then letters, digits and underscores, as many as stand there, at most 64 bytes in all
+-- an identifier or a reserved word: a letter, and then letters, digits and underscores, as many as stand there, at
+-- most 64 bytes in all
 abbrev pub IsWord : List ℕ → ℕ → ℕ → Type 0
 IsWord source from to = IsLetter (slice_index source from) × IsRun IsWordByte source from to × (to ≤ from + 64)
 
@@ -44,7 +47,8 @@ IsWord source from to = IsLetter (slice_index source from) × IsRun IsWordByte s
 abbrev pub IsSignAt : List ℕ → Symbol → ℕ → ℕ → Type 0
 IsSignAt source s from to =
     IsSign s × (from < to) × (to ≤ length source) × (slice_range source from to ≡ symbol_text s)
-    × ((other : Symbol) (end : ℕ) → IsSign other → end ≤ length source → slice_range source from end ≡ symbol_text other → end ≤ to)
+    × ((other : Symbol) (end : ℕ) → IsSign other → end ≤ length source →
+    slice_range source from end ≡ symbol_text other → end ≤ to)
     × (OpensComment source from → ⊥)
 
 -- what a string may hold
@@ -65,23 +69,28 @@ most_string_bytes = 1000
 -- a string: at most so many bytes between two apostrophes, the last of which is no doubled one
 abbrev pub IsString : List ℕ → List ℕ → ℕ → ℕ → Type 0
 IsString source content from to =
-    (close : ℕ) × (slice_index source from ≡ 39) × IsContent source (from + 1) content close × (length content ≤ most_string_bytes)
+    (close : ℕ) × (slice_index source from ≡ 39) × IsContent source (from + 1) content close
+    × (length content ≤ most_string_bytes)
     × (slice_index source close ≡ 39) × (slice_index source (close + 1) ≢ 39) × (to ≡ close + 1)
 
 -- a token of this lexeme stands from one place to the other
 abbrev pub IsToken : List ℕ → Lexeme → ℕ → ℕ → Type 0
 IsToken source (symbol s) from to =
-    IsSignAt source s from to ⊎ (IsReserved s × IsWord source from to × (str_to_ascii_lowercase (slice_range source from to) ≡ symbol_text s))
-IsToken source (number n) from to = IsRun IsDigit source from to × (n ≡ digits_value 10 (slice_range source from to)) × (n ≤ 4294967295)
+    IsSignAt source s from to ⊎ (IsReserved s × IsWord source from to
+    × (str_to_ascii_lowercase (slice_range source from to) ≡ symbol_text s))
+IsToken source (number n) from to =
+    IsRun IsDigit source from to × (n ≡ digits_value 10 (slice_range source from to)) × (n ≤ 4294967295)
 IsToken source (identifier name) from to =
-    IsWord source from to × (name ≡ str_to_ascii_lowercase (slice_range source from to)) × ((s : Symbol) → IsReserved s → name ≢ symbol_text s)
+    IsWord source from to × (name ≡ str_to_ascii_lowercase (slice_range source from to))
+    × ((s : Symbol) → IsReserved s → name ≢ symbol_text s)
 IsToken source (string content) from to = IsString source content from to
 IsToken source end_mark from to = ⊥
 
 -- these tokens, with a gap before each, stand from one place to the other
 abbrev pub Tokens : List ℕ → ℕ → List Placed → ℕ → Type 0
 Tokens source from [] to = from ≡ to
-Tokens source from (t ∷ ts) to = IsGap source from t.start × IsToken source t.lexeme t.start t.end × Tokens source t.end ts to
+Tokens source from (t ∷ ts) to =
+    IsGap source from t.start × IsToken source t.lexeme t.start t.end × Tokens source t.end ts to
 
 abbrev pub end_at : ℕ → Placed
 end_at at = record { lexeme = end_mark; start = at; end = at }
@@ -103,15 +112,19 @@ IsStray source at =
 
 -- a letter, and at least 64 word bytes after it
 abbrev pub IsLongWord : List ℕ → ℕ → Type 0
-IsLongWord source from = IsLetter (slice_index source from) × ((k : ℕ) → from ≤ k → k ≤ from + 64 → IsWordByte (slice_index source k))
+IsLongWord source from =
+    IsLetter (slice_index source from) × ((k : ℕ) → from ≤ k → k ≤ from + 64 → IsWordByte (slice_index source k))
 
 -- the digits of a number past the limit
 abbrev pub IsLargeNumber : List ℕ → ℕ → Type 0
-IsLargeNumber source from = (to : ℕ) × IsRun IsDigit source from to × (4294967295 < digits_value 10 (slice_range source from to))
+IsLargeNumber source from =
+    (to : ℕ) × IsRun IsDigit source from to × (4294967295 < digits_value 10 (slice_range source from to))
 
 -- an apostrophe, and content of this many bytes up to a place
 abbrev pub IsStringStart : List ℕ → ℕ → ℕ → ℕ → Type 0
-IsStringStart source from count at = (content : List ℕ) × (slice_index source from ≡ 39) × IsContent source (from + 1) content at × (length content ≡ count)
+IsStringStart source from count at =
+    (content : List ℕ) × (slice_index source from ≡ 39) × IsContent source (from + 1) content at
+    × (length content ≡ count)
 
 -- a string goes on to a byte that it may not hold, other than a LF, which ends the line
 abbrev pub IsBadInString : List ℕ → ℕ → ℕ → Type 0
@@ -123,7 +136,8 @@ IsBadInString source from at =
 abbrev pub IsOpenString : List ℕ → ℕ → Type 0
 IsOpenString source from =
     (count : ℕ) × (at : ℕ) × IsStringStart source from count at
-    × (((count ≤ most_string_bytes) × ((length source ≤ at) ⊎ (slice_index source at ≡ 10))) ⊎ (count ≡ most_string_bytes + 1))
+    × (((count ≤ most_string_bytes) × ((length source ≤ at) ⊎ (slice_index source at ≡ 10)))
+    ⊎ (count ≡ most_string_bytes + 1))
 
 -- what stands at a place is no token and no gap, and this is its fault
 abbrev pub IsFaultAt : List ℕ → ℕ → LexFault → Type 0

@@ -25,7 +25,8 @@ ends op (End call ∷ past) = (if call.operation == op then 1 else 0) + ends op 
 -- the calls without one of them
 abbrev pub without : Call → List Call → List Call
 without call [] = []
-without call (c ∷ calls) = if (c.number == call.number) && (c.operation == call.operation) then calls else c ∷ without call calls
+without call (c ∷ calls) =
+    if (c.number == call.number) && (c.operation == call.operation) then calls else c ∷ without call calls
 
 -- the calls that have started and not ended
 abbrev pub running_calls : List Event → List Call

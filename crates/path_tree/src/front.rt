@@ -17,7 +17,8 @@ pub(crate) fn start_of(tokens: &[Token]) -> usize {
 
 /// The tokens behind a symbol, or `None` where another stands here.
 pub(crate) fn after<'t>(tokens: &'t [Token], symbol: Symbol) -> Option<&'t [Token]>
-    ensures { MatchOption result (symbol_at symbol (lexemes tokens.now) ≡ None) (λ rest. symbol_at symbol (lexemes tokens.now) ≡ Some (lexemes rest.now)) }
+    ensures { MatchOption result (symbol_at symbol (lexemes tokens.now) ≡ None)
+        (λ rest. symbol_at symbol (lexemes tokens.now) ≡ Some (lexemes rest.now)) }
 {
     match tokens {
         [] => None,

@@ -8,7 +8,8 @@ mod sign;
 mod text;
 pub mod word;
 
-ghost use Rattle.std.specs.Prelude.{◌≡◌, ℕ, ◌+◌, ◌<◌, ◌≤◌, ◌⊎◌, ◌↔◌, List, IfOk, IfErr, IsErrOf, MatchResult, length, vec_len, slice_index};
+ghost use Rattle.std.specs.Prelude.{◌≡◌, ℕ, ◌+◌, ◌<◌, ◌≤◌, ◌⊎◌, ◌↔◌, List, IfOk, IfErr, IsErrOf, MatchResult, length};
+ghost use Rattle.std.specs.Prelude.{vec_len, slice_index};
 ghost use Rattle.path_tree.specs.Gap.{IsBlank, OpensComment};
 ghost use Rattle.path_tree.specs.Lexeme.{lexeme_of};
 ghost use Rattle.path_tree.specs.Tokens.{Placed, placed_tokens, AreTokens, IsToken, IsFaultAt, IsFirstFault};

@@ -8,7 +8,9 @@ ghost use Rattle.std.specs.Prelude.{◌≤◌};
 ghost use Rattle.path_tree.specs.declared.token.Symbol.TheVariants.{Comma, Semicolon, Colon};
 ghost use Rattle.path_tree.specs.Lexeme.{lexemes};
 ghost use Rattle.path_tree.specs.Known.{known_of};
-ghost use Rattle.path_tree.specs.Reading.{Gives, node_read, parts_read, group_in, burst_in, bounded_in, opened_in, named_in, name_at, limit_of, nested_in, items_in, parts_at, sequence_in, symbol_at};
+ghost use Rattle.path_tree.specs.Reading.{Gives, node_read, parts_read, group_in, burst_in, bounded_in, opened_in};
+ghost use Rattle.path_tree.specs.Reading.{named_in, name_at, limit_of, nested_in, items_in, parts_at, sequence_in};
+ghost use Rattle.path_tree.specs.Reading.{symbol_at};
 
 use crate::front::{after, behind, start_of};
 use crate::lookup::{constant_of, operation_of};
@@ -43,7 +45,8 @@ fn name<'t>(
     tokens: &'t [Token],
     seen: &mut Vec<OpId>,
 ) -> Read<'t, Node>
-    ensures { Gives (node_read seen.new.items) result (name_at (known_of scope.now) text.now seen.old.items (lexemes tokens.now)) }
+    ensures { Gives (node_read seen.new.items) result (name_at (known_of scope.now) text.now seen.old.items
+        (lexemes tokens.now)) }
 {
     match operation_of(scope.operations, text) {
         None => Err(PathFault::UnknownName(at)),
@@ -89,7 +92,8 @@ fn group<'t>(
     seen: &mut Vec<OpId>,
     depth: u8,
 ) -> Read<'t, Node>
-    ensures { Gives (node_read seen.new.items) result (group_in (nested_in scope.now depth) seen.old.items (lexemes tokens.now)) }
+    ensures { Gives (node_read seen.new.items) result (group_in (nested_in scope.now depth) seen.old.items
+        (lexemes tokens.now)) }
 {
     let (inside, rest) = nested(alloc, scope, at, tokens, seen, depth)?;
     let rest = behind(rest, Symbol::CloseParen)?;
@@ -107,7 +111,8 @@ fn burst<'t>(
     seen: &mut Vec<OpId>,
     depth: u8,
 ) -> Read<'t, Node>
-    ensures { Gives (node_read seen.new.items) result (burst_in (nested_in scope.now depth) seen.old.items (lexemes tokens.now)) }
+    ensures { Gives (node_read seen.new.items) result (burst_in (nested_in scope.now depth) seen.old.items
+        (lexemes tokens.now)) }
 {
     let (inside, rest) = nested(alloc, scope, at, tokens, seen, depth)?;
     let rest = behind(rest, Symbol::CloseBracket)?;
@@ -126,7 +131,8 @@ fn bounded<'t>(
     seen: &mut Vec<OpId>,
     depth: u8,
 ) -> Read<'t, Node>
-    ensures { Gives (node_read seen.new.items) result (bounded_in (nested_in scope.now depth) n seen.old.items (lexemes tokens.now)) }
+    ensures { Gives (node_read seen.new.items) result (bounded_in (nested_in scope.now depth) n seen.old.items
+        (lexemes tokens.now)) }
 {
     let limit = limit(n, at)?;
     let paren = behind(tokens, Symbol::Colon)?;
@@ -147,7 +153,8 @@ fn named<'t>(
     seen: &mut Vec<OpId>,
     depth: u8,
 ) -> Read<'t, Node>
-    ensures { Gives (node_read seen.new.items) result (named_in (known_of scope.now) (nested_in scope.now depth) text.now (lexemes tokens.now) (symbol_at Colon (lexemes tokens.now)) seen.old.items) }
+    ensures { Gives (node_read seen.new.items) result (named_in (known_of scope.now) (nested_in scope.now depth)
+        text.now (lexemes tokens.now) (symbol_at Colon (lexemes tokens.now)) seen.old.items) }
 {
     match after(tokens, Symbol::Colon) {
         None => name(scope, text, at, tokens, seen),
@@ -170,7 +177,8 @@ fn opened<'t>(
     seen: &mut Vec<OpId>,
     depth: u8,
 ) -> Read<'t, Node>
-    ensures { Gives (node_read seen.new.items) result (opened_in (nested_in scope.now depth) symbol seen.old.items (lexemes tokens.now)) }
+    ensures { Gives (node_read seen.new.items) result (opened_in (nested_in scope.now depth) symbol seen.old.items
+        (lexemes tokens.now)) }
 {
     if is_same_symbol(symbol, Symbol::OpenParen) {
         group(alloc, scope, at, tokens, seen, depth)
@@ -220,7 +228,8 @@ fn sequence<'t>(
     left: u32,
 ) -> Read<'t, Parts>
     requires { left ≤ scope.now.most }
-    ensures { Gives (parts_read seen.new.items) result (parts_at Semicolon (items_in scope.now depth) left seen.old.items (lexemes tokens.now)) }
+    ensures { Gives (parts_read seen.new.items) result (parts_at Semicolon (items_in scope.now depth) left
+        seen.old.items (lexemes tokens.now)) }
 {
     if left == 0 {
         return Err(PathFault::Expected(start_of(tokens)));
@@ -247,7 +256,8 @@ pub(crate) fn list<'t>(
     left: u32,
 ) -> Read<'t, Parts>
     requires { left ≤ scope.now.most }
-    ensures { Gives (parts_read seen.new.items) result (parts_at Comma (sequence_in (items_in scope.now depth) scope.now.most) left seen.old.items (lexemes tokens.now)) }
+    ensures { Gives (parts_read seen.new.items) result (parts_at Comma
+        (sequence_in (items_in scope.now depth) scope.now.most) left seen.old.items (lexemes tokens.now)) }
 {
     if left == 0 {
         return Err(PathFault::Expected(start_of(tokens)));

@@ -4,7 +4,8 @@ ghost use Rattle.std.specs.Prelude.{◌≡◌, ◌++◌, ◌<◌, length, codes,
 ghost use Rattle.path_tree.specs.Path.{bound, burst, path_of, paths_of};
 ghost use Rattle.path_tree.specs.Grammar.{in_group, last_seq};
 ghost use Rattle.path_tree.specs.Names.{NamesBelow, AllBelow};
-ghost use Rattle.path_tree.specs.Canonical.{AreDistinct, name_of, canonical_bytes, list_bytes, seq_bytes, item_bytes, list_text, seq_text, item_text, list_texts, seq_texts};
+ghost use Rattle.path_tree.specs.Canonical.{AreDistinct, name_of, canonical_bytes, list_bytes, seq_bytes, item_bytes};
+ghost use Rattle.path_tree.specs.Canonical.{list_text, seq_text, item_text, list_texts, seq_texts};
 ghost use Rattle.path_tree.specs.Written.{AreFreeNames};
 ghost use Rattle.path_tree.specs.TextLaws.{Derives};
 
@@ -21,7 +22,8 @@ pub fn print_path(alloc: Global, path: &PathTree, names: &[Name]) -> Result<Vec<
     requires { NamesBelow path.now (length names.now) }
     ensures text { IfOk result (λ text. text.items ≡ canonical_bytes names.now path.now) }
     // Where names are distinct and no reserved words, the text derives this path and no other.
-    ensures derives { IfOk result (λ text. AreDistinct names.now → AreFreeNames names.now → Derives names.now text.items path.now) }
+    ensures derives { IfOk result (λ text. AreDistinct names.now → AreFreeNames names.now →
+        Derives names.now text.items path.now) }
 {
     let mut out = Vec::from_slice(alloc, b"path ")?;
     write_alone(&mut out, path.root(), names)?;
@@ -95,7 +97,8 @@ fn write_in_sequence(out: &mut Vec<u8>, e: &Node, names: &[Name]) -> Result<(), 
 #[cycle(printing)]
 fn write_bound(out: &mut Vec<u8>, n: u16, e: &Node, names: &[Name]) -> Result<(), AllocError>
     requires { NamesBelow (path_of e.now) (length names.now) }
-    ensures { OnOk result (out.new.items ≡ out.old.items ++ item_bytes (item_text names.now (bound n (path_of e.now)))) }
+    ensures { OnOk result (out.new.items ≡ out.old.items
+        ++ item_bytes (item_text names.now (bound n (path_of e.now)))) }
 {
     open_bound(out, n)?;
     write_alone(out, e, names)?;
@@ -117,7 +120,8 @@ fn write_burst(out: &mut Vec<u8>, e: &Node, names: &[Name]) -> Result<(), AllocE
 #[cycle(printing)]
 fn write_list_group(out: &mut Vec<u8>, members: &Members, names: &[Name]) -> Result<(), AllocError>
     requires { AllBelow (paths_of members.now) (length names.now) }
-    ensures { OnOk result (out.new.items ≡ out.old.items ++ item_bytes (in_group (list_texts names.now (paths_of members.now)))) }
+    ensures { OnOk result (out.new.items ≡ out.old.items
+        ++ item_bytes (in_group (list_texts names.now (paths_of members.now)))) }
 {
     out.extend_from_slice(b"(")?;
     write_list(out, members, names)?;
@@ -132,7 +136,8 @@ fn write_sequence_group(
     names: &[Name],
 ) -> Result<(), AllocError>
     requires { AllBelow (paths_of members.now) (length names.now) }
-    ensures { OnOk result (out.new.items ≡ out.old.items ++ item_bytes (in_group (last_seq (seq_texts names.now (paths_of members.now))))) }
+    ensures { OnOk result (out.new.items ≡ out.old.items
+        ++ item_bytes (in_group (last_seq (seq_texts names.now (paths_of members.now))))) }
 {
     out.extend_from_slice(b"(")?;
     write_sequence(out, members, names)?;
@@ -161,7 +166,8 @@ fn write_list(out: &mut Vec<u8>, members: &Members, names: &[Name]) -> Result<()
 #[cycle(printing)]
 fn write_listed(out: &mut Vec<u8>, e: &Node, names: &[Name]) -> Result<(), AllocError>
     requires { NamesBelow (path_of e.now) (length names.now) }
-    ensures { OnOk result (out.new.items ≡ out.old.items ++ (seq_bytes (seq_text names.now (path_of e.now)) ++ codes ", ")) }
+    ensures { OnOk result (out.new.items ≡ out.old.items
+        ++ (seq_bytes (seq_text names.now (path_of e.now)) ++ codes ", ")) }
 {
     write_in_list(out, e, names)?;
     out.extend_from_slice(b", ")
@@ -189,7 +195,8 @@ fn write_sequence(out: &mut Vec<u8>, members: &Members, names: &[Name]) -> Resul
 #[cycle(printing)]
 fn write_sequenced(out: &mut Vec<u8>, e: &Node, names: &[Name]) -> Result<(), AllocError>
     requires { NamesBelow (path_of e.now) (length names.now) }
-    ensures { OnOk result (out.new.items ≡ out.old.items ++ (item_bytes (item_text names.now (path_of e.now)) ++ codes "; ")) }
+    ensures { OnOk result (out.new.items ≡ out.old.items
+        ++ (item_bytes (item_text names.now (path_of e.now)) ++ codes "; ")) }
 {
     write_in_sequence(out, e, names)?;
     out.extend_from_slice(b"; ")

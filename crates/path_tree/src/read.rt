@@ -31,7 +31,8 @@ fn path<'t>(
     scope: &Scope,
     tokens: &'t [Token],
 ) -> Result<(Node, &'t [Token]), PathFault>
-    ensures { Gives (λ x. (path_of x.0, lexemes x.1.now)) result (path_at (known_of scope.now) scope.now.most (lexemes tokens.now)) }
+    ensures { Gives (λ x. (path_of x.0, lexemes x.1.now)) result (path_at (known_of scope.now) scope.now.most
+        (lexemes tokens.now)) }
 {
     let opened = behind(tokens, Symbol::Path)?;
     let mut seen = Vec::new(alloc);
@@ -68,7 +69,8 @@ pub fn parse_path(
     // Its operations are those of the names.
     ensures known { IfOk result (λ x. NamesBelow x.0 (length names.now)) }
     // The path and what stands behind its end, as reading from left to right gives them: for a reader of larger texts.
-    ensures read { Gives (λ x. (x.0, drop x.1 (lexemes tokens.now))) result (path_at (known_with consts.now names.now) (length tokens.now + 1) (drop from (lexemes tokens.now))) }
+    ensures read { Gives (λ x. (x.0, drop x.1 (lexemes tokens.now))) result
+        (path_at (known_with consts.now names.now) (length tokens.now + 1) (drop from (lexemes tokens.now))) }
     // Wherever a path stands, its tree and its end are given, unless memory runs out.
     ensures only { (e : Path) (to : ℕ) → IsPathAt (known_with consts.now names.now) (lexemes tokens.now) from e to →
         MatchResult result (λ x. (x.0 ≡ e) × (x.1 ≡ to)) (λ fault. fault ≡ PathFault.Memory) }

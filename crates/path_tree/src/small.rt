@@ -22,7 +22,8 @@ pub(crate) fn is_small(e: &Node) -> bool
 /// What is left of so many nodes after those of a path, or `None` where they do not suffice.
 #[cycle(counting)]
 fn left_after(e: &Node, left: u32) -> Option<u32>
-    ensures { MatchOption result (left < node_count (path_of e.now)) (λ rest. rest + node_count (path_of e.now) ≡ left) }
+    ensures { MatchOption result (left < node_count (path_of e.now))
+        (λ rest. rest + node_count (path_of e.now) ≡ left) }
 {
     match e {
         Node::Name(_) => left.checked_sub(1),
@@ -35,7 +36,8 @@ fn left_after(e: &Node, left: u32) -> Option<u32>
 
 #[cycle(counting)]
 fn left_after_all(members: &Members, left: u32) -> Option<u32>
-    ensures { MatchOption result (left < count_of_all (paths_of members.now)) (λ rest. rest + count_of_all (paths_of members.now) ≡ left) }
+    ensures { MatchOption result (left < count_of_all (paths_of members.now))
+        (λ rest. rest + count_of_all (paths_of members.now) ≡ left) }
 {
     match members {
         Members::Two(a, b) => {

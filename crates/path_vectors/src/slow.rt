@@ -1,11 +1,13 @@
 //! Whether an operation may start, by the definitions: the whole trace is kept, and counted anew for
 //! each question. It is much too slow for use, and stands beside the counters in tests.
 
-ghost use Rattle.std.specs.Prelude.{◌≡◌, ◌==◌, ◌&&◌, nat_lt, if◌then◌else◌, ◌≤◌, ◌<◌, ◌^◌, ◌↔◌, IsTrue, IfOk, ℕ, List, length};
+ghost use Rattle.std.specs.Prelude.{◌≡◌, ◌==◌, ◌&&◌, nat_lt, if◌then◌else◌, ◌≤◌, ◌<◌, ◌^◌, ◌↔◌, IsTrue, IfOk, ℕ, List};
+ghost use Rattle.std.specs.Prelude.{length};
 ghost use Rattle.path_tree.specs.Path.{Path, path_of, paths_of};
 ghost use Rattle.path_tree.specs.Names.{NamesOnce, EachOnce};
 ghost use Rattle.path_tree.specs.Trace.{starts as starts_of, ends as ends_of};
-ghost use Rattle.path_tree.specs.Counts.{started as started_of, ended as ended_of, active as active_of, rises as rises_of, falls as falls_of};
+ghost use Rattle.path_tree.specs.Counts.{started as started_of, ended as ended_of, active as active_of};
+ghost use Rattle.path_tree.specs.Counts.{rises as rises_of, falls as falls_of};
 ghost use Rattle.path_tree.specs.Counts.{sum_started, sum_ended, first_started, last_ended};
 ghost use Rattle.path_tree.specs.Satisfies.{Holds, EachHolds, InTurn, Satisfies, SatisfiesAll, MayStart};
 ghost use Rattle.path_vectors.specs.Happening.{trace_of};

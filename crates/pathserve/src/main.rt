@@ -6,8 +6,8 @@
 //! `pathserve run FILE SCRIPT` runs a script of calls, device steps and finishes on an object of a file.
 //! `pathserve audit FILE TRACE` says whether a trace of an object of a file is legal, or which line of it is not.
 //! `pathserve serve FILE DIR PORT` serves the objects of a file to clients on this machine.
-//! With `--explain` standard error gets why a source, an object of it, a line of a script or a trace is refused; nothing else changes
-//! by it.
+//! With `--explain` standard error gets why a source, an object of it, a line of a script or a trace is refused;
+//! nothing else changes by it.
 //! Exit statuses: 0 accepted, 1 refused, 2 usage (a request for help too), 3 read or write fault,
 //! 4 out of memory.
 //!
@@ -53,7 +53,8 @@ struct Started {
 enum Prepared {
     // All, with the exit status.
     Ended(u8),
-    // A server is to run: whether it stops with standard input, and, where a refusal is to be explained, the names of what it needs.
+    // A server is to run: whether it stops with standard input, and, where a refusal is to be explained, the
+    // names of what it needs.
     Serves(Started, bool, Option<Names>),
 }
 

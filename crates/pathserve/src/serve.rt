@@ -84,9 +84,9 @@ fn lacking(ended: &Result<ServeEnd, LinesFault>) -> Option<Need> {
     }
 }
 
-/// `pathserve serve`: serves the objects of a source to a connection at the gate for each hand, over the parts in a folder,
-/// and gives the exit status: 0 where each object was served, closed and saved, 1 where a line says what was refused, damaged
-/// or mixed.
+/// `pathserve serve`: serves the objects of a source to a connection at the gate for each hand, over the parts in a
+/// folder, and gives the exit status: 0 where each object was served, closed and saved, 1 where a line says what was
+/// refused, damaged or mixed.
 ///
 /// Where names are given, `error` gets why the source is refused, or why the server did not start.
 ///

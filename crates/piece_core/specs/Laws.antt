@@ -11,13 +11,20 @@ use Rattle.piece_core.specs.Pages.{HasFrame, page_at, page_of}
 
 -- Behind the header of an array of integers all bytes are integers: whatever they are, they spell an array.
 abbrev pub AllBytesSpell : Type 0
-AllBytesSpell = (n : ℕ) (bytes : List ℕ) → n ≤ most_elements → AreBytes bytes → HasFrame n bytes → (xs : List Datum) × Spells bytes (kind.Array n elem.Integer) (array elem.Integer xs)
+AllBytesSpell =
+    (n : ℕ) (bytes : List ℕ) → n ≤ most_elements → AreBytes bytes → HasFrame n bytes →
+    (xs : List Datum) × Spells bytes (kind.Array n elem.Integer) (array elem.Integer xs)
 
 -- What spells an array of n integers has its frame, and no more than the most elements.
 abbrev pub FrameIsDue : Type 0
-FrameIsDue = (n : ℕ) (bytes : List ℕ) (value : Contents) → Spells bytes (kind.Array n elem.Integer) value → HasFrame n bytes × (n ≤ most_elements)
+FrameIsDue =
+    (n : ℕ) (bytes : List ℕ) (value : Contents) → Spells bytes (kind.Array n elem.Integer) value →
+    HasFrame n bytes × (n ≤ most_elements)
 
 -- Two arrays of as many integers have the same page k exactly where they have the same elements in it.
 abbrev pub PagesTell : Type 0
-PagesTell = (k : ℕ) (xs ys : List Datum) → IsContents (array elem.Integer xs) → IsContents (array elem.Integer ys) → length xs ≡ length ys →
-    (page_at k (spelling (array elem.Integer xs)) ≡ page_at k (spelling (array elem.Integer ys))) ↔ ((i : ℕ) → page_of i ≡ k → slice_get xs i ≡ slice_get ys i)
+PagesTell =
+    (k : ℕ) (xs ys : List Datum) → IsContents (array elem.Integer xs) → IsContents (array elem.Integer ys) →
+    length xs ≡ length ys →
+    (page_at k (spelling (array elem.Integer xs)) ≡ page_at k (spelling (array elem.Integer ys)))
+    ↔ ((i : ℕ) → page_of i ≡ k → slice_get xs i ≡ slice_get ys i)

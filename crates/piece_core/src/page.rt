@@ -3,8 +3,8 @@
 ghost use Rattle.std.specs.Prelude.{◌≡◌, ◌↔◌, IsTrue};
 ghost use Rattle.piece_core.specs.Pages.{HasFrame, page_of as in_page};
 
-/// Whether at the front of these bytes stands the header of an array of so many integers, in the second format, and they are as many as such
-/// an array has. Whatever bytes stand behind the header, they spell an array then.
+/// Whether at the front of these bytes stands the header of an array of so many integers, in the second format, and
+/// they are as many as such an array has. Whatever bytes stand behind the header, they spell an array then.
 pub fn has_frame(count: u16, bytes: &[u8]) -> bool
     ensures { IsTrue result ↔ HasFrame count bytes.now }
 {

@@ -166,7 +166,8 @@ impl ForTicket {
         reads: u16,
     ) -> Result<ForTicket, AllocError>
         requires { ArgumentsFit (arc_value operation.now) args.now }
-        ensures made { IfOk result (λ t. (arc_value t.operation ≡ arc_value operation.now) × (t.args.items ≡ args.now)) }
+        ensures made { IfOk result (λ t. (arc_value t.operation ≡ arc_value operation.now)
+            × (t.args.items ≡ args.now)) }
         ensures room { IfOk result (λ t. (t.room.items ≡ []) × (room_in reads 0 16 ≤ vec_capacity t.room)) }
     {
         let operation = Arc::try_clone(operation)?;
@@ -188,7 +189,8 @@ fn shared_call(
     operation: &Arc<Operation>,
     args: &[Datum],
 ) -> Result<Arc<Call>, AllocError>
-    ensures { IfOk result (λ c. arc_value c ≡ record { session = session; op = op; operation = arc_value operation.now; arguments = args.now }) }
+    ensures { IfOk result (λ c. arc_value c
+        ≡ record { session = session; op = op; operation = arc_value operation.now; arguments = args.now }) }
 {
     let operation = Arc::try_clone(operation)?;
     let args = Slims::new(alloc, args)?;
@@ -197,8 +199,8 @@ fn shared_call(
 }
 
 impl Waiting {
-    /// A call that waits, with all that it will need: for its entry, as many stamps as the parts that it reads have pages
-    /// in these pins, and as many bytes as the longest text. The error is that memory was refused.
+    /// A call that waits, with all that it will need: for its entry, as many stamps as the parts that it reads have
+    /// pages in these pins, and as many bytes as the longest text. The error is that memory was refused.
     pub fn new(
         alloc: Global,
         number: u32,
@@ -209,7 +211,10 @@ impl Waiting {
         pins: &Pins,
     ) -> Result<Waiting, AllocError>
         requires { ArgumentsFit (arc_value operation.now) args.now }
-        ensures { IfOk result (λ w. w ≡ record { number = number; call = record { session = session; op = op; operation = arc_value operation.now; arguments = args.now } }) }
+        ensures { IfOk result (λ w. w ≡ record {
+          number = number;
+          call = record { session = session; op = op; operation = arc_value operation.now; arguments = args.now };
+        }) }
     {
         let reads = reads(operation);
         let call = shared_call(alloc, session, op, operation, args)?;
@@ -269,7 +274,12 @@ impl Waiting {
     /// It runs, with those of these pins whose parts it reads. It takes no memory.
     pub fn start(self, pins: &Pins) -> Running
         requires { length pins.now ≤ 16 }
-        ensures { result ≡ record { number = self.number; call = self.call; pins = read_pins self.call.operation pins.now; taken = false } }
+        ensures { result ≡ record {
+          number = self.number;
+          call = self.call;
+          pins = read_pins self.call.operation pins.now;
+          taken = false;
+        } }
     {
         let Waiting {
             number,
@@ -332,9 +342,15 @@ impl Running {
         requires few { length pins.now ≤ 16 }
         requires stay { read_pins self.old.call.operation pins.now ≡ self.old.pins }
         requires pinned { HasPins self.old.call.operation self.old.pins }
-        ensures some { IfSome result (λ t. (self.old.taken ≡ false) × (ticket_call t ≡ call_of self.old.number self.old.call.operation self.old.call.arguments self.old.pins)) }
+        ensures some { IfSome result (λ t. (self.old.taken ≡ false)
+            × (ticket_call t ≡ call_of self.old.number self.old.call.operation self.old.call.arguments self.old.pins)) }
         ensures none { IfNone result (self.old.taken ≡ true) }
-        ensures taken { self.new ≡ record { number = self.old.number; call = self.old.call; pins = self.old.pins; taken = true } }
+        ensures taken { self.new ≡ record {
+          number = self.old.number;
+          call = self.old.call;
+          pins = self.old.pins;
+          taken = true;
+        } }
     {
         let ForTicket {
             operation,

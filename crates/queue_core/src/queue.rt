@@ -1,9 +1,10 @@
 //! The calls that wait, counted by operation.
 //!
-//! At each call of a desk it is asked which of them is next. As a rule none is, or the one that was just added, and the counts
-//! tell that without a look at each.
+//! At each call of a desk it is asked which of them is next. As a rule none is, or the one that was just added, and the
+//! counts tell that without a look at each.
 
-ghost use Rattle.std.specs.Prelude.{◌≡◌, ◌≢◌, ◌↔◌, ℕ, ◌+◌, ◌<◌, ◌≤◌, [], ◌∷◌, ◌++◌, List, length, IfOk, IfSome, IfNone, Some, IsTrue, slice_get, take, drop, filter, not, ◌==◌};
+ghost use Rattle.std.specs.Prelude.{◌≡◌, ◌≢◌, ◌↔◌, ℕ, ◌+◌, ◌<◌, ◌≤◌, [], ◌∷◌, ◌++◌, List, length, IfOk, IfSome, IfNone};
+ghost use Rattle.std.specs.Prelude.{Some, IsTrue, slice_get, take, drop, filter, not, ◌==◌};
 ghost use Rattle.path_tree.specs.Path.{Path};
 ghost use Rattle.path_tree.specs.Trace.{Event};
 ghost use Rattle.path_count.specs.Stands.{StandsFor};
@@ -52,7 +53,8 @@ impl Model for Queue {
 fn count_in(counts: &mut [u16], op: OpId)
     requires { op < length counts.old }
     ensures each { length counts.new ≡ length counts.old }
-    ensures counted { (waiting : List WaitingCall) (w : WaitingCall) → AreCounted waiting counts.old → length waiting < 65535 → w.call.op ≡ op → AreCounted (waiting ++ w ∷ []) counts.new }
+    ensures counted { (waiting : List WaitingCall) (w : WaitingCall) → AreCounted waiting counts.old →
+        length waiting < 65535 → w.call.op ≡ op → AreCounted (waiting ++ w ∷ []) counts.new }
 {
     counts[op as usize] = counts[op as usize].saturating_add(1);
 }
@@ -61,7 +63,9 @@ fn count_in(counts: &mut [u16], op: OpId)
 fn count_out(counts: &mut [u16], op: OpId)
     requires { op < length counts.old }
     ensures each { length counts.new ≡ length counts.old }
-    ensures counted { (waiting : List WaitingCall) (place : ℕ) (w : WaitingCall) → AreCounted waiting counts.old → slice_get waiting place ≡ Some w → w.call.op ≡ op → AreCounted (take place waiting ++ drop (place + 1) waiting) counts.new }
+    ensures counted { (waiting : List WaitingCall) (place : ℕ) (w : WaitingCall) → AreCounted waiting counts.old →
+        slice_get waiting place ≡ Some w → w.call.op ≡ op →
+        AreCounted (take place waiting ++ drop (place + 1) waiting) counts.new }
 {
     counts[op as usize] = counts[op as usize].saturating_sub(1);
 }
@@ -81,8 +85,10 @@ fn counts_of(rows: &[Waiting]) -> [u16; MOST_OPERATIONS]
 
 // Whether a call of this operation can start. An operation that was refused is not asked again.
 fn asks(counters: &Counters, refused: &mut [bool], op: OpId) -> bool
-    ensures answer { (n : ℕ) (paths : List Path) (t : List Event) → StandsFor counters.now n paths t → AreRefused n paths t refused.old → (IsTrue result ↔ OpCanStart n paths t op) }
-    ensures refused { (n : ℕ) (paths : List Path) (t : List Event) → StandsFor counters.now n paths t → AreRefused n paths t refused.old → AreRefused n paths t refused.new }
+    ensures answer { (n : ℕ) (paths : List Path) (t : List Event) → StandsFor counters.now n paths t →
+        AreRefused n paths t refused.old → (IsTrue result ↔ OpCanStart n paths t op) }
+    ensures refused { (n : ℕ) (paths : List Path) (t : List Event) → StandsFor counters.now n paths t →
+        AreRefused n paths t refused.old → AreRefused n paths t refused.new }
 {
     let place = op as usize;
     if place >= refused.len() {
@@ -98,8 +104,10 @@ fn asks(counters: &Counters, refused: &mut [bool], op: OpId) -> bool
 
 // The place of the first waiting call that can start.
 fn first_to_start(counters: &Counters, waiting: &[Waiting]) -> Option<usize>
-    ensures some { (n : ℕ) (paths : List Path) (t : List Event) → StandsFor counters.now n paths t → IfSome result (IsFirst n paths t waiting.now) }
-    ensures none { (n : ℕ) (paths : List Path) (t : List Event) → StandsFor counters.now n paths t → IfNone result (Every (λ w. CanStart n paths t w → ⊥) waiting.now) }
+    ensures some { (n : ℕ) (paths : List Path) (t : List Event) → StandsFor counters.now n paths t →
+        IfSome result (IsFirst n paths t waiting.now) }
+    ensures none { (n : ℕ) (paths : List Path) (t : List Event) → StandsFor counters.now n paths t →
+        IfNone result (Every (λ w. CanStart n paths t w → ⊥) waiting.now) }
 {
     let mut refused = [false; MOST_OPERATIONS];
     for place in 0..waiting.len() {
@@ -112,7 +120,8 @@ fn first_to_start(counters: &Counters, waiting: &[Waiting]) -> Option<usize>
 
 // Whether this operation is another one than the last call's, has calls, and can start.
 fn can_pass(counters: &Counters, count: u16, op: OpId, last: OpId) -> bool
-    ensures { (n : ℕ) (paths : List Path) (t : List Event) → StandsFor counters.now n paths t → (IsTrue result ↔ ((count ≢ 0) × (op ≢ last) × OpCanStart n paths t op)) }
+    ensures { (n : ℕ) (paths : List Path) (t : List Event) → StandsFor counters.now n paths t →
+        (IsTrue result ↔ ((count ≢ 0) × (op ≢ last) × OpCanStart n paths t op)) }
 {
     if count == 0 {
         return false;
@@ -125,7 +134,8 @@ fn can_pass(counters: &Counters, count: u16, op: OpId, last: OpId) -> bool
 
 // Whether no operation but that of the last call has calls that can start.
 fn others_rest(counters: &Counters, counts: &[u16; MOST_OPERATIONS], last: OpId) -> bool
-    ensures { (n : ℕ) (paths : List Path) (t : List Event) → StandsFor counters.now n paths t → IsTrue result → OthersRest n paths t counts.now last }
+    ensures { (n : ℕ) (paths : List Path) (t : List Event) → StandsFor counters.now n paths t → IsTrue result →
+        OthersRest n paths t counts.now last }
 {
     for op in 0..MOST_OPERATIONS {
         if can_pass(counters, counts[op], op as OpId, last) {
@@ -138,8 +148,10 @@ fn others_rest(counters: &Counters, counts: &[u16; MOST_OPERATIONS], last: OpId)
 // The place of the first of these calls that can start. Each is looked at only where one before the last might.
 fn next_of(counters: &Counters, rows: &[Waiting], counts: &[u16; MOST_OPERATIONS]) -> Option<usize>
     requires { AreCounted rows.now counts.now }
-    ensures some { (n : ℕ) (paths : List Path) (t : List Event) → StandsFor counters.now n paths t → IfSome result (IsFirst n paths t rows.now) }
-    ensures none { (n : ℕ) (paths : List Path) (t : List Event) → StandsFor counters.now n paths t → IfNone result (Every (λ w. CanStart n paths t w → ⊥) rows.now) }
+    ensures some { (n : ℕ) (paths : List Path) (t : List Event) → StandsFor counters.now n paths t →
+        IfSome result (IsFirst n paths t rows.now) }
+    ensures none { (n : ℕ) (paths : List Path) (t : List Event) → StandsFor counters.now n paths t →
+        IfNone result (Every (λ w. CanStart n paths t w → ⊥) rows.now) }
 {
     if rows.len() == 0 {
         return None;
@@ -185,8 +197,10 @@ impl Queue {
 
     /// The place of the first that can start.
     pub fn next(&self, counters: &Counters) -> Option<usize>
-        ensures some { (n : ℕ) (paths : List Path) (t : List Event) → StandsFor counters.now n paths t → IfSome result (IsFirst n paths t self.now) }
-        ensures none { (n : ℕ) (paths : List Path) (t : List Event) → StandsFor counters.now n paths t → IfNone result (Every (λ w. CanStart n paths t w → ⊥) self.now) }
+        ensures some { (n : ℕ) (paths : List Path) (t : List Event) → StandsFor counters.now n paths t →
+            IfSome result (IsFirst n paths t self.now) }
+        ensures none { (n : ℕ) (paths : List Path) (t : List Event) → StandsFor counters.now n paths t →
+            IfNone result (Every (λ w. CanStart n paths t w → ⊥) self.now) }
     {
         next_of(counters, &self.rows, &self.counts)
     }

@@ -15,26 +15,37 @@ use Rattle.apply_core.specs.declared.reply.Reply.TheVariants as replies
 
 -- a call was made of the file of this number; where it failed, that file was given up after it
 abbrev pub MakesOrGivesUp : {H : Type 0} → (H → Made → H → Type 0) → ℕ → Made → Type 0 → H → H → Type 0
-MakesOrGivesUp {H} makes number call failed old new = makes old call new ⊎ (failed × ((between : H) × (pen : Pen) × (pen.number ≡ number) × makes old call between × makes between (discards pen) new))
+MakesOrGivesUp {H} makes number call failed old new =
+    makes old call new ⊎ (failed × ((between : H) × (pen : Pen) × (pen.number ≡ number) × makes old call between
+    × makes between (discards pen) new))
 
 -- this is the file of the page of this place of a part's pin
 abbrev pub IsStampAt : Call → ℕ → ℕ → Stamp → Type 0
-IsStampAt call part page stamp = (pages : List Stamp) × (pin_at call.pins part ≡ Some pages) × (slice_get pages page ≡ Some stamp)
+IsStampAt call part page stamp =
+    (pages : List Stamp) × (pin_at call.pins part ≡ Some pages) × (slice_get pages page ≡ Some stamp)
 
 -- a page of a part's pin was read, or none, since memory for its bytes was refused
 abbrev pub MakesRead : {H : Type 0} → (H → Made → H → Type 0) → Call → ℕ → ℕ → Option Reply → H → H → Type 0
-MakesRead makes call part page ending old new = ((ending ≡ Some (replies.Failed failures.Memory)) × (new ≡ old)) ⊎ ((stamp : Stamp) × IsStampAt call part page stamp × ((bytes : List ℕ) × (answer : Result (Unit {0}) HandFault) × makes old (reads stamp 0 bytes answer) new))
+MakesRead makes call part page ending old new =
+    ((ending ≡ Some (replies.Failed failures.Memory)) × (new ≡ old))
+    ⊎ ((stamp : Stamp) × IsStampAt call part page stamp
+    × ((bytes : List ℕ) × (answer : Result (Unit {0}) HandFault) × makes old (reads stamp 0 bytes answer) new))
 
 abbrev pub MakesCreate : {H : Type 0} → (H → Made → H → Type 0) → H → H → Type 0
 MakesCreate makes old new = (answer : Result Pen HandFault) × makes old (creates answer) new
 
 abbrev pub MakesAppend : {H : Type 0} → (H → Made → H → Type 0) → ℕ → H → H → Type 0
-MakesAppend makes number old new = (bytes : List ℕ) × (answer : Result (Unit {0}) HandFault) × MakesOrGivesUp makes number (appends number bytes answer) (IsErr answer) old new
+MakesAppend makes number old new =
+    (bytes : List ℕ) × (answer : Result (Unit {0}) HandFault)
+    × MakesOrGivesUp makes number (appends number bytes answer) (IsErr answer) old new
 
 abbrev pub MakesSeal : {H : Type 0} → (H → Made → H → Type 0) → Pen → H → H → Type 0
-MakesSeal makes pen old new = (answer : Result Stamp (Pen × HandFault)) × MakesOrGivesUp makes pen.number (seals pen answer) (IsErr answer) old new
+MakesSeal makes pen old new =
+    (answer : Result Stamp (Pen × HandFault))
+    × MakesOrGivesUp makes pen.number (seals pen answer) (IsErr answer) old new
 
--- What a step did to a hand: it made the call that is next in this phase, of the file of that phase. A run that has ended made none.
+-- What a step did to a hand: it made the call that is next in this phase, of the file of that phase. A run that
+-- has ended made none.
 abbrev pub StepMakes : {H : Type 0} → (H → Made → H → Type 0) → Call → Phase → Option Reply → H → H → Type 0
 StepMakes makes call (Reading r) ending old new = MakesRead makes call r.part r.page ending old new
 StepMakes makes call (Paging m) ending old new = MakesRead makes call m.part m.page ending old new

@@ -32,7 +32,8 @@ if_done (Done reply) xs = xs
 if_done (Refused word) xs = []
 if_done (Failed failure) xs = []
 
--- the files that a call leaves to nobody: those that it replaced or dropped where it was done, those that it sealed where it failed
+-- the files that a call leaves to nobody: those that it replaced or dropped where it was done, those that it
+-- sealed where it failed
 abbrev pub free_by : Reply → List Stamp → List Stamp → List Stamp
 free_by (Done reply) gone sealed = gone
 free_by (Refused word) gone sealed = []

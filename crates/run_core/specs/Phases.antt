@@ -129,13 +129,15 @@ pub record IsReadSoFar (a : Assignment) (call : Call) (r : Read) : Type 0 where
   pub earlier : IsSeenBefore a call r.part r.seen.known r.seen.read.items
   pub front : (pages : List Stamp) → pin_at call.pins r.part ≡ Some pages → IsFront a pages r.page r.got.items
 
--- what a call has seen is true of an assignment, and the page that it reads next is the one that its body comes to on that
+-- what a call has seen is true of an assignment, and the page that it reads next is the one that its
+-- body comes to on that
 pub record IsPagedSoFar (a : Assignment) (call : Call) (m : More) : Type 0 where
   pub seen : IsSeen a call m.seen.known m.seen.read.items
   pub due : IsDue m.seen.known (PinHolds a call.pins) call.operation call.arguments m.part m.page
 
 -- the files that were sealed of a plan stand in their places
-pub record IsSealedSoFar (pins : List PartPin) (read : List (List ℕ)) (changes : List Change) (pages : PagePlan) : Type 0 where
+pub record IsSealedSoFar (pins : List PartPin) (read : List (List ℕ)) (changes : List Change)
+    (pages : PagePlan) : Type 0 where
   pub first : List Stamp
   pub planned : IsPlanned pins read changes pages.counts first pages.writes.items pages.gone.items
   pub stamps : pages.stamps.items ≡ with_sealed first pages.writes.items pages.sealed.items
@@ -153,8 +155,10 @@ pub record IsWritten (a : Assignment) (call : Call) (reply : Option Datum) (page
 abbrev pub IsWrittenSoFar : Assignment → Call → Plan → Type 0
 IsWrittenSoFar a call plan = IsWritten a call plan.reply plan.pages
 
--- What a call that was done has renewed: by the bytes that it read, and by those that its body changed, its new pins are the lists of a plan, and these files go.
-pub record IsRenewed (a : Assignment) (call : Call) (reply : Option Datum) (sealed : List Stamp) (news : List PartPin) (gone : List Stamp) : Type 0 where
+-- What a call that was done has renewed: by the bytes that it read, and by those that its body changed, its new pins
+-- are the lists of a plan, and these files go.
+pub record IsRenewed (a : Assignment) (call : Call) (reply : Option Datum) (sealed : List Stamp) (news : List PartPin)
+    (gone : List Stamp) : Type 0 where
   pub read : List (List ℕ)
   pub changes : List Change
   pub known : AreRead a call read
@@ -174,7 +178,8 @@ FoundBy a call (Paging m) = IsPagedSoFar a call m
 FoundBy a call (Creating plan) = IsWrittenSoFar a call plan
 FoundBy a call (Appending plan pen) = IsWrittenSoFar a call plan
 FoundBy a call (Sealing plan pen) = IsWrittenSoFar a call plan
-FoundBy a call (Ended reply left) = IsTrueAt a call reply left.news × IsRenewedBy a call reply left.sealed.items left.news left.gone.items
+FoundBy a call (Ended reply left) =
+    IsTrueAt a call reply left.news × IsRenewedBy a call reply left.sealed.items left.news left.gone.items
 
 -- it is not the reply of a body that was done
 abbrev pub IsNotDone : Reply → Type 0
@@ -193,7 +198,8 @@ IsSettled (Some (Failed failure)) = ⊥
 abbrev pub pages_left : Plan → ℕ
 pages_left plan = length plan.pages.writes.items - length plan.pages.sealed.items
 
--- a number that falls with each step: a part counts for more than all its pages, a page that is not known for one, and a page that is written for three
+-- a number that falls with each step: a part counts for more than all its pages, a page that is not known for one, and
+-- a page that is written for three
 abbrev pub work_in : Phase → ℕ
 work_in (Reading r) = 2 ^ 73 + ((16 - r.part) * 2 ^ 66 + (2 ^ 65 - r.page))
 work_in (Paging m) = 2 ^ 72 + unread m.seen.known

@@ -59,7 +59,9 @@ RunMakes makes run ending old new = StepMakes makes (run_call run) run.phase end
 abbrev pub PenHolds : (ℕ → List ℕ → Type 0) → Run → Type 0
 PenHolds pending run = PenHoldsIn pending run.phase
 
--- What a run has found so far is true of an assignment, where its pins are whole: what it read are the bytes under them, what it computed is what its body gives on them, and what it sealed holds what the body changed. Of an array of integers not all bytes are read.
+-- What a run has found so far is true of an assignment, where its pins are whole: what it read are the bytes under
+-- them, what it computed is what its body gives on them, and what it sealed holds what the body changed. Of an array of
+-- integers not all bytes are read.
 pub record SoFar (a : Assignment) (run : Run) : Type 0 where
   pub found : PinsAreWhole a (run_call run) → FoundBy a (run_call run) run.phase
 

@@ -22,7 +22,8 @@ ghost use Rattle.judge_core.specs.Written.{WritesInOrder, parts_changed};
 ghost use Rattle.call_core.specs.Tasks.{task_call};
 ghost use Rattle.call_core.specs.Tickets.{ticket_call};
 ghost use Rattle.call_core.specs.Truths.{IsTrueOf, PinHolds, PinsAreWhole};
-ghost use Rattle.run_core.specs.Outcomes.{outcome_call, outcome_reply, outcome_sealed, outcome_news, outcome_gone, outcome_pins, IsFresh};
+ghost use Rattle.run_core.specs.Outcomes.{outcome_call, outcome_reply, outcome_sealed, outcome_news, outcome_gone};
+ghost use Rattle.run_core.specs.Outcomes.{outcome_pins, IsFresh};
 ghost use Rattle.run_core.specs.Phases.{IsRenewedBy};
 
 use crate::ending::{failure, nothing, outcome_of};
@@ -45,8 +46,8 @@ use seen_core::seen::{Miss, Seen, is_paged};
 use std::alloc::Global;
 use value_core::datum::Datum;
 
-// Reads the bytes that are read of a part at first: those of its first page, where it is read page by page, else all that
-// are under its pin.
+// Reads the bytes that are read of a part at first: those of its first page, where it is read page by page, else all
+// that are under its pin.
 fn read_bytes<H: Hand>(
     hand: &mut H,
     task: &Task,
@@ -56,7 +57,8 @@ fn read_bytes<H: Hand>(
     requires next { pin_at task.now.pins part ≢ None }
     requires empty { got.old.items ≡ [] }
     ensures kept { (a : Assignment) → H.agrees hand.new a → H.agrees hand.old a }
-    ensures found { OnOk result ((a : Assignment) → H.agrees hand.new a → IsPartRead a (task_call task.now) part 0 got.new.items) }
+    ensures found { OnOk result ((a : Assignment) → H.agrees hand.new a →
+        IsPartRead a (task_call task.now) part 0 got.new.items) }
     ensures rises { H.failed hand.old < H.failed hand.new → IsDeviceErr result }
     ensures counted { H.failed hand.old ≤ H.failed hand.new }
     ensures cause { IsErrOf result HandFault.Device → DeviceFailed (H.failed hand.old) (H.failed hand.new) }
@@ -88,8 +90,11 @@ fn read_part<H: Hand>(
     requires low { part < 16 }
     requires places { length seen.old.read.items ≤ part }
     ensures kept { (a : Assignment) → H.agrees hand.new a → H.agrees hand.old a }
-    ensures found { OnOk result ((a : Assignment) → H.agrees hand.new a → PinsAreWhole a (task_call task.now) → IsSeenBefore a (task_call task.now) part seen.old.known seen.old.read.items → IsSeenBefore a (task_call task.now) (part + 1) seen.new.known seen.new.read.items) }
-    ensures damaged { IsErrOf result Failure.Damaged → (a : Assignment) → H.agrees hand.new a → PinsAreWhole a (task_call task.now) → IsDamaged (PinHolds a task.now.pins) (arc_value task.now.operation) }
+    ensures found { OnOk result ((a : Assignment) → H.agrees hand.new a → PinsAreWhole a (task_call task.now) →
+        IsSeenBefore a (task_call task.now) part seen.old.known seen.old.read.items →
+        IsSeenBefore a (task_call task.now) (part + 1) seen.new.known seen.new.read.items) }
+    ensures damaged { IsErrOf result Failure.Damaged → (a : Assignment) → H.agrees hand.new a →
+        PinsAreWhole a (task_call task.now) → IsDamaged (PinHolds a task.now.pins) (arc_value task.now.operation) }
     ensures long { OnOk result (length seen.new.read.items ≡ part + 1) }
     ensures rises { H.failed hand.old < H.failed hand.new → IsErrOf result Failure.Device }
     ensures counted { H.failed hand.old ≤ H.failed hand.new }
@@ -117,9 +122,13 @@ fn read_from<H: Hand>(
 ) -> Result<(), Failure>
     requires { length seen.old.read.items ≤ from }
     ensures kept { (a : Assignment) → H.agrees hand.new a → H.agrees hand.old a }
-    ensures found { OnOk result ((a : Assignment) → H.agrees hand.new a → PinsAreWhole a (task_call task.now) → IsSeenBefore a (task_call task.now) from seen.old.known seen.old.read.items → IsSeen a (task_call task.now) seen.new.known seen.new.read.items) }
-    ensures damaged { IsErrOf result Failure.Damaged → (a : Assignment) → H.agrees hand.new a → PinsAreWhole a (task_call task.now) → IsDamaged (PinHolds a task.now.pins) (arc_value task.now.operation) }
-    ensures places { OnOk result ((p : ℕ) → Reads (body_of (arc_value task.now.operation)).statements p → from ≤ p → p < length seen.new.read.items) }
+    ensures found { OnOk result ((a : Assignment) → H.agrees hand.new a → PinsAreWhole a (task_call task.now) →
+        IsSeenBefore a (task_call task.now) from seen.old.known seen.old.read.items →
+        IsSeen a (task_call task.now) seen.new.known seen.new.read.items) }
+    ensures damaged { IsErrOf result Failure.Damaged → (a : Assignment) → H.agrees hand.new a →
+        PinsAreWhole a (task_call task.now) → IsDamaged (PinHolds a task.now.pins) (arc_value task.now.operation) }
+    ensures places { OnOk result ((p : ℕ) → Reads (body_of (arc_value task.now.operation)).statements p → from ≤ p →
+        p < length seen.new.read.items) }
     ensures grows { OnOk result (length seen.old.read.items ≤ length seen.new.read.items) }
     ensures rises { H.failed hand.old < H.failed hand.new → IsErrOf result Failure.Device }
     ensures counted { H.failed hand.old ≤ H.failed hand.new }
@@ -150,7 +159,10 @@ fn judged<H: Hand>(
 ) -> Result<Verdict, HandFault>
     requires { HasReads (arc_value task.now.operation) seen.old.read.items }
     ensures kept { (a : Assignment) → H.agrees hand.new a → H.agrees hand.old a }
-    ensures found { IfOk result (λ verdict. (a : Assignment) → H.agrees hand.new a → PinsAreWhole a (task_call task.now) → IsSeen a (task_call task.now) seen.old.known seen.old.read.items → IsSeen a (task_call task.now) seen.new.known seen.new.read.items × JudgedBy a (task_call task.now) seen.new.known seen.new.read.items verdict) }
+    ensures found { IfOk result (λ verdict. (a : Assignment) → H.agrees hand.new a →
+        PinsAreWhole a (task_call task.now) → IsSeen a (task_call task.now) seen.old.known seen.old.read.items →
+        IsSeen a (task_call task.now) seen.new.known seen.new.read.items
+        × JudgedBy a (task_call task.now) seen.new.known seen.new.read.items verdict) }
     ensures over { IfOk result (λ verdict. (p k : ℕ) → verdict ≢ verdicts.Needs p k) }
     ensures writes { IfOk result (OnlyWrites (arc_value task.now.operation)) }
     ensures reads { OnOk result (HasReads (arc_value task.now.operation) seen.new.read.items) }
@@ -178,7 +190,8 @@ fn judged<H: Hand>(
 fn write_all<H: Hand>(hand: &mut H, pages: PagePlan) -> (Leaving, Option<HandFault>)
     requires { pages.sealed.items ≡ [] }
     ensures kept { (a : Assignment) → H.agrees hand.new a → H.agrees hand.old a }
-    ensures news { result.0.news ≡ pins_by 0 pages.counts (with_sealed pages.stamps.items pages.writes.items result.0.sealed.items) }
+    ensures news { result.0.news ≡ pins_by 0 pages.counts (with_sealed pages.stamps.items pages.writes.items
+        result.0.sealed.items) }
     ensures gone { result.0.gone.items ≡ pages.gone.items }
     ensures sealed { (a : Assignment) → H.agrees hand.new a → AreSealed a pages.writes.items result.0.sealed.items }
     ensures all { result.1 ≡ None → length result.0.sealed.items ≡ length pages.writes.items }
@@ -235,11 +248,21 @@ fn written<H: Hand>(
     requires rising { WritesInOrder (body_of (arc_value task.operation)).statements 0 (parts_changed changes.now) }
     ensures call { outcome_call result ≡ task_call task }
     ensures kept { (a : Assignment) → H.agrees hand.new a → H.agrees hand.old a }
-    ensures told { (a : Assignment) → H.agrees hand.new a → PinsAreWhole a (task_call task) → IsSeen a (task_call task) seen.now.known seen.now.read.items → IsDone (PinHolds a task.pins) (arc_value task.operation) task.args.items reply (AreChangesOf seen.now.known (arc_value task.operation) seen.now.read.items (PinHolds a task.pins) changes.now) → IsTrueOf a (outcome_call result) (outcome_reply result) (outcome_pins result) }
-    ensures renewed { (a : Assignment) → H.agrees hand.new a → PinsAreWhole a (task_call task) → IsSeen a (task_call task) seen.now.known seen.now.read.items → IsDone (PinHolds a task.pins) (arc_value task.operation) task.args.items reply (AreChangesOf seen.now.known (arc_value task.operation) seen.now.read.items (PinHolds a task.pins) changes.now) → IsRenewedBy a (outcome_call result) (outcome_reply result) (outcome_sealed result) (outcome_news result) (outcome_gone result) }
+    ensures told { (a : Assignment) → H.agrees hand.new a → PinsAreWhole a (task_call task) →
+        IsSeen a (task_call task) seen.now.known seen.now.read.items →
+        IsDone (PinHolds a task.pins) (arc_value task.operation) task.args.items reply
+        (AreChangesOf seen.now.known (arc_value task.operation) seen.now.read.items (PinHolds a task.pins)
+        changes.now) → IsTrueOf a (outcome_call result) (outcome_reply result) (outcome_pins result) }
+    ensures renewed { (a : Assignment) → H.agrees hand.new a → PinsAreWhole a (task_call task) →
+        IsSeen a (task_call task) seen.now.known seen.now.read.items →
+        IsDone (PinHolds a task.pins) (arc_value task.operation) task.args.items reply
+        (AreChangesOf seen.now.known (arc_value task.operation) seen.now.read.items (PinHolds a task.pins)
+        changes.now) → IsRenewedBy a (outcome_call result) (outcome_reply result) (outcome_sealed result)
+        (outcome_news result) (outcome_gone result) }
     ensures rises { H.failed hand.old < H.failed hand.new → outcome_reply result ≡ replies.Failed failures.Device }
     ensures counted { H.failed hand.old ≤ H.failed hand.new }
-    ensures cause { outcome_reply result ≡ replies.Failed failures.Device → DeviceFailed (H.failed hand.old) (H.failed hand.new) }
+    ensures cause { outcome_reply result ≡ replies.Failed failures.Device →
+        DeviceFailed (H.failed hand.old) (H.failed hand.new) }
     ensures fresh { IsFresh result }
 {
     // What is a plan of what was seen is one of the bytes under the pins.
@@ -269,11 +292,17 @@ fn run_read<H: Hand>(alloc: Global, hand: &mut H, task: Task, seen: Seen) -> Out
     requires read { HasReads (arc_value task.operation) seen.read.items }
     ensures call { outcome_call result ≡ task_call task }
     ensures kept { (a : Assignment) → H.agrees hand.new a → H.agrees hand.old a }
-    ensures told { (a : Assignment) → H.agrees hand.new a → (PinsAreWhole a (task_call task) → IsSeen a (task_call task) seen.known seen.read.items) → IsTrueOf a (outcome_call result) (outcome_reply result) (outcome_pins result) }
-    ensures renewed { (a : Assignment) → H.agrees hand.new a → PinsAreWhole a (task_call task) → IsSeen a (task_call task) seen.known seen.read.items → IsRenewedBy a (outcome_call result) (outcome_reply result) (outcome_sealed result) (outcome_news result) (outcome_gone result) }
+    ensures told { (a : Assignment) → H.agrees hand.new a →
+        (PinsAreWhole a (task_call task) → IsSeen a (task_call task) seen.known seen.read.items) →
+        IsTrueOf a (outcome_call result) (outcome_reply result) (outcome_pins result) }
+    ensures renewed { (a : Assignment) → H.agrees hand.new a → PinsAreWhole a (task_call task) →
+        IsSeen a (task_call task) seen.known seen.read.items →
+        IsRenewedBy a (outcome_call result) (outcome_reply result) (outcome_sealed result) (outcome_news result)
+        (outcome_gone result) }
     ensures rises { H.failed hand.old < H.failed hand.new → outcome_reply result ≡ replies.Failed failures.Device }
     ensures counted { H.failed hand.old ≤ H.failed hand.new }
-    ensures cause { outcome_reply result ≡ replies.Failed failures.Device → DeviceFailed (H.failed hand.old) (H.failed hand.new) }
+    ensures cause { outcome_reply result ≡ replies.Failed failures.Device →
+        DeviceFailed (H.failed hand.old) (H.failed hand.new) }
     ensures fresh { IsFresh result }
 {
     // So is the plan of no change.
@@ -303,13 +332,17 @@ pub fn run_at_once<H: Hand>(alloc: Global, ticket: Ticket, hand: &mut H) -> Outc
     ensures call { outcome_call result ≡ ticket_call ticket }
     ensures kept { (a : Assignment) → H.agrees hand.new a → H.agrees hand.old a }
     // The outcome is true of each assignment that agrees with all calls.
-    ensures told { (a : Assignment) → H.agrees hand.new a → IsTrueOf a (outcome_call result) (outcome_reply result) (outcome_pins result) }
+    ensures told { (a : Assignment) → H.agrees hand.new a →
+        IsTrueOf a (outcome_call result) (outcome_reply result) (outcome_pins result) }
     // Where the body was done its new page lists are those of a plan, over the bytes under the pins.
-    ensures renewed { (a : Assignment) → H.agrees hand.new a → PinsAreWhole a (outcome_call result) → IsRenewedBy a (outcome_call result) (outcome_reply result) (outcome_sealed result) (outcome_news result) (outcome_gone result) }
+    ensures renewed { (a : Assignment) → H.agrees hand.new a → PinsAreWhole a (outcome_call result) →
+        IsRenewedBy a (outcome_call result) (outcome_reply result) (outcome_sealed result) (outcome_news result)
+        (outcome_gone result) }
     // Where the device failed in these calls, so did the call, and it fails for the device only there.
     ensures rises { H.failed hand.old < H.failed hand.new → outcome_reply result ≡ replies.Failed failures.Device }
     ensures counted { H.failed hand.old ≤ H.failed hand.new }
-    ensures cause { outcome_reply result ≡ replies.Failed failures.Device → DeviceFailed (H.failed hand.old) (H.failed hand.new) }
+    ensures cause { outcome_reply result ≡ replies.Failed failures.Device →
+        DeviceFailed (H.failed hand.old) (H.failed hand.new) }
     // It can be handed in.
     ensures fresh { IsFresh result }
 {

@@ -14,8 +14,10 @@ use hand_core::hand::Hand;
 pub fn step_beside<H: Hand>(hand: &mut H, resting: &Run, run: &mut Run) -> StepAnswer
     ensures call { run_call run.new ≡ run_call run.old }
     ensures steps { Follows (run_call run.old) (run_place run.old) (run_place run.new) }
-    ensures held { (a : Assignment) → H.agrees hand.new a → PenHolds (H.pending hand.old) resting.now → AreApart resting.now run.old → PenHolds (H.pending hand.new) resting.now }
-    ensures apart { (a : Assignment) → H.agrees hand.new a → PenHolds (H.pending hand.old) resting.now → AreApart resting.now run.old → AreApart resting.now run.new }
+    ensures held { (a : Assignment) → H.agrees hand.new a → PenHolds (H.pending hand.old) resting.now →
+        AreApart resting.now run.old → PenHolds (H.pending hand.new) resting.now }
+    ensures apart { (a : Assignment) → H.agrees hand.new a → PenHolds (H.pending hand.old) resting.now →
+        AreApart resting.now run.old → AreApart resting.now run.new }
 {
     run.step(hand)
 }

@@ -16,7 +16,8 @@ ghost use Rattle.page_core.specs.PartPins.{pin_at};
 ghost use Rattle.call_core.specs.Tasks.{task_call};
 ghost use Rattle.call_core.specs.Truths.{PinHolds, PinsAreWhole};
 ghost use Rattle.seen_core.specs.Seen.{IsSeen};
-ghost use Rattle.run_core.specs.Phases.{ending_of, sealed_in, news_in, HasNoPen, HasItsReads, FoundBy, IsSettled, work_in};
+ghost use Rattle.run_core.specs.Phases.{ending_of, sealed_in, news_in, HasNoPen, HasItsReads, FoundBy, IsSettled};
+ghost use Rattle.run_core.specs.Phases.{work_in};
 ghost use Rattle.run_core.specs.Steps.{IsJudged, place_in};
 
 use crate::ending::{ended, failed};
@@ -37,13 +38,18 @@ use value_core::datum::Datum;
 fn begin(alloc: Global, task: &Task, seen: &Seen, reply: Option<Datum>, changes: &[Change]) -> Phase
     requires read { HasReads (arc_value task.now.operation) seen.now.read.items }
     requires rising { WritesInOrder (body_of (arc_value task.now.operation)).statements 0 (parts_changed changes.now) }
-    ensures found { (a : Assignment) → PinsAreWhole a (task_call task.now) → IsSeen a (task_call task.now) seen.now.known seen.now.read.items → IsDone (PinHolds a task.now.pins) (arc_value task.now.operation) task.now.args.items reply (AreChangesOf seen.now.known (arc_value task.now.operation) seen.now.read.items (PinHolds a task.now.pins) changes.now) → FoundBy a (task_call task.now) result }
+    ensures found { (a : Assignment) → PinsAreWhole a (task_call task.now) →
+        IsSeen a (task_call task.now) seen.now.known seen.now.read.items →
+        IsDone (PinHolds a task.now.pins) (arc_value task.now.operation) task.now.args.items reply
+        (AreChangesOf seen.now.known (arc_value task.now.operation) seen.now.read.items (PinHolds a task.now.pins)
+        changes.now) → FoundBy a (task_call task.now) result }
     ensures settled { changes.now ≡ [] → IsSettled (ending_of result) }
     ensures steps { (known : List ℕ) → IsJudged (task_call task.now) known (place_in result) }
     ensures reads { HasItsReads (arc_value task.now.operation) result }
     ensures pen { HasNoPen result }
     ensures sealed { sealed_in result ≡ [] }
-    ensures news { (p : ℕ) → pin_at (news_in result) p ≢ None → Writes (body_of (arc_value task.now.operation)).statements p }
+    ensures news { (p : ℕ) → pin_at (news_in result) p ≢ None →
+        Writes (body_of (arc_value task.now.operation)).statements p }
     ensures cause { ending_of result ≢ Some (replies.Failed failures.Device) }
     ensures less { work_in result < 2 ^ 72 }
 {
@@ -58,13 +64,15 @@ fn begin(alloc: Global, task: &Task, seen: &Seen, reply: Option<Datum>, changes:
 // The run goes on to what the body changed, or to the page that it comes to, or it has ended.
 pub(crate) fn conclude(alloc: Global, task: &Task, seen: Seen) -> Phase
     requires read { HasReads (arc_value task.now.operation) seen.read.items }
-    ensures found { (a : Assignment) → PinsAreWhole a (task_call task.now) → IsSeen a (task_call task.now) seen.known seen.read.items → FoundBy a (task_call task.now) result }
+    ensures found { (a : Assignment) → PinsAreWhole a (task_call task.now) →
+        IsSeen a (task_call task.now) seen.known seen.read.items → FoundBy a (task_call task.now) result }
     ensures settled { ReadsNone (arc_value task.now.operation) → IsSettled (ending_of result) }
     ensures steps { IsJudged (task_call task.now) seen.known (place_in result) }
     ensures reads { HasItsReads (arc_value task.now.operation) result }
     ensures pen { HasNoPen result }
     ensures sealed { sealed_in result ≡ [] }
-    ensures news { (p : ℕ) → pin_at (news_in result) p ≢ None → Writes (body_of (arc_value task.now.operation)).statements p }
+    ensures news { (p : ℕ) → pin_at (news_in result) p ≢ None →
+        Writes (body_of (arc_value task.now.operation)).statements p }
     ensures cause { ending_of result ≢ Some (replies.Failed failures.Device) }
     ensures less { work_in result ≤ 2 ^ 72 + unread seen.known }
 {

@@ -10,8 +10,10 @@ ghost use Rattle.decl_core.specs.Bodies.{body_of};
 ghost use Rattle.decl_core.specs.Touched.{Writes};
 ghost use Rattle.call_core.specs.Tasks.{task_call};
 ghost use Rattle.page_core.specs.PartPins.{PartPin, pin_at, pins_by};
-ghost use Rattle.run_core.specs.Outcomes.{outcome_call, outcome_reply, outcome_sealed, outcome_news, outcome_gone, IsFresh};
-ghost use Rattle.run_core.specs.Phases.{ending_of, sealed_in, news_in, failure_of, HasNoPen, pen_in, work_in, FoundBy, IsNotDone};
+ghost use Rattle.run_core.specs.Outcomes.{outcome_call, outcome_reply, outcome_sealed, outcome_news, outcome_gone};
+ghost use Rattle.run_core.specs.Outcomes.{IsFresh};
+ghost use Rattle.run_core.specs.Phases.{ending_of, sealed_in, news_in, failure_of, HasNoPen, pen_in, work_in, FoundBy};
+ghost use Rattle.run_core.specs.Phases.{IsNotDone};
 ghost use Rattle.run_core.specs.Steps.{place_in, at_end};
 
 use crate::outcome::Outcome;
@@ -94,14 +96,16 @@ pub(crate) fn ended(alloc: Global, reply: Reply) -> Phase
     ensures news { news_in result ≡ [] }
     ensures pen { HasNoPen result }
     ensures work { work_in result ≡ 0 }
-    ensures found { (a : Assignment) (call : Call) → ((news : List PartPin) → news ≡ [] → IsTrueAt a call reply news) → IsNotDone reply → FoundBy a call result }
+    ensures found { (a : Assignment) (call : Call) → ((news : List PartPin) → news ≡ [] → IsTrueAt a call reply news) →
+        IsNotDone reply → FoundBy a call result }
 {
     Phase::Ended(reply, nothing(alloc, Vec::new(alloc)))
 }
 
 // How a call ended.
 pub(crate) fn outcome_of(task: Task, reply: Reply, left: Leaving) -> Outcome
-    requires { (p : ℕ) → pin_at left.news p ≢ None → (Writes (body_of (arc_value task.operation)).statements p → ⊥) → ⊥ }
+    requires { (p : ℕ) → pin_at left.news p ≢ None → (Writes (body_of (arc_value task.operation)).statements p → ⊥) →
+        ⊥ }
     ensures call { outcome_call result ≡ task_call task }
     ensures reply { outcome_reply result ≡ reply }
     ensures sealed { outcome_sealed result ≡ left.sealed.items }

@@ -39,7 +39,8 @@ pub struct Outcome {
 }
 
 impl Outcome {
-    ghost use Rattle.run_core.specs.Outcomes.{outcome_call, outcome_reply, outcome_news, outcome_sealed, outcome_pins, outcome_free, outcome_entry, IsFresh, TellsSame};
+    ghost use Rattle.run_core.specs.Outcomes.{outcome_call, outcome_reply, outcome_news, outcome_sealed, outcome_pins};
+    ghost use Rattle.run_core.specs.Outcomes.{outcome_free, outcome_entry, IsFresh, TellsSame};
 
     /// The number of the call.
     pub fn number(&self) -> u32
@@ -76,12 +77,13 @@ impl Outcome {
         &self.reply
     }
 
-    /// The new pins of the parts that the body changed, in the order of the parts: of each part from 1 to 8 pages. Only a call
-    /// that was done has some.
+    /// The new pins of the parts that the body changed, in the order of the parts: of each part from 1 to 8 pages. Only
+    /// a call that was done has some.
     pub fn new_pins(&self) -> Option<&PartPins>
         ensures some { IfSome result (λ pins. pins.now ≡ outcome_pins self.now) }
         ensures none { IfNone result (outcome_pins self.now ≡ []) }
-        ensures inside { (p : ℕ) → pin_at (outcome_pins self.now) p ≢ None → Writes (body_of (outcome_call self.now).operation).statements p }
+        ensures inside { (p : ℕ) → pin_at (outcome_pins self.now) p ≢ None →
+            Writes (body_of (outcome_call self.now).operation).statements p }
         ensures sized { AreSized (outcome_pins self.now) }
     {
         match self.reply {

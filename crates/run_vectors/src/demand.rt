@@ -163,8 +163,8 @@ fn reads_in_order(rt: &impl Abort, alloc: Global, wide: &Object, row: &Row) {
     }
 }
 
-// Asserts that a row that is run at once makes as many device calls as there are steps: of these the last one fails, and
-// one more that fails is not made. The files of five pages take fifteen.
+// Asserts that a row that is run at once makes as many device calls as there are steps: of these the last one fails,
+// and one more that fails is not made. The files of five pages take fifteen.
 fn makes_its_calls(rt: &impl Abort, alloc: Global, wide: &Object, row: &Row) {
     let (_, _, _, _, end) = *row;
     let last = calls_of(row).saturating_add(15) as u64;

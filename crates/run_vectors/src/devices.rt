@@ -81,7 +81,8 @@ fn set_seven<H: Hand>(
     (*outcome.reply(), outcome.free().len(), news)
 }
 
-// What `both 3` of the wide object comes to: its reply, how many files it leaves to nobody, and how many pages its part has then.
+// What `both 3` of the wide object comes to: its reply, how many files it leaves to nobody, and how many
+// pages its part has then.
 fn both_three<H: Hand>(
     rt: &impl Abort,
     alloc: Global,
@@ -159,8 +160,8 @@ fn a_device_that_fails_for_good_fails_each_call(rt: HostRuntime) {
     assert!(rt; set_seven(&rt, alloc, &two, &mut hand, &files, true) == (FAILED, 0, 0));
 }
 
-// Bytes that spell no array of one integer in the second format: one less, one more, none, the first format, a third one,
-// another kind.
+// Bytes that spell no array of one integer in the second format: one less, one more, none, the first format, a third
+// one, another kind.
 const CUT: [Bytes; 6] = [
     b"\x02\x01\x00\x01\x00\x00\x00",
     b"\x02\x01\x00\x01\x00\x00\x00\x00\x00",

@@ -25,8 +25,8 @@ const DAMAGED: Reply = Reply::Failed(Failure::Damaged);
 
 const FAILED: Reply = Reply::Failed(Failure::Device);
 
-// What `get` of this element of the wide object comes to: in how many steps, and with which reply. At once it replies the
-// same.
+// What `get` of this element of the wide object comes to: in how many steps, and with which reply. At once it replies
+// the same.
 fn got(
     rt: &impl Abort,
     alloc: Global,
@@ -163,8 +163,8 @@ fn call_of(rt: &impl Abort, alloc: Global, trio: &Object, files: &[Stamp]) -> Ti
     ticket_of(alloc, operation(rt, trio, "all"), &[], pins).expect(rt, "a call")
 }
 
-// What `all` of the trio comes to, in steps and at once, where the files of the first two parts are damaged or whole, and
-// that of the last one may be gone.
+// What `all` of the trio comes to, in steps and at once, where the files of the first two parts are damaged or whole,
+// and that of the last one may be gone.
 fn all(
     rt: &impl Abort,
     alloc: Global,

@@ -110,7 +110,8 @@ fn paged_twice(rt: &impl Abort, alloc: Global, hand: &mut MemHand, bytes: &[u8])
     }
 }
 
-// A call of the operation `put` of an object of one part, where there is memory for it at the first or at the second try.
+// A call of the operation `put` of an object of one part, where there is memory for it at the first
+// or at the second try.
 fn put_twice(
     rt: &impl Abort,
     alloc: Global,
@@ -143,7 +144,8 @@ fn wants_memory(rt: &impl Abort, outcome: &Outcome) {
     assert!(rt; outcome.new_pins().is_none() && outcome.sealed().is_empty());
 }
 
-// Asserts that the last page of the one part has these bytes, where there is memory for them at the first or at the second try, and that there are so many pages.
+// Asserts that the last page of the one part has these bytes, where there is memory for them at the first or at the
+// second try, and that there are so many pages.
 fn last_is(
     rt: &impl Abort,
     alloc: Global,

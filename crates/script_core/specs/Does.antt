@@ -21,14 +21,18 @@ use Rattle.desk_core.specs.Told.{lines_told}
 use Rattle.world_core.specs.declared.event.Refusal.{Refusal}
 use Rattle.world_core.specs.declared.event.Refusal.TheVariants.{Submit, Keyed, NotRunning, NoStep, Memory}
 use Rattle.world_core.specs.declared.event.Answer.{Answer}
-use Rattle.world_core.specs.declared.event.Answer.TheVariants.{Number, Stepped, Ended, Cancel, Dropped, Resumed, Kept, Shown, Refused}
+use Rattle.world_core.specs.declared.event.Answer.TheVariants.{Number, Stepped, Ended, Cancel, Dropped, Resumed, Kept}
+use Rattle.world_core.specs.declared.event.Answer.TheVariants.{Shown, Refused}
 use Rattle.world_core.specs.declared.event.EventAnswer.{EventAnswer}
 use Rattle.world_core.specs.Names.{refusal_name}
 use Rattle.world_core.specs.Events.{WorldEvent, call, call_key, step, finish, cancel, leave, resume, look}
 use Rattle.world_core.specs.Scene.{Scene}
 use Rattle.world_core.specs.Answers.{Answers}
-use Rattle.script_text.specs.Said.{Said, a_call, a_keyed_call, a_step, all_steps, a_finish, a_cancel, a_drop, a_resume, a_show, a_trace}
-use Rattle.script_text.specs.Answers.{called_line, refused_line, stepped_line, all_stepped_line, finished_line, cancelled_line, dropped_line, resumed_line, kept_line, repeated_line, started_line, shown_lines}
+use Rattle.script_text.specs.Said.{Said, a_call, a_keyed_call, a_step, all_steps, a_finish, a_cancel, a_drop, a_resume}
+use Rattle.script_text.specs.Said.{a_show, a_trace}
+use Rattle.script_text.specs.Answers.{called_line, refused_line, stepped_line, all_stepped_line, finished_line}
+use Rattle.script_text.specs.Answers.{cancelled_line, dropped_line, resumed_line, kept_line, repeated_line}
+use Rattle.script_text.specs.Answers.{started_line, shown_lines}
 
 -- a step that failed, for whatever cause, is told as failed
 abbrev pub has_gone : StepAnswer → Bool
@@ -78,8 +82,15 @@ started_lines starts trace = flat_map (λ e. started_line (event_number e)) (dro
 
 -- the event that a line says, and the call or the session that it speaks of; a call has no number yet
 pub data IsEvent : Said → WorldEvent → ℕ → Type 0 where
-  calls : {session : ℕ} {name : List ℕ} {arguments : List Datum} → IsEvent (a_call session name arguments) (call (record { session = session; name = name; arguments = arguments })) 0
-  calls_by : {session key : ℕ} {name : List ℕ} {arguments : List Datum} → IsEvent (a_keyed_call session key name arguments) (call_key (record { session = session; name = name; arguments = arguments }) key) 0
+  calls : {session : ℕ} {name : List ℕ} {arguments : List Datum} →
+      IsEvent (a_call session name arguments) (call (record {
+        session = session;
+        name = name;
+        arguments = arguments;
+      })) 0
+  calls_by : {session key : ℕ} {name : List ℕ} {arguments : List Datum} →
+      IsEvent (a_keyed_call session key name arguments) (call_key (record
+      { session = session; name = name; arguments = arguments }) key) 0
   steps : {number : ℕ} {works : Bool} → IsEvent (a_step number works) (step number works) number
   finishes : {number : ℕ} → IsEvent (a_finish number) (finish number) number
   cancels_it : {number : ℕ} → IsEvent (a_cancel number) (cancel number) number
@@ -89,7 +100,9 @@ pub data IsEvent : Said → WorldEvent → ℕ → Type 0 where
 
 -- an event of this call or session happens: its answer, and a line for each call that it started
 pub data Happens (event : WorldEvent) (number : ℕ) (old : Scene) : List ℕ → Scene → Type 0 where
-  happens : {new : Scene} (a : EventAnswer) → Answers old event a new → IsTold a.answer → Happens event number old (answer_lines new.board.object number a.answer ++ started_lines a.starts new.board.trace) new
+  happens : {new : Scene} (a : EventAnswer) → Answers old event a new → IsTold a.answer →
+      Happens event number old (answer_lines new.board.object number a.answer ++ started_lines a.starts new.board.trace)
+      new
 
 -- a step of a call that is to work is made
 pub record IsStep (number : ℕ) (old new : Scene) : Type 0 where
@@ -102,7 +115,8 @@ pub record IsStep (number : ℕ) (old new : Scene) : Type 0 where
 -- so many steps of a call that are to work lead from a world to a world
 pub data StepsMade (number : ℕ) (first : Scene) : ℕ → Scene → Type 0 where
   none_yet : StepsMade number first 0 first
-  one_more : {count : ℕ} {mid last : Scene} → StepsMade number first count mid → IsStep number mid last → StepsMade number first (count + 1) last
+  one_more : {count : ℕ} {mid last : Scene} → StepsMade number first count mid → IsStep number mid last →
+      StepsMade number first (count + 1) last
 
 -- the run of a call has no step to make
 pub record IsOver (number : ℕ) (old new : Scene) : Type 0 where
@@ -116,9 +130,13 @@ StepsOn number first count last = (mid : Scene) × StepsMade number first count 
 
 -- what a line that says this does to a world: the lines that answer it, and the world that it leaves
 pub data Does : Said → Scene → List ℕ → Scene → Type 0 where
-  one_event : {said : Said} {event : WorldEvent} {number : ℕ} {old new : Scene} {text : List ℕ} → IsEvent said event number → Happens event number old text new → Does said old text new
+  one_event : {said : Said} {event : WorldEvent} {number : ℕ} {old new : Scene} {text : List ℕ} →
+      IsEvent said event number → Happens event number old text new → Does said old text new
   -- steps until the run is done
-  all_stepped : {number : ℕ} {old new : Scene} (count : ℕ) → StepsOn number old count new → Does (all_steps number) old (all_stepped_line number count) new
-  not_stepped : {number : ℕ} {old : Scene} → runs_in old.board number ≡ false → Does (all_steps number) old (refused_line (refusal_name NotRunning)) old
+  all_stepped : {number : ℕ} {old new : Scene} (count : ℕ) → StepsOn number old count new →
+      Does (all_steps number) old (all_stepped_line number count) new
+  not_stepped : {number : ℕ} {old : Scene} → runs_in old.board number ≡ false →
+      Does (all_steps number) old (refused_line (refusal_name NotRunning)) old
   -- the trace, with the opening values
-  traced : {old : Scene} → Does a_trace old (trace_text (object_of old.board.object) old.opening (lines_told old.board)) old
+  traced : {old : Scene} → Does a_trace old (trace_text (object_of old.board.object) old.opening (lines_told old.board))
+      old

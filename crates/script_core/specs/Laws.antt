@@ -5,6 +5,10 @@ use Rattle.script_core.specs.declared.script.ScriptEnd.{ScriptEnd}
 use Rattle.script_core.specs.Run.{IsScript}
 use Rattle.script_core.specs.Serial.{IsSerialScript}
 
--- The lines that a script writes on finishes and values are those of the sequential object, however its calls overlap: so those too of a script in turn, in which each call is stepped to its end and finished before the next one. A call that is asked again is told as it finished there, or as one that has not finished.
+-- The lines that a script writes on finishes and values are those of the sequential object, however its calls overlap:
+-- so those too of a script in turn, in which each call is stepped to its end and finished before the next one. A call
+-- that is asked again is told as it finished there, or as one that has not finished.
 abbrev pub ScriptsAreSerial : Type 0
-ScriptsAreSerial = (o : Object) (text : List ℕ) (end : ScriptEnd) (written : List ℕ) → IsScript o text end written → IsSerialScript o text end written
+ScriptsAreSerial =
+    (o : Object) (text : List ℕ) (end : ScriptEnd) (written : List ℕ) → IsScript o text end written →
+    IsSerialScript o text end written

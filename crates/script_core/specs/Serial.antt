@@ -21,13 +21,16 @@ use Rattle.board_core.specs.Sound.{kinds_of}
 use Rattle.key_core.specs.Keys.{HasKey, next_key}
 use Rattle.ask_core.specs.Answers.{IsNamedAt}
 use Rattle.ask_core.specs.Keyed.{IsSameCall}
-use Rattle.script_text.specs.Said.{Said, a_call, a_keyed_call, a_step, all_steps, a_finish, a_cancel, a_drop, a_resume, a_show, a_trace, said_of, IsSkipped}
-use Rattle.script_text.specs.Answers.{called_line, refused_line, finished_line, kept_line, repeated_line, started_line, shown_lines, bad_line}
+use Rattle.script_text.specs.Said.{Said, a_call, a_keyed_call, a_step, all_steps, a_finish, a_cancel, a_drop, a_resume}
+use Rattle.script_text.specs.Said.{a_show, a_trace, said_of, IsSkipped}
+use Rattle.script_text.specs.Answers.{called_line, refused_line, finished_line, kept_line, repeated_line, started_line}
+use Rattle.script_text.specs.Answers.{shown_lines, bad_line}
 use Rattle.script_core.specs.declared.script.ScriptEnd.{ScriptEnd}
 use Rattle.script_core.specs.declared.script.ScriptEnd.TheVariants.{Whole, BadLine}
 use Rattle.script_core.specs.Writes.{NamesObject}
 
--- Whether the first line has named the object, the calls that were given numbers, from 1, the values of the parts, the calls that have finished, each with its reply, and those of which a step was to fail.
+-- Whether the first line has named the object, the calls that were given numbers, from 1, the values of the parts, the
+-- calls that have finished, each with its reply, and those of which a step was to fail.
 pub record Serial : Type 0 where
   pub named : Bool
   pub object : Object
@@ -46,13 +49,16 @@ pub record IsFirst (o : Object) (s : Serial) : Type 0 where
   pub failing : s.failing ≡ []
 
 -- a call of this session, whose operation is the object's of this name
-pub record IsCallOf (o : Object) (session : ℕ) (name : List ℕ) (arguments : List Datum) (call : AcceptedCall) : Type 0 where
+pub record IsCallOf (o : Object) (session : ℕ) (name : List ℕ) (arguments : List Datum)
+    (call : AcceptedCall) : Type 0 where
   pub caller : call.session ≡ session
   pub named : IsNamedAt o call.op call.operation name
   pub given : call.arguments ≡ arguments
 
--- of the calls so far the one of this number is the session's of this key, and it is of the operation of this name, in any case, with these arguments
-pub record IsRepeat (calls : List AcceptedCall) (session key : ℕ) (name : List ℕ) (arguments : List Datum) (number : ℕ) : Type 0 where
+-- of the calls so far the one of this number is the session's of this key, and it is of the operation of this name, in
+-- any case, with these arguments
+pub record IsRepeat (calls : List AcceptedCall) (session key : ℕ) (name : List ℕ) (arguments : List Datum)
+    (number : ℕ) : Type 0 where
   pub has : HasKey calls session key number
   pub same : IsSameCall (record { session = session; name = name; arguments = arguments }) has.call
 
@@ -64,7 +70,8 @@ IsUnended replies number = Every (λ (told : ℕ × Reply). told.0 ≢ number) r
 abbrev pub IsKeptWord : List ℕ → Type 0
 IsKeptWord word = (word ≡ codes "waiting") ⊎ ((word ≡ codes "running") ⊎ (word ≡ codes "cancelled"))
 
--- a call fails for the device only where a step of it was to fail, and never since a part is damaged; for want of memory it may
+-- a call fails for the device only where a step of it was to fail, and never since a part is damaged; for
+-- want of memory it may
 abbrev pub MayReply : List ℕ → ℕ → Reply → Type 0
 MayReply failing number (Done reply) = Unit {0}
 MayReply failing number (Refused word) = Unit {0}
@@ -76,26 +83,47 @@ MayReply failing number (Failed failures.Damaged) = ⊥
 abbrev pub AreStarts : List ℕ → Type 0
 AreStarts text = (numbers : List ℕ) × (text ≡ flat_map started_line numbers)
 
--- What a line that says this is answered, and what it leaves. A call does nothing until it finishes. Then it has the reply that its operation's body gives on the values of the parts, as the calls that finished before it have left them.
+-- What a line that says this is answered, and what it leaves. A call does nothing until it finishes. Then it
+-- has the reply that its operation's body gives on the values of the parts, as the calls that finished
+-- before it have left them.
 pub data Serially : Said → Serial → List ℕ → Serial → Type 0 where
-  called : {session : ℕ} {name : List ℕ} {arguments : List Datum} {old : Serial} {text starts : List ℕ} (call : AcceptedCall) → IsCallOf old.object session name arguments call → AreStarts starts
-      → text ≡ called_line (length old.calls + 1) ++ starts → Serially (a_call session name arguments) old text (record old { calls = old.calls ++ call ∷ [] })
-  not_called : {session : ℕ} {name : List ℕ} {arguments : List Datum} {old : Serial} {text : List ℕ} (fault : List ℕ) → text ≡ refused_line fault → Serially (a_call session name arguments) old text old
-  -- under the key of the session's next call it is such a call; under that of an earlier one it changes nothing, and tells the reply with which that finished, or that it has not
-  called_key : {session key : ℕ} {name : List ℕ} {arguments : List Datum} {old : Serial} {text starts : List ℕ} (call : AcceptedCall) → key ≡ next_key old.calls session → IsCallOf old.object session name arguments call → AreStarts starts
-      → text ≡ called_line (length old.calls + 1) ++ starts → Serially (a_keyed_call session key name arguments) old text (record old { calls = old.calls ++ call ∷ [] })
-  repeated : {session key : ℕ} {name : List ℕ} {arguments : List Datum} {old : Serial} {text : List ℕ} (number : ℕ) (reply : Reply) → IsRepeat old.calls session key name arguments number → Among (number, reply) old.replies
+  called : {session : ℕ} {name : List ℕ} {arguments : List Datum} {old : Serial} {text starts : List ℕ}
+      (call : AcceptedCall) → IsCallOf old.object session name arguments call → AreStarts starts
+      → text ≡ called_line (length old.calls + 1) ++ starts →
+      Serially (a_call session name arguments) old text (record old { calls = old.calls ++ call ∷ [] })
+  not_called : {session : ℕ} {name : List ℕ} {arguments : List Datum} {old : Serial} {text : List ℕ} (fault : List ℕ) →
+      text ≡ refused_line fault → Serially (a_call session name arguments) old text old
+  -- under the key of the session's next call it is such a call; under that of an earlier one it changes nothing, and
+  -- tells the reply with which that finished, or that it has not
+  called_key : {session key : ℕ} {name : List ℕ} {arguments : List Datum} {old : Serial} {text starts : List ℕ}
+      (call : AcceptedCall) → key ≡ next_key old.calls session → IsCallOf old.object session name arguments call →
+      AreStarts starts
+      → text ≡ called_line (length old.calls + 1) ++ starts →
+      Serially (a_keyed_call session key name arguments) old text (record old { calls = old.calls ++ call ∷ [] })
+  repeated : {session key : ℕ} {name : List ℕ} {arguments : List Datum} {old : Serial} {text : List ℕ} (number : ℕ)
+      (reply : Reply) → IsRepeat old.calls session key name arguments number → Among (number, reply) old.replies
       → text ≡ repeated_line number reply → Serially (a_keyed_call session key name arguments) old text old
-  kept : {session key : ℕ} {name : List ℕ} {arguments : List Datum} {old : Serial} {text : List ℕ} (number : ℕ) (word : List ℕ) → IsRepeat old.calls session key name arguments number → IsUnended old.replies number → IsKeptWord word
+  kept : {session key : ℕ} {name : List ℕ} {arguments : List Datum} {old : Serial} {text : List ℕ} (number : ℕ)
+      (word : List ℕ) → IsRepeat old.calls session key name arguments number → IsUnended old.replies number →
+      IsKeptWord word
       → text ≡ kept_line word number → Serially (a_keyed_call session key name arguments) old text old
-  not_called_key : {session key : ℕ} {name : List ℕ} {arguments : List Datum} {old : Serial} {text : List ℕ} (fault : List ℕ) → text ≡ refused_line fault → Serially (a_keyed_call session key name arguments) old text old
-  finished : {number : ℕ} {old : Serial} {text starts : List ℕ} (call : AcceptedCall) (reply : Reply) → call_at old.calls number ≡ Some call → IsReplyOn reply (body_of call.operation) call.arguments old.contents
+  not_called_key : {session key : ℕ} {name : List ℕ} {arguments : List Datum} {old : Serial} {text : List ℕ}
+      (fault : List ℕ) → text ≡ refused_line fault → Serially (a_keyed_call session key name arguments) old text old
+  finished : {number : ℕ} {old : Serial} {text starts : List ℕ} (call : AcceptedCall) (reply : Reply) →
+      call_at old.calls number ≡ Some call → IsReplyOn reply (body_of call.operation) call.arguments old.contents
       → MayReply old.failing number reply → AreStarts starts → text ≡ finished_line number reply ++ starts
-      → Serially (a_finish number) old text (record old { contents = left_by reply (body_of call.operation) call.arguments old.contents; replies = old.replies ++ (number, reply) ∷ [] })
-  not_finished : {number : ℕ} {old : Serial} {text : List ℕ} (why : List ℕ) → text ≡ refused_line why → Serially (a_finish number) old text old
-  shown : {old : Serial} {text : List ℕ} → text ≡ shown_lines (object_of old.object).parts old.contents → Serially a_show old text old
+      → Serially (a_finish number) old text (record old {
+        contents = left_by reply (body_of call.operation)
+            call.arguments old.contents;
+        replies = old.replies ++ (number, reply) ∷ [];
+      })
+  not_finished : {number : ℕ} {old : Serial} {text : List ℕ} (why : List ℕ) → text ≡ refused_line why →
+      Serially (a_finish number) old text old
+  shown : {old : Serial} {text : List ℕ} → text ≡ shown_lines (object_of old.object).parts old.contents →
+      Serially a_show old text old
   -- what else a line says changes nothing for the sequential object, and is not told by it
-  to_fail : {number : ℕ} {old : Serial} {text : List ℕ} → Serially (a_step number false) old text (record old { failing = number ∷ old.failing })
+  to_fail : {number : ℕ} {old : Serial} {text : List ℕ} →
+      Serially (a_step number false) old text (record old { failing = number ∷ old.failing })
   to_work : {number : ℕ} {old : Serial} {text : List ℕ} → Serially (a_step number true) old text old
   to_end : {number : ℕ} {old : Serial} {text : List ℕ} → Serially (all_steps number) old text old
   cancels_it : {number : ℕ} {old : Serial} {text : List ℕ} → Serially (a_cancel number) old text old
@@ -108,12 +136,16 @@ pub data WritesSerially (s : Serial) (number : ℕ) (line : List ℕ) : List ℕ
   named : s.named ≡ false → NamesObject s.object line → WritesSerially s number line [] true (record s { named = true })
   not_named : s.named ≡ false → (NamesObject s.object line → ⊥) → WritesSerially s number line (bad_line number) false s
   skipped : s.named ≡ true → IsSkipped line → WritesSerially s number line [] true s
-  done : {text : List ℕ} {new : Serial} (said : Said) → s.named ≡ true → (IsSkipped line → ⊥) → Says said_of line said → Serially said s text new → WritesSerially s number line text true new
-  bad : s.named ≡ true → (IsSkipped line → ⊥) → ((said : Said) → Says said_of line said → ⊥) → WritesSerially s number line (bad_line number) false s
+  done : {text : List ℕ} {new : Serial} (said : Said) → s.named ≡ true → (IsSkipped line → ⊥) → Says said_of line said →
+      Serially said s text new → WritesSerially s number line text true new
+  bad : s.named ≡ true → (IsSkipped line → ⊥) → ((said : Said) → Says said_of line said → ⊥) →
+      WritesSerially s number line (bad_line number) false s
 
 -- What a script over an object writes, by the sequential object: its lines on calls, finishes and values.
 abbrev pub IsSerialScript : Object → List ℕ → ScriptEnd → List ℕ → Type 0
-IsSerialScript o text Whole written = (start : Serial) × IsFirst o start × (last : Serial) × Runs WritesSerially start 1 (lines text) written last
+IsSerialScript o text Whole written =
+    (start : Serial) × IsFirst o start × (last : Serial) × Runs WritesSerially start 1 (lines text) written last
 IsSerialScript o text (BadLine k) written =
-    (start : Serial) × IsFirst o start × (before : List (List ℕ)) × (line : List ℕ) × (after : List (List ℕ)) × (last : Serial) × (k ≡ length before + 1)
+    (start : Serial) × IsFirst o start × (before : List (List ℕ)) × (line : List ℕ) × (after : List (List ℕ))
+    × (last : Serial) × (k ≡ length before + 1)
     × (lines text ≡ before ++ line ∷ after) × Stops WritesSerially start 1 before line written last

@@ -40,14 +40,18 @@ pub record IsKept (w : Scene) : Type 0 where
 -- the answer to the line of this number: its text, whether the script goes on, and what holds then
 pub data Writes (told : Told) (number : ℕ) (line : List ℕ) : List ℕ → Bool → Told → Type 0 where
   -- the first line names the object
-  named : told.named ≡ false → NamesObject told.world.board.object line → Writes told number line [] true (record told { named = true })
-  not_named : told.named ≡ false → (NamesObject told.world.board.object line → ⊥) → Writes told number line (bad_line number) false told
+  named : told.named ≡ false → NamesObject told.world.board.object line →
+      Writes told number line [] true (record told { named = true })
+  not_named : told.named ≡ false → (NamesObject told.world.board.object line → ⊥) →
+      Writes told number line (bad_line number) false told
   -- a blank line, or a remark
   skipped : told.named ≡ true → IsSkipped line → Writes told number line [] true told
   -- a line that says something
-  done : {text : List ℕ} {new : Scene} (said : Said) → told.named ≡ true → (IsSkipped line → ⊥) → Says said_of line said → Does said told.world text new → IsKept new
+  done : {text : List ℕ} {new : Scene} (said : Said) → told.named ≡ true → (IsSkipped line → ⊥) →
+      Says said_of line said → Does said told.world text new → IsKept new
       → Writes told number line text true (record told { world = new })
-  bad : told.named ≡ true → (IsSkipped line → ⊥) → ((said : Said) → Says said_of line said → ⊥) → Writes told number line (bad_line number) false told
+  bad : told.named ≡ true → (IsSkipped line → ⊥) → ((said : Said) → Says said_of line said → ⊥) →
+      Writes told number line (bad_line number) false told
 
 -- the answer to the line of this number, of a state, and the state then
 abbrev pub ScriptGives : Script → ℕ → List ℕ → List ℕ → Bool → Script → Type 0

@@ -21,8 +21,8 @@ use std::io::{Read, Write};
 pub enum ScriptEnd {
     /// The text ended, and each of its lines was answered.
     Whole,
-    /// The line of this number, counted from 1, says nothing that a script may say, or is a first line that does not name
-    /// the object. It was answered by `bad line K`, and ended the script.
+    /// The line of this number, counted from 1, says nothing that a script may say, or is a first line that does not
+    /// name the object. It was answered by `bad line K`, and ended the script.
     BadLine(u64),
 }
 
@@ -36,14 +36,14 @@ fn end_of(end: LinesEnd) -> ScriptEnd
     }
 }
 
-/// Answers the lines of a script over a new world of the object. Line 1 is `object NAME` with its name, in any case, and
-/// has no answer.
+/// Answers the lines of a script over a new world of the object. Line 1 is `object NAME` with its name, in any case,
+/// and has no answer.
 ///
 /// A text without any line has no line 1: it is `Whole`, and nothing is written. The faults, in this order: `ReadFault`
-/// where a read failed or the text had not ended after 16,777,216 reads, `WriteFault` where a write failed or took no byte,
-/// `Memory` where the room for a line, an event or an answer was refused. A want of memory in the run of a body is none of
-/// these: the call fails for it. After a fault a front of the answers is written, after a `ReadFault` those to all lines that have come
-/// whole: they are written before the next read.
+/// where a read failed or the text had not ended after 16,777,216 reads, `WriteFault` where a write failed or took no
+/// byte, `Memory` where the room for a line, an event or an answer was refused. A want of memory in the run of a body
+/// is none of these: the call fails for it. After a fault a front of the answers is written, after a `ReadFault` those
+/// to all lines that have come whole: they are written before the next read.
 pub fn run_script<R: Read, W: Write>(
     alloc: Global,
     accepted: Accepted,
@@ -51,16 +51,21 @@ pub fn run_script<R: Read, W: Write>(
     writer: &mut W,
 ) -> Result<ScriptEnd, ScriptFault>
     // Of any reader: what was written is the script over the text that was read and what is known to be left.
-    ensures any { IfOk result (λ end. (text : List ℕ) × (written : List ℕ) × Consumes (R.remaining reader.old) (R.remaining reader.new) text
-        × Appends (W.contents writer.old) (W.contents writer.new) written × IsScript accepted (text ++ unwrap_or (R.remaining reader.new) []) end written) }
+    ensures any { IfOk result (λ end. (text : List ℕ) × (written : List ℕ)
+        × Consumes (R.remaining reader.old) (R.remaining reader.new) text
+        × Appends (W.contents writer.old) (W.contents writer.new) written
+        × IsScript accepted (text ++ unwrap_or (R.remaining reader.new) []) end written) }
 
     // Of a reader whose text is known: the script over that text, and after a fault a front of it.
     ensures known { IfOk result (λ end. IfSome (R.remaining reader.old) (λ text.
-        (written : List ℕ) × Appends (W.contents writer.old) (W.contents writer.new) written × IsScript accepted text end written)) }
+        (written : List ℕ) × Appends (W.contents writer.old) (W.contents writer.new) written
+        × IsScript accepted text end written)) }
     ensures fault { OnErr result (IfSome (R.remaining reader.old) (λ text.
-        (written : List ℕ) × Appends (W.contents writer.old) (W.contents writer.new) written × IsFront accepted text written)) }
+        (written : List ℕ) × Appends (W.contents writer.old) (W.contents writer.new) written
+        × IsFront accepted text written)) }
     // Each line that has come whole is answered before the next read: any read may fail.
-    ensures unread { IsErrOf result ReadFault → (text : List ℕ) × (written : List ℕ) × Consumes (R.remaining reader.old) (R.remaining reader.new) text
+    ensures unread { IsErrOf result ReadFault →
+        (text : List ℕ) × (written : List ℕ) × Consumes (R.remaining reader.old) (R.remaining reader.new) text
         × Appends (W.contents writer.old) (W.contents writer.new) written × IsScriptSoFar accepted text written }
 {
     let mut script = Script::new(alloc, accepted)?;

@@ -11,7 +11,8 @@ HasShortLine text = NoLineFeed (take 65536 text) → length text ≤ 65536
 
 -- the first line of a text is `object NAME`, and not too long; the name is kept in lower case
 abbrev pub NamesObject : List ℕ → List ℕ → Type 0
-NamesObject text name = HasShortLine text × ((written : List ℕ) × IsFirstObject text written × (name ≡ str_to_ascii_lowercase written))
+NamesObject text name =
+    HasShortLine text × ((written : List ℕ) × IsFirstObject text written × (name ≡ str_to_ascii_lowercase written))
 
 -- These first bytes of a text have its first line, or they are more than it may have, or nothing is left of the text.
 abbrev pub IsHead : List ℕ → Option (List ℕ) → Type 0

@@ -28,9 +28,11 @@ pub record IsWithout (source name : List ℕ) : Type 0 where
 -- A script whose text begins so has nothing to run on, and is told this line: the first that applies.
 pub data IsTold (source text : List ℕ) : List ℕ → Type 0 where
   unnamed : ((name : List ℕ) → NamesObject text name → ⊥) → IsTold source text (bad_line 1)
-  faulty : {name : List ℕ} {fault : DeclFault} → NamesObject text name → IsToldFault source fault → IsTold source text (fault_line fault)
+  faulty : {name : List ℕ} {fault : DeclFault} → NamesObject text name → IsToldFault source fault →
+      IsTold source text (fault_line fault)
   lacking : {name : List ℕ} → NamesObject text name → IsWithout source name → IsTold source text (no_object_line name)
-  refused : {name : List ℕ} {o : ObjectForm} {i j p : ℕ} → NamesObject text name → IsObjectIn source name o → IsFirstUnseparated o i j p
+  refused : {name : List ℕ} {o : ObjectForm} {i j p : ℕ} → NamesObject text name → IsObjectIn source name o →
+      IsFirstUnseparated o i j p
       → IsTold source text (refused_line o i j p)
 
 -- A script whose text begins so runs on this object: its first line names it, the source has it, and it is accepted.

@@ -43,8 +43,8 @@ fn room_for_piece(alloc: Global) -> Result<Vec<u8>, AllocError>
     vec![in alloc; 0u8; PIECE]
 }
 
-/// The head of a script: all bytes up to the end of the read that brought the end of the first line, or the byte that makes
-/// it too long, or all bytes.
+/// The head of a script: all bytes up to the end of the read that brought the end of the first line, or the byte that
+/// makes it too long, or all bytes.
 ///
 /// The faults, each of which loses what was read: `ReadFault` where a read failed, or 16,777,216 reads brought no line
 /// end; `Memory`.
@@ -55,7 +55,8 @@ pub fn read_head<R: Read>(alloc: Global, reader: &mut R) -> Result<Vec<u8>, Line
     ensures barely { IfOk result (λ head. (front : List ℕ) × (last : List ℕ) × (head.items ≡ front ++ last)
         × NoLineFeed front × (length front ≤ 65536) × (length last ≤ 65536)) }
     // It gives up on no head that is whole.
-    ensures unread { IsErrOf result LinesFault.ReadFault → (text : List ℕ) × Consumes (R.remaining reader.old) (R.remaining reader.new) text
+    ensures unread { IsErrOf result LinesFault.ReadFault →
+        (text : List ℕ) × Consumes (R.remaining reader.old) (R.remaining reader.new) text
         × NoLineFeed text × (length text ≤ 65536) }
     ensures fault { IfErr result (λ fault. fault ≡ LinesFault.WriteFault → ⊥) }
 {
@@ -87,7 +88,8 @@ pub fn read_head<R: Read>(alloc: Global, reader: &mut R) -> Result<Vec<u8>, Line
 ///
 /// The error is that memory was refused.
 pub fn named_object(alloc: Global, head: &[u8]) -> Result<Option<Name>, AllocError>
-    ensures { IfOk result (λ found. MatchOption found ((name : List ℕ) → NamesObject head.now name → ⊥) (λ name. NamesObject head.now name)) }
+    ensures { IfOk result (λ found. MatchOption found ((name : List ℕ) → NamesObject head.now name → ⊥)
+        (λ name. NamesObject head.now name)) }
 {
     if !has_short_line(head) {
         return Ok(None);

@@ -66,7 +66,8 @@ fn told_fault(fault: DeclFault) -> Result<DeclFault, AllocError>
     }
 }
 
-/// The line of a source that is no file of objects. The error is that memory was refused, here or where the source was read.
+/// The line of a source that is no file of objects. The error is that memory was refused, here or where
+/// the source was read.
 pub fn fault_text(alloc: Global, fault: DeclFault) -> Result<Vec<u8>, AllocError>
     ensures { IfOk result (λ text. (IsWantOfMemory fault → ⊥) × (text.items ≡ fault_line fault)) }
 {
@@ -146,8 +147,8 @@ fn opened_object(alloc: Global, source: &[u8], name: &Name) -> Result<Opened, Al
     }
 }
 
-/// What the script of this head runs on: the object of the source that its first line names, or nothing, with the line that
-/// says why. Of the other objects of the source it is not asked whether they are accepted.
+/// What the script of this head runs on: the object of the source that its first line names, or nothing, with the line
+/// that says why. Of the other objects of the source it is not asked whether they are accepted.
 ///
 /// The error is that memory was refused.
 pub fn open_script(alloc: Global, source: &[u8], head: &[u8]) -> Result<Opened, AllocError>

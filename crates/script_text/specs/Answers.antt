@@ -34,7 +34,8 @@ went_word false = codes "failed"
 
 -- `step N NEED ok` or `step N NEED failed`
 abbrev pub stepped_line : ℕ → Need → Bool → List ℕ
-stepped_line number need went = line_of (bare (codes "step") ∷ bare (decimal number) ∷ bare (need_word need) ∷ bare (went_word went) ∷ [])
+stepped_line number need went =
+    line_of (bare (codes "step") ∷ bare (decimal number) ∷ bare (need_word need) ∷ bare (went_word went) ∷ [])
 
 -- `steps N K`
 abbrev pub all_stepped_line : ℕ → ℕ → List ℕ

@@ -10,4 +10,5 @@ IsObjectLine line name = AreWords line (bare (codes "object") ∷ bare name ∷ 
 
 -- the first line of a text is `object NAME`
 abbrev pub IsFirstObject : List ℕ → List ℕ → Type 0
-IsFirstObject bytes name = (line : List ℕ) × (more : List (List ℕ)) × (lines bytes ≡ line ∷ more) × IsObjectLine line name
+IsFirstObject bytes name =
+    (line : List ℕ) × (more : List (List ℕ)) × (lines bytes ≡ line ∷ more) × IsObjectLine line name

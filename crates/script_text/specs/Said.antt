@@ -7,7 +7,8 @@ use Rattle.word_core.specs.Words.{Word}
 use Rattle.word_core.specs.Data.{◌>>=◌, integer_of, session_of, data_of, bare_of, only_bare, only_integer, at_end}
 use Rattle.script_text.specs.Identifier.{identifier_of}
 
--- a session calls an operation, by its name as it is written, with arguments; the same under a key; one step of a call, which works or fails;
+-- a session calls an operation, by its name as it is written, with arguments; the same under a key; one step of a call,
+-- which works or fails;
 -- its steps to the end; its finish; its cancel; a session leaves, or is back; the values of the parts; the trace
 pub data Said : Type 0 where
   a_call : ℕ → List ℕ → List Datum → Said
@@ -23,33 +24,41 @@ pub data Said : Type 0 where
 
 -- behind `call sK`, by this word, where it is an identifier: `ARG ..`
 abbrev pub named_said : ℕ → List ℕ → List Word → Option Said
-named_said session word words = identifier_of word >>= λ name. data_of words >>= λ arguments. Some (a_call session name arguments)
+named_said session word words =
+    identifier_of word >>= λ name. data_of words >>= λ arguments. Some (a_call session name arguments)
 
 -- behind `call sK #J`, by this word, where it is an identifier: `ARG ..`
 abbrev pub keyed_said : ℕ → ℕ → List ℕ → List Word → Option Said
-keyed_said session key word words = identifier_of word >>= λ name. data_of words >>= λ arguments. Some (a_keyed_call session key name arguments)
+keyed_said session key word words =
+    identifier_of word >>= λ name. data_of words >>= λ arguments. Some (a_keyed_call session key name arguments)
 
 -- behind `call sK #` and these digits: `OP ARG ..`
 abbrev pub digits_said : ℕ → List ℕ → List Word → Option Said
-digits_said session digits words = integer_of digits >>= λ key. bare_of words >>= λ first. keyed_said session key first.0 first.1
+digits_said session digits words =
+    integer_of digits >>= λ key. bare_of words >>= λ first. keyed_said session key first.0 first.1
 
 -- behind `call sK`, by this word: an operation, or `#J`
 abbrev pub call_by : ℕ → List ℕ → List Word → Option Said
 call_by session [] words = None
-call_by session (b ∷ bytes) words = if b == 35 then digits_said session bytes words else named_said session (b ∷ bytes) words
+call_by session (b ∷ bytes) words =
+    if b == 35 then digits_said session bytes words else named_said session (b ∷ bytes) words
 
 -- behind `call`: `sK OP ARG ..` or `sK #J OP ARG ..`
 abbrev pub call_said : List Word → Option Said
-call_said words = bare_of words >>= λ first. session_of first.0 >>= λ session. bare_of first.1 >>= λ second. call_by session second.0 second.1
+call_said words =
+    bare_of words >>= λ first. session_of first.0 >>= λ session. bare_of first.1 >>= λ second.
+    call_by session second.0 second.1
 
 -- whether a step works
 abbrev pub works_of : List ℕ → Option Bool
-works_of word = if bytes_eq word (codes "ok") then Some true else if bytes_eq word (codes "fail") then Some false else None
+works_of word =
+    if bytes_eq word (codes "ok") then Some true else if bytes_eq word (codes "fail") then Some false else None
 
 -- behind `step`: `N ok` or `N fail`
 abbrev pub step_said : List Word → Option Said
 step_said words =
-    bare_of words >>= λ first. integer_of first.0 >>= λ number. only_bare first.1 >>= λ word. works_of word >>= λ works. Some (a_step number works)
+    bare_of words >>= λ first. integer_of first.0 >>= λ number. only_bare first.1 >>= λ word. works_of word >>= λ works.
+    Some (a_step number works)
 
 -- behind a word that speaks of one call: `N`
 abbrev pub numbered : (ℕ → Said) → List Word → Option Said

@@ -19,4 +19,6 @@ said_view said.Trace = lines.a_trace
 
 -- what a line says, or none where it says nothing
 abbrev pub IsReadOf : List ℕ → Option Said → Type 0
-IsReadOf line found = MatchOption found ((said : lines.Said) → Says lines.said_of line said → ⊥) (λ said. Says lines.said_of line (said_view said))
+IsReadOf line found =
+    MatchOption found ((said : lines.Said) → Says lines.said_of line said → ⊥)
+    (λ said. Says lines.said_of line (said_view said))

@@ -1,7 +1,7 @@
 //! The lines that answer the lines of a script.
 //!
-//! Each function adds lines to `out`. Its error is that memory was refused; how much of them then stands in `out` is not
-//! said.
+//! Each function adds lines to `out`. Its error is that memory was refused; how much of them then stands in `out` is
+//! not said.
 
 ghost use Rattle.std.specs.Prelude.{◌≡◌, ◌++◌, OnOk};
 ghost use Rattle.decl_core.specs.ObjectMap.{object_of, parts_of};
@@ -61,8 +61,8 @@ fn went_word(went: bool) -> &'static [u8]
     b"failed"
 }
 
-/// Adds `step N NEED ok` or `step N NEED failed`: the call made one step, the device call that was due, and it worked or
-/// failed.
+/// Adds `step N NEED ok` or `step N NEED failed`: the call made one step, the device call that was due, and it worked
+/// or failed.
 pub fn push_stepped(
     out: &mut Vec<u8>,
     number: u32,
@@ -198,7 +198,8 @@ pub fn push_shown(
     object: &Object,
     values: &[Value],
 ) -> Result<(), AllocError>
-    ensures { OnOk result (out.new.items ≡ out.old.items ++ answers.shown_lines (object_of object.now).parts values.now) }
+    ensures { OnOk result (out.new.items ≡ out.old.items
+        ++ answers.shown_lines (object_of object.now).parts values.now) }
 {
     push_parts(alloc, out, &object.parts, values)
 }

@@ -37,7 +37,8 @@ fn one_bare(line: &[u8]) -> Option<&[u8]>
 
 /// The name in a line `object NAME`, as it is written, or `None` where the line is none. The name is an identifier.
 pub fn object_line(line: &[u8]) -> Option<&[u8]>
-    ensures { MatchOption result ((name : List ℕ) → IsObjectLine line.now name → ⊥) (λ name. IsObjectLine line.now name.now) }
+    ensures { MatchOption result ((name : List ℕ) → IsObjectLine line.now name → ⊥)
+        (λ name. IsObjectLine line.now name.now) }
 {
     let (verb, rest) = first_bare(line)?;
     if !is_same_word(verb, b"object") {
@@ -52,7 +53,8 @@ pub fn object_line(line: &[u8]) -> Option<&[u8]>
 
 /// The name in the first line of a text, where that is `object NAME`; else `None`.
 pub fn first_object(bytes: &[u8]) -> Option<&[u8]>
-    ensures { MatchOption result ((name : List ℕ) → IsFirstObject bytes.now name → ⊥) (λ name. IsFirstObject bytes.now name.now) }
+    ensures { MatchOption result ((name : List ℕ) → IsFirstObject bytes.now name → ⊥)
+        (λ name. IsFirstObject bytes.now name.now) }
 {
     let (line, _) = next_line(bytes)?;
     object_line(line)

@@ -3,7 +3,11 @@
 ghost use Rattle.std.specs.Prelude.{◌≡◌, ◌↔◌, IfOk, IsTrue, option_map};
 ghost use Rattle.word_core.specs.View.{words_of as words_in};
 ghost use Rattle.word_core.specs.Data.{at_end};
-ghost use Rattle.script_text.specs.Said.{IsSkipped, said_of as said_of_words, said_by as said_in, call_said as call_in, call_by as call_by_in, named_said as named_in, digits_said as digits_in, keyed_said as keyed_in, resume_said as resume_in, works_of as works_in, step_said as step_in, drop_said as drop_in, numbered, all_steps, a_finish, a_cancel, a_show, a_trace};
+ghost use Rattle.script_text.specs.Said.{IsSkipped, said_of as said_of_words, said_by as said_in, call_said as call_in};
+ghost use Rattle.script_text.specs.Said.{call_by as call_by_in, named_said as named_in, digits_said as digits_in};
+ghost use Rattle.script_text.specs.Said.{keyed_said as keyed_in, resume_said as resume_in, works_of as works_in};
+ghost use Rattle.script_text.specs.Said.{step_said as step_in, drop_said as drop_in, numbered, all_steps, a_finish};
+ghost use Rattle.script_text.specs.Said.{a_cancel, a_show, a_trace};
 ghost use Rattle.script_text.specs.View.{said_view, IsReadOf};
 
 use crate::operation::identifier_of;

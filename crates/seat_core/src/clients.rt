@@ -1,6 +1,7 @@
 //! Clients that come again: the seats that were given out under a name.
 
-ghost use Rattle.std.specs.Prelude.{◌≡◌, ◌≢◌, ◌↔◌, ◌<◌, ◌≤◌, ◌+◌, ◌++◌, ◌∷◌, [], IsTrue, IfSome, IfNone, OnOk, OnErr, Some, None, ℕ, length, slice_get, slice_set, sum_by};
+ghost use Rattle.std.specs.Prelude.{◌≡◌, ◌≢◌, ◌↔◌, ◌<◌, ◌≤◌, ◌+◌, ◌++◌, ◌∷◌, [], IsTrue, IfSome, IfNone, OnOk, OnErr};
+ghost use Rattle.std.specs.Prelude.{Some, None, ℕ, length, slice_get, slice_set, sum_by};
 ghost use Rattle.seat_core.specs.declared.clients.Client.{Client as AClient};
 ghost use Rattle.board_core.specs.Lists.{Every};
 ghost use Rattle.seat_core.specs.Clients.{IsOut, parked_of};
@@ -95,8 +96,10 @@ fn take(client: &mut Client) -> Option<Seat>
 // Gives the seat of the client at this place out, where it is parked.
 fn take_at(clients: &mut Vec<Client>, place: usize) -> Option<Seat>
     requires { place < length clients.old.items }
-    ensures some { IfSome result (λ seat. (c : AClient) → slice_get clients.old.items place ≡ Some c → (c.seat ≡ Some seat) × (clients.new.items ≡ slice_set clients.old.items place (record c { seat = None }))) }
-    ensures none { IfNone result ((c : AClient) → slice_get clients.old.items place ≡ Some c → (c.seat ≡ None) × (clients.new.items ≡ clients.old.items)) }
+    ensures some { IfSome result (λ seat. (c : AClient) → slice_get clients.old.items place ≡ Some c →
+        (c.seat ≡ Some seat) × (clients.new.items ≡ slice_set clients.old.items place (record c { seat = None }))) }
+    ensures none { IfNone result ((c : AClient) → slice_get clients.old.items place ≡ Some c →
+        (c.seat ≡ None) × (clients.new.items ≡ clients.old.items)) }
 {
     match take(&mut clients[place]) {
         Some(seat) => Some(seat),
@@ -114,7 +117,8 @@ fn put(client: &mut Client, seat: Seat)
 // Parks the seat of the client at this place.
 fn put_at(clients: &mut Vec<Client>, place: usize, seat: Seat)
     requires { place < length clients.old.items }
-    ensures { (c : AClient) → slice_get clients.old.items place ≡ Some c → clients.new.items ≡ slice_set clients.old.items place (record c { seat = Some seat }) }
+    ensures { (c : AClient) → slice_get clients.old.items place ≡ Some c →
+        clients.new.items ≡ slice_set clients.old.items place (record c { seat = Some seat }) }
 {
     put(&mut clients[place], seat);
 }
@@ -126,7 +130,8 @@ fn add(
     name: &Name,
     session: u32,
 ) -> Result<(), AllocError>
-    ensures ok { OnOk result (clients.new.items ≡ clients.old.items ++ record { name = name.now; session = session; seat = None } ∷ []) }
+    ensures ok { OnOk result (clients.new.items
+        ≡ clients.old.items ++ record { name = name.now; session = session; seat = None } ∷ []) }
     ensures err { OnErr result (clients.new.items ≡ clients.old.items) }
 {
     clients.reserve(1)?;
@@ -223,8 +228,10 @@ impl Clients {
     /// Gives the seat of the client at this place out, where it is parked. Where it is out, nothing is changed.
     pub fn take_at(&mut self, place: usize) -> Option<Seat>
         requires { place < length self.old }
-        ensures some { IfSome result (λ seat. (c : AClient) → slice_get self.old place ≡ Some c → (c.seat ≡ Some seat) × (self.new ≡ slice_set self.old place (record c { seat = None }))) }
-        ensures none { IfNone result ((c : AClient) → slice_get self.old place ≡ Some c → (c.seat ≡ None) × (self.new ≡ self.old)) }
+        ensures some { IfSome result (λ seat. (c : AClient) → slice_get self.old place ≡ Some c →
+            (c.seat ≡ Some seat) × (self.new ≡ slice_set self.old place (record c { seat = None }))) }
+        ensures none { IfNone result ((c : AClient) → slice_get self.old place ≡ Some c →
+            (c.seat ≡ None) × (self.new ≡ self.old)) }
     {
         take_at(&mut self.rows, place)
     }
@@ -232,15 +239,18 @@ impl Clients {
     /// Parks the seat of the client at this place. It takes no memory.
     pub fn put_at(&mut self, place: usize, seat: Seat)
         requires { place < length self.old }
-        ensures { (c : AClient) → slice_get self.old place ≡ Some c → self.new ≡ slice_set self.old place (record c { seat = Some seat }) }
+        ensures { (c : AClient) → slice_get self.old place ≡ Some c →
+            self.new ≡ slice_set self.old place (record c { seat = Some seat }) }
     {
         put_at(&mut self.rows, place, seat);
     }
 
-    /// A new client, whose seat is out, of this session. The room that parking needs is taken here. The error is that memory was refused;
+    /// A new client, whose seat is out, of this session. The room that parking needs is taken here. The error is
+    /// that memory was refused;
     /// nothing is changed.
     pub fn add(&mut self, name: &Name, session: u32) -> Result<(), AllocError>
-        ensures ok { OnOk result (self.new ≡ self.old ++ record { name = name.now; session = session; seat = None } ∷ []) }
+        ensures ok { OnOk result (self.new
+            ≡ self.old ++ record { name = name.now; session = session; seat = None } ∷ []) }
         ensures err { OnErr result (self.new ≡ self.old) }
     {
         add(self.alloc, &mut self.rows, name, session)

@@ -64,7 +64,8 @@ fn are_so_many(clients: &[Client], seats: &[Seat], given: u32) -> bool
 
 // Whether each session given out has one seat.
 fn are_given(clients: &[Client], seats: &[Seat], given: u32) -> bool
-    ensures { IsTrue result ↔ ((session : ℕ) → 0 < session → session ≤ given → times session (parked_of clients.now ++ seats.now) ≡ 1) }
+    ensures { IsTrue result ↔ ((session : ℕ) → 0 < session → session ≤ given →
+        times session (parked_of clients.now ++ seats.now) ≡ 1) }
 {
     if given == 0 {
         return true;
@@ -72,8 +73,8 @@ fn are_given(clients: &[Client], seats: &[Seat], given: u32) -> bool
     has_one(clients, seats, given) && are_given(clients, seats, given - 1)
 }
 
-/// Whether the seats, with those that are parked, are those of the sessions given out, each once, and their counts add up to so many
-/// entries.
+/// Whether the seats, with those that are parked, are those of the sessions given out, each once, and their counts add
+/// up to so many entries.
 pub fn are_seats(clients: &Clients, seats: &[Seat], given: u32, entries: usize) -> bool
     ensures { IsTrue result ↔ AreSeats given entries (parked_of clients.now ++ seats.now) }
 {

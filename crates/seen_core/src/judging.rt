@@ -20,9 +20,12 @@ use std::alloc::Global;
 pub fn judge_seen(alloc: Global, task: &Task, seen: &Seen) -> Verdict
     requires { HasReads (arc_value task.now.operation) seen.now.read.items }
     // It tells of the contents that the bytes under the pins spell.
-    ensures told { (a : Assignment) → PinsAreWhole a (task_call task.now) → IsSeen a (task_call task.now) seen.now.known seen.now.read.items → JudgedBy a (task_call task.now) seen.now.known seen.now.read.items result }
+    ensures told { (a : Assignment) → PinsAreWhole a (task_call task.now) →
+        IsSeen a (task_call task.now) seen.now.known seen.now.read.items →
+        JudgedBy a (task_call task.now) seen.now.known seen.now.read.items result }
     // A page that it needs is there and not known.
-    ensures next { (p k : ℕ) → result ≡ verdicts.Needs p k → IsNextPage seen.now.known (arc_value task.now.operation) p k }
+    ensures next { (p k : ℕ) → result ≡ verdicts.Needs p k →
+        IsNextPage seen.now.known (arc_value task.now.operation) p k }
     // It changes parts of its writes alone, at most 16, each once.
     ensures writes { OnlyWrites (arc_value task.now.operation) result }
     // A body that reads no part is done or refused at once.

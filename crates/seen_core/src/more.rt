@@ -1,6 +1,7 @@
 //! A page that is read when the body comes to it.
 
-ghost use Rattle.std.specs.Prelude.{◌≡◌, ◌⊎◌, ◌+◌, ◌<◌, ◌≤◌, ℕ, List, Result, Some, length, take, drop, OnOk, IfErr, slice_get, slice_index};
+ghost use Rattle.std.specs.Prelude.{◌≡◌, ◌⊎◌, ◌+◌, ◌<◌, ◌≤◌, ℕ, List, Result, Some, length, take, drop, OnOk, IfErr};
+ghost use Rattle.std.specs.Prelude.{slice_get, slice_index};
 ghost use Rattle.std.specs.Int.{bit_at};
 ghost use Rattle.std.specs.Result.{IsErr, IsErrOf};
 ghost use Rattle.value_core.specs.Laws.{AreBytes};
@@ -30,7 +31,8 @@ fn read_into<H: Hand>(
 ) -> Result<(), HandFault>
     requires { at + stamp.now.len ≤ length bytes.old }
     ensures kept { (a : Assignment) → H.agrees hand.new a → H.agrees hand.old a }
-    ensures shown { OnOk result ((a : Assignment) → H.agrees hand.new a → Shows a stamp.now.number 0 (take stamp.now.len (drop at bytes.new))) }
+    ensures shown { OnOk result ((a : Assignment) → H.agrees hand.new a →
+        Shows a stamp.now.number 0 (take stamp.now.len (drop at bytes.new))) }
     ensures placed { IsPlaced at stamp.now.len bytes.old bytes.new }
     ensures are { AreBytes bytes.new }
     ensures others { (n : ℕ) (b : List ℕ) → H.pending hand.old n b → H.pending hand.new n b }
@@ -39,7 +41,8 @@ fn read_into<H: Hand>(
     ensures works { (n : ℕ) → H.works_for hand.old (n + 1) → H.works_for hand.new n }
     ensures in_order { H.works_for hand.old 1 → H.serves hand.old stamp.now → IsDeviceErr result → ⊥ }
     ensures fails { H.fails hand.old → IsDeviceErr result }
-    ensures makes { (b : List ℕ) × (answer : Result (Unit {0}) HandFault) × H.makes hand.old (reads stamp.now 0 b answer) hand.new }
+    ensures makes { (b : List ℕ) × (answer : Result (Unit {0}) HandFault)
+        × H.makes hand.old (reads stamp.now 0 b answer) hand.new }
     ensures rises { H.failed hand.old < H.failed hand.new → IsDeviceErr result }
     ensures counted { H.failed hand.old ≤ H.failed hand.new }
     ensures cause { IfErr result (λ e. FaultCause (H.failed hand.old) (H.failed hand.new) e) }
@@ -59,7 +62,8 @@ fn read_at<H: Hand>(
     row: &mut FileBytes,
 ) -> Result<(), HandFault>
     ensures kept { (a : Assignment) → H.agrees hand.new a → H.agrees hand.old a }
-    ensures shown { OnOk result ((a : Assignment) → H.agrees hand.new a → Shows a stamp.now.number 0 (take stamp.now.len (drop at row.new))) }
+    ensures shown { OnOk result ((a : Assignment) → H.agrees hand.new a →
+        Shows a stamp.now.number 0 (take stamp.now.len (drop at row.new))) }
     ensures placed { OnOk result (IsPlaced at stamp.now.len row.old row.new) }
     ensures are { OnOk result (AreBytes row.new) }
     ensures within { OnOk result (at + stamp.now.len ≤ length row.old) }
@@ -69,7 +73,9 @@ fn read_at<H: Hand>(
     ensures works { (n : ℕ) → H.works_for hand.old n → H.works_for hand.old (n + 1) → H.works_for hand.new n }
     ensures in_order { H.works_for hand.old 1 → H.serves hand.old stamp.now → IsDeviceErr result → ⊥ }
     ensures fails { H.fails hand.old → IsErr result }
-    ensures makes { (IsErrOf result HandFault.Memory × (hand.new ≡ hand.old)) ⊎ ((b : List ℕ) × (answer : Result (Unit {0}) HandFault) × H.makes hand.old (reads stamp.now 0 b answer) hand.new) }
+    ensures makes { (IsErrOf result HandFault.Memory × (hand.new ≡ hand.old))
+        ⊎ ((b : List ℕ) × (answer : Result (Unit {0}) HandFault)
+        × H.makes hand.old (reads stamp.now 0 b answer) hand.new) }
     ensures rises { H.failed hand.old < H.failed hand.new → IsDeviceErr result }
     ensures counted { H.failed hand.old ≤ H.failed hand.new }
     ensures cause { IfErr result (λ e. FaultCause (H.failed hand.old) (H.failed hand.new) e) }
@@ -84,9 +90,9 @@ fn read_at<H: Hand>(
     }
 }
 
-/// Reads this file into the place of a page that is not known, in one device call; from then on the page is known. Where
-/// that place is not as long as the file, memory is refused, and no call is made. Parts count from 0, below 16; pages from
-/// 0, below 8.
+/// Reads this file into the place of a page that is not known, in one device call; from then on the page is known.
+/// Where that place is not as long as the file, memory is refused, and no call is made. Parts count from 0, below 16;
+/// pages from 0, below 8.
 pub fn read_more<H: Hand>(
     hand: &mut H,
     stamp: &Stamp,
@@ -99,7 +105,10 @@ pub fn read_more<H: Hand>(
     requires clear { bit_at (slice_index seen.old.known part) page ≡ 0 }
     ensures kept { (a : Assignment) → H.agrees hand.new a → H.agrees hand.old a }
     // Where it is a page of the pin of a part that is read page by page, all is seen as before, and this page too.
-    ensures found { OnOk result ((a : Assignment) → H.agrees hand.new a → (call : Call) (pages : List AStamp) → IsPaged call part → pin_at call.pins part ≡ Some pages → slice_get pages page ≡ Some stamp.now → PinsAreWhole a call → IsSeen a call seen.old.known seen.old.read.items → IsSeen a call seen.new.known seen.new.read.items) }
+    ensures found { OnOk result ((a : Assignment) → H.agrees hand.new a → (call : Call) (pages : List AStamp) →
+        IsPaged call part → pin_at call.pins part ≡ Some pages → slice_get pages page ≡ Some stamp.now →
+        PinsAreWhole a call → IsSeen a call seen.old.known seen.old.read.items →
+        IsSeen a call seen.new.known seen.new.read.items) }
     ensures more { OnOk result (IsOneMore seen.old.known seen.new.known part page) }
     ensures falls { OnOk result (unread seen.new.known + 1 ≡ unread seen.old.known) }
     ensures long { OnOk result (length seen.new.read.items ≡ length seen.old.read.items) }
@@ -109,7 +118,9 @@ pub fn read_more<H: Hand>(
     ensures works { (n : ℕ) → H.works_for hand.old n → H.works_for hand.old (n + 1) → H.works_for hand.new n }
     ensures in_order { H.works_for hand.old 1 → H.serves hand.old stamp.now → IsDeviceErr result → ⊥ }
     ensures fails { H.fails hand.old → IsErr result }
-    ensures makes { (IsErrOf result HandFault.Memory × (hand.new ≡ hand.old)) ⊎ ((b : List ℕ) × (answer : Result (Unit {0}) HandFault) × H.makes hand.old (reads stamp.now 0 b answer) hand.new) }
+    ensures makes { (IsErrOf result HandFault.Memory × (hand.new ≡ hand.old))
+        ⊎ ((b : List ℕ) × (answer : Result (Unit {0}) HandFault)
+        × H.makes hand.old (reads stamp.now 0 b answer) hand.new) }
     ensures rises { H.failed hand.old < H.failed hand.new → IsDeviceErr result }
     ensures counted { H.failed hand.old ≤ H.failed hand.new }
     ensures cause { IfErr result (λ e. FaultCause (H.failed hand.old) (H.failed hand.new) e) }

@@ -1,6 +1,7 @@
 //! What was read of the parts of a call.
 
-ghost use Rattle.std.specs.Prelude.{◌≡◌, ◌+◌, ◌-◌, ◌<◌, ◌≤◌, ◌↔◌, ◌∷◌, ◌++◌, [], ℕ, length, replicate, Some, None, OnOk, IfSome, IfNone, IsTrue, slice_get, slice_index};
+ghost use Rattle.std.specs.Prelude.{◌≡◌, ◌+◌, ◌-◌, ◌<◌, ◌≤◌, ◌↔◌, ◌∷◌, ◌++◌, [], ℕ, length, replicate, Some, None};
+ghost use Rattle.std.specs.Prelude.{OnOk, IfSome, IfNone, IsTrue, slice_get, slice_index};
 ghost use Rattle.std.specs.Result.{IsErrOf};
 ghost use Rattle.std.specs.Arc.{arc_value};
 ghost use Rattle.value_core.specs.declared.kind.Elem.TheVariants as elems;
@@ -62,8 +63,10 @@ fn many_in(kind: Kind) -> Option<u16>
 
 // How many elements a part has that is an array of integers.
 fn many_at(kinds: &[Option<Kind>], part: usize) -> Option<u16>
-    ensures some { IfSome result (λ count. slice_get kinds.now part ≡ Some (Some (array_kinds.Array count elems.Integer))) }
-    ensures none { IfNone result ((count : ℕ) → slice_get kinds.now part ≡ Some (Some (array_kinds.Array count elems.Integer)) → ⊥) }
+    ensures some { IfSome result (λ count.
+        slice_get kinds.now part ≡ Some (Some (array_kinds.Array count elems.Integer))) }
+    ensures none { IfNone result ((count : ℕ) →
+        slice_get kinds.now part ≡ Some (Some (array_kinds.Array count elems.Integer)) → ⊥) }
 {
     match kinds.get(part) {
         Some(kind) => match kind {
@@ -76,7 +79,8 @@ fn many_at(kinds: &[Option<Kind>], part: usize) -> Option<u16>
 
 // How many elements a part has that is read page by page.
 fn paged(task: &Task, part: usize) -> Option<u16>
-    ensures some { IfSome result (λ count. IsPaged (task_call task.now) part × IsNamed (arc_value task.now.operation) part (array_kinds.Array count elems.Integer)) }
+    ensures some { IfSome result (λ count. IsPaged (task_call task.now) part
+        × IsNamed (arc_value task.now.operation) part (array_kinds.Array count elems.Integer)) }
     ensures none { IfNone result (IsPaged (task_call task.now) part → ⊥) }
 {
     if part >= MOST_PARTS || !is_in(part, task.reads) {
@@ -95,7 +99,8 @@ fn paged(task: &Task, part: usize) -> Option<u16>
 
 // How many elements a part has of which this is the first page that is read, and at first the only one.
 fn front(task: &Task, part: usize, page: usize) -> Option<u16>
-    ensures some { IfSome result (λ count. IsFront (task_call task.now) part page × IsNamed (arc_value task.now.operation) part (array_kinds.Array count elems.Integer)) }
+    ensures some { IfSome result (λ count. IsFront (task_call task.now) part page
+        × IsNamed (arc_value task.now.operation) part (array_kinds.Array count elems.Integer)) }
     ensures none { IfNone result (IsFront (task_call task.now) part page → ⊥) }
 {
     if page != 0 {
@@ -125,7 +130,8 @@ fn put(
     place: usize,
     bytes: Vec<u8>,
 ) -> Result<(), AllocError>
-    ensures { OnOk result (read.new.items ≡ (read.old.items ++ replicate (place - length read.old.items) []) ++ bytes.items ∷ []) }
+    ensures { OnOk result (read.new.items ≡ (read.old.items ++ replicate (place - length read.old.items) [])
+        ++ bytes.items ∷ []) }
 {
     while read.len() < place {
         match read.push(FileBytes::new(Vec::new(alloc))) {
@@ -151,9 +157,10 @@ impl Seen {
         }
     }
 
-    /// Takes what was read of a part up to this page: its first page, where it is read page by page and this is the first,
-    /// else all that is under its pin. The parts are taken in their order. An error leaves nothing that may be used: 1
-    /// `Damaged`, where a part is read page by page, and its first page and its length are those of no array of its kind;
+    /// Takes what was read of a part up to this page: its first page, where it is read page by page and this is the
+    /// first, else all that is under its pin. The parts are taken in their order. An error leaves nothing that may be
+    /// used: 1 `Damaged`, where a part is read page by page, and its first page and its length are those of
+    /// no array of its kind;
     /// 2 `Memory`.
     pub fn take(
         &mut self,
@@ -165,12 +172,19 @@ impl Seen {
     ) -> Result<(), Miss>
         requires low { part < 16 }
         requires place { length self.old.read.items ≤ part }
-        ensures found { OnOk result ((a : Assignment) → PinsAreWhole a (task_call task.now) → IsPartRead a (task_call task.now) part page got.items → IsSeenBefore a (task_call task.now) part self.old.known self.old.read.items → IsSeenBefore a (task_call task.now) (part + 1) self.new.known self.new.read.items) }
+        ensures found { OnOk result ((a : Assignment) → PinsAreWhole a (task_call task.now) →
+            IsPartRead a (task_call task.now) part page got.items →
+            IsSeenBefore a (task_call task.now) part self.old.known self.old.read.items →
+            IsSeenBefore a (task_call task.now) (part + 1) self.new.known self.new.read.items) }
         ensures long { OnOk result (length self.new.read.items ≡ part + 1) }
         // Of a part that is read page by page, what is kept has the header and the length of an array of its kind.
-        ensures framed { OnOk result (IsFront (task_call task.now) part page → (count : ℕ) → IsNamed (arc_value task.now.operation) part (array_kinds.Array count elems.Integer) → IsFramed count part self.new.read.items) }
+        ensures framed { OnOk result (IsFront (task_call task.now) part page → (count : ℕ) →
+            IsNamed (arc_value task.now.operation) part (array_kinds.Array count elems.Integer) →
+            IsFramed count part self.new.read.items) }
         ensures front { IsErrOf result Miss.Damaged → IsFront (task_call task.now) part page }
-        ensures damaged { IsErrOf result Miss.Damaged → (a : Assignment) → PinsAreWhole a (task_call task.now) → IsPartRead a (task_call task.now) part page got.items → IsDamaged (PinHolds a task.now.pins) (arc_value task.now.operation) }
+        ensures damaged { IsErrOf result Miss.Damaged → (a : Assignment) → PinsAreWhole a (task_call task.now) →
+            IsPartRead a (task_call task.now) part page got.items →
+            IsDamaged (PinHolds a task.now.pins) (arc_value task.now.operation) }
     {
         match front(task, part, page) {
             Some(count) => self.take_front(alloc, task, part, count, got),
@@ -182,7 +196,9 @@ impl Seen {
     fn take_whole(&mut self, alloc: Global, part: usize, got: Vec<u8>) -> Result<(), Miss>
         requires low { part < 16 }
         requires place { length self.old.read.items ≤ part }
-        ensures found { OnOk result ((a : Assignment) (call : Call) → PinsAreWhole a call → PinIsRead a call.pins part got.items → IsSeenBefore a call part self.old.known self.old.read.items → IsSeenBefore a call (part + 1) self.new.known self.new.read.items) }
+        ensures found { OnOk result ((a : Assignment) (call : Call) → PinsAreWhole a call →
+            PinIsRead a call.pins part got.items → IsSeenBefore a call part self.old.known self.old.read.items →
+            IsSeenBefore a call (part + 1) self.new.known self.new.read.items) }
         ensures long { OnOk result (length self.new.read.items ≡ part + 1) }
         ensures memory { IsErrOf result Miss.Damaged → ⊥ }
     {
@@ -205,10 +221,15 @@ impl Seen {
         requires place { length self.old.read.items ≤ part }
         requires paged { IsPaged (task_call task.now) part }
         requires named { IsNamed (arc_value task.now.operation) part (array_kinds.Array count elems.Integer) }
-        ensures found { OnOk result ((a : Assignment) → PinsAreWhole a (task_call task.now) → IsPartRead a (task_call task.now) part 0 got.items → IsSeenBefore a (task_call task.now) part self.old.known self.old.read.items → IsSeenBefore a (task_call task.now) (part + 1) self.new.known self.new.read.items) }
+        ensures found { OnOk result ((a : Assignment) → PinsAreWhole a (task_call task.now) →
+            IsPartRead a (task_call task.now) part 0 got.items →
+            IsSeenBefore a (task_call task.now) part self.old.known self.old.read.items →
+            IsSeenBefore a (task_call task.now) (part + 1) self.new.known self.new.read.items) }
         ensures long { OnOk result (length self.new.read.items ≡ part + 1) }
         ensures framed { OnOk result (IsFramed count part self.new.read.items) }
-        ensures damaged { IsErrOf result Miss.Damaged → (a : Assignment) → PinsAreWhole a (task_call task.now) → IsPartRead a (task_call task.now) part 0 got.items → IsDamaged (PinHolds a task.now.pins) (arc_value task.now.operation) }
+        ensures damaged { IsErrOf result Miss.Damaged → (a : Assignment) → PinsAreWhole a (task_call task.now) →
+            IsPartRead a (task_call task.now) part 0 got.items →
+            IsDamaged (PinHolds a task.now.pins) (arc_value task.now.operation) }
     {
         let Some(len) = total(pages_of(&task.pins, part)) else {
             return Err(Miss::Memory);

@@ -9,4 +9,5 @@ use Rattle.serve_core.specs.declared.serve.ServeEnd.TheVariants.{Refused}
 -- it is not served, and just what says why was written; or each of its objects is accepted
 abbrev pub IsHandled : List ℕ → Option (List ℕ) → Option (List ℕ) → ServeEnd → Type 0
 IsHandled source old new end =
-    ((text : List ℕ) × IsUnserved source text × (end ≡ Refused) × Appends old new text) ⊎ ((objects : List ObjectForm) × IsServed source objects)
+    ((text : List ℕ) × IsUnserved source text × (end ≡ Refused) × Appends old new text)
+    ⊎ ((objects : List ObjectForm) × IsServed source objects)

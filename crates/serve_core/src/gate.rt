@@ -31,7 +31,8 @@ pub struct Gate {
 }
 
 impl Gate {
-    /// A gate at which so many connections are taken. The error is that the system gives no second handle of the listener.
+    /// A gate at which so many connections are taken. The error is that the system gives no second
+    /// handle of the listener.
     pub fn open(listener: TcpListener, most: usize) -> io::Result<Gate> {
         let socket = TcpStream::from(OwnedFd::from(listener.try_clone()?));
         Ok(Gate {

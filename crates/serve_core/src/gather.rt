@@ -48,8 +48,8 @@ impl Gathering {
         })
     }
 
-    // Puts what a session left to its object. Receipts for which there is no memory are let go: a close looks at those that it is
-    // handed.
+    // Puts what a session left to its object. Receipts for which there is no memory are let go: a close looks at those
+    // that it is handed.
     fn put(
         &mut self,
         object: usize,
@@ -103,7 +103,8 @@ impl Gathering {
         }
     }
 
-    /// Puts what the sessions left to their objects. What went wrong in a session, and was not for its client, is noted and told.
+    /// Puts what the sessions left to their objects. What went wrong in a session, and was not for its
+    /// client, is noted and told.
     pub fn gather<E: Write>(
         &mut self,
         all: Vec<Came>,

@@ -77,8 +77,8 @@ impl Basket for Leavings {
     }
 }
 
-// Has answers go out at once, and a read return after a while where nothing comes, as a write where nothing is taken. Where the
-// system can't do that, it is done without.
+// Has answers go out at once, and a read return after a while where nothing comes, as a write where nothing is taken.
+// Where the system can't do that, it is done without.
 fn prepare(stream: &TcpStream) {
     let _ = stream.set_nodelay(true);
     let _ = stream.set_read_timeout(Some(Duration::from_millis(PAUSE)));
@@ -173,8 +173,8 @@ fn serve_each<
     );
 }
 
-/// Serves a connection for each hand, each on threads of its own where these can be made and else one after another, until all have
-/// ended, or no more are taken and those that were have ended. It gives what came of them.
+/// Serves a connection for each hand, each on threads of its own where these can be made and else one after another,
+/// until all have ended, or no more are taken and those that were have ended. It gives what came of them.
 ///
 /// The error is that memory was refused; nobody was served then. The room for what comes is taken before.
 pub fn serve_all<

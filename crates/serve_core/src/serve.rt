@@ -213,20 +213,24 @@ fn remove_own<R: Files + AllocGlobal + Clone + Drop>(
 }
 
 /// Serves the objects of a source to so many connections at a gate, each on threads of its own, and ends when all have
-/// ended, or the gate is shut and those that were taken have ended. The parts of each object are read from the folder at the start, and saved
-/// there at the end, with its trace.
+/// ended, or the gate is shut and those that were taken have ended. The parts of each object are read from the folder
+/// at the start, and saved there at the end, with its trace.
 ///
-/// It writes `listening PORT` once connections are taken, and at the end `NAME entries K` for each object, in order, that was closed and
-/// saved, and whose trace was written. Where nothing is served it writes why: the fault of the source, or a line for each object that is
-/// refused, as a check does; or `part OBJECT.PART damaged`. At the end that line stands for a part that spells no value, and `close OBJECT
-/// refused` for an object that does not close; it is saved all the same.
+/// It writes `listening PORT` once connections are taken, and at the end `NAME entries K` for each object, in order,
+/// that was closed and saved, and whose trace was written. Where nothing is served it writes why: the fault of the
+/// source, or a line for each object that is refused, as a check does; or `part OBJECT.PART damaged`. At the end that
+/// line stands for a part that spells no value, and `close OBJECT refused` for an object that does not close; it
+/// is saved all the same.
 ///
-/// `error` is told what a user has to know beside that: `moved to left/K: N.val ..` of the value files that an earlier run left, where it
-/// did not save all; `session of NAME mixed`; `OBJECT.PART not saved: N.val ..` with the files that hold the value, page by page; `OBJECT.trace not written`.
-/// The value files of this run are removed at the end where each object was saved and traced, and where nothing was served.
+/// `error` is told what a user has to know beside that: `moved to left/K: N.val ..` of the value files that an earlier
+/// run left, where it did not save all; `session of NAME mixed`; `OBJECT.PART not saved: N.val ..` with the files that
+/// hold the value, page by page; `OBJECT.trace not written`.
+/// The value files of this run are removed at the end where each object was saved and traced, and
+/// where nothing was served.
 ///
-/// The faults: `ReadFault` where a connection could not be taken or served, after which all else is still done; `WriteFault`
-/// where a part or a trace cannot be saved or a line not be written; `Memory`. Of several the first is told.
+/// The faults: `ReadFault` where a connection could not be taken or served, after which all else is still done;
+/// `WriteFault` where a part or a trace cannot be saved or a line not be written; `Memory`. Of
+/// several the first is told.
 pub fn serve_on<
     R: Files + AllocGlobal + Threads + Wait + Clock + Clone + Drop + Sync,
     H: Hand + Ends + Drop + Send,
@@ -243,7 +247,8 @@ pub fn serve_on<
 ) -> Result<ServeEnd, LinesFault>
 where
     R::File: FileExt,
-    // A source that is not served: what says why is written, and nothing else. Of a source that is served each object is accepted.
+    // A source that is not served: what says why is written, and nothing else. Of a source that is served
+    // each object is accepted.
     ensures { IfOk result (IsHandled source.now (W.contents writer.old) (W.contents writer.new)) }
 {
     match judge(alloc, source)? {

@@ -1,7 +1,8 @@
 //! How a session ended.
 
 ghost use Rattle.std.specs.Prelude.{◌≡◌, ◌↔◌, IsTrue, List, ℕ, Option};
-ghost use Rattle.talk_core.specs.Written.{IsNoteOf, AreNoted, IsWritten, HasWritten, heard_fault as heard_in, or_memory as or_memory_in, told_fault};
+ghost use Rattle.talk_core.specs.Written.{IsNoteOf, AreNoted, IsWritten, HasWritten, heard_fault as heard_in};
+ghost use Rattle.talk_core.specs.Written.{or_memory as or_memory_in, told_fault};
 
 use hear_core::fault::HearFault;
 use office_core::seat::Seat;
@@ -23,8 +24,8 @@ pub struct SessionEnd<W: Drop, H: Drop> {
     pub writer: W,
     /// The hand on which its calls were performed.
     pub hand: H,
-    /// Why it ended: `LogMixed`, or else `WriteFault`, or else the first of the others that was met, in the order in which
-    /// they are declared.
+    /// Why it ended: `LogMixed`, or else `WriteFault`, or else the first of the others that was met, in the order in
+    /// which they are declared.
     pub fault: Option<SessionFault>,
 }
 
@@ -35,8 +36,8 @@ fn is_note_of(receipt: &Slip, note: &Note) -> bool
     receipt.number() == note.number && receipt.is_reply(&note.reply)
 }
 
-// Whether each note is of a receipt. Both are in the order of the calls, so each note is looked for behind the receipt of the
-// one before it, and each receipt is looked at once.
+// Whether each note is of a receipt. Both are in the order of the calls, so each note is looked for behind the receipt
+// of the one before it, and each receipt is looked at once.
 fn are_noted(receipts: &[Slip], notes: &[Note]) -> bool
     ensures { IsTrue result → AreNoted receipts.now notes.now }
 {
@@ -97,7 +98,8 @@ pub(crate) fn conclude(
     health: Health,
     heard: Option<HearFault>,
 ) -> Option<SessionFault>
-    ensures { (start now : Option (List ℕ)) (held : List ℕ) → IsWritten start now held health notes.now → HasWritten start now receipts.now result }
+    ensures { (start now : Option (List ℕ)) (held : List ℕ) → IsWritten start now held health notes.now →
+        HasWritten start now receipts.now result }
 {
     let accounted = are_noted(receipts, notes);
     fault_of(accounted, health, heard)

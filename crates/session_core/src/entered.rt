@@ -1,7 +1,7 @@
 //! The object that a session has opened, and its seat there.
 //!
-//! A client that has a name gets the seat of that name each time that it opens the object, and its session goes on where it left. Any other gets a
-//! seat of its own.
+//! A client that has a name gets the seat of that name each time that it opens the object, and its session goes on
+//! where it left. Any other gets a seat of its own.
 
 use crate::order::Offices;
 use office_core::named::NameFault;
@@ -78,8 +78,8 @@ pub(crate) fn seat_at<R: Wait, O: Offices>(
     }
 }
 
-/// Parks the seat of a client that has a name, so that its next session finds it there, and gives the object and the seat that is left: that of a
-/// client that has none, or one that the office does not take.
+/// Parks the seat of a client that has a name, so that its next session finds it there, and gives the object and the
+/// seat that is left: that of a client that has none, or one that the office does not take.
 pub(crate) fn parked<R: Wait, O: Offices>(
     rt: &R,
     offices: &O,

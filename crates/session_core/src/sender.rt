@@ -7,8 +7,8 @@ use std::sync::Wait;
 use talk_core::mouth::{Mouth, Wish};
 use talk_core::output::Start;
 
-/// Sends what is held back each time that the first thread asks for it, until that has ended. Where a line cannot be sent, the session leaves its
-/// object.
+/// Sends what is held back each time that the first thread asks for it, until that has ended. Where a line cannot be
+/// sent, the session leaves its object.
 pub(crate) fn send<R: Wait, W: Write + Drop, J: Start, O: Offices>(
     rt: &R,
     offices: &O,

@@ -27,8 +27,8 @@ use talk_core::mouth::Mouth;
 use talk_core::note::Note;
 use talk_core::output::{Health, Start};
 
-// What a session hands back, by what was written and what its first thread left. All its threads have ended, so that none of them takes the
-// session of a client out that has come back.
+// What a session hands back, by what was written and what its first thread left. All its threads have ended, so that
+// none of them takes the session of a client out that has come back.
 fn ended<R: Wait, W: Drop, H: Drop, O: Offices>(
     rt: &R,
     offices: &O,
@@ -40,7 +40,8 @@ fn ended<R: Wait, W: Drop, H: Drop, O: Offices>(
     ensures hand { result.hand ≡ worked.hand }
     ensures receipts { result.receipts.items ≡ worked.receipts.items }
     ensures writer { result.writer ≡ writer }
-    ensures written { (start now : Option (List ℕ)) (held : List ℕ) → IsWritten start now held health notes.now → HasWritten start now worked.receipts.items result.fault }
+    ensures written { (start now : Option (List ℕ)) (held : List ℕ) → IsWritten start now held health notes.now →
+        HasWritten start now worked.receipts.items result.fault }
 {
     let Worked {
         hand,
@@ -153,19 +154,20 @@ fn serve_from<
 }
 
 /// Serves one session: the calling thread reads lines and does what they ask for; while a call waits for more than some
-/// milliseconds, a second thread reads on, and a third one sends what is held back. So nothing is written by a thread that has a call, from its
-/// submission to its end.
+/// milliseconds, a second thread reads on, and a third one sends what is held back. So nothing is written by a thread
+/// that has a call, from its submission to its end.
 ///
-/// The session ends by `quit`, at the end of its input, when the bell has rung, or by a fault, which `fault` tells. But by `quit` it
-/// leaves its object, also behind a `quit` that stands behind a waiting call: the waiting call is cancelled, calls not yet
-/// submitted are answered `no Gone`, a running call is completed. Once all its threads have ended, the seat of a client that has a name is
-/// parked, and the client may come back. A read that is interrupted or whose time runs out is no
-/// fault. Where `quit` was read behind a waiting call, and where the bell has rung, the end comes with the next read that returns, so a reader
-/// whose reads never time out may hold it up; so may a writer whose writes never do. What stands behind the last line end is done only where it
-/// harms nobody: a call is answered `no Gone`, a cancel `no BadLine`. Where no second thread can be made, nothing is read while a call waits,
-/// and where no third one can be made, nothing is sent meanwhile. The receipts are true of each assignment that agrees with the hand given back,
-/// and what was written are whole lines of the table or of receipts; with `WriteFault` such lines, and a front of one more. Files whose retire
-/// failed are tried again later, and left at the end.
+/// The session ends by `quit`, at the end of its input, when the bell has rung, or by a fault, which `fault` tells. But
+/// by `quit` it leaves its object, also behind a `quit` that stands behind a waiting call: the waiting call is
+/// cancelled, calls not yet submitted are answered `no Gone`, a running call is completed. Once all its threads have
+/// ended, the seat of a client that has a name is parked, and the client may come back. A read that is interrupted or
+/// whose time runs out is no fault. Where `quit` was read behind a waiting call, and where the bell has rung, the end
+/// comes with the next read that returns, so a reader whose reads never time out may hold it up; so may a writer whose
+/// writes never do. What stands behind the last line end is done only where it harms nobody: a call is answered `no
+/// Gone`, a cancel `no BadLine`. Where no second thread can be made, nothing is read while a call waits, and where no
+/// third one can be made, nothing is sent meanwhile. The receipts are true of each assignment that agrees with the hand
+/// given back, and what was written are whole lines of the table or of receipts; with `WriteFault` such lines, and a
+/// front of one more. Files whose retire failed are tried again later, and left at the end.
 pub fn serve_session<
     R: Threads + Wait + Clock + Sync,
     I: Read + Drop + Send,

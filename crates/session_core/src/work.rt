@@ -44,8 +44,8 @@ use talk_core::output::Start;
 use talk_core::room::make_room_in;
 use value_core::datum::Datum;
 
-/// How long a call may wait, in milliseconds, before the second thread reads meanwhile, and the third one sends what is held back. So long at most
-/// a line that stands ready is held back because calls behind it wait for their turn.
+/// How long a call may wait, in milliseconds, before the second thread reads meanwhile, and the third one sends what is
+/// held back. So long at most a line that stands ready is held back because calls behind it wait for their turn.
 const BRIEF: u64 = 10;
 
 /// What the first thread leaves.
@@ -173,8 +173,8 @@ fn started<R: Wait + Clock, I: Read + Drop, W: Write + Drop, J: Start>(
     }
 }
 
-// Submits a call, and looks whether it has started. Where it is held back since a call runs that it would wait for, the lines that stand ready are
-// sent after a while, before it is submitted.
+// Submits a call, and looks whether it has started. Where it is held back since a call runs that it would wait for, the
+// lines that stand ready are sent after a while, before it is submitted.
 fn submitted<R: Wait + Clock, W: Write + Drop, J: Start>(
     rt: &R,
     office: &Office,
@@ -241,7 +241,8 @@ fn say<R: Wait, W: Write + Drop, J: Start>(rt: &R, mouth: &Mouth<W, J>, line: Li
     let _said = mouth.say(rt, line);
 }
 
-// A call from its submission to its start, with the lines up to there. It answers no ticket where the call does not start.
+// A call from its submission to its start, with the lines up to there. It answers no ticket where the
+// call does not start.
 fn begun<R: Wait + Clock, I: Read + Drop, W: Write + Drop, J: Start>(
     rt: &R,
     office: &Office,
@@ -299,8 +300,8 @@ fn keep(receipts: &mut Vec<Slip>, room: &mut SlipRoom, place: usize, session: u3
     }
 }
 
-// One call, where there is room for its receipt. What earlier calls left is retired before it is submitted, while no other call waits
-// for this one.
+// One call, where there is room for its receipt. What earlier calls left is retired before it is submitted, while no
+// other call waits for this one.
 fn serve_at<R: Wait + Clock, I: Read + Drop, W: Write + Drop, H: Hand + Drop, J: Start>(
     rt: &R,
     alloc: Global,
@@ -313,7 +314,8 @@ fn serve_at<R: Wait + Clock, I: Read + Drop, W: Write + Drop, H: Hand + Drop, J:
     args: &[Datum],
 )
     ensures kept { Keeps H.agrees worked.old.hand worked.new.hand }
-    ensures told { AreTrue H.agrees worked.old.hand worked.old.receipts.items → AreTrue H.agrees worked.new.hand worked.new.receipts.items }
+    ensures told { AreTrue H.agrees worked.old.hand worked.old.receipts.items →
+        AreTrue H.agrees worked.new.hand worked.new.receipts.items }
 {
     retire_left(alloc, &mut worked.hand, &mut worked.free);
     if !make_room(rt, mouth, &mut worked.receipts, &mut worked.room, args) {
@@ -356,8 +358,8 @@ fn say_kept<R: Wait, W: Write + Drop, J: Start>(rt: &R, mouth: &Mouth<W, J>, kep
     }
 }
 
-// Whether a call is to be made: it has no key, or that of its session's next call. Any other is answered here, before there is room for a call and
-// whosever turn it is.
+// Whether a call is to be made: it has no key, or that of its session's next call. Any other is answered here, before
+// there is room for a call and whosever turn it is.
 fn is_new<R: Wait, W: Write + Drop, J: Start>(
     rt: &R,
     office: &Office,
@@ -403,7 +405,8 @@ fn serve_call<
     args: &[Datum],
 )
     ensures kept { Keeps H.agrees worked.old.hand worked.new.hand }
-    ensures told { AreTrue H.agrees worked.old.hand worked.old.receipts.items → AreTrue H.agrees worked.new.hand worked.new.receipts.items }
+    ensures told { AreTrue H.agrees worked.old.hand worked.old.receipts.items →
+        AreTrue H.agrees worked.new.hand worked.new.receipts.items }
 {
     let Ok(op) = str::from_utf8(op.as_bytes()) else {
         return;
@@ -493,7 +496,8 @@ fn act<R: Wait + Clock, I: Read + Drop, W: Write + Drop, H: Hand + Drop, J: Star
     action: Action,
 ) -> Goes
     ensures kept { Keeps H.agrees worked.old.hand worked.new.hand }
-    ensures told { AreTrue H.agrees worked.old.hand worked.old.receipts.items → AreTrue H.agrees worked.new.hand worked.new.receipts.items }
+    ensures told { AreTrue H.agrees worked.old.hand worked.old.receipts.items →
+        AreTrue H.agrees worked.new.hand worked.new.receipts.items }
 {
     match action {
         Action::Open(name, client) => {
@@ -532,7 +536,8 @@ fn act_all<R: Wait + Clock, I: Read + Drop, W: Write + Drop, H: Hand + Drop, J: 
     actions: Vec<Action>,
 ) -> Goes
     ensures kept { Keeps H.agrees worked.old.hand worked.new.hand }
-    ensures told { AreTrue H.agrees worked.old.hand worked.old.receipts.items → AreTrue H.agrees worked.new.hand worked.new.receipts.items }
+    ensures told { AreTrue H.agrees worked.old.hand worked.old.receipts.items →
+        AreTrue H.agrees worked.new.hand worked.new.receipts.items }
 {
     for action in actions {
         match act(rt, alloc, offices, mouth, reading, worked, action) {
@@ -571,7 +576,8 @@ fn heed<R: Wait + Clock, I: Read + Drop, W: Write + Drop, H: Hand + Drop, J: Sta
     heard: Heard,
 ) -> Goes
     ensures kept { Keeps H.agrees worked.old.hand worked.new.hand }
-    ensures told { AreTrue H.agrees worked.old.hand worked.old.receipts.items → AreTrue H.agrees worked.new.hand worked.new.receipts.items }
+    ensures told { AreTrue H.agrees worked.old.hand worked.old.receipts.items →
+        AreTrue H.agrees worked.new.hand worked.new.receipts.items }
 {
     match heard {
         Heard::Action(action) => act(rt, alloc, offices, mouth, reading, worked, action),
@@ -590,8 +596,8 @@ fn heed<R: Wait + Clock, I: Read + Drop, W: Write + Drop, H: Hand + Drop, J: Sta
     }
 }
 
-// Does what the second thread heard. Where there is nothing to do, the lines that are held back are sent, and more is waited for, or
-// the reading side.
+// Does what the second thread heard. Where there is nothing to do, the lines that are held back are sent, and more is
+// waited for, or the reading side.
 fn follow<R: Wait + Clock, I: Read + Drop, W: Write + Drop, H: Hand + Drop, J: Start, O: Offices>(
     rt: &R,
     alloc: Global,
@@ -601,7 +607,8 @@ fn follow<R: Wait + Clock, I: Read + Drop, W: Write + Drop, H: Hand + Drop, J: S
     worked: &mut Worked<H>,
 ) -> Goes
     ensures kept { Keeps H.agrees worked.old.hand worked.new.hand }
-    ensures told { AreTrue H.agrees worked.old.hand worked.old.receipts.items → AreTrue H.agrees worked.new.hand worked.new.receipts.items }
+    ensures told { AreTrue H.agrees worked.old.hand worked.old.receipts.items →
+        AreTrue H.agrees worked.new.hand worked.new.receipts.items }
 {
     let actions = reading.taken(rt, alloc);
     if !actions.is_empty() {
@@ -624,7 +631,8 @@ fn turn<R: Wait + Clock, I: Read + Drop, W: Write + Drop, H: Hand + Drop, J: Sta
     worked: &mut Worked<H>,
 ) -> Goes
     ensures kept { Keeps H.agrees worked.old.hand worked.new.hand }
-    ensures told { AreTrue H.agrees worked.old.hand worked.old.receipts.items → AreTrue H.agrees worked.new.hand worked.new.receipts.items }
+    ensures told { AreTrue H.agrees worked.old.hand worked.old.receipts.items →
+        AreTrue H.agrees worked.new.hand worked.new.receipts.items }
 {
     match reading.hear(alloc) {
         Some(heard) => heed(rt, alloc, offices, mouth, reading, worked, heard),
@@ -632,7 +640,8 @@ fn turn<R: Wait + Clock, I: Read + Drop, W: Write + Drop, H: Hand + Drop, J: Sta
     }
 }
 
-// Takes turns until the session ends, and gives the fault that ended the hearing. But by `quit` the session leaves its object.
+// Takes turns until the session ends, and gives the fault that ended the hearing. But by `quit` the
+// session leaves its object.
 fn take_turns<
     R: Wait + Clock,
     I: Read + Drop,
@@ -649,7 +658,8 @@ fn take_turns<
     worked: &mut Worked<H>,
 ) -> Option<HearFault>
     ensures kept { Keeps H.agrees worked.old.hand worked.new.hand }
-    ensures told { AreTrue H.agrees worked.old.hand worked.old.receipts.items → AreTrue H.agrees worked.new.hand worked.new.receipts.items }
+    ensures told { AreTrue H.agrees worked.old.hand worked.old.receipts.items →
+        AreTrue H.agrees worked.new.hand worked.new.receipts.items }
 {
     for _ in rt.forever() {
         match turn(rt, alloc, offices, mouth, reading, worked) {
@@ -664,8 +674,8 @@ fn take_turns<
     unreachable!()
 }
 
-/// Serves a session: reads lines and does what they ask for, in order. While a call waits, the second thread reads. Before it waits
-/// it sends the lines that are held back, and retires the files that are left.
+/// Serves a session: reads lines and does what they ask for, in order. While a call waits, the second thread reads.
+/// Before it waits it sends the lines that are held back, and retires the files that are left.
 pub(crate) fn work<
     R: Wait + Clock,
     I: Read + Drop,

@@ -7,8 +7,8 @@ use Rattle.session_text.specs.declared.line.Refusal.TheVariants as refusals
 use Rattle.session_text.specs.Requests.{Request, opens, calls, cancels, quits}
 use Rattle.session_text.specs.Lines.{line_text, opened_text, ended_text, repeated_text}
 
--- a line that a session says: an object was opened, and for a client that has a name its next key is told; a call that has a receipt ended so; a call that was made before
--- had ended so; any other line
+-- a line that a session says: an object was opened, and for a client that has a name its next key is told; a call that
+-- has a receipt ended so; a call that was made before had ended so; any other line
 pub data Said : Type 0 where
   opened : List ℕ → Option ℕ → Said
   ended : ℕ → Reply → Said
@@ -21,7 +21,8 @@ said_text (ended n reply) = ended_text n reply
 said_text (repeated n reply) = repeated_text n reply
 said_text (told line) = line_text line
 
--- the table: which lines may answer a request, or a line that asks for nothing; the last line of a call that has a receipt is not among them
+-- the table: which lines may answer a request, or a line that asks for nothing; the last line of a call that has a
+-- receipt is not among them
 abbrev pub MayAnswer : Option Request → Said → Type 0
 MayAnswer (Some (opens name None)) (opened n None) = n ≡ name
 MayAnswer (Some (opens name (Some client))) (opened n (Some key)) = n ≡ name

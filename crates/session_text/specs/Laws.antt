@@ -15,11 +15,15 @@ Spells bytes name = IsIdentifier bytes × (name ≡ str_to_ascii_lowercase bytes
 abbrev pub Ask : Request → List Word → Type 0
 Ask (opens name None) words = (bytes : List ℕ) × (words ≡ bare (codes "open") ∷ bare bytes ∷ []) × Spells bytes name
 Ask (opens name (Some client)) words =
-    (bytes own : List ℕ) × (words ≡ bare (codes "open") ∷ bare bytes ∷ bare (codes "as") ∷ bare own ∷ []) × Spells bytes name × Spells own client × (is_reserved own ≡ false)
+    (bytes own : List ℕ) × (words ≡ bare (codes "open") ∷ bare bytes ∷ bare (codes "as") ∷ bare own ∷ [])
+    × Spells bytes name × Spells own client × (is_reserved own ≡ false)
 Ask (calls None name arguments) words =
-    (bytes : List ℕ) × (others : List Word) × (words ≡ bare (codes "call") ∷ bare bytes ∷ others) × Spells bytes name × (data_of others ≡ Some arguments)
+    (bytes : List ℕ) × (others : List Word) × (words ≡ bare (codes "call") ∷ bare bytes ∷ others) × Spells bytes name
+    × (data_of others ≡ Some arguments)
 Ask (calls (Some key) name arguments) words =
-    (digits bytes : List ℕ) × (others : List Word) × (words ≡ bare (codes "call") ∷ bare (35 ∷ digits) ∷ bare bytes ∷ others) × (integer_of digits ≡ Some key) × Spells bytes name × (data_of others ≡ Some arguments)
+    (digits bytes : List ℕ) × (others : List Word)
+    × (words ≡ bare (codes "call") ∷ bare (35 ∷ digits) ∷ bare bytes ∷ others) × (integer_of digits ≡ Some key)
+    × Spells bytes name × (data_of others ≡ Some arguments)
 Ask (cancels number) words = (n : List ℕ) × (words ≡ bare (codes "cancel") ∷ bare n ∷ []) × (integer_of n ≡ Some number)
 Ask quits words = words ≡ bare (codes "quit") ∷ []
 

@@ -77,7 +77,8 @@ line_text lines.Bye = bye_text
 -- `opened NAME`, or `opened NAME next K`
 abbrev pub opened_text : List ℕ → Option ℕ → List ℕ
 opened_text name None = line_of (bare (codes "opened") ∷ bare name ∷ [])
-opened_text name (Some key) = line_of (bare (codes "opened") ∷ bare name ∷ bare (codes "next") ∷ bare (decimal key) ∷ [])
+opened_text name (Some key) =
+    line_of (bare (codes "opened") ∷ bare name ∷ bare (codes "next") ∷ bare (decimal key) ∷ [])
 
 -- the last line of a call that has a receipt: `done N`, `done N VALUE`, `refused N WORD` or `failed N WORD`
 abbrev pub ended_text : ℕ → Reply → List ℕ

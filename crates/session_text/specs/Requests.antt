@@ -7,7 +7,8 @@ use Rattle.word_core.specs.Data.{◌>>=◌, integer_of, data_of, bare_of, only_b
 use Rattle.script_text.specs.Identifier.{is_identifier}
 use Rattle.session_text.specs.Reserved.{is_reserved}
 
--- an object of this name is to be opened, for a client that has a name or none; an operation is to be called, under a key or none, by its name, with arguments; a call is to be cancelled, by its number; the session ends
+-- an object of this name is to be opened, for a client that has a name or none; an operation is to be called, under a
+-- key or none, by its name, with arguments; a call is to be cancelled, by its number; the session ends
 pub data Request : Type 0 where
   opens : List ℕ → Option (List ℕ) → Request
   calls : Option ℕ → List ℕ → List Datum → Request

@@ -23,8 +23,8 @@ Takes opened line action =
     ((q : Request) × IsRequest line q × Does opened q action)
     ⊎ (((q : Request) → IsRequest line q → ⊥) × (action ≡ actions.Answer refusals.BadLine))
 
--- what is done for the last request of a session where no line end stands behind it: what was read may be the front of a longer line, so no call is done
--- and none cancelled, while to open an object and to end harm nobody
+-- what is done for the last request of a session where no line end stands behind it: what was read may be the front of
+-- a longer line, so no call is done and none cancelled, while to open an object and to end harm nobody
 abbrev pub DoesLast : Bool → Request → Action → Type 0
 DoesLast true (calls key op args) action = action ≡ actions.Answer refusals.Gone
 DoesLast true (cancels n) action = action ≡ actions.Answer refusals.BadLine

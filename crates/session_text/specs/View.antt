@@ -17,4 +17,5 @@ IsRequest line q = Says lines.request_of line q
 
 -- what a line asks for, or none where it asks for nothing
 abbrev pub IsReadOf : List ℕ → Option Request → Type 0
-IsReadOf line found = MatchOption found ((q : lines.Request) → IsRequest line q → ⊥) (λ r. IsRequest line (request_view r))
+IsReadOf line found =
+    MatchOption found ((q : lines.Request) → IsRequest line q → ⊥) (λ r. IsRequest line (request_view r))

@@ -1,7 +1,7 @@
 //! The lines that a session writes.
 //!
-//! Each function adds a line to `out`. Its error is that memory was refused; how much of the line then stands in `out` is
-//! not said.
+//! Each function adds a line to `out`. Its error is that memory was refused; how much of the line then stands in `out`
+//! is not said.
 
 ghost use Rattle.std.specs.Prelude.{◌≡◌, ◌++◌, Some, None, OnOk};
 ghost use Rattle.session_text.specs.Lines as lines;

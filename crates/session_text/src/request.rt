@@ -4,7 +4,12 @@ ghost use Rattle.std.specs.Prelude.{◌≡◌, IfOk};
 ghost use Rattle.word_core.specs.Data.{at_end};
 ghost use Rattle.line_read.specs.Reads.{Reads};
 ghost use Rattle.session_text.specs.Reserved.{is_reserved as is_reserved_in};
-ghost use Rattle.session_text.specs.Requests.{name_of as name_in, free_name_of as free_name_in, open_request as open_in, open_named as open_named_in, open_behind as open_behind_in, as_behind, client_behind, call_request as call_in, call_by as call_by_in, keyed_behind, digits_behind, cancel_request as cancel_in, call_behind, quits, request_by as request_in};
+ghost use Rattle.session_text.specs.Requests.{name_of as name_in, free_name_of as free_name_in};
+ghost use Rattle.session_text.specs.Requests.{open_request as open_in, open_named as open_named_in};
+ghost use Rattle.session_text.specs.Requests.{open_behind as open_behind_in, as_behind, client_behind};
+ghost use Rattle.session_text.specs.Requests.{call_request as call_in, call_by as call_by_in, keyed_behind};
+ghost use Rattle.session_text.specs.Requests.{digits_behind, cancel_request as cancel_in, call_behind, quits};
+ghost use Rattle.session_text.specs.Requests.{request_by as request_in};
 ghost use Rattle.session_text.specs.View.{request_view, IsReadOf};
 
 use line_core::words::is_same_word;
@@ -21,7 +26,8 @@ use word_core::number::integer_of;
 pub enum Request {
     /// `open NAME` or `open NAME as CLIENT`: the name of the object, and that of the client where it gives one.
     Open(Name, Option<Name>),
-    /// `call OP ARG ..` or `call #J OP ARG ..`: the key where one is given, the name of the operation, and the arguments.
+    /// `call OP ARG ..` or `call #J OP ARG ..`: the key where one is given, the name of the
+    /// operation, and the arguments.
     Call(Option<u32>, Name, Vec<Datum>),
     /// `cancel N`.
     Cancel(u32),

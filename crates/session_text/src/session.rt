@@ -39,8 +39,8 @@ impl Session {
         Session { is_open: false }
     }
 
-    /// What is done for a line, by the table of sessions. A line that asks for nothing is answered `BadLine`; `open` where an
-    /// object is opened `Opened`, `call` and `cancel` where none is `NotOpen`.
+    /// What is done for a line, by the table of sessions. A line that asks for nothing is answered `BadLine`; `open`
+    /// where an object is opened `Opened`, `call` and `cancel` where none is `NotOpen`.
     ///
     /// The error is that memory was refused.
     pub fn feed(&self, alloc: Global, line: &[u8]) -> Result<Action, AllocError>
@@ -52,8 +52,8 @@ impl Session {
         }
     }
 
-    /// What is done for the last line of a session, where no line end stands behind it: it may be the front of a longer line. A call is
-    /// answered `Gone` and a cancel `BadLine`; all else is done as by [`Session::feed`].
+    /// What is done for the last line of a session, where no line end stands behind it: it may be the front of a longer
+    /// line. A call is answered `Gone` and a cancel `BadLine`; all else is done as by [`Session::feed`].
     ///
     /// The error is that memory was refused.
     pub fn feed_last(&self, alloc: Global, line: &[u8]) -> Result<Action, AllocError>

@@ -34,27 +34,34 @@ const TWICE: &[Visit] = &[
     ),
 ];
 
-// Keys that are 0, past the next one, or of another call. A call that is refused takes no key, and one without a key takes the next.
+// Keys that are 0, past the next one, or of another call. A call that is refused takes no key, and one without
+// a key takes the next.
 const KEYS: &[Visit] = &[
     (
-        b"open cell as ann\ncall #0 get\ncall #2 get\ncall #1 pop\ncall #1 put\ncall #1 put 7\ncall #1 put 8\ncall #1 get\ncall #1 pop\nquit\n",
-        b"opened cell next 1\nno BadKey\nno BadKey\nno UnknownOp\nno BadArgs\naccepted 1\ndone 1\nno KeyReused\nno KeyReused\nno KeyReused\nbye\n",
+        b"open cell as ann\ncall #0 get\ncall #2 get\ncall #1 pop\ncall #1 put\ncall #1 put 7\ncall #1 put 8\n\
+            call #1 get\ncall #1 pop\nquit\n",
+        b"opened cell next 1\nno BadKey\nno BadKey\nno UnknownOp\nno BadArgs\naccepted 1\ndone 1\nno KeyReused\n\
+            no KeyReused\nno KeyReused\nbye\n",
     ),
     (
         b"open CELL as Ann\ncall #1 PUT 7\ncall #3 get\ncall get\ncall #3 get\ncall #2 get\ncall #3 get\nquit\n",
-        b"opened cell next 2\nrepeat done 1\nno BadKey\naccepted 2\ndone 2 7\naccepted 3\ndone 3 7\nrepeat done 2 7\nrepeat done 3 7\nbye\n",
+        b"opened cell next 2\nrepeat done 1\nno BadKey\naccepted 2\ndone 2 7\naccepted 3\ndone 3 7\nrepeat done 2 7\n\
+            repeat done 3 7\nbye\n",
     ),
 ];
 
 // Lines that ask for nothing, and what is asked for too early or twice.
 const WRONG: &[Visit] = &[
     (
-        b"call #1 get\nopen cell as\nopen cell as ann x\nopen cell AS ann\nopen cell ann\nopen cell as 'ann'\nopen cell as 1a\nopen cell as Array\nquit\n",
+        b"call #1 get\nopen cell as\nopen cell as ann x\nopen cell AS ann\nopen cell ann\nopen cell as 'ann'\n\
+            open cell as 1a\nopen cell as Array\nquit\n",
         b"no NotOpen\nno BadLine\nno BadLine\nno BadLine\nno BadLine\nno BadLine\nno BadLine\nno BadLine\nbye\n",
     ),
     (
-        b"open nothing as ann\nopen cell as as\nopen cell as ann\nopen nothing as ann\ncall #1\ncall # get\ncall #x get\ncall #4294967296 get\ncall #1 #1 get\ncall #1 get\nquit\n",
-        b"no NoObject\nopened cell next 1\nno Opened\nno Opened\nno BadLine\nno BadLine\nno BadLine\nno BadLine\nno BadLine\naccepted 1\ndone 1 0\nbye\n",
+        b"open nothing as ann\nopen cell as as\nopen cell as ann\nopen nothing as ann\ncall #1\ncall # get\n\
+            call #x get\ncall #4294967296 get\ncall #1 #1 get\ncall #1 get\nquit\n",
+        b"no NoObject\nopened cell next 1\nno Opened\nno Opened\nno BadLine\nno BadLine\nno BadLine\nno BadLine\n\
+            no BadLine\naccepted 1\ndone 1 0\nbye\n",
     ),
 ];
 
@@ -78,8 +85,8 @@ const OTHERS: &[Visit] = &[
     ),
 ];
 
-// A session over these lines, so many bytes a read, with a writer that takes so many bytes. At their end both streams fail, or there is no
-// more.
+// A session over these lines, so many bytes a read, with a writer that takes so many bytes. At their end both streams
+// fail, or there is no more.
 fn visit<R: Threads + Wait + Clock + Sync + Abort, H: Hand + Drop>(
     rt: &R,
     alloc: Global,
@@ -171,7 +178,8 @@ fn all_told<R: Abort + Threads + Wait + Clock + Sync>(
     }
 }
 
-// Sessions one after the other write these, and their object is closed with what they left: so many seats, and an entry for each slip.
+// Sessions one after the other write these, and their object is closed with what they left: so many seats, and an
+// entry for each slip.
 fn come<R: Abort + Threads + Wait + Clock + Sync>(
     rt: &R,
     alloc: Global,
@@ -256,8 +264,8 @@ fn the_input_of_a_client_breaks_off_at_each_byte(rt: HostRuntime) {
     }
 }
 
-// Where a read brings one byte, each line is answered before the next one is read: so the call is not done where the line before it could not be
-// written. Where it brings all, both lines are done before anything is written.
+// Where a read brings one byte, each line is answered before the next one is read: so the call is not done where the
+// line before it could not be written. Where it brings all, both lines are done before anything is written.
 #[test]
 fn the_output_of_a_client_breaks_off_at_each_byte(rt: HostRuntime) {
     let alloc = rt.alloc();

@@ -93,7 +93,8 @@ fn a_name_is_given_out_once_at_a_time(rt: HostRuntime) {
     assert!(rt; bytes.as_slice() == b"opened cell next 1\naccepted 1\ndone 1 0\nbye\n".as_slice());
 }
 
-// A reader of lines that come one after the other, whose input ends only once it may. It tells when it is asked for its end.
+// A reader of lines that come one after the other, whose input ends only once it may. It tells when it
+// is asked for its end.
 #[derive(Drop)]
 struct Lingering {
     gate: Gate,
@@ -124,8 +125,8 @@ fn is_in_use<R: Wait>(rt: &R, office: &Office, name: &Name) -> bool {
     true
 }
 
-// Cancels call 1 once the session beside it waits for the end of its input, and lets that end only when the name was in use for a while after the
-// session wrote its last line.
+// Cancels call 1 once the session beside it waits for the end of its input, and lets that end only when the name was in
+// use for a while after the session wrote its last line.
 fn lingers<R: Wait>(
     rt: &R,
     all: &Vec<Named>,
@@ -168,8 +169,8 @@ fn quits<R: Threads + Wait + Clock + Sync>(
     Some(end.hand)
 }
 
-// The second thread of a session that ends by `quit` behind a waiting call leaves the object at the end of its input. So nobody gets the name
-// before.
+// The second thread of a session that ends by `quit` behind a waiting call leaves the object at the end of its input.
+// So nobody gets the name before.
 #[test]
 fn a_name_is_in_use_until_the_input_ends(rt: HostRuntime) {
     let alloc = rt.alloc();

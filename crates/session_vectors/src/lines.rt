@@ -27,10 +27,12 @@ const CALLED: &[u8] = b"open cell\ncall put 7\ncall get\nquit\n";
 const CALLED_TOLD: &[u8] = b"opened cell\naccepted 1\ndone 1\naccepted 2\ndone 2 7\nbye\n";
 
 const WRONG: &[u8] =
-    b"dance\r\ncall get\nopen nothing\n OPEN  cell\nopen CELL \nopen cell\ncall put\ncall pop\ncall GET 'a\x01'\nquit\n";
+    b"dance\r\ncall get\nopen nothing\n OPEN  cell\nopen CELL \nopen cell\ncall put\ncall pop\ncall GET 'a\x01'\n\
+        quit\n";
 
 const WRONG_TOLD: &[u8] =
-    b"no BadLine\nno NotOpen\nno NoObject\nno BadLine\nopened cell\nno Opened\nno BadArgs\nno UnknownOp\nno BadLine\nbye\n";
+    b"no BadLine\nno NotOpen\nno NoObject\nno BadLine\nopened cell\nno Opened\nno BadArgs\nno UnknownOp\nno BadLine\n\
+        bye\n";
 
 /// Whether the office of an object is closed with this seat and these receipts.
 pub fn is_closed(all: Vec<Named>, seats: Vec<Seat>, receipts: &[Slip]) -> bool {
@@ -44,9 +46,9 @@ pub fn is_closed(all: Vec<Named>, seats: Vec<Seat>, receipts: &[Slip]) -> bool {
     false
 }
 
-// Plays a session over these lines, so many bytes a read, with a writer that takes so many bytes. At their end both streams
-// fail, or there is no more. It answers whether what was written is a front of what is expected, as long as the writer takes
-// it, whether the fault is this one, and whether the office is closed with the seat and the receipts.
+// Plays a session over these lines, so many bytes a read, with a writer that takes so many bytes. At their end both
+// streams fail, or there is no more. It answers whether what was written is a front of what is expected, as long as the
+// writer takes it, whether the fault is this one, and whether the office is closed with the seat and the receipts.
 fn plays<R: Abort + Threads + Wait + Clock + Sync>(
     rt: &R,
     alloc: Global,
@@ -221,8 +223,8 @@ fn the_input_ends_at_each_byte(rt: HostRuntime) {
     }
 }
 
-// What is answered to the two calls, from so many bytes of them on: a call whose line came whole has its last line, and one
-// that was cut off is not done.
+// What is answered to the two calls, from so many bytes of them on: a call whose line came whole has its last line, and
+// one that was cut off is not done.
 const CALLED_CUT: &[(usize, &[u8])] = &[
     (0, b""),
     (1, b"no BadLine\n"),

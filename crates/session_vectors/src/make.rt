@@ -58,7 +58,8 @@ fn room_of(alloc: Global, text: &[u8], part: &[u8], hand: &mut MemHand) -> Optio
     Some((name, room))
 }
 
-/// The office of the object of a text, whose one part is spelled so, and the hand that its file is on, where there is memory for them.
+/// The office of the object of a text, whose one part is spelled so, and the hand that its file is on, where
+/// there is memory for them.
 pub fn offices_of(alloc: Global, text: &[u8], part: &[u8]) -> Option<(Vec<Named>, MemHand)> {
     let mut hand = MemHand::new(alloc);
     let (name, room) = room_of(alloc, text, part, &mut hand)?;

@@ -1,7 +1,7 @@
 //! Sessions where a growth of memory is refused: the client comes back, and its calls are done once.
 //!
-//! `gate/refuse_memory` runs each test whose name begins with `refused_` with the first, the second, .. growth refused. With no growth
-//! refused they are happy paths.
+//! `gate/refuse_memory` runs each test whose name begins with `refused_` with the first, the second, .. growth refused.
+//! With no growth refused they are happy paths.
 
 use crate::lines::{ZERO, is_closed};
 use crate::make::{CELL, Short, offices_of};
@@ -52,7 +52,8 @@ impl Read for Text {
 
 const ASKS: &[u8] = b"open cell as ann\ncall #1 put 7\ncall #2 get\nquit\n";
 
-// What the client is told once its calls are done. A call for whose run there was no memory has failed, and is not run again.
+// What the client is told once its calls are done. A call for whose run there was no memory has failed,
+// and is not run again.
 const TOLD: [&[u8]; 3] = [
     b"opened cell next 3\nrepeat done 1\nrepeat done 2 7\nbye\n",
     b"opened cell next 3\nrepeat failed 1 memory\nrepeat done 2 0\nbye\n",

@@ -213,7 +213,8 @@ const AGAIN: &[Line] = &[
     At("2.val", Write(b"new")),
     Ahead(FIVE),
     Ahead(&[Read(B, 1, b"W"), Read(B, 2, b"O"), Read(B, 0, b"TW")]),
-    // A ninth one takes the place of the one that was kept longest, whether or not that was asked for since, and a tenth one that of the next.
+    // A ninth one takes the place of the one that was kept longest, whether or not that was asked for since, and a
+    // tenth one that of the next.
     Ahead(&[Read(B, 0, b"n"), Read(B, 0, b"two"), Read(E, 0, b"fiv")]),
     Ahead(&[Read(A, 0, b"ONE"), Read(B, 0, b"new"), Read(D, 0, b"fou")]),
     // What the hand retires is kept no more, and all else is.
@@ -342,8 +343,8 @@ const MISSING: &[Line] = &[
     Shelf(&[Store(b"a.v", b"new"), Load(b"a.v", b"new")]),
 ];
 
-// A folder that can be read and not written. Where the system lets this process write there all the same, as it lets the
-// superuser, only what is not refused is seen.
+// A folder that can be read and not written. Where the system lets this process write there all the same, as it lets
+// the superuser, only what is not refused is seen.
 const ONLY_READ: &[Line] = &[
     Hand(&[Create(A), Append(A, b"kept"), Seal(A, 4), Create(B)]),
     Shelf(&[Store(b"cell.v", b"kept")]),

@@ -26,7 +26,8 @@ pub enum Line {
     Hand(&'static [Call]),
     /// Calls of another hand on the folder, with the same numbers and the same files of the script.
     Other(&'static [Call]),
-    /// Calls of a hand on the folder that has its next file ready, with the same numbers and the same files of the script.
+    /// Calls of a hand on the folder that has its next file ready, with the same numbers and the same
+    /// files of the script.
     Ahead(&'static [Call]),
     /// Calls of another such hand, which shares with it what they sealed last.
     Twin(&'static [Call]),

@@ -145,8 +145,8 @@ fn same_kept(a: &Form, b: &Form) -> bool
 }
 
 impl Short {
-    /// A reply. Where it has a text, it takes the memory that was taken ahead for the longest one, and gives back what it does not need; else
-    /// that stays. It takes no other memory.
+    /// A reply. Where it has a text, it takes the memory that was taken ahead for the longest one, and gives back what
+    /// it does not need; else that stays. It takes no other memory.
     pub fn within(alloc: Global, room: &mut Vec<u8>, reply: &Reply) -> Short
         requires { most_text_bytes ≤ vec_capacity room.old }
         ensures { result ≡ reply.now }

@@ -113,8 +113,8 @@ impl SlipRoom {
         Ok(())
     }
 
-    /// The slip of an outcome of a call of this session, whose entry has this place, from 1. It gives one wherever memory
-    /// was taken for a call with its arguments (`make`), and takes none.
+    /// The slip of an outcome of a call of this session, whose entry has this place, from 1. It gives one wherever
+    /// memory was taken for a call with its arguments (`make`), and takes none.
     pub fn slip(&mut self, place: usize, session: u32, outcome: Outcome) -> Option<Slip>
         ensures told { IfSome result (λ s. s ≡ told_by place session outcome) }
         ensures given { IfNone result (IsMade (outcome_call outcome).arguments self.old → ⊥) }

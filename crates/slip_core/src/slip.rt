@@ -42,7 +42,13 @@ impl Model for Slip {
 
     ghost coded = { Prim.hlevel (codes, e.the_row.coded) };
 
-    ghost view = { λ s. record { place = s.place; session = s.session; call = call_of s.number (arc_value s.operation) s.args s.pins; reply = s.reply; news = if_done s.reply s.news } };
+    ghost view = { λ s. record {
+      place = s.place;
+      session = s.session;
+      call = call_of s.number (arc_value s.operation) s.args s.pins;
+      reply = s.reply;
+      news = if_done s.reply s.news;
+    } };
 }
 
 // Whether there are no pins. It takes no memory.

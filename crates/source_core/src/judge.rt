@@ -19,8 +19,8 @@ use std::alloc::{AllocError, Global};
 pub enum Judged {
     /// Its objects, in order, each accepted.
     Ready(Vec<Accepted>),
-    /// Not to be served, with the lines that say why: the one of the fault of the source, or one for each refused object, in
-    /// order.
+    /// Not to be served, with the lines that say why: the one of the fault of the source, or one for each refused
+    /// object, in order.
     Told(Vec<u8>),
 }
 
@@ -33,7 +33,8 @@ struct Sorted {
 
 // Adds what one object is judged.
 fn add(alloc: Global, object: Object, sorted: &mut Sorted) -> Result<(), AllocError>
-    ensures { OnOk result (IsAdded (object_of object) sorted.old.ready.items sorted.old.told.items sorted.new.ready.items sorted.new.told.items) }
+    ensures { OnOk result (IsAdded (object_of object) sorted.old.ready.items sorted.old.told.items
+        sorted.new.ready.items sorted.new.told.items) }
 {
     match judged(alloc, object)? {
         Opened::Ready(accepted) => {
@@ -51,7 +52,8 @@ fn add(alloc: Global, object: Object, sorted: &mut Sorted) -> Result<(), AllocEr
 
 // Judges each object.
 fn sort_all(alloc: Global, all: IndexMap<Name, Object>) -> Result<Sorted, AllocError>
-    ensures { IfOk result (λ s. AreJudged (objects_of (values_of all.entries)) (objects_of s.ready.items) s.told.items) }
+    ensures { IfOk result (λ s. AreJudged (objects_of (values_of all.entries)) (objects_of s.ready.items)
+        s.told.items) }
 {
     let mut sorted = Sorted {
         ready: Vec::new(alloc),

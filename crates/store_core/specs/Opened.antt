@@ -48,14 +48,16 @@ pub record IsPinned (a : Assignment) (kind : Kind) (pin : List Stamp) (value : C
 -- part by part: each part of the object of this name has its value from the shelf
 abbrev pub AreLoaded : Papers → List ℕ → List Part → List Contents → Type 0
 AreLoaded papers object [] [] = Unit {0}
-AreLoaded papers object (part ∷ parts) (value ∷ values) = BeginsWith part.kind (get papers (part_key object part.name)) value × AreLoaded papers object parts values
+AreLoaded papers object (part ∷ parts) (value ∷ values) =
+    BeginsWith part.kind (get papers (part_key object part.name)) value × AreLoaded papers object parts values
 AreLoaded papers object [] (value ∷ values) = ⊥
 AreLoaded papers object (part ∷ parts) [] = ⊥
 
 -- part by part: each pin was sealed with the spelling of its part's value
 abbrev pub ArePinned : Assignment → List Part → List (List Stamp) → List Contents → Type 0
 ArePinned a [] [] [] = Unit {0}
-ArePinned a (part ∷ parts) (pin ∷ pins) (value ∷ values) = IsPinned a part.kind pin value × ArePinned a parts pins values
+ArePinned a (part ∷ parts) (pin ∷ pins) (value ∷ values) =
+    IsPinned a part.kind pin value × ArePinned a parts pins values
 ArePinned a [] [] (value ∷ values) = ⊥
 ArePinned a [] (pin ∷ pins) values = ⊥
 ArePinned a (part ∷ parts) [] values = ⊥
@@ -81,13 +83,15 @@ pub record IsFirstDamaged (papers : Papers) (object : List ℕ) (parts : List Pa
 -- Why the parts of an object were not opened: a part is the first damaged one, whatever the shelf may hold, or a device
 -- failed.
 abbrev pub OpenCause : (Papers → Type 0) → List ℕ → List Part → Type 0 → OpenFault → Type 0
-OpenCause holds object parts failed (Damaged number) = (papers : Papers) → holds papers → IsFirstDamaged papers object parts number
+OpenCause holds object parts failed (Damaged number) =
+    (papers : Papers) → holds papers → IsFirstDamaged papers object parts number
 OpenCause holds object parts failed Device = failed
 OpenCause holds object parts failed Memory = Unit {0}
 
 -- why one part was not opened: it is damaged, whatever the shelf may hold, or a device failed, or memory was refused
 abbrev pub PartCause : (Papers → Type 0) → List ℕ → Kind → ℕ → Type 0 → OpenFault → Type 0
-PartCause holds key kind number failed (Damaged n) = (n ≡ number) × ((papers : Papers) → holds papers → AreDamaged kind (get papers key))
+PartCause holds key kind number failed (Damaged n) =
+    (n ≡ number) × ((papers : Papers) → holds papers → AreDamaged kind (get papers key))
 PartCause holds key kind number failed Device = failed
 PartCause holds key kind number failed Memory = Unit {0}
 

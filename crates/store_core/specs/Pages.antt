@@ -17,7 +17,8 @@ ArePinsServed serves pins = (p : ℕ) (pin : List Stamp) → slice_get pins p �
 
 -- some bytes were cut into pages of a size, and each was sealed in a file of its own; their stamps stand, in order,
 -- behind those of before
-pub record ArePut (agrees : Assignment → Type 0) (serves : Stamp → Type 0) (size : ℕ) (bytes : List ℕ) (before after : List Stamp) : Type 0 where
+pub record ArePut (agrees : Assignment → Type 0) (serves : Stamp → Type 0) (size : ℕ) (bytes : List ℕ)
+    (before after : List Stamp) : Type 0 where
   pub pages : List (List ℕ)
   pub cut : AreCutBy size bytes pages
   pub stamps : List Stamp

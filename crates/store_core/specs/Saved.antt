@@ -48,7 +48,8 @@ AreFetched a (part ∷ parts) (pin ∷ pins) [] = ⊥
 abbrev pub with_parts : Papers → List ℕ → List Part → List (List ℕ) → Papers
 with_parts papers object [] rest = papers
 with_parts papers object (part ∷ parts) [] = papers
-with_parts papers object (part ∷ parts) (bytes ∷ rest) = with_parts (insert papers (part_key object part.name) bytes) object parts rest
+with_parts papers object (part ∷ parts) (bytes ∷ rest) =
+    with_parts (insert papers (part_key object part.name) bytes) object parts rest
 
 -- there are bytes, and they are not what is written of a value of this kind
 pub record AreUnspelled (kind : Kind) (found : Option (List ℕ)) : Type 0 where
@@ -74,7 +75,8 @@ SaveCause agrees parts pins failed Memory = Unit {0}
 -- why one part was not saved: its pin's bytes are damaged, whatever assignment agrees, or a device failed, or memory
 -- was refused
 abbrev pub PinSaveCause : (Assignment → Type 0) → Part → List Stamp → ℕ → Type 0 → SaveFault → Type 0
-PinSaveCause agrees part pin number failed (Damaged n) = (n ≡ number) × ((a : Assignment) → agrees a → AreUnspelled part.kind (list_bytes a pin))
+PinSaveCause agrees part pin number failed (Damaged n) =
+    (n ≡ number) × ((a : Assignment) → agrees a → AreUnspelled part.kind (list_bytes a pin))
 PinSaveCause agrees part pin number failed (Device n) = (n ≡ number) × failed
 PinSaveCause agrees part pin number failed Memory = Unit {0}
 
@@ -85,7 +87,8 @@ StoreCause number failed (Device n) = (n ≡ number) × failed
 StoreCause number failed Memory = Unit {0}
 
 -- the papers hold the first parts, so many, each with the bytes under its pin; else they are those of before
-pub record IsSavedTo (agrees : Assignment → Type 0) (before papers : Papers) (object : List ℕ) (parts : List Part) (pins : List (List Stamp)) (number : ℕ) : Type 0 where
+pub record IsSavedTo (agrees : Assignment → Type 0) (before papers : Papers) (object : List ℕ) (parts : List Part)
+    (pins : List (List Stamp)) (number : ℕ) : Type 0 where
   pub all : List (List ℕ)
   pub fetched : (a : Assignment) → agrees a → AreFetched a (take number parts) (take number pins) all
   pub many : length all ≡ length (take number parts)
@@ -99,11 +102,15 @@ MaySave (Device n) k = (k ≡ n) ⊎ (k ≡ n + 1)
 MaySave Memory k = Unit {0}
 
 -- What a refused call leaves: some first parts are saved, and nothing else is stored.
-abbrev pub SaveLeaves : (Assignment → Type 0) → (Papers → Type 0) → (Papers → Type 0) → List ℕ → List Part → List (List Stamp) → SaveFault → Type 0
-SaveLeaves agrees was holds object parts pins e = (papers : Papers) → holds papers → (before : Papers) × was before × (k : ℕ) × MaySave e k × IsSavedTo agrees before papers object parts pins k
+abbrev pub SaveLeaves : (Assignment → Type 0) → (Papers → Type 0) → (Papers → Type 0) → List ℕ → List Part →
+    List (List Stamp) → SaveFault → Type 0
+SaveLeaves agrees was holds object parts pins e =
+    (papers : Papers) → holds papers → (before : Papers) × was before × (k : ℕ) × MaySave e k
+    × IsSavedTo agrees before papers object parts pins k
 
 -- one part is stored, with the bytes under its pin
-pub record IsStored (agrees : Assignment → Type 0) (before papers : Papers) (object : List ℕ) (part : Part) (pin : List Stamp) : Type 0 where
+pub record IsStored (agrees : Assignment → Type 0) (before papers : Papers) (object : List ℕ) (part : Part)
+    (pin : List Stamp) : Type 0 where
   pub bytes : List ℕ
   pub fetched : (a : Assignment) → agrees a → IsFetched a part pin bytes
   pub stored : papers ≡ insert before (part_key object part.name) bytes
@@ -111,12 +118,17 @@ pub record IsStored (agrees : Assignment → Type 0) (before papers : Papers) (o
 -- what a refused call leaves of one part: where its bytes are damaged, nothing; else nothing or all of it
 abbrev pub PartLeft : (Assignment → Type 0) → Papers → Papers → List ℕ → Part → List Stamp → SaveFault → Type 0
 PartLeft agrees before papers object part pin (Damaged n) = papers ≡ before
-PartLeft agrees before papers object part pin (Device n) = (papers ≡ before) ⊎ IsStored agrees before papers object part pin
+PartLeft agrees before papers object part pin (Device n) =
+    (papers ≡ before) ⊎ IsStored agrees before papers object part pin
 PartLeft agrees before papers object part pin Memory = (papers ≡ before) ⊎ IsStored agrees before papers object part pin
 
-abbrev pub PartLeaves : (Assignment → Type 0) → (Papers → Type 0) → (Papers → Type 0) → List ℕ → Part → List Stamp → SaveFault → Type 0
-PartLeaves agrees was holds object part pin e = (papers : Papers) → holds papers → (before : Papers) × was before × PartLeft agrees before papers object part pin e
+abbrev pub PartLeaves : (Assignment → Type 0) → (Papers → Type 0) → (Papers → Type 0) → List ℕ → Part → List Stamp →
+    SaveFault → Type 0
+PartLeaves agrees was holds object part pin e =
+    (papers : Papers) → holds papers → (before : Papers) × was before × PartLeft agrees before papers object part pin e
 
 -- what a refused call of a shelf leaves: nothing or all of these bytes under this name
 abbrev pub StoreLeaves : (Papers → Type 0) → (Papers → Type 0) → List ℕ → List ℕ → Type 0
-StoreLeaves was holds name bytes = (papers : Papers) → holds papers → (before : Papers) × was before × ((papers ≡ before) ⊎ (papers ≡ insert before name bytes))
+StoreLeaves was holds name bytes =
+    (papers : Papers) → holds papers → (before : Papers) × was before
+    × ((papers ≡ before) ⊎ (papers ≡ insert before name bytes))

@@ -7,7 +7,8 @@ ghost use Rattle.value_core.specs.Kinds.{IsKind};
 ghost use Rattle.hand_core.specs.declared.hand.Stamp.{Stamp};
 ghost use Rattle.hand_core.specs.Device.{Assignment, Failed, Always, AreServed};
 ghost use Rattle.hand_core.specs.Papers.{Papers, part_key};
-ghost use Rattle.store_core.specs.Opened.{open_fault_number, open_fault_name, open_fault_of, BeginsWith, IsPinned, AreLoaded, ArePinned, OpenCause, PartCause, PinCause};
+ghost use Rattle.store_core.specs.Opened.{open_fault_number, open_fault_name, open_fault_of, BeginsWith, IsPinned};
+ghost use Rattle.store_core.specs.Opened.{AreLoaded, ArePinned, OpenCause, PartCause, PinCause};
 ghost use Rattle.store_core.specs.Pages.{ArePinsServed};
 
 use crate::pages::put_cut;
@@ -103,11 +104,13 @@ fn load_value<S: Shelf>(
     number: usize,
 ) -> Result<Value, OpenFault>
     requires { IsKind kind }
-    ensures ok { IfOk result (λ value. (papers : Papers) → S.holds shelf.new papers → BeginsWith kind (get papers key.now) value) }
+    ensures ok { IfOk result (λ value. (papers : Papers) → S.holds shelf.new papers →
+        BeginsWith kind (get papers key.now) value) }
     ensures kind { IfOk result (λ value. kind_of value ≡ kind) }
     ensures kept { (papers : Papers) → S.holds shelf.new papers → S.holds shelf.old papers }
     ensures counted { S.failed shelf.old ≤ S.failed shelf.new }
-    ensures cause { IfErr result (λ e. PartCause (S.holds shelf.new) key.now kind number (Failed (S.failed shelf.old) (S.failed shelf.new)) e) }
+    ensures cause { IfErr result (λ e. PartCause (S.holds shelf.new) key.now kind number
+        (Failed (S.failed shelf.old) (S.failed shelf.new)) e) }
 {
     match shelf.load(alloc, key) {
         Ok(Some(bytes)) => match decode_kept(alloc, kind, &bytes) {
@@ -125,7 +128,8 @@ fn load_value<S: Shelf>(
 
 // Seals the pages of the spelling of a value, each in a new file.
 fn pin_value<H: Hand>(alloc: Global, hand: &mut H, value: &Value) -> Result<PageList, OpenFault>
-    ensures ok { IfOk result (λ pin. (a : Assignment) → H.agrees hand.new a → IsPinned a (kind_of value.now) pin value.now) }
+    ensures ok { IfOk result (λ pin. (a : Assignment) → H.agrees hand.new a →
+        IsPinned a (kind_of value.now) pin value.now) }
     ensures kept { (a : Assignment) → H.agrees hand.new a → H.agrees hand.old a }
     ensures served { IfOk result (λ pin. AreServed (H.serves hand.new) pin) }
     ensures serves { (s : Stamp) → H.serves hand.old s → H.serves hand.new s }
@@ -151,18 +155,22 @@ fn open_part<S: Shelf, H: Hand>(
     hand: &mut H,
     key: &mut Vec<u8>,
 ) -> Result<(PageList, Value), OpenFault>
-    ensures loaded { IfOk result (λ opened. (papers : Papers) → S.holds shelf.new papers → BeginsWith part.now.kind (get papers (part_key object.now part.now.name)) opened.1) }
-    ensures pinned { IfOk result (λ opened. (a : Assignment) → H.agrees hand.new a → IsPinned a part.now.kind opened.0 opened.1) }
+    ensures loaded { IfOk result (λ opened. (papers : Papers) → S.holds shelf.new papers →
+        BeginsWith part.now.kind (get papers (part_key object.now part.now.name)) opened.1) }
+    ensures pinned { IfOk result (λ opened. (a : Assignment) → H.agrees hand.new a →
+        IsPinned a part.now.kind opened.0 opened.1) }
     ensures served { IfOk result (λ opened. AreServed (H.serves hand.new) opened.0) }
     ensures kind { IfOk result (λ opened. kind_of opened.1 ≡ part.now.kind) }
     ensures papers { (papers : Papers) → S.holds shelf.new papers → S.holds shelf.old papers }
     ensures files { (a : Assignment) → H.agrees hand.new a → H.agrees hand.old a }
     ensures serves { (s : Stamp) → H.serves hand.old s → H.serves hand.new s }
     ensures works { Always (H.works_for hand.old) → Always (H.works_for hand.new) }
-    ensures in_order { Always (H.works_for hand.old) → IfErr result (λ e. e ≡ OpenFault.Device → Failed (S.failed shelf.old) (S.failed shelf.new)) }
+    ensures in_order { Always (H.works_for hand.old) →
+        IfErr result (λ e. e ≡ OpenFault.Device → Failed (S.failed shelf.old) (S.failed shelf.new)) }
     ensures counted_shelf { S.failed shelf.old ≤ S.failed shelf.new }
     ensures counted_hand { H.failed hand.old ≤ H.failed hand.new }
-    ensures cause { IfErr result (λ e. PartCause (S.holds shelf.new) (part_key object.now part.now.name) part.now.kind number (Failed (S.failed shelf.old) (S.failed shelf.new) ⊎ Failed (H.failed hand.old) (H.failed hand.new)) e) }
+    ensures cause { IfErr result (λ e. PartCause (S.holds shelf.new) (part_key object.now part.now.name) part.now.kind
+        number (Failed (S.failed shelf.old) (S.failed shelf.new) ⊎ Failed (H.failed hand.old) (H.failed hand.new)) e) }
 {
     write_key(key, object, &part.name)?;
     let value = load_value(alloc, shelf, key, part.kind, number)?;
@@ -199,21 +207,26 @@ pub fn open_parts<S: Shelf, H: Hand>(
     shelf: &mut S,
     hand: &mut H,
 ) -> Result<(Pins, Vec<Value>), OpenFault>
-    ensures loaded { IfOk result (λ opened. (papers : Papers) → S.holds shelf.new papers → AreLoaded papers object.now.name object.now.parts.items opened.1.items) }
-    ensures pinned { IfOk result (λ opened. (a : Assignment) → H.agrees hand.new a → ArePinned a object.now.parts.items opened.0 opened.1.items) }
+    ensures loaded { IfOk result (λ opened. (papers : Papers) → S.holds shelf.new papers →
+        AreLoaded papers object.now.name object.now.parts.items opened.1.items) }
+    ensures pinned { IfOk result (λ opened. (a : Assignment) → H.agrees hand.new a →
+        ArePinned a object.now.parts.items opened.0 opened.1.items) }
     // Each page of each pin can be read.
     ensures served { IfOk result (λ opened. ArePinsServed (H.serves hand.new) opened.0) }
     ensures many { IfOk result (λ opened. length opened.0 ≡ length object.now.parts.items) }
-    ensures kinds { IfOk result (λ opened. map kind_of opened.1.items ≡ map (λ part. part.kind) object.now.parts.items) }
+    ensures kinds { IfOk result (λ opened.
+        map kind_of opened.1.items ≡ map (λ part. part.kind) object.now.parts.items) }
     ensures papers { (papers : Papers) → S.holds shelf.new papers → S.holds shelf.old papers }
     ensures files { (a : Assignment) → H.agrees hand.new a → H.agrees hand.old a }
     ensures serves { (s : Stamp) → H.serves hand.old s → H.serves hand.new s }
     ensures works { Always (H.works_for hand.old) → Always (H.works_for hand.new) }
     // Over a hand that works only the shelf can fail.
-    ensures in_order { Always (H.works_for hand.old) → IfErr result (λ e. e ≡ OpenFault.Device → Failed (S.failed shelf.old) (S.failed shelf.new)) }
+    ensures in_order { Always (H.works_for hand.old) →
+        IfErr result (λ e. e ≡ OpenFault.Device → Failed (S.failed shelf.old) (S.failed shelf.new)) }
     ensures counted_shelf { S.failed shelf.old ≤ S.failed shelf.new }
     ensures counted_hand { H.failed hand.old ≤ H.failed hand.new }
-    ensures cause { IfErr result (λ e. OpenCause (S.holds shelf.new) object.now.name object.now.parts.items (Failed (S.failed shelf.old) (S.failed shelf.new) ⊎ Failed (H.failed hand.old) (H.failed hand.new)) e) }
+    ensures cause { IfErr result (λ e. OpenCause (S.holds shelf.new) object.now.name object.now.parts.items
+        (Failed (S.failed shelf.old) (S.failed shelf.new) ⊎ Failed (H.failed hand.old) (H.failed hand.new)) e) }
 {
     let count = object.parts.len();
     let mut key = Vec::new(alloc);

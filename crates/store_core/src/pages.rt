@@ -24,7 +24,8 @@ fn first_page(size: usize, bytes: &[u8]) -> (&[u8], &[u8])
 
 // Seals a page in a new file, and adds its stamp.
 fn put_page<H: Hand>(hand: &mut H, page: &[u8], stamps: &mut Vec<Stamp>) -> Result<(), HandFault>
-    ensures ok { OnOk result ((stamp : Stamp) × (stamps.new.items ≡ stamps.old.items ++ stamp ∷ []) × ((a : Assignment) → H.agrees hand.new a → Holds a stamp page.now) × H.serves hand.new stamp) }
+    ensures ok { OnOk result ((stamp : Stamp) × (stamps.new.items ≡ stamps.old.items ++ stamp ∷ [])
+        × ((a : Assignment) → H.agrees hand.new a → Holds a stamp page.now) × H.serves hand.new stamp) }
     ensures kept { (a : Assignment) → H.agrees hand.new a → H.agrees hand.old a }
     ensures serves { (s : Stamp) → H.serves hand.old s → H.serves hand.new s }
     ensures works { Always (H.works_for hand.old) → Always (H.works_for hand.new) }
@@ -50,7 +51,8 @@ fn put_pages<H: Hand>(
     stamps: &mut Vec<Stamp>,
 ) -> Result<(), HandFault>
     requires size { 0 < size }
-    ensures ok { OnOk result (ArePut (H.agrees hand.new) (H.serves hand.new) size bytes.now stamps.old.items stamps.new.items) }
+    ensures ok { OnOk result (ArePut (H.agrees hand.new) (H.serves hand.new) size bytes.now stamps.old.items
+        stamps.new.items) }
     ensures kept { (a : Assignment) → H.agrees hand.new a → H.agrees hand.old a }
     ensures serves { (s : Stamp) → H.serves hand.old s → H.serves hand.new s }
     ensures works { Always (H.works_for hand.old) → Always (H.works_for hand.new) }
@@ -80,7 +82,8 @@ fn put_pages<H: Hand>(
 pub fn put_cut<H: Hand>(alloc: Global, hand: &mut H, bytes: &[u8]) -> Result<PageList, HandFault>
     requires some { 0 < length bytes.now }
     requires few { length bytes.now ≤ 2097152 }
-    ensures ok { IfOk result (λ pin. (pages : List (List ℕ)) × IsCut bytes.now pages × ((a : Assignment) → H.agrees hand.new a → AreHeld a pin pages)) }
+    ensures ok { IfOk result (λ pin. (pages : List (List ℕ)) × IsCut bytes.now pages
+        × ((a : Assignment) → H.agrees hand.new a → AreHeld a pin pages)) }
     // Each page can be read.
     ensures served { IfOk result (λ pin. AreServed (H.serves hand.new) pin) }
     ensures kept { (a : Assignment) → H.agrees hand.new a → H.agrees hand.old a }
@@ -111,11 +114,13 @@ pub fn fetch_pages<H: Hand>(
     hand: &mut H,
     pages: &[Stamp],
 ) -> Result<Vec<u8>, HandFault>
-    ensures ok { IfOk result (λ v. (a : Assignment) → H.agrees hand.new a → (list_bytes a pages.now ≡ Some v.items) × AreWhole a pages.now) }
+    ensures ok { IfOk result (λ v. (a : Assignment) → H.agrees hand.new a →
+        (list_bytes a pages.now ≡ Some v.items) × AreWhole a pages.now) }
     ensures kept { (a : Assignment) → H.agrees hand.new a → H.agrees hand.old a }
     ensures serves { (s : Stamp) → H.serves hand.old s → H.serves hand.new s }
     ensures works { Always (H.works_for hand.old) → Always (H.works_for hand.new) }
-    ensures in_order { Always (H.works_for hand.old) → AreServed (H.serves hand.old) pages.now → IsDeviceErr result → ⊥ }
+    ensures in_order { Always (H.works_for hand.old) → AreServed (H.serves hand.old) pages.now → IsDeviceErr result →
+        ⊥ }
     ensures counted { H.failed hand.old ≤ H.failed hand.new }
     ensures cause { IfErr result (λ e. FaultCause (H.failed hand.old) (H.failed hand.new) e) }
 {

@@ -5,7 +5,9 @@ ghost use Rattle.std.specs.FinMap.{insert};
 ghost use Rattle.hand_core.specs.declared.hand.Stamp.{Stamp};
 ghost use Rattle.hand_core.specs.Device.{Assignment, Failed, Always, AreServed};
 ghost use Rattle.hand_core.specs.Papers.{Papers, part_key};
-ghost use Rattle.store_core.specs.Saved.{save_fault_number, save_fault_name, save_fault_of, IsFetched, AreFetched, with_parts, SaveCause, PinSaveCause, StoreCause, SaveLeaves, PartLeaves, StoreLeaves};
+ghost use Rattle.store_core.specs.Saved.{save_fault_number, save_fault_name, save_fault_of, IsFetched, AreFetched};
+ghost use Rattle.store_core.specs.Saved.{with_parts, SaveCause, PinSaveCause, StoreCause, SaveLeaves, PartLeaves};
+ghost use Rattle.store_core.specs.Saved.{StoreLeaves};
 ghost use Rattle.store_core.specs.Pages.{ArePinsServed};
 
 use crate::open::write_key;
@@ -89,13 +91,16 @@ fn fetch_part<H: Hand>(
     number: usize,
     hand: &mut H,
 ) -> Result<Vec<u8>, SaveFault>
-    ensures ok { IfOk result (λ bytes. (a : Assignment) → H.agrees hand.new a → IsFetched a part.now pin.now bytes.items) }
+    ensures ok { IfOk result (λ bytes. (a : Assignment) → H.agrees hand.new a →
+        IsFetched a part.now pin.now bytes.items) }
     ensures files { (a : Assignment) → H.agrees hand.new a → H.agrees hand.old a }
     ensures serves { (s : Stamp) → H.serves hand.old s → H.serves hand.new s }
     ensures works { Always (H.works_for hand.old) → Always (H.works_for hand.new) }
-    ensures in_order { Always (H.works_for hand.old) → AreServed (H.serves hand.old) pin.now → IfErr result (λ e. (n : ℕ) → e ≡ SaveFault.Device n → ⊥) }
+    ensures in_order { Always (H.works_for hand.old) → AreServed (H.serves hand.old) pin.now →
+        IfErr result (λ e. (n : ℕ) → e ≡ SaveFault.Device n → ⊥) }
     ensures counted { H.failed hand.old ≤ H.failed hand.new }
-    ensures cause { IfErr result (λ e. PinSaveCause (H.agrees hand.new) part.now pin.now number (Failed (H.failed hand.old) (H.failed hand.new)) e) }
+    ensures cause { IfErr result (λ e. PinSaveCause (H.agrees hand.new) part.now pin.now number
+        (Failed (H.failed hand.old) (H.failed hand.new)) e) }
 {
     match fetch_pages(alloc, hand, pin.stamps()) {
         Ok(bytes) => match decode(alloc, part.kind, &bytes) {
@@ -116,8 +121,11 @@ fn store_part<S: Shelf>(
     shelf: &mut S,
     key: &mut Vec<u8>,
 ) -> Result<(), SaveFault>
-    ensures ok { OnOk result ((papers : Papers) → S.holds shelf.new papers → (before : Papers) × S.holds shelf.old before × (papers ≡ insert before (part_key object.now part.now.name) bytes.now)) }
-    ensures left { OnErr result (StoreLeaves (S.holds shelf.old) (S.holds shelf.new) (part_key object.now part.now.name) bytes.now) }
+    ensures ok { OnOk result ((papers : Papers) → S.holds shelf.new papers →
+        (before : Papers) × S.holds shelf.old before
+        × (papers ≡ insert before (part_key object.now part.now.name) bytes.now)) }
+    ensures left { OnErr result (StoreLeaves (S.holds shelf.old) (S.holds shelf.new) (part_key object.now part.now.name)
+        bytes.now) }
     ensures counted { S.failed shelf.old ≤ S.failed shelf.new }
     ensures cause { IfErr result (λ e. StoreCause number (Failed (S.failed shelf.old) (S.failed shelf.new)) e) }
 {
@@ -146,15 +154,22 @@ pub fn save_part<S: Shelf, H: Hand>(
     hand: &mut H,
     key: &mut Vec<u8>,
 ) -> Result<(), SaveFault>
-    ensures ok { OnOk result ((bytes : List ℕ) × ((a : Assignment) → H.agrees hand.new a → IsFetched a part.now pin.now bytes) × ((papers : Papers) → S.holds shelf.new papers → (before : Papers) × S.holds shelf.old before × (papers ≡ insert before (part_key object.now part.now.name) bytes))) }
-    ensures left { IfErr result (λ e. PartLeaves (H.agrees hand.new) (S.holds shelf.old) (S.holds shelf.new) object.now part.now pin.now e) }
+    ensures ok { OnOk result ((bytes : List ℕ)
+        × ((a : Assignment) → H.agrees hand.new a → IsFetched a part.now pin.now bytes)
+        × ((papers : Papers) → S.holds shelf.new papers →
+        (before : Papers) × S.holds shelf.old before
+        × (papers ≡ insert before (part_key object.now part.now.name) bytes))) }
+    ensures left { IfErr result (λ e. PartLeaves (H.agrees hand.new) (S.holds shelf.old) (S.holds shelf.new) object.now
+        part.now pin.now e) }
     ensures files { (a : Assignment) → H.agrees hand.new a → H.agrees hand.old a }
     ensures serves { (s : Stamp) → H.serves hand.old s → H.serves hand.new s }
     ensures works { Always (H.works_for hand.old) → Always (H.works_for hand.new) }
-    ensures in_order { Always (H.works_for hand.old) → AreServed (H.serves hand.old) pin.now → IfErr result (λ e. (n : ℕ) → e ≡ SaveFault.Device n → Failed (S.failed shelf.old) (S.failed shelf.new)) }
+    ensures in_order { Always (H.works_for hand.old) → AreServed (H.serves hand.old) pin.now →
+        IfErr result (λ e. (n : ℕ) → e ≡ SaveFault.Device n → Failed (S.failed shelf.old) (S.failed shelf.new)) }
     ensures counted_shelf { S.failed shelf.old ≤ S.failed shelf.new }
     ensures counted_hand { H.failed hand.old ≤ H.failed hand.new }
-    ensures cause { IfErr result (λ e. PinSaveCause (H.agrees hand.new) part.now pin.now number (Failed (S.failed shelf.old) (S.failed shelf.new) ⊎ Failed (H.failed hand.old) (H.failed hand.new)) e) }
+    ensures cause { IfErr result (λ e. PinSaveCause (H.agrees hand.new) part.now pin.now number
+        (Failed (S.failed shelf.old) (S.failed shelf.new) ⊎ Failed (H.failed hand.old) (H.failed hand.new)) e) }
 {
     let bytes = match fetch_part(alloc, part, pin, number, hand) {
         Ok(bytes) => bytes,
@@ -182,16 +197,24 @@ pub fn save_parts<S: Shelf, H: Hand>(
     hand: &mut H,
 ) -> Result<(), SaveFault>
     requires { length pins.now ≡ length object.now.parts.items }
-    ensures ok { OnOk result ((all : List (List ℕ)) × ((a : Assignment) → H.agrees hand.new a → AreFetched a object.now.parts.items pins.now all) × (length all ≡ length object.now.parts.items) × ((papers : Papers) → S.holds shelf.new papers → (before : Papers) × S.holds shelf.old before × (papers ≡ with_parts before object.now.name object.now.parts.items all))) }
-    ensures left { IfErr result (λ e. SaveLeaves (H.agrees hand.new) (S.holds shelf.old) (S.holds shelf.new) object.now.name object.now.parts.items pins.now e) }
+    ensures ok { OnOk result ((all : List (List ℕ))
+        × ((a : Assignment) → H.agrees hand.new a → AreFetched a object.now.parts.items pins.now all)
+        × (length all ≡ length object.now.parts.items)
+        × ((papers : Papers) → S.holds shelf.new papers →
+        (before : Papers) × S.holds shelf.old before
+        × (papers ≡ with_parts before object.now.name object.now.parts.items all))) }
+    ensures left { IfErr result (λ e. SaveLeaves (H.agrees hand.new) (S.holds shelf.old) (S.holds shelf.new)
+        object.now.name object.now.parts.items pins.now e) }
     ensures files { (a : Assignment) → H.agrees hand.new a → H.agrees hand.old a }
     ensures serves { (s : Stamp) → H.serves hand.old s → H.serves hand.new s }
     ensures works { Always (H.works_for hand.old) → Always (H.works_for hand.new) }
     // Over a hand that works and pins whose pages can be read only the shelf can fail.
-    ensures in_order { Always (H.works_for hand.old) → ArePinsServed (H.serves hand.old) pins.now → IfErr result (λ e. (n : ℕ) → e ≡ SaveFault.Device n → Failed (S.failed shelf.old) (S.failed shelf.new)) }
+    ensures in_order { Always (H.works_for hand.old) → ArePinsServed (H.serves hand.old) pins.now →
+        IfErr result (λ e. (n : ℕ) → e ≡ SaveFault.Device n → Failed (S.failed shelf.old) (S.failed shelf.new)) }
     ensures counted_shelf { S.failed shelf.old ≤ S.failed shelf.new }
     ensures counted_hand { H.failed hand.old ≤ H.failed hand.new }
-    ensures cause { IfErr result (λ e. SaveCause (H.agrees hand.new) object.now.parts.items pins.now (Failed (S.failed shelf.old) (S.failed shelf.new) ⊎ Failed (H.failed hand.old) (H.failed hand.new)) e) }
+    ensures cause { IfErr result (λ e. SaveCause (H.agrees hand.new) object.now.parts.items pins.now
+        (Failed (S.failed shelf.old) (S.failed shelf.new) ⊎ Failed (H.failed hand.old) (H.failed hand.new)) e) }
 {
     let lists = pins.as_slice();
     let mut key = Vec::new(alloc);

@@ -24,8 +24,8 @@ fn pair_twice(rt: &impl Abort, alloc: Global) -> Object {
     }
 }
 
-// A queue in the format of this number, which has 1,025 bytes in the second one, where there is memory for it at the first
-// or at the second try.
+// A queue in the format of this number, which has 1,025 bytes in the second one, where there is memory for it at the
+// first or at the second try.
 fn queue_twice(rt: &impl Abort, alloc: Global, format: u8) -> Vec<u8> {
     match texts_of(alloc, format, 3, 255, 248) {
         Ok(bytes) => bytes,

@@ -33,12 +33,14 @@ lines_text said = flat_map said_text said
 -- whole lines were sent, and others are held back; these are their notes
 abbrev pub IsWhole : Option (List ℕ) → Option (List ℕ) → List ℕ → List Note → Type 0
 IsWhole start now held notes =
-    (sent : List Said) × (kept : List Said) × (notes_of sent ++ notes_of kept ≡ notes) × Appends start now (lines_text sent) × (held ≡ lines_text kept)
+    (sent : List Said) × (kept : List Said) × (notes_of sent ++ notes_of kept ≡ notes)
+    × Appends start now (lines_text sent) × (held ≡ lines_text kept)
 
 -- whole lines were sent, then a front of one more, and others were lost; these are their notes
 abbrev pub IsCut : Option (List ℕ) → Option (List ℕ) → List Note → Type 0
 IsCut start now notes =
-    (sent : List Said) × (last : Said) × (lost : List Said) × (count : ℕ) × (notes_of sent ++ notes_of (last ∷ lost) ≡ notes)
+    (sent : List Said) × (last : Said) × (lost : List Said) × (count : ℕ)
+    × (notes_of sent ++ notes_of (last ∷ lost) ≡ notes)
     × Appends start now (lines_text sent ++ take count (said_text last))
 
 -- what was sent since the start, with the lines held back and these notes
@@ -56,7 +58,8 @@ abbrev pub Adds : List ℕ → List ℕ → List Note → List Note → Said →
 Adds old new notes more line true = (new ≡ old ++ said_text line) × (more ≡ notes ++ note_of line)
 Adds old new notes more line false = (new ≡ old) × (more ≡ notes)
 
--- what handing lines and their notes over does: all go, to where no line was, and the notes behind those that were there; or nothing goes
+-- what handing lines and their notes over does: all go, to where no line was, and the notes behind those that were
+-- there; or nothing goes
 abbrev pub HandsOver : List ℕ → List ℕ → List Note → List Note → List ℕ → List Note → List Note → Bool → Type 0
 HandsOver held left notes fewer to noted more true = (to ≡ held) × (left ≡ []) × (more ≡ noted ++ notes) × (fewer ≡ [])
 HandsOver held left notes fewer to noted more false = (to ≡ []) × (left ≡ held) × (more ≡ noted) × (fewer ≡ notes)
@@ -85,7 +88,9 @@ IsTold (r ∷ receipts) n reply = ((r.call.number ≡ n) × (r.reply ≡ reply))
 
 -- a line is the table's for some action, or the last line of one of these receipts
 abbrev pub IsOfSession : List Told → Said → Type 0
-IsOfSession receipts line = ((q : Option Request) × MayAnswer q line) ⊎ ((n : ℕ) × (reply : Reply) × (line ≡ ended n reply) × IsTold receipts n reply)
+IsOfSession receipts line =
+    ((q : Option Request) × MayAnswer q line)
+    ⊎ ((n : ℕ) × (reply : Reply) × (line ≡ ended n reply) × IsTold receipts n reply)
 
 abbrev pub AreOfSession : List Told → List Said → Type 0
 AreOfSession receipts said = Every (IsOfSession receipts) said

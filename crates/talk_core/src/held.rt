@@ -65,7 +65,8 @@ fn add_opened(held: &mut Vec<u8>, text: &mut Vec<u8>, name: &Name, next: Option<
     held.extend_from_slice(text.as_slice()).is_ok()
 }
 
-// Holds the last line of a call back that was made before. It is not noted: its receipt is of another session, or of this one at its time.
+// Holds the last line of a call back that was made before. It is not noted: its receipt is of another session, or of
+// this one at its time.
 fn add_repeated(held: &mut Vec<u8>, text: &mut Vec<u8>, number: u32, reply: &Reply) -> bool
     ensures { (notes : List Note) → Adds held.old.items held.new.items notes notes (repeated number reply.now) result }
 {
@@ -116,7 +117,8 @@ fn hand_over(
     noted: &mut Vec<Note>,
 ) -> bool
     requires { to.old.items ≡ [] }
-    ensures { HandsOver text.old.items text.new.items notes.old.items notes.new.items to.new.items noted.old.items noted.new.items result }
+    ensures { HandsOver text.old.items text.new.items notes.old.items notes.new.items to.new.items noted.old.items
+        noted.new.items result }
 {
     if noted.append(notes).is_err() {
         return false;
@@ -225,11 +227,12 @@ impl Held {
         true
     }
 
-    /// Hands all lines over to `to`, in which there is none, and adds their notes to `noted`. Without memory for the notes it answers
-    /// false, and hands nothing over.
+    /// Hands all lines over to `to`, in which there is none, and adds their notes to `noted`. Without memory for the
+    /// notes it answers false, and hands nothing over.
     pub fn hand_over(&mut self, to: &mut Vec<u8>, noted: &mut Vec<Note>) -> bool
         requires { to.old.items ≡ [] }
-        ensures over { HandsOver self.old.0 self.new.0 self.old.1 self.new.1 to.new.items noted.old.items noted.new.items result }
+        ensures over { HandsOver self.old.0 self.new.0 self.old.1 self.new.1 to.new.items noted.old.items
+            noted.new.items result }
         ensures held { IsHeld self.old.0 self.old.1 }
         ensures empty { to.old.items ≡ [] }
     {

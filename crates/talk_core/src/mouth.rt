@@ -1,7 +1,7 @@
 //! The writing side of a session, which its threads share.
 //!
-//! What they say is held back under one lock, and sent under another one. So nobody who says something waits for a client that does not read; only who
-//! sends does.
+//! What they say is held back under one lock, and sent under another one. So nobody who says something waits for a
+//! client that does not read; only who sends does.
 
 ghost use Rattle.std.specs.Prelude.{◌≡◌, ℕ, List, Option};
 ghost use Rattle.talk_core.specs.declared.note.Note.{Note};
@@ -41,7 +41,8 @@ pub struct Mouth<W: Write + Drop, J: Start> {
 
 // How all went, where a line was lost or not.
 fn with_loss(health: Health, is_whole: bool) -> Health
-    ensures { (start now : Option (List ℕ)) (held : List ℕ) (notes : List Note) → IsWritten start now held health notes → IsWritten start now held result notes }
+    ensures { (start now : Option (List ℕ)) (held : List ℕ) (notes : List Note) →
+        IsWritten start now held health notes → IsWritten start now held result notes }
 {
     match health {
         Health::Fine => if is_whole {
@@ -99,7 +100,8 @@ impl<W: Write + Drop, J: Start> Mouth<W, J> {
         self.held.lock(rt).say_opened(name, next)
     }
 
-    /// Sends the lines that are held back, and waits until the writer has taken them. It answers whether all lines so far were sent.
+    /// Sends the lines that are held back, and waits until the writer has taken them. It answers whether all
+    /// lines so far were sent.
     pub fn flush<R: Wait>(&self, rt: &R) -> bool {
         let mut output = self.output.lock(rt);
         let is_whole = {
@@ -110,7 +112,8 @@ impl<W: Write + Drop, J: Start> Mouth<W, J> {
         output.flush() && is_whole
     }
 
-    /// Has the third thread send the lines that are held back, for this session of the object at this place. It does not wait for that.
+    /// Has the third thread send the lines that are held back, for this session of the object at this place. It
+    /// does not wait for that.
     pub fn ask<R: Wait>(&self, rt: &R, at: usize, session: u32) {
         *self.wish.lock(rt) = Wish::Send(at, session);
         self.came.notify_all();

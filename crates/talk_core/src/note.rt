@@ -17,8 +17,8 @@ pub struct Note {
     pub reply: Short,
 }
 
-/// Notes the last line of a call that has a receipt. A reply that needs memory takes what is spare. The error is that memory was
-/// refused, or none was spare; nothing is noted then.
+/// Notes the last line of a call that has a receipt. A reply that needs memory takes what is spare. The error is that
+/// memory was refused, or none was spare; nothing is noted then.
 pub fn add_note(
     alloc: Global,
     notes: &mut Vec<Note>,

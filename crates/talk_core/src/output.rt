@@ -111,8 +111,8 @@ impl<W: Write + Drop, J: Start> Output<W, J> {
         make_room_for(&mut self.notes, count)
     }
 
-    /// Takes the lines that are held back, unless some were taken that could not be sent. Where there is no memory for their notes, none
-    /// are taken, now and later.
+    /// Takes the lines that are held back, unless some were taken that could not be sent. Where there is no memory for
+    /// their notes, none are taken, now and later.
     pub fn take(&mut self, more: &mut Held) {
         if !is_fine(self.health) {
             return;
@@ -126,7 +126,8 @@ impl<W: Write + Drop, J: Start> Output<W, J> {
         }
     }
 
-    /// Sends the lines that were taken, in one write where the writer takes them so. It answers whether all lines so far were sent.
+    /// Sends the lines that were taken, in one write where the writer takes them so. It answers whether all
+    /// lines so far were sent.
     pub fn flush(&mut self) -> bool {
         if is_broken(self.health) {
             return false;

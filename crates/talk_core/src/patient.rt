@@ -10,9 +10,9 @@ pub const MOST_PAUSES: u32 = 40;
 /// How many such writes there may be in all once the bell has rung.
 pub const LAST_PAUSES: u32 = 4;
 
-/// A writer over one whose writes return after a while where nothing is taken, as those of a socket with a time-out do. A write that takes
-/// nothing is made again: at most 40 times in a row, and once the bell has rung at most four times in all. With a
-/// time-out of 250 ms these are ten seconds, and one.
+/// A writer over one whose writes return after a while where nothing is taken, as those of a socket with a time-out do.
+/// A write that takes nothing is made again: at most 40 times in a row, and once the bell has rung at most four times
+/// in all. With a time-out of 250 ms these are ten seconds, and one.
 #[derive(Drop)]
 pub struct Patient<'a, W: Write + Drop> {
     writer: W,

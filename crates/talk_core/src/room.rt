@@ -6,7 +6,8 @@ ghost use Rattle.std.specs.Vec.{vec_len, vec_capacity};
 // How many items there is room for at first.
 const FIRST: usize = 64;
 
-/// Makes room for so many items more, where there is none. It makes it for an eighth of what there is besides, so that little stays empty.
+/// Makes room for so many items more, where there is none. It makes it for an eighth of what there is besides, so
+/// that little stays empty.
 /// Without memory it answers false.
 pub fn make_room_for<T>(list: &mut Vec<T>, count: usize) -> bool
     ensures same { list.new.items ≡ list.old.items }

@@ -25,5 +25,6 @@ pub text_again : (a : Inside) → IsKept a → inside_of (text_of a) ≡ a
 text_again a is =
     let len : length (take a.len a.row) ≡ a.len = omega (arith, length-take a.len a.row, is.len, is.whole) in
     let row : take a.len a.row ++ replicate (most_text_bytes - length (take a.len a.row)) 0 ≡ a.row =
-    ap (λ n. take a.len a.row ++ replicate (most_text_bytes - n) 0) len ∙ ap (λ (t : List ℕ). take a.len a.row ++ t) (sym is.rest) ∙ take-append-drop a.len a.row in
+    ap (λ n. take a.len a.row ++ replicate (most_text_bytes - n) 0) len
+    ∙ ap (λ (t : List ℕ). take a.len a.row ++ t) (sym is.rest) ∙ take-append-drop a.len a.row in
     λ i. record { row = row i; len = len i }

@@ -15,7 +15,8 @@ use Rattle.apply_core.specs.declared.reply.Reply.{Reply}
 use Rattle.apply_core.specs.declared.reply.Reply.TheVariants.{Done, Refused, Failed}
 use Rattle.word_core.specs.Words.{Word, AreWords, line_of}
 use Rattle.trace_core.specs.Events.{Called, form_body}
-use Rattle.trace_core.specs.Text.{TraceLine, call_started, call_ended, event_words, front_words, trace_words, trace_text, lines_of, reply_ending}
+use Rattle.trace_core.specs.Text.{TraceLine, call_started, call_ended, event_words, front_words, trace_words}
+use Rattle.trace_core.specs.Text.{trace_text, lines_of, reply_ending}
 
 -- an object, its parts and its operations have names
 pub record HasNames (o : ObjectForm) : Type 0 where
@@ -51,7 +52,9 @@ HaveWords (line ∷ others) (words ∷ more) = AreWords line words × HaveWords 
 
 -- the lines of the text of a trace have the words that were written
 abbrev pub TraceIsRead : Type 0
-TraceIsRead = (o : ObjectForm) (opening : List Contents) (events : List TraceLine) → HasNames o → All IsContents opening → All (IsTold o) events
+TraceIsRead =
+    (o : ObjectForm) (opening : List Contents) (events : List TraceLine) → HasNames o → All IsContents opening →
+    All (IsTold o) events
     → HaveWords (lines (trace_text o opening events)) (trace_words o opening events)
 
 -- the bytes of a part are read from its line
@@ -64,7 +67,8 @@ RepliesApart = (first second : Reply) → reply_ending first ≡ reply_ending se
 
 -- before any event the text of a trace is its front
 abbrev pub BeginsWithFront : Type 0
-BeginsWithFront = (o : ObjectForm) (opening : List Contents) → trace_text o opening [] ≡ lines_of (front_words o opening)
+BeginsWithFront =
+    (o : ObjectForm) (opening : List Contents) → trace_text o opening [] ≡ lines_of (front_words o opening)
 
 -- with one event more the text of a trace has one line more
 abbrev pub GrowsByLine : Type 0

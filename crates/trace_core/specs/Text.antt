@@ -45,7 +45,9 @@ operation_name o place = slice_index_or (map (λ f. f.name) o.operations) place 
 
 -- `start N sK OP ARG ..`
 abbrev pub start_words : ObjectForm → Called → List Word
-start_words o c = bare (codes "start") ∷ bare (decimal c.number) ∷ session_word c.session ∷ bare (operation_name o c.operation) ∷ map datum_word c.arguments
+start_words o c =
+    bare (codes "start") ∷ bare (decimal c.number) ∷ session_word c.session ∷ bare (operation_name o c.operation)
+    ∷ map datum_word c.arguments
 
 -- `end N`, and how the call ended
 abbrev pub end_words : ℕ → Reply → List Word

@@ -15,7 +15,8 @@ use word_core::line::{push_data_line, push_words};
 use word_core::word::Written;
 
 /// Adds the line of a call that started: `start N sK OP ARG ..`, with its number, its session, the operation at
-/// this place of the object, from 0, and its arguments in order. Where the object has no operation there, no name stands.
+/// this place of the object, from 0, and its arguments in order. Where the object has no operation
+/// there, no name stands.
 ///
 /// The error is that memory was refused; how much of the line then stands in `out` is not said.
 pub fn push_start(

@@ -1,6 +1,7 @@
 //! Laws of traces, over the definitions alone.
 
-ghost use Rattle.trace_core.specs.Laws.{TraceIsRead, PartIsRead, RepliesApart, BeginsWithFront, GrowsByLine, BodyIsSame};
+ghost use Rattle.trace_core.specs.Laws.{TraceIsRead, PartIsRead, RepliesApart, BeginsWithFront, GrowsByLine};
+ghost use Rattle.trace_core.specs.Laws.{BodyIsSame};
 
 /// The lines of the text of a trace have the words that were written.
 pub fn trace_is_read()

@@ -23,8 +23,8 @@ pub enum Pace {
     InTurn,
 }
 
-/// The call that runs now of an operation that conflicts with itself. Of such calls, at most one runs of an operation; of several
-/// operations the one that started last is meant.
+/// The call that runs now of an operation that conflicts with itself. Of such calls, at most one runs of an operation;
+/// of several operations the one that started last is meant.
 #[derive(Drop)]
 pub struct Turns {
     // For each operation those with which it conflicts, a bit each.

@@ -63,4 +63,6 @@ parts_contents_parts (table e m) = refl
 
 abbrev pub contents_code : Coded Contents
 contents_code =
-    code_by Parts (coded⊎ (coded× elem_code (coded_list datum_code)) (coded⊎ (coded× elem_code (coded_list datum_code)) (coded× elem_code (map.code (coded_list coded_ℕ) datum_code)))) contents_parts parts_contents parts_contents_parts
+    code_by Parts (coded⊎ (coded× elem_code (coded_list datum_code))
+    (coded⊎ (coded× elem_code (coded_list datum_code)) (coded× elem_code (map.code (coded_list coded_ℕ) datum_code))))
+    contents_parts parts_contents parts_contents_parts

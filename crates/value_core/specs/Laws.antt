@@ -11,11 +11,15 @@ use Rattle.value_core.specs.Spelling.{SpellsIn, spelling_in}
 
 -- no two values share a spelling, in one kind or in two, in one format or in two
 abbrev pub SpellingUnique : Type 0
-SpellingUnique = (f g : Format) (bytes : List ℕ) (k l : Kind) (first second : Contents) → SpellsIn f bytes k first → SpellsIn g bytes l second → (f ≡ g) × (first ≡ second)
+SpellingUnique =
+    (f g : Format) (bytes : List ℕ) (k l : Kind) (first second : Contents) → SpellsIn f bytes k first →
+    SpellsIn g bytes l second → (f ≡ g) × (first ≡ second)
 
 -- the integer at place i of an array stands in the four bytes from 4 + 4 * i on
 abbrev pub IntegersStandInPlace : Type 0
-IntegersStandInPlace = (f : Format) (xs : List Datum) (i n : ℕ) → IsContentsIn f (array elem.Integer xs) → slice_get xs i ≡ Some (datum.Integer n) →
+IntegersStandInPlace =
+    (f : Format) (xs : List Datum) (i n : ℕ) → IsContentsIn f (array elem.Integer xs) →
+    slice_get xs i ≡ Some (datum.Integer n) →
     take 4 (drop (4 + 4 * i) (spelling_in f (array elem.Integer xs))) ≡ to_be_bytes w32 n
 
 -- each of these numbers is a byte

@@ -1,5 +1,6 @@
 -- What the operations do to contents. Where the kind does not fit, nothing is asked of them.
-use Rattle.std.specs.Prelude.{◌≡◌, ℕ, ◌+◌, ◌-◌, ◌^◌, nat_lt, nat_le, Bool, false, ◌||◌, if◌then◌else◌, List, [], ◌∷◌, ◌++◌, length, drop, Result, Ok, Err, IsOk, slice_get, slice_set, ok_or, replicate}
+use Rattle.std.specs.Prelude.{◌≡◌, ℕ, ◌+◌, ◌-◌, ◌^◌, nat_lt, nat_le, Bool, false, ◌||◌, if◌then◌else◌, List, [], ◌∷◌}
+use Rattle.std.specs.Prelude.{◌++◌, length, drop, Result, Ok, Err, IsOk, slice_get, slice_set, ok_or, replicate}
 use Rattle.std.specs.FinMap as map
 use Rattle.value_core.specs.declared.datum.Datum.{Datum}
 use Rattle.value_core.specs.declared.refusal.Refusal.{Refusal}
@@ -64,7 +65,8 @@ under_key (table e m) k = ok_or (map.get m k) Missing
 abbrev pub with_row : Contents → List ℕ → Datum → Result Contents Refusal
 with_row (array e xs) k d = Err Full
 with_row (queue e xs) k d = Err Full
-with_row (table e m) k d = if map.contains_key m k || nat_lt (map.len m) most_elements then Ok (table e (map.insert m k d)) else Err Full
+with_row (table e m) k d =
+    if map.contains_key m k || nat_lt (map.len m) most_elements then Ok (table e (map.insert m k d)) else Err Full
 
 -- a table without a key that it has
 abbrev pub without_key : Contents → List ℕ → Result Contents Refusal

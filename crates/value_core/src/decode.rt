@@ -8,7 +8,8 @@ ghost use Rattle.value_core.specs.declared.datum.Datum.TheVariants as datum;
 ghost use Rattle.value_core.specs.declared.kind.Elem.TheVariants as elem;
 ghost use Rattle.value_core.specs.Limits.{most_elements};
 ghost use Rattle.value_core.specs.Contents.{Contents};
-ghost use Rattle.value_core.specs.Spelling.{SpellsIn, Spells, SpellsInSome, SpellElements, SpellRows, IsAfter, header_in, IsCountOf, BeginsAsIn, BeginsAs};
+ghost use Rattle.value_core.specs.Spelling.{SpellsIn, Spells, SpellsInSome, SpellElements, SpellRows, IsAfter};
+ghost use Rattle.value_core.specs.Spelling.{header_in, IsCountOf, BeginsAsIn, BeginsAs};
 ghost use Rattle.value_core.specs.Rows.{rows_sort, rows_map};
 ghost use Rattle.text_core.specs.TextOrder.{text_cmp};
 ghost use Rattle.std.specs.FinMap.{FinMap};
@@ -60,7 +61,8 @@ fn decode_cells(
 ) -> Result<Cells, DecodeFault>
     ensures sort { IfOk result (λ cells. cells_sort cells ≡ sort) }
     ensures found { IfOk result (λ cells. SpellElements format bytes.now sort count (cells_data cells)) }
-    ensures damaged { IsErrOf result DecodeFault.Damaged → (xs : List Datum) → SpellElements format bytes.now sort count xs → ⊥ }
+    ensures damaged { IsErrOf result DecodeFault.Damaged → (xs : List Datum) →
+        SpellElements format bytes.now sort count xs → ⊥ }
 {
     match sort {
         Elem::Integer => Ok(Cells::Integers(decode_integers(alloc, format, count, bytes)?)),
@@ -75,8 +77,10 @@ fn decode_integers(
     count: usize,
     bytes: &[u8],
 ) -> Result<Vec<u32>, DecodeFault>
-    ensures found { IfOk result (λ all. SpellElements format bytes.now elem.Integer count (map datum.Integer all.items)) }
-    ensures damaged { IsErrOf result DecodeFault.Damaged → (xs : List Datum) → SpellElements format bytes.now elem.Integer count xs → ⊥ }
+    ensures found { IfOk result (λ all. SpellElements format bytes.now elem.Integer count
+        (map datum.Integer all.items)) }
+    ensures damaged { IsErrOf result DecodeFault.Damaged → (xs : List Datum) →
+        SpellElements format bytes.now elem.Integer count xs → ⊥ }
 {
     let mut all = Vec::with_capacity(alloc, count)?;
     let mut rest = bytes;
@@ -104,7 +108,8 @@ fn decode_texts(
     bytes: &[u8],
 ) -> Result<Vec<Text>, DecodeFault>
     ensures found { IfOk result (λ all. SpellElements format bytes.now elem.Text count (map datum.Text all.items)) }
-    ensures damaged { IsErrOf result DecodeFault.Damaged → (xs : List Datum) → SpellElements format bytes.now elem.Text count xs → ⊥ }
+    ensures damaged { IsErrOf result DecodeFault.Damaged → (xs : List Datum) →
+        SpellElements format bytes.now elem.Text count xs → ⊥ }
 {
     let mut all = Vec::with_capacity(alloc, count)?;
     let mut rest = bytes;
@@ -135,7 +140,8 @@ fn decode_queue(
 ) -> Result<Queue, DecodeFault>
     ensures sort { IfOk result (λ line. queue_sort line ≡ sort) }
     ensures found { IfOk result (λ line. SpellElements format bytes.now sort count (queue_data line)) }
-    ensures damaged { IsErrOf result DecodeFault.Damaged → (xs : List Datum) → SpellElements format bytes.now sort count xs → ⊥ }
+    ensures damaged { IsErrOf result DecodeFault.Damaged → (xs : List Datum) →
+        SpellElements format bytes.now sort count xs → ⊥ }
 {
     let mut line = Queue::with_capacity(alloc, sort, count)?;
     let mut rest = bytes;
@@ -162,7 +168,8 @@ fn decode_rows(
 ) -> Result<Rows, DecodeFault>
     ensures sort { IfOk result (λ rows. rows_sort rows ≡ sort) }
     ensures found { IfOk result (λ rows. SpellRows format bytes.now sort count (rows_map rows)) }
-    ensures damaged { IsErrOf result DecodeFault.Damaged → (m : FinMap text_cmp Datum) → SpellRows format bytes.now sort count m → ⊥ }
+    ensures damaged { IsErrOf result DecodeFault.Damaged → (m : FinMap text_cmp Datum) →
+        SpellRows format bytes.now sort count m → ⊥ }
 {
     let mut rows = Rows::new(alloc, sort);
     let mut rest = bytes;
@@ -205,7 +212,8 @@ fn decode_elements(
 ) -> Result<Value, DecodeFault>
     requires { count ≤ most_elements }
     ensures found { IfOk result (λ value. SpellsIn format (header_in format kind count ++ bytes.now) kind value) }
-    ensures damaged { IsErrOf result DecodeFault.Damaged → (value : Contents) → SpellsIn format (header_in format kind count ++ bytes.now) kind value → ⊥ }
+    ensures damaged { IsErrOf result DecodeFault.Damaged → (value : Contents) →
+        SpellsIn format (header_in format kind count ++ bytes.now) kind value → ⊥ }
     ensures header { (IsCountOf kind count → ⊥) → IsErrOf result DecodeFault.Damaged }
 {
     let many = count as usize;
@@ -231,7 +239,8 @@ fn decode_elements(
 // The value of this kind that the bytes spell in a format.
 fn decode_in(alloc: Global, format: Format, kind: Kind, bytes: &[u8]) -> Result<Value, DecodeFault>
     ensures found { IfOk result (λ value. SpellsIn format bytes.now kind value) }
-    ensures damaged { IsErrOf result DecodeFault.Damaged → (value : Contents) → SpellsIn format bytes.now kind value → ⊥ }
+    ensures damaged { IsErrOf result DecodeFault.Damaged → (value : Contents) → SpellsIn format bytes.now kind value →
+        ⊥ }
     ensures header { (BeginsAsIn format kind bytes.now → ⊥) → IsErrOf result DecodeFault.Damaged }
 {
     let Some((code, count, rest)) = read_header(format, bytes) else {
@@ -259,7 +268,8 @@ pub fn decode(alloc: Global, kind: Kind, bytes: &[u8]) -> Result<Value, DecodeFa
 /// seen.
 pub fn decode_v1(alloc: Global, kind: Kind, bytes: &[u8]) -> Result<Value, DecodeFault>
     ensures found { IfOk result (λ value. SpellsIn Format.First bytes.now kind value) }
-    ensures damaged { IsErrOf result DecodeFault.Damaged → (value : Contents) → SpellsIn Format.First bytes.now kind value → ⊥ }
+    ensures damaged { IsErrOf result DecodeFault.Damaged → (value : Contents) →
+        SpellsIn Format.First bytes.now kind value → ⊥ }
     ensures header { (BeginsAsIn Format.First kind bytes.now → ⊥) → IsErrOf result DecodeFault.Damaged }
 {
     decode_in(alloc, Format::First, kind, bytes)

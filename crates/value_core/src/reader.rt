@@ -17,8 +17,10 @@ use text_core::text::Text;
 
 /// The byte of the kind, and the number of elements.
 pub fn read_header(format: Format, bytes: &[u8]) -> Option<(u8, u16, &[u8])>
-    ensures some { IfSome result (λ r. (bytes.now ≡ number_of format ∷ r.0 ∷ to_be_bytes w16 r.1 ++ r.2.now) × (r.1 < 2 ^ 16)) }
-    ensures none { IfNone result ((code count : ℕ) (rest : List ℕ) → bytes.now ≢ number_of format ∷ code ∷ to_be_bytes w16 count ++ rest) }
+    ensures some { IfSome result (λ r. (bytes.now ≡ number_of format ∷ r.0 ∷ to_be_bytes w16 r.1 ++ r.2.now)
+        × (r.1 < 2 ^ 16)) }
+    ensures none { IfNone result ((code count : ℕ) (rest : List ℕ) →
+        bytes.now ≢ number_of format ∷ code ∷ to_be_bytes w16 count ++ rest) }
 {
     match bytes {
         [number, code, high, low, rest @ ..] => {
@@ -62,7 +64,8 @@ fn read_length(format: Format, bytes: &[u8]) -> Option<(TextLength, &[u8])>
 /// A text: its length, and its bytes.
 pub fn read_text(format: Format, bytes: &[u8]) -> Option<(Text, &[u8])>
     ensures some { IfSome result (λ r. IsTextIn format r.0 × (bytes.now ≡ spelled_text_in format r.0 ++ r.1.now)) }
-    ensures none { IfNone result ((text rest : List ℕ) → IsTextIn format text → bytes.now ≢ spelled_text_in format text ++ rest) }
+    ensures none { IfNone result ((text rest : List ℕ) → IsTextIn format text →
+        bytes.now ≢ spelled_text_in format text ++ rest) }
 {
     let Some((len, rest)) = read_length(format, bytes) else {
         return None;
@@ -80,8 +83,10 @@ pub fn read_text(format: Format, bytes: &[u8]) -> Option<(Text, &[u8])>
 
 /// An integer or a text.
 pub fn read_datum(format: Format, sort: Elem, bytes: &[u8]) -> Option<(Datum, &[u8])>
-    ensures some { IfSome result (λ r. IsElementIn format sort r.0 × (bytes.now ≡ spelled_datum_in format r.0 ++ r.1.now)) }
-    ensures none { IfNone result ((datum : Datum) (rest : List ℕ) → IsElementIn format sort datum → bytes.now ≢ spelled_datum_in format datum ++ rest) }
+    ensures some { IfSome result (λ r. IsElementIn format sort r.0
+        × (bytes.now ≡ spelled_datum_in format r.0 ++ r.1.now)) }
+    ensures none { IfNone result ((datum : Datum) (rest : List ℕ) → IsElementIn format sort datum →
+        bytes.now ≢ spelled_datum_in format datum ++ rest) }
 {
     match sort {
         Elem::Integer => {
@@ -101,8 +106,10 @@ pub fn read_datum(format: Format, sort: Elem, bytes: &[u8]) -> Option<(Datum, &[
 
 /// The key of a table, and what stands under it.
 pub fn read_row(format: Format, sort: Elem, bytes: &[u8]) -> Option<(Text, Datum, &[u8])>
-    ensures some { IfSome result (λ r. IsRowIn format sort (r.0, r.1) × (bytes.now ≡ spelled_row_in format (r.0, r.1) ++ r.2.now)) }
-    ensures none { IfNone result ((row : List ℕ × Datum) (rest : List ℕ) → IsRowIn format sort row → bytes.now ≢ spelled_row_in format row ++ rest) }
+    ensures some { IfSome result (λ r. IsRowIn format sort (r.0, r.1)
+        × (bytes.now ≡ spelled_row_in format (r.0, r.1) ++ r.2.now)) }
+    ensures none { IfNone result ((row : List ℕ × Datum) (rest : List ℕ) → IsRowIn format sort row →
+        bytes.now ≢ spelled_row_in format row ++ rest) }
 {
     let Some(front) = read_text(format, bytes) else {
         return None;

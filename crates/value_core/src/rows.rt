@@ -160,7 +160,8 @@ impl Rows {
 
     /// Adds the bytes of the rows, keys rising.
     pub fn put(&self, out: &mut Vec<u8>) -> Result<(), AllocError>
-        ensures { OnOk result (out.new.items ≡ out.old.items ++ flat_map spelled_row (map.entries (rows_map self.now))) }
+        ensures { OnOk result (out.new.items
+            ≡ out.old.items ++ flat_map spelled_row (map.entries (rows_map self.now))) }
     {
         match self {
             Rows::Integers(all) => put_integers(all.rows(), out),

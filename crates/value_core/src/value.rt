@@ -5,7 +5,9 @@ ghost use Rattle.value_core.specs.Datum.{elem_of, IsElement};
 ghost use Rattle.value_core.specs.Kinds.{sort_of, IsKind, IsArray, IsQueue, IsTable};
 ghost use Rattle.value_core.specs.Body.{contents_of};
 ghost use Rattle.value_core.specs.Contents.{kind_of, elements_of, rows_of, IsContents, IsContentsIn};
-ghost use Rattle.value_core.specs.Meaning.{opening_of, element_at, with_element, oldest_of, without_oldest, with_newest, has_key, under_key, with_row, without_key, count_of, Changes, Grows};
+ghost use Rattle.value_core.specs.Meaning.{opening_of, element_at, with_element, oldest_of, without_oldest};
+ghost use Rattle.value_core.specs.Meaning.{with_newest, has_key, under_key, with_row, without_key, count_of, Changes};
+ghost use Rattle.value_core.specs.Meaning.{Grows};
 
 use crate::cells::Cells;
 use crate::datum::Datum;

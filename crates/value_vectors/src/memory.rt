@@ -1,4 +1,5 @@
-//! Wants of memory while values grow: each is told by name, changes nothing, and the call goes well when it is made again.
+//! Wants of memory while values grow: each is told by name, changes nothing, and the call goes well
+//! when it is made again.
 //!
 //! `gate/refuse_memory` runs each test whose name begins with `refused_` with the first, the second, .. growth
 //! refused. With no growth refused they are happy paths. (Of values that are read, spelled, copied and listed

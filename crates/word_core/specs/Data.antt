@@ -1,5 +1,6 @@
 -- Integers, texts and the names of sessions as words.
-use Rattle.std.specs.Prelude.{ℕ, ◌&&◌, nat_lt, ◌==◌, List, [], ◌∷◌, length, Option, Some, None, option_map, decimal, if◌then◌else◌}
+use Rattle.std.specs.Prelude.{ℕ, ◌&&◌, nat_lt, ◌==◌, List, [], ◌∷◌, length, Option, Some, None, option_map, decimal}
+use Rattle.std.specs.Prelude.{if◌then◌else◌}
 use Rattle.std.specs.Str.{all_ascii_digits}
 use Rattle.std.specs.Str.Parse.{digits_value}
 use Rattle.value_core.specs.declared.datum.Datum.{Datum}
@@ -9,7 +10,8 @@ use Rattle.word_core.specs.Words.{Word, bare, quoted}
 -- an integer is decimal digits of a value up to 4294967295
 abbrev pub integer_of : List ℕ → Option ℕ
 integer_of bytes =
-    if nat_lt 0 (length bytes) && (all_ascii_digits bytes && nat_lt (digits_value 10 bytes) 4294967296) then Some (digits_value 10 bytes) else None
+    if nat_lt 0 (length bytes) && (all_ascii_digits bytes && nat_lt (digits_value 10 bytes) 4294967296) then Some
+    (digits_value 10 bytes) else None
 
 -- `sK` is the session K
 abbrev pub session_of : List ℕ → Option ℕ

@@ -54,6 +54,7 @@ ending_of words = bare_of words >>= λ verb. ended_by verb.0 verb.1
 -- these words say that a call ended so
 abbrev pub TellEnding : Ending → List Word → Type 0
 TellEnding (done None) words = words ≡ bare (codes "done") ∷ []
-TellEnding (done (Some datum)) words = (word : Word) × (words ≡ bare (codes "done") ∷ word ∷ []) × (datum_of word ≡ Some datum)
+TellEnding (done (Some datum)) words =
+    (word : Word) × (words ≡ bare (codes "done") ∷ word ∷ []) × (datum_of word ≡ Some datum)
 TellEnding (refused word) words = words ≡ bare (codes "refused") ∷ bare word ∷ []
 TellEnding (failed word) words = words ≡ bare (codes "failed") ∷ bare word ∷ []

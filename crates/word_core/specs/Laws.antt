@@ -15,7 +15,8 @@ WordsUnique = (line : List ℕ) (a b : List Word) → AreWords line a → AreWor
 
 -- a line says one thing, whatever is asked of its words
 abbrev pub SaidOnce : Type 0 → Type 0
-SaidOnce A = (said_of : List Word → Option A) (line : List ℕ) (a b : A) → Says said_of line a → Says said_of line b → a ≡ b
+SaidOnce A =
+    (said_of : List Word → Option A) (line : List ℕ) (a b : A) → Says said_of line a → Says said_of line b → a ≡ b
 
 -- what is written as words has these words
 abbrev pub WrittenWords : Type 0
@@ -36,7 +37,8 @@ WrittenSession = (n : ℕ) → n < 2 ^ 32 → IsWord (session_word n) × (sessio
 -- integers and texts that are written are words without line ends, and are read from them
 abbrev pub WrittenData : Type 0
 WrittenData = (elements : List Datum) → All IsDatum elements
-    → EachWord (map datum_word elements) × EachClear (map datum_word elements) × (data_of (map datum_word elements) ≡ Some elements)
+    → EachWord (map datum_word elements) × EachClear (map datum_word elements)
+    × (data_of (map datum_word elements) ≡ Some elements)
 
 -- words are read as how a call ended exactly where they say so
 abbrev pub EndingExact : Type 0
@@ -44,12 +46,18 @@ EndingExact = (words : List Word) (ending : Ending) → (ending_of words ≡ Som
 
 -- how a call ended is written in words, and is read from them
 abbrev pub WrittenEnding : Type 0
-WrittenEnding = (ending : Ending) → IsEnding ending → EachWord (ending_words ending) × (ending_of (ending_words ending) ≡ Some ending)
+WrittenEnding =
+    (ending : Ending) → IsEnding ending → EachWord (ending_words ending)
+    × (ending_of (ending_words ending) ≡ Some ending)
 
 -- a line that tells how a call ended has these words
 abbrev pub WrittenFinish : Type 0
-WrittenFinish = (n : ℕ) (ending : Ending) → n < 2 ^ 64 → IsEnding ending → AreWords (words_text (finish_words n ending)) (finish_words n ending)
+WrittenFinish =
+    (n : ℕ) (ending : Ending) → n < 2 ^ 64 → IsEnding ending →
+    AreWords (words_text (finish_words n ending)) (finish_words n ending)
 
 -- what is shown of a value tells it, among the values of its kind
 abbrev pub ShownApart : Type 0
-ShownApart = (first second : Contents) → IsContents first → IsContents second → kind_of first ≡ kind_of second → value_text first ≡ value_text second → first ≡ second
+ShownApart =
+    (first second : Contents) → IsContents first → IsContents second → kind_of first ≡ kind_of second →
+    value_text first ≡ value_text second → first ≡ second

@@ -30,7 +30,9 @@ words_of all = map word_of all
 
 -- the words of a line, or none where the line has none
 abbrev pub AreWordsOf : List ℕ → Option (Vec Word) → Type 0
-AreWordsOf line found = MatchOption found ((all : List words.Word) → words.AreWords line all → ⊥) (λ v. words.AreWords line (words_of v.items))
+AreWordsOf line found =
+    MatchOption found ((all : List words.Word) → words.AreWords line all → ⊥)
+    (λ v. words.AreWords line (words_of v.items))
 
 -- bytes, and the words behind them
 abbrev pub bare_view : Bor (List ℕ) × Bor (List Word) → List ℕ × List words.Word

@@ -2,7 +2,8 @@
 
 ghost use Rattle.std.specs.Prelude.{◌≡◌, ◌++◌, OnOk, option_map};
 ghost use Rattle.word_core.specs.Words.{behind_word, line_of};
-ghost use Rattle.word_core.specs.Ending.{ending_words, finish_words, ending_of as ending_in, ended_by as ended_in, done_of as done_in};
+ghost use Rattle.word_core.specs.Ending.{ending_words, finish_words, ending_of as ending_in, ended_by as ended_in};
+ghost use Rattle.word_core.specs.Ending.{done_of as done_in};
 ghost use Rattle.word_core.specs.View.{words_of as words_in, ending_view};
 
 use crate::line::{push_line, push_more};

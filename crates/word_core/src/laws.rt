@@ -1,6 +1,8 @@
 //! Laws of words, over the definitions alone.
 
-ghost use Rattle.word_core.specs.Laws.{WordsUnique, SaidOnce, WrittenWords, WrittenClear, WrittenInteger, WrittenSession, WrittenData, EndingExact, WrittenEnding, WrittenFinish, ShownApart};
+ghost use Rattle.word_core.specs.Laws.{WordsUnique, SaidOnce, WrittenWords, WrittenClear, WrittenInteger};
+ghost use Rattle.word_core.specs.Laws.{WrittenSession, WrittenData, EndingExact, WrittenEnding, WrittenFinish};
+ghost use Rattle.word_core.specs.Laws.{ShownApart};
 
 /// A line has its words in one way.
 pub fn words_unique()

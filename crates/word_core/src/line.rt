@@ -78,7 +78,8 @@ pub fn push_data_line(
     words: &[Written],
     elements: &[Datum],
 ) -> Result<(), AllocError>
-    ensures { OnOk result (out.new.items ≡ out.old.items ++ line_of (map written_word words.now ++ map datum_word elements.now)) }
+    ensures { OnOk result (out.new.items ≡ out.old.items
+        ++ line_of (map written_word words.now ++ map datum_word elements.now)) }
 {
     push_both(out, words, elements)?;
     out.push(b'\n')?;
@@ -87,7 +88,8 @@ pub fn push_data_line(
 
 // Adds words, and integers and texts behind them.
 fn push_both(out: &mut Vec<u8>, words: &[Written], elements: &[Datum]) -> Result<(), AllocError>
-    ensures { OnOk result (out.new.items ≡ out.old.items ++ words_text (map written_word words.now ++ map datum_word elements.now)) }
+    ensures { OnOk result (out.new.items ≡ out.old.items
+        ++ words_text (map written_word words.now ++ map datum_word elements.now)) }
 {
     if words.is_empty() {
         return push_data(out, elements);

@@ -32,7 +32,8 @@ fn push_elements(
     open_mark: u8,
     close_mark: u8,
 ) -> Result<(), AllocError>
-    ensures { OnOk result (out.new.items ≡ out.old.items ++ (open_mark ∷ [] ++ data_text (elements_of value.now) ++ close_mark ∷ [])) }
+    ensures { OnOk result (out.new.items ≡ out.old.items
+        ++ (open_mark ∷ [] ++ data_text (elements_of value.now) ++ close_mark ∷ [])) }
 {
     let elements = value.elements(alloc)?;
     out.push(open_mark)?;

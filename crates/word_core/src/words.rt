@@ -1,7 +1,8 @@
 //! All words of a line, and what stands at their front.
 
 ghost use Rattle.std.specs.Prelude.{◌≡◌, IfOk, option_map};
-ghost use Rattle.word_core.specs.Data.{data_of as data_in, bare_of as bare_in, only_bare as only_bare_in, only_integer as only_integer_in};
+ghost use Rattle.word_core.specs.Data.{data_of as data_in, bare_of as bare_in, only_bare as only_bare_in};
+ghost use Rattle.word_core.specs.Data.{only_integer as only_integer_in};
 ghost use Rattle.word_core.specs.View.{AreWordsOf, words_of as words_in, bare_view};
 
 use crate::next::{Next, next_word};

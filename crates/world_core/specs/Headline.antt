@@ -21,8 +21,10 @@ use Rattle.world_core.specs.Plays.{Plays, finishes, HasFailedStep}
 pub record IsSequential (w : Scene) : Type 0 where
   -- each finished call has the reply that the sequential object gives at its place
   pub replies : IsLegal (history_of w.board.history) w.opening
-  -- the published contents, which the bytes under the published pins spell, are the sequential object's after that history
-  pub published : (a : Assignment) → AgreesWith w a → ShowContents a (kinds_of w.board.object) w.board.pins (leads_to (history_of w.board.history) w.opening)
+  -- the published contents, which the bytes under the published pins spell, are the sequential
+  -- object's after that history
+  pub published : (a : Assignment) → AgreesWith w a →
+      ShowContents a (kinds_of w.board.object) w.board.pins (leads_to (history_of w.board.history) w.opening)
   pub agrees : (a : Assignment) × AgreesWith w a
   -- each finished call stands there once, each session's in its order, and nothing else ended
   pub once : EachPair (λ (e f : Noted). e.number ≢ f.number) w.board.history
@@ -36,7 +38,8 @@ pub record IsSequential (w : Scene) : Type 0 where
   pub paths : SatisfiesAll (paths_of w.board) (past_of w.board)
 
 -- Every history is sequential: what holds of the world of an object after these events, which were answered so.
-pub record EveryHistoryIsSequential (o : Object) (events : List WorldEvent) (answers : List EventAnswer) (new : Scene) : Type 0 where
+pub record EveryHistoryIsSequential (o : Object) (events : List WorldEvent) (answers : List EventAnswer)
+    (new : Scene) : Type 0 where
   pub old : Scene
   pub begins : IsNew o old
   pub plays : Plays old events answers new
@@ -44,7 +47,8 @@ pub record EveryHistoryIsSequential (o : Object) (events : List WorldEvent) (ans
   -- the calls that finished, with the replies that they were given, are the history, in order
   pub told : map (λ (e : Noted). (e.number, e.reply)) new.board.history ≡ finishes events answers
   -- a call fails for the device only where a step of its own was made to fail, and never since a part is damaged
-  pub fails : Every (λ (e : Noted). e.reply ≡ replies.Failed failures.Device → HasFailedStep e.number events answers) new.board.history
+  pub fails : Every (λ (e : Noted). e.reply ≡ replies.Failed failures.Device → HasFailedStep e.number events answers)
+      new.board.history
   pub sound : Every (λ (e : Noted). e.reply ≢ replies.Failed failures.Damaged) new.board.history
   -- no waiting call may start
   pub rests : Rests new.board

@@ -1,5 +1,6 @@
 -- What holds of the tables of a world.
-use Rattle.std.specs.Prelude.{◌≡◌, ◌<◌, ◌≤◌, ℕ, true, false, List, take, drop, map, length, vec_capacity, slice_get, Some}
+use Rattle.std.specs.Prelude.{◌≡◌, ◌<◌, ◌≤◌, ℕ, true, false, List, take, drop, map, length, vec_capacity, slice_get}
+use Rattle.std.specs.Prelude.{Some}
 use Rattle.value_core.specs.Contents.{Contents}
 use Rattle.device_core.specs.declared.file.File.{File}
 use Rattle.hand_core.specs.declared.hand.Stamp.{Stamp}
@@ -25,7 +26,8 @@ abbrev pub standing_of : Slot → Standing
 standing_of slot = record { call = run_call slot.run; place = run_place slot.run }
 
 abbrev pub scene_of : Stage → Scene
-scene_of s = record { board = s.desk; opening = s.opening.items; files = files_of s.hand; runs = map standing_of s.runs.items }
+scene_of s =
+    record { board = s.desk; opening = s.opening.items; files = files_of s.hand; runs = map standing_of s.runs.items }
 
 -- the page that is read there has one of the places that a page may have
 abbrev pub IsNear : Place → Type 0
@@ -40,7 +42,8 @@ IsNear (at_end reply sealed) = Unit {0}
 abbrev pub ArePinsShort : List (List Stamp) → Type 0
 ArePinsShort pins = (p : ℕ) (pages : List Stamp) → slice_get pins p ≡ Some pages → length pages ≤ most_pages
 
--- A run can go on over these files: they hold what it appended, its pins and what it sealed can be read, and what it has found is true of each assignment that agrees.
+-- A run can go on over these files: they hold what it appended, its pins and what it sealed can be read, and what it
+-- has found is true of each assignment that agrees.
 pub record IsReady (files : List File) (slot : Slot) : Type 0 where
   pub pen : PenHolds (λ n b. IsOpen files n b) slot.run
   pub pins : PinsServed (λ s. Serves files s) (run_call slot.run)

@@ -15,19 +15,27 @@ use Rattle.world_core.specs.Scene.{Scene, Standing, IsNew}
 use Rattle.world_core.specs.Plays.{Plays, finishes, HasFailedStep}
 use Rattle.world_core.specs.Work.{work_of, most_work}
 
--- From a new world, a call fails for the device only where a step of its own was made to fail, and never since a part is damaged.
+-- From a new world, a call fails for the device only where a step of its own was made to fail, and never
+-- since a part is damaged.
 abbrev pub FailsOnlyWithItsDevice : Type 0
-FailsOnlyWithItsDevice = (o : Object) (old new : Scene) (events : List WorldEvent) (answers : List EventAnswer) → IsNew o old → Plays old events answers new →
-    Every (λ (e : Noted). e.reply ≡ replies.Failed failures.Device → HasFailedStep e.number events answers) new.board.history × Every (λ (e : Noted). e.reply ≢ replies.Failed failures.Damaged) new.board.history
+FailsOnlyWithItsDevice =
+    (o : Object) (old new : Scene) (events : List WorldEvent) (answers : List EventAnswer) → IsNew o old →
+    Plays old events answers new →
+    Every (λ (e : Noted). e.reply ≡ replies.Failed failures.Device → HasFailedStep e.number events answers)
+    new.board.history × Every (λ (e : Noted). e.reply ≢ replies.Failed failures.Damaged) new.board.history
 
 -- From a new world, the calls that finished, with the replies that they were given, are the history, in order.
 abbrev pub RepliesAreTold : Type 0
-RepliesAreTold = (o : Object) (old new : Scene) (events : List WorldEvent) (answers : List EventAnswer) → IsNew o old → Plays old events answers new →
+RepliesAreTold =
+    (o : Object) (old new : Scene) (events : List WorldEvent) (answers : List EventAnswer) → IsNew o old →
+    Plays old events answers new →
     map (λ (e : Noted). (e.number, e.reply)) new.board.history ≡ finishes events answers
 
 -- A step leaves its run less to do.
 abbrev pub StepsTakeWork : Type 0
-StepsTakeWork = (old new : Scene) (number : ℕ) (works : Bool) (a : EventAnswer) (need : Need) (answer : StepAnswer) → Answers old (step number works) a new → a.answer ≡ Stepped need answer →
+StepsTakeWork =
+    (old new : Scene) (number : ℕ) (works : Bool) (a : EventAnswer) (need : Need) (answer : StepAnswer) →
+    Answers old (step number works) a new → a.answer ≡ Stepped need answer →
     work_of number new.runs < work_of number old.runs
 
 -- No run has more to do than the most.

@@ -5,7 +5,8 @@ use Rattle.ask_core.specs.declared.answer.SubmitFault.TheVariants as faults
 use Rattle.ask_core.specs.declared.answer.KeyedFault.{KeyedFault}
 use Rattle.ask_core.specs.declared.answer.KeyedFault.TheVariants as keyed
 use Rattle.world_core.specs.declared.event.Refusal.{Refusal}
-use Rattle.world_core.specs.declared.event.Refusal.TheVariants.{Submit, Keyed, NotRunning, NoStep, NotDone, NoSession, Memory}
+use Rattle.world_core.specs.declared.event.Refusal.TheVariants.{Submit, Keyed, NotRunning, NoStep, NotDone, NoSession}
+use Rattle.world_core.specs.declared.event.Refusal.TheVariants.{Memory}
 
 abbrev pub fault_name : SubmitFault → List ℕ
 fault_name faults.Gone = codes "Gone"

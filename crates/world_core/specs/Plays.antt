@@ -5,7 +5,8 @@ use Rattle.apply_core.specs.declared.need.Need.{Need}
 use Rattle.run_core.specs.declared.step.StepAnswer.TheVariants as steps
 use Rattle.hand_core.specs.declared.hand.HandFault.TheVariants as faults
 use Rattle.world_core.specs.declared.event.Answer.{Answer}
-use Rattle.world_core.specs.declared.event.Answer.TheVariants.{Number, Stepped, Ended, Cancel, Dropped, Resumed, Kept, Shown, Refused}
+use Rattle.world_core.specs.declared.event.Answer.TheVariants.{Number, Stepped, Ended, Cancel, Dropped, Resumed, Kept}
+use Rattle.world_core.specs.declared.event.Answer.TheVariants.{Shown, Refused}
 use Rattle.world_core.specs.declared.event.EventAnswer.{EventAnswer}
 use Rattle.world_core.specs.Events.{WorldEvent, call, call_key, step, finish, cancel, leave, resume, look}
 use Rattle.world_core.specs.Scene.{Scene}
@@ -45,7 +46,8 @@ finishes (e ∷ events) (a ∷ answers) = if_ended e a.answer (finishes events a
 
 -- this is a step of that call that was not to work, and its run failed in it
 abbrev pub IsFailedStep : ℕ → WorldEvent → EventAnswer → Type 0
-IsFailedStep number e a = (e ≡ step number false) × ((need : Need) × (a.answer ≡ Stepped need (steps.Failed faults.Device)))
+IsFailedStep number e a =
+    (e ≡ step number false) × ((need : Need) × (a.answer ≡ Stepped need (steps.Failed faults.Device)))
 
 -- a step of this call was made to fail, in these events
 abbrev pub HasFailedStep : ℕ → List WorldEvent → List EventAnswer → Type 0

@@ -19,7 +19,8 @@ pub record Standing : Type 0 where
   pub call : Call
   pub place : Place
 
--- The board of the object's desk, the opening contents, the files of the device, and the runs of the running calls, in their order.
+-- The board of the object's desk, the opening contents, the files of the device, and the runs of the running
+-- calls, in their order.
 pub record Scene : Type 0 where
   pub board : Board
   pub opening : List Contents

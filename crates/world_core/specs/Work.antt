@@ -16,7 +16,8 @@ most_further = 128
 abbrev pub at_most_further : ℕ → ℕ
 at_most_further n = most_further - (most_further - n)
 
--- How many steps are left from there at most: one for each page of the parts that may still be read at first, of which 16 have 8 pages, one for each page that is not known then, and three for each file that may still be written.
+-- How many steps are left from there at most: one for each page of the parts that may still be read at first, of which
+-- 16 have 8 pages, one for each page that is not known then, and three for each file that may still be written.
 abbrev pub work_at : Place → ℕ
 work_at (at_read part page) = ((16 - part) * 8 - page) + most_further + most_files * 3
 work_at (at_page known part page) = at_most_further (unread known) + most_files * 3

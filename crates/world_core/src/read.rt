@@ -19,7 +19,8 @@ use value_core::value::Value;
 fn read_bytes(alloc: Global, hand: &mut MemHand, page: &Stamp) -> Result<Vec<u8>, AllocError>
     requires { Serves (files_of hand.old) page.now }
     ensures files { files_of hand.new ≡ files_of hand.old }
-    ensures bytes { IfOk result (λ v. (a : Assignment) → HasFiles (files_of hand.old) a → bytes_of a page.now ≡ Some v.items) }
+    ensures bytes { IfOk result (λ v. (a : Assignment) → HasFiles (files_of hand.old) a →
+        bytes_of a page.now ≡ Some v.items) }
 {
     let mut bytes = vec![in alloc; 0u8; page.len]?;
     match hand.read(page, 0, &mut bytes) {
@@ -37,7 +38,8 @@ fn read_pages(
 ) -> Result<(), AllocError>
     requires { AreServed (λ s. Serves (files_of hand.old) s) pages.now }
     ensures files { files_of hand.new ≡ files_of hand.old }
-    ensures bytes { OnOk result ((bytes : List ℕ) × (got.new.items ≡ got.old.items ++ bytes) × ((a : Assignment) → HasFiles (files_of hand.old) a → list_bytes a pages.now ≡ Some bytes)) }
+    ensures bytes { OnOk result ((bytes : List ℕ) × (got.new.items ≡ got.old.items ++ bytes)
+        × ((a : Assignment) → HasFiles (files_of hand.old) a → list_bytes a pages.now ≡ Some bytes)) }
 {
     let Some((page, rest)) = pages.split_first() else {
         return Ok(());
@@ -52,7 +54,8 @@ fn read_pages(
 fn read_pin(alloc: Global, hand: &mut MemHand, pin: &PageList) -> Result<Vec<u8>, AllocError>
     requires { AreServed (λ s. Serves (files_of hand.old) s) pin.now }
     ensures files { files_of hand.new ≡ files_of hand.old }
-    ensures bytes { IfOk result (λ v. (a : Assignment) → HasFiles (files_of hand.old) a → list_bytes a pin.now ≡ Some v.items) }
+    ensures bytes { IfOk result (λ v. (a : Assignment) → HasFiles (files_of hand.old) a →
+        list_bytes a pin.now ≡ Some v.items) }
 {
     let mut bytes = Vec::new(alloc);
     read_pages(alloc, hand, pin.stamps(), &mut bytes)?;
@@ -67,9 +70,11 @@ pub(crate) fn read_value(
     kind: Kind,
 ) -> Result<Value, AllocError>
     requires served { AreServed (λ s. Serves (files_of hand.old) s) pin.now }
-    requires shown { (value : Contents) × ((a : Assignment) → HasFiles (files_of hand.old) a → Shows a kind pin.now value) }
+    requires shown { (value : Contents) × ((a : Assignment) → HasFiles (files_of hand.old) a →
+        Shows a kind pin.now value) }
     ensures files { files_of hand.new ≡ files_of hand.old }
-    ensures value { IfOk result (λ v. (value : Contents) → ((a : Assignment) → HasFiles (files_of hand.old) a → Shows a kind pin.now value) → v ≡ value) }
+    ensures value { IfOk result (λ v. (value : Contents) →
+        ((a : Assignment) → HasFiles (files_of hand.old) a → Shows a kind pin.now value) → v ≡ value) }
 {
     hand.agrees_with_some();
     let bytes = read_pin(alloc, hand, pin)?;

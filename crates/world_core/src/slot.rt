@@ -9,7 +9,8 @@ ghost use Rattle.page_core.specs.PartPins.{pin_at};
 ghost use Rattle.call_core.specs.Truths.{IsTrueOf, PinsAreWhole};
 ghost use Rattle.run_core.specs.Phases.{IsRenewedBy};
 ghost use Rattle.run_core.specs.Runs.{run_call, run_ending, run_sealed, SoFar};
-ghost use Rattle.run_core.specs.Outcomes.{outcome_call, outcome_reply, outcome_sealed, outcome_news, outcome_gone, outcome_pins, IsFresh};
+ghost use Rattle.run_core.specs.Outcomes.{outcome_call, outcome_reply, outcome_sealed, outcome_news, outcome_gone};
+ghost use Rattle.run_core.specs.Outcomes.{outcome_pins, IsFresh};
 
 use device_core::fuse::FuseHand;
 use device_core::memory::MemHand;
@@ -32,11 +33,15 @@ impl Slot {
         ensures call { outcome_call result ≡ run_call self.run }
         ensures reply { run_ending self.run ≡ Some (outcome_reply result) }
         ensures sealed { outcome_sealed result ≡ run_sealed self.run }
-        ensures renewed { (a : Assignment) → SoFar a self.run → PinsAreWhole a (outcome_call result) → IsRenewedBy a (outcome_call result) (outcome_reply result) (outcome_sealed result) (outcome_news result) (outcome_gone result) }
+        ensures renewed { (a : Assignment) → SoFar a self.run → PinsAreWhole a (outcome_call result) →
+            IsRenewedBy a (outcome_call result) (outcome_reply result) (outcome_sealed result) (outcome_news result)
+            (outcome_gone result) }
         ensures fresh { IsFresh result }
         ensures short { (p : ℕ) (pages : List Stamp) → pin_at (outcome_pins result) p ≡ Some pages → length pages ≤ 8 }
-        ensures writes { (p : ℕ) → pin_at (outcome_pins result) p ≢ None → Writes (body_of (outcome_call result).operation).statements p }
-        ensures told { (a : Assignment) → SoFar a self.run → IsTrueOf a (outcome_call result) (outcome_reply result) (outcome_pins result) }
+        ensures writes { (p : ℕ) → pin_at (outcome_pins result) p ≢ None →
+            Writes (body_of (outcome_call result).operation).statements p }
+        ensures told { (a : Assignment) → SoFar a self.run →
+            IsTrueOf a (outcome_call result) (outcome_reply result) (outcome_pins result) }
     {
         let Slot {
             alloc,

@@ -1,6 +1,7 @@
 //! The tables of a world, and what each event does to them.
 
-ghost use Rattle.std.specs.Prelude.{◌≡◌, ◌≢◌, ◌↔◌, IsTrue, ◌≤◌, ◌<◌, ◌⊎◌, ℕ, List, [], ◌∷◌, ◌++◌, length, map, IfSome, IfNone, IfOk, Some, None, true, false, vec_capacity, slice_get};
+ghost use Rattle.std.specs.Prelude.{◌≡◌, ◌≢◌, ◌↔◌, IsTrue, ◌≤◌, ◌<◌, ◌⊎◌, ℕ, List, [], ◌∷◌, ◌++◌, length, map, IfSome};
+ghost use Rattle.std.specs.Prelude.{IfNone, IfOk, Some, None, true, false, vec_capacity, slice_get};
 ghost use Rattle.hand_core.specs.declared.hand.Stamp.{Stamp};
 ghost use Rattle.hand_core.specs.Device.{Assignment, IsFree};
 ghost use Rattle.device_core.specs.Files.{HasFiles, IsOpen, Serves, files_of};
@@ -17,7 +18,8 @@ ghost use Rattle.board_core.specs.Board.{taken_at, Rests};
 ghost use Rattle.board_core.specs.Started.{run_of};
 ghost use Rattle.board_core.specs.Chain.{history_of};
 ghost use Rattle.world_core.specs.declared.slot.Slot.{Slot as ASlot};
-ghost use Rattle.world_core.specs.Events.{call as calls, call_key as calls_by, step as steps, finish as finishes, cancel as cancels, leave as leaves, resume as resumes, look as looks};
+ghost use Rattle.world_core.specs.Events.{call as calls, call_key as calls_by, step as steps, finish as finishes};
+ghost use Rattle.world_core.specs.Events.{cancel as cancels, leave as leaves, resume as resumes, look as looks};
 ghost use Rattle.world_core.specs.Scene.{Standing, AreBegun, collected, call_running};
 ghost use Rattle.world_core.specs.Answers.{Answers};
 ghost use Rattle.world_core.specs.Kept.{IsKept, IsStaged, HasNew, standing_of, scene_of};
@@ -86,14 +88,22 @@ fn is_done(need: Need) -> bool
 fn step_run(alloc: Global, hand: &mut MemHand, run: &mut Run, works: bool) -> StepAnswer
     ensures call { run_call run.new ≡ run_call run.old }
     ensures kept { (a : Assignment) → HasFiles (files_of hand.new) a → HasFiles (files_of hand.old) a }
-    ensures found { PenHolds (λ n b. IsOpen (files_of hand.old) n b) run.old → (a : Assignment) → HasFiles (files_of hand.new) a → SoFar a run.old → SoFar a run.new }
-    ensures pen { PenHolds (λ n b. IsOpen (files_of hand.old) n b) run.old → PenHolds (λ n b. IsOpen (files_of hand.new) n b) run.new }
+    ensures found { PenHolds (λ n b. IsOpen (files_of hand.old) n b) run.old → (a : Assignment) →
+        HasFiles (files_of hand.new) a → SoFar a run.old → SoFar a run.new }
+    ensures pen { PenHolds (λ n b. IsOpen (files_of hand.old) n b) run.old →
+        PenHolds (λ n b. IsOpen (files_of hand.new) n b) run.new }
     ensures moves { Follows (run_call run.old) (run_place run.old) (run_place run.new) }
-    ensures unused { (n : ℕ) → run_pen run.new ≡ Some n → (run_pen run.old ≡ Some n) ⊎ IsFree (λ a. HasFiles (files_of hand.new) a) (λ n b. IsOpen (files_of hand.old) n b) n }
-    ensures others { (n : ℕ) (b : List ℕ) → run_pen run.old ≢ Some n → IsOpen (files_of hand.old) n b → IsOpen (files_of hand.new) n b }
+    ensures unused { (n : ℕ) → run_pen run.new ≡ Some n →
+        (run_pen run.old ≡ Some n) ⊎ IsFree (λ a. HasFiles (files_of hand.new) a)
+        (λ n b. IsOpen (files_of hand.old) n b) n }
+    ensures others { (n : ℕ) (b : List ℕ) → run_pen run.old ≢ Some n → IsOpen (files_of hand.old) n b →
+        IsOpen (files_of hand.new) n b }
     ensures serves { (s : Stamp) → Serves (files_of hand.old) s → Serves (files_of hand.new) s }
-    ensures written { AreServed (λ s. Serves (files_of hand.old) s) (run_sealed run.old) → AreServed (λ s. Serves (files_of hand.new) s) (run_sealed run.new) }
-    ensures works { works ≡ true → PenHolds (λ n b. IsOpen (files_of hand.old) n b) run.old → PinsServed (λ s. Serves (files_of hand.old) s) (run_call run.old) → run_ending run.old ≡ None → run_ending run.new ≡ Some (replies.Failed failures.Device) → ⊥ }
+    ensures written { AreServed (λ s. Serves (files_of hand.old) s) (run_sealed run.old) →
+        AreServed (λ s. Serves (files_of hand.new) s) (run_sealed run.new) }
+    ensures works { works ≡ true → PenHolds (λ n b. IsOpen (files_of hand.old) n b) run.old →
+        PinsServed (λ s. Serves (files_of hand.old) s) (run_call run.old) → run_ending run.old ≡ None →
+        run_ending run.new ≡ Some (replies.Failed failures.Device) → ⊥ }
     ensures fails { works ≡ false → FailsWith (run_place run.old) (run_ending run.new) }
     ensures answer { result ≡ step_answer (run_ending run.old) (run_ending run.new) }
 {
@@ -110,12 +120,15 @@ impl Stage {
     // Begins the run of a call that has started.
     fn begin_run(&mut self, number: u32)
         requires kept { IsKept self.old.desk (files_of self.old.hand) self.old.runs.items self.old.opening.items }
-        requires next { (r : RunningCall) × (slice_get self.old.desk.running (length self.old.runs.items) ≡ Some r) × (r.number ≡ number) }
+        requires next { (r : RunningCall) × (slice_get self.old.desk.running (length self.old.runs.items) ≡ Some r)
+            × (r.number ≡ number) }
         requires room { length self.old.runs.items < vec_capacity self.old.runs }
         ensures kept { IsKept self.new.desk (files_of self.new.hand) self.new.runs.items self.new.opening.items }
-        ensures desk { (r : RunningCall) → slice_get self.old.desk.running (length self.old.runs.items) ≡ Some r → self.new.desk ≡ taken_at self.old.desk (length self.old.runs.items) r }
+        ensures desk { (r : RunningCall) → slice_get self.old.desk.running (length self.old.runs.items) ≡ Some r →
+            self.new.desk ≡ taken_at self.old.desk (length self.old.runs.items) r }
         ensures runs { (r : RunningCall) → slice_get self.old.desk.running (length self.old.runs.items) ≡ Some r
-            → (slot : ASlot) × (self.new.runs.items ≡ self.old.runs.items ++ slot ∷ []) × (run_call slot.run ≡ call_running r) × Starts (run_call slot.run) (run_place slot.run) }
+            → (slot : ASlot) × (self.new.runs.items ≡ self.old.runs.items ++ slot ∷ [])
+            × (run_call slot.run ≡ call_running r) × Starts (run_call slot.run) (run_place slot.run) }
         ensures files { files_of self.new.hand ≡ files_of self.old.hand }
         ensures opening { self.new.opening.items ≡ self.old.opening.items }
         ensures room { vec_capacity self.new.runs ≡ vec_capacity self.old.runs }
@@ -143,7 +156,8 @@ impl Stage {
         ensures staged { IsStaged self.new }
         ensures desk { collected self.new.desk ≡ collected self.old.desk }
         ensures starts { (ones : List WaitingCall) → HasNew self.old.desk (length self.old.runs.items) from ones
-            → (result ≡ length ones) × ((begun : List Standing) × AreBegun (map (run_of self.old.desk.pins) ones) begun × (map standing_of self.new.runs.items ≡ map standing_of self.old.runs.items ++ begun)) }
+            → (result ≡ length ones) × ((begun : List Standing) × AreBegun (map (run_of self.old.desk.pins) ones) begun
+            × (map standing_of self.new.runs.items ≡ map standing_of self.old.runs.items ++ begun)) }
         ensures files { files_of self.new.hand ≡ files_of self.old.hand }
         ensures opening { self.new.opening.items ≡ self.old.opening.items }
     {
@@ -164,7 +178,8 @@ impl Stage {
     // A session calls.
     pub(crate) fn call(&mut self, session: u32, op: &str, args: &[Datum]) -> EventAnswer
         requires staged { IsStaged self.old }
-        ensures answers { Answers (scene_of self.old) (calls (record { session = session; name = op.now; arguments = args.now })) result (scene_of self.new) }
+        ensures answers { Answers (scene_of self.old) (calls (record
+            { session = session; name = op.now; arguments = args.now })) result (scene_of self.new) }
         ensures staged { IsStaged self.new }
         ensures rests { Rests self.old.desk → Rests self.new.desk }
     {
@@ -191,7 +206,8 @@ impl Stage {
         args: &[Datum],
     ) -> EventAnswer
         requires staged { IsStaged self.old }
-        ensures answers { Answers (scene_of self.old) (calls_by (record { session = session; name = op.now; arguments = args.now }) key) result (scene_of self.new) }
+        ensures answers { Answers (scene_of self.old) (calls_by (record
+            { session = session; name = op.now; arguments = args.now }) key) result (scene_of self.new) }
         ensures staged { IsStaged self.new }
         ensures rests { Rests self.old.desk → Rests self.new.desk }
     {
@@ -238,8 +254,10 @@ impl Stage {
     // The call of the run at this place, which has ended, finishes.
     fn publish(&mut self, place: usize) -> EventAnswer
         requires staged { IsStaged self.old }
-        requires done { (slot : ASlot) × (slice_get self.old.runs.items place ≡ Some slot) × (run_ending slot.run ≢ None) }
-        ensures answers { (slot : ASlot) → slice_get self.old.runs.items place ≡ Some slot → Answers (scene_of self.old) (finishes slot.number) result (scene_of self.new) }
+        requires done { (slot : ASlot) × (slice_get self.old.runs.items place ≡ Some slot)
+            × (run_ending slot.run ≢ None) }
+        ensures answers { (slot : ASlot) → slice_get self.old.runs.items place ≡ Some slot →
+            Answers (scene_of self.old) (finishes slot.number) result (scene_of self.new) }
         ensures staged { IsStaged self.new }
         ensures rests { Rests self.old.desk → Rests self.new.desk }
     {
@@ -340,7 +358,8 @@ impl Stage {
     // The contents under the published pins.
     fn contents(&mut self) -> Result<Vec<Value>, AllocError>
         requires staged { IsStaged self.old }
-        ensures values { IfOk result (λ values. values.items ≡ leads_to (history_of self.old.desk.history) self.old.opening.items) }
+        ensures values { IfOk result (λ values.
+            values.items ≡ leads_to (history_of self.old.desk.history) self.old.opening.items) }
         ensures staged { IsStaged self.new }
         ensures same { scene_of self.new ≡ scene_of self.old }
     {

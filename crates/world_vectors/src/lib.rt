@@ -1,5 +1,5 @@
-//! Tests of worlds and scripts that no case shows: a list of events that is played as a whole, a part of several pages step by
-//! step, and scripts whose reads and writes fail where a test wants it.
+//! Tests of worlds and scripts that no case shows: a list of events that is played as a whole, a part of several pages
+//! step by step, and scripts whose reads and writes fail where a test wants it.
 #![tactic(auto)]
 
 #[cfg(test)]

@@ -34,8 +34,8 @@ steps 5
 finish 5
 ";
 
-// A step for each page that is read, the first one and each one in which the body comes to an element, and three for each
-// page that is written.
+// A step for each page that is read, the first one and each one in which the body comes to an element, and three for
+// each page that is written.
 const ANSWERS: &[u8] = b"call 1
 started 1
 steps 1 5

@@ -55,7 +55,8 @@ impl Paths {
         text: &[u8],
         out: &mut Vec<u8>,
     ) -> Result<bool, AllocError>
-        ensures { IfOk result (λ goes. (told : List ℕ) × (out.new.items ≡ out.old.items ++ told) × Gives (operations (words text.now)) self.old number told goes self.new) }
+        ensures { IfOk result (λ goes. (told : List ℕ) × (out.new.items ≡ out.old.items ++ told)
+            × Gives (operations (words text.now)) self.old number told goes self.new) }
     {
         if !self.operations.names().is_empty() {
             push_count(out, b"bad line ", number)?;
@@ -76,7 +77,8 @@ impl Paths {
 
     // Answers a line that begins with `path`.
     fn take_path(&mut self, number: u64, line: &[u8], out: &mut Vec<u8>) -> Result<bool, AllocError>
-        ensures { IfOk result (λ goes. (text : List ℕ) × (out.new.items ≡ out.old.items ++ text) × GivesPath line.now self.old number text goes self.new) }
+        ensures { IfOk result (λ goes. (text : List ℕ) × (out.new.items ≡ out.old.items ++ text)
+            × GivesPath line.now self.old number text goes self.new) }
     {
         if self.operations.names().is_empty() || self.begun || self.paths.len() >= MOST_PATHS {
             push_count(out, b"bad line ", number)?;
@@ -99,7 +101,8 @@ impl Paths {
     // Makes the counters of the paths, where the first start or finish has come.
     #[inline]
     fn begin(&mut self) -> Result<(), AllocError>
-        ensures begun { OnOk result ((told : Told) → Stands self.old told → told.names ≢ [] → Stands self.new (record told { begun = true })) }
+        ensures begun { OnOk result ((told : Told) → Stands self.old told → told.names ≢ [] →
+            Stands self.new (record told { begun = true })) }
         ensures names { self.new.operations ≡ self.old.operations }
     {
         if !self.begun {
@@ -115,7 +118,8 @@ impl Paths {
 
     // Answers a start.
     fn start(&mut self, number: u64, word: &[u8], out: &mut Vec<u8>) -> Result<bool, AllocError>
-        ensures { IfOk result (λ goes. (text : List ℕ) × (out.new.items ≡ out.old.items ++ text) × Gives (start word.now) self.old number text goes self.new) }
+        ensures { IfOk result (λ goes. (text : List ℕ) × (out.new.items ≡ out.old.items ++ text)
+            × Gives (start word.now) self.old number text goes self.new) }
     {
         match self.operations.find(word) {
             Some(op) => {
@@ -132,7 +136,8 @@ impl Paths {
 
     // Answers a finish.
     fn finish(&mut self, number: u64, word: &[u8], out: &mut Vec<u8>) -> Result<bool, AllocError>
-        ensures { IfOk result (λ goes. (text : List ℕ) × (out.new.items ≡ out.old.items ++ text) × Gives (finish word.now) self.old number text goes self.new) }
+        ensures { IfOk result (λ goes. (text : List ℕ) × (out.new.items ≡ out.old.items ++ text)
+            × Gives (finish word.now) self.old number text goes self.new) }
     {
         match self.operations.find(word) {
             Some(op) => {

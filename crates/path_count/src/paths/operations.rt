@@ -166,8 +166,10 @@ fn read_names(alloc: Global, line: &[u8]) -> Result<Option<Vec<Name>>, AllocErro
 // The name of one operation more, if the word is one.
 fn next_name(alloc: Global, names: &[Name], word: &[u8]) -> Result<Option<Name>, AllocError>
     requires { length names.now ≤ 32 }
-    ensures { IfOk result (λ found. MatchOption found (length names.now < 32 → IsOperationName word.now → IsUnnamed names.now word.now → ⊥)
-        (λ name. (length names.now < 32) × IsOperationName word.now × IsUnnamed names.now word.now × (name ≡ str_to_ascii_lowercase word.now))) }
+    ensures { IfOk result (λ found. MatchOption found (length names.now < 32 → IsOperationName word.now →
+        IsUnnamed names.now word.now → ⊥)
+        (λ name. (length names.now < 32) × IsOperationName word.now × IsUnnamed names.now word.now
+        × (name ≡ str_to_ascii_lowercase word.now))) }
 {
     if names.len() >= MOST_OPERATIONS || operation_of(names, word).is_some() {
         return Ok(None);

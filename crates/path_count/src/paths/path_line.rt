@@ -1,6 +1,7 @@
 //! A line that begins with `path`.
 
-ghost use Rattle.std.specs.Prelude.{◌≡◌, ◌≢◌, ◌<◌, ◌≤◌, ◌++◌, ◌↔◌, ℕ, IsTrue, IfOk, OnOk, IfSome, MatchOption, length, drop, codes, decimal};
+ghost use Rattle.std.specs.Prelude.{◌≡◌, ◌≢◌, ◌<◌, ◌≤◌, ◌++◌, ◌↔◌, ℕ, IsTrue, IfOk, OnOk, IfSome, MatchOption, length};
+ghost use Rattle.std.specs.Prelude.{drop, codes, decimal};
 ghost use Rattle.path_tree.specs.Lexeme.{lexemes, lexeme_of, symbol};
 ghost use Rattle.path_tree.specs.Tokens.{placed_tokens};
 ghost use Rattle.path_tree.specs.declared.token.Symbol.TheVariants.{Semicolon};
@@ -134,7 +135,8 @@ fn is_semicolon(token: &Token) -> bool
 
 /// Adds what a line is told that is no path.
 pub fn push_line_fault(out: &mut Vec<u8>, number: u64, fault: LineFault) -> Result<(), AllocError>
-    ensures { OnOk result (out.new.items ≡ out.old.items ++ (codes "line " ++ decimal number ++ codes ": " ++ line_fault_text fault)) }
+    ensures { OnOk result (out.new.items ≡ out.old.items
+        ++ (codes "line " ++ decimal number ++ codes ": " ++ line_fault_text fault)) }
 {
     push_number(out, b"line ", number)?;
     out.extend_from_slice(b": ")?;

@@ -1,7 +1,8 @@
 //! Blanks and comments.
 
 ghost use Rattle.std.specs.Prelude.{◌≡◌, ℕ, ◌+◌, ◌<◌, ◌≤◌, ◌↔◌, IsTrue, MatchOption, MatchResult, length, slice_index};
-ghost use Rattle.path_tree.specs.Gap.{IsBlank, IsFirst, IsGap, IsComment, IsOpenComment, OpensBraces, OpensStars, OpensComment, ClosesBraces, ClosesStars};
+ghost use Rattle.path_tree.specs.Gap.{IsBlank, IsFirst, IsGap, IsComment, IsOpenComment, OpensBraces, OpensStars};
+ghost use Rattle.path_tree.specs.Gap.{OpensComment, ClosesBraces, ClosesStars};
 
 use crate::lex::fault::LexFault;
 
@@ -16,8 +17,10 @@ pub fn byte_at(source: &[u8], at: usize) -> u8
 pub fn skip_gap(source: &[u8], from: usize) -> Result<usize, LexFault>
     requires { from ≤ length source.now }
     ensures { MatchResult result
-        (λ to. (to ≤ length source.now) × IsGap source.now from to × (IsBlank (slice_index source.now to) → ⊥) × (OpensComment source.now to → ⊥))
-        (λ fault. (at : ℕ) × IsGap source.now from at × IsOpenComment source.now at × (fault ≡ LexFault.OpenComment at)) }
+        (λ to. (to ≤ length source.now) × IsGap source.now from to × (IsBlank (slice_index source.now to) → ⊥)
+        × (OpensComment source.now to → ⊥))
+        (λ fault. (at : ℕ) × IsGap source.now from at × IsOpenComment source.now at
+        × (fault ≡ LexFault.OpenComment at)) }
 {
     let mut at = from;
     loop {
@@ -54,7 +57,8 @@ pub fn opens_comment(source: &[u8], at: usize) -> bool
 fn comment_end(source: &[u8], from: usize) -> Option<usize>
     requires within { from ≤ length source.now }
     requires opens { OpensComment source.now from }
-    ensures { MatchOption result (IsOpenComment source.now from) (λ to. (from < to) × (to ≤ length source.now) × IsComment source.now from to) }
+    ensures { MatchOption result (IsOpenComment source.now from) (λ to. (from < to) × (to ≤ length source.now)
+        × IsComment source.now from to) }
 {
     if byte_at(source, from) == b'{' {
         let close = braces_close(source, from + 1)?;

@@ -13,7 +13,8 @@ use crate::token::Kind;
 pub fn read_number(source: &[u8], start: usize) -> Result<(Kind, usize), LexFault>
     requires within { start < length source.now }
     requires digit { IsDigit (slice_index source.now start) }
-    ensures { MatchResult result (λ r. IsToken source.now (lexeme_of r.0) start r.1) (λ fault. IsFaultAt source.now start fault) }
+    ensures { MatchResult result (λ r. IsToken source.now (lexeme_of r.0) start r.1)
+        (λ fault. IsFaultAt source.now start fault) }
 {
     let end = digits_end(source, start);
     match number_value(&source[start..end]) {
@@ -38,7 +39,8 @@ fn digits_end(source: &[u8], from: usize) -> usize
 // The value of these digits, or `None` where it is over 4294967295.
 fn number_value(digits: &[u8]) -> Option<u32>
     requires { All IsDigit digits.now }
-    ensures { MatchOption result (4294967295 < digits_value 10 digits.now) (λ value. value ≡ digits_value 10 digits.now) }
+    ensures { MatchOption result (4294967295 < digits_value 10 digits.now)
+        (λ value. value ≡ digits_value 10 digits.now) }
 {
     let mut value: u32 = 0;
     for digit in digits {

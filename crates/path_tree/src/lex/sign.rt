@@ -20,7 +20,8 @@ pub fn read_sign(source: &[u8], start: usize) -> Result<(Kind, usize), LexFault>
     requires no_word { IsLetter (slice_index source.now start) → ⊥ }
     requires no_number { IsDigit (slice_index source.now start) → ⊥ }
     requires no_string { slice_index source.now start ≡ 39 → ⊥ }
-    ensures { MatchResult result (λ r. IsToken source.now (lexeme_of r.0) start r.1) (λ fault. IsFaultAt source.now start fault) }
+    ensures { MatchResult result (λ r. IsToken source.now (lexeme_of r.0) start r.1)
+        (λ fault. IsFaultAt source.now start fault) }
 {
     let first = source[start];
     if let Some(symbol) = double_sign(first, byte_at(source, start + 1)) {

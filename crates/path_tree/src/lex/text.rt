@@ -18,7 +18,8 @@ pub const MOST_STRING_BYTES: usize = 1000;
 pub fn read_string(alloc: Global, source: &[u8], start: usize) -> Result<(Kind, usize), LexFault>
     requires within { start < length source.now }
     requires apostrophe { slice_index source.now start ≡ 39 }
-    ensures { MatchResult result (λ r. IsToken source.now (lexeme_of r.0) start r.1) (λ fault. (fault ≡ Memory) ⊎ IsFaultAt source.now start fault) }
+    ensures { MatchResult result (λ r. IsToken source.now (lexeme_of r.0) start r.1)
+        (λ fault. (fault ≡ Memory) ⊎ IsFaultAt source.now start fault) }
 {
     let mut content = Vec::new(alloc);
     let mut at = start + 1;

@@ -1,6 +1,7 @@
 //! Identifiers and reserved words.
 
-ghost use Rattle.std.specs.Prelude.{◌≡◌, ◌≢◌, ℕ, ◌<◌, ◌≤◌, ◌⊎◌, IsTrue, List, Contains, All, MatchOption, MatchResult, length, slice_index};
+ghost use Rattle.std.specs.Prelude.{◌≡◌, ◌≢◌, ℕ, ◌<◌, ◌≤◌, ◌⊎◌, IsTrue, List, Contains, All, MatchOption, MatchResult};
+ghost use Rattle.std.specs.Prelude.{length, slice_index};
 ghost use Rattle.std.specs.Str.{str_to_ascii_lowercase};
 ghost use Rattle.path_tree.specs.Identifier.{IsLetter, IsWordByte};
 ghost use Rattle.path_tree.specs.Lexeme.{lexeme_of, symbol_text};
@@ -18,7 +19,8 @@ use std::alloc::Global;
 pub fn read_word(alloc: Global, source: &[u8], start: usize) -> Result<(Kind, usize), LexFault>
     requires within { start < length source.now }
     requires letter { IsLetter (slice_index source.now start) }
-    ensures { MatchResult result (λ r. IsToken source.now (lexeme_of r.0) start r.1) (λ fault. (fault ≡ Memory) ⊎ IsFaultAt source.now start fault) }
+    ensures { MatchResult result (λ r. IsToken source.now (lexeme_of r.0) start r.1)
+        (λ fault. (fault ≡ Memory) ⊎ IsFaultAt source.now start fault) }
 {
     let end = word_end(source, start);
     if end - start > MOST_IDENTIFIER_BYTES {

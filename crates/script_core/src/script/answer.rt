@@ -8,7 +8,8 @@ ghost use Rattle.script_text.specs.Said.{all_steps, a_trace};
 ghost use Rattle.script_text.specs.View.{said_view};
 ghost use Rattle.world_core.specs.Names.{refusal_name};
 ghost use Rattle.world_core.specs.Events.{event_of};
-ghost use Rattle.script_core.specs.Does.{Does, Happens, IsNoWant, IsTold, answer_lines, cancel_name, has_gone, repeat_line};
+ghost use Rattle.script_core.specs.Does.{Does, Happens, IsNoWant, IsTold, answer_lines, cancel_name, has_gone};
+ghost use Rattle.script_core.specs.Does.{repeat_line};
 
 use crate::script::steps::step_to_end;
 use ask_core::answer::{CallState, Cancelled, Kept, KeyedFault, SubmitFault};
@@ -106,7 +107,8 @@ fn number_of(event: TraceEvent) -> u32
 
 // Adds a line for each call that started from this place of the trace on.
 fn push_starts(out: &mut Vec<u8>, desk: &Desk, from: usize) -> Result<(), AllocError>
-    ensures { OnOk result (out.new.items ≡ out.old.items ++ flat_map (λ e. started_line (event_number e)) (drop from desk.now.trace)) }
+    ensures { OnOk result (out.new.items ≡ out.old.items
+        ++ flat_map (λ e. started_line (event_number e)) (drop from desk.now.trace)) }
 {
     let trace = desk.trace();
     for place in from..trace.len() {
@@ -126,7 +128,8 @@ fn tell_event(
     number: u32,
     out: &mut Vec<u8>,
 ) -> Result<(), AllocError>
-    ensures { OnOk result ((text : List ℕ) × (out.new.items ≡ out.old.items ++ text) × Happens (event_of event.entry) number world.old text world.new) }
+    ensures { OnOk result ((text : List ℕ) × (out.new.items ≡ out.old.items ++ text)
+        × Happens (event_of event.entry) number world.old text world.new) }
 {
     let EventAnswer { answer, starts } = world.event(event);
     let desk = world.desk();
@@ -137,7 +140,8 @@ fn tell_event(
 
 // Lets a run make its steps to the end, and adds the answer.
 fn tell_steps(world: &mut World, number: u32, out: &mut Vec<u8>) -> Result<(), AllocError>
-    ensures { OnOk result ((text : List ℕ) × (out.new.items ≡ out.old.items ++ text) × Does (all_steps number) world.old text world.new) }
+    ensures { OnOk result ((text : List ℕ) × (out.new.items ≡ out.old.items ++ text)
+        × Does (all_steps number) world.old text world.new) }
 {
     if !world.desk().runs(number) {
         return push_refused(out, Refusal::NotRunning.name());
@@ -148,7 +152,8 @@ fn tell_steps(world: &mut World, number: u32, out: &mut Vec<u8>) -> Result<(), A
 
 // Adds the text of the trace.
 fn tell_trace(world: &World, out: &mut Vec<u8>) -> Result<(), AllocError>
-    ensures { OnOk result ((text : List ℕ) × (out.new.items ≡ out.old.items ++ text) × Does a_trace world.now text world.now) }
+    ensures { OnOk result ((text : List ℕ) × (out.new.items ≡ out.old.items ++ text)
+        × Does a_trace world.now text world.now) }
 {
     let text = world.desk().trace_text(world.opening())?;
     out.extend_from_slice(&text)?;
@@ -162,7 +167,8 @@ pub fn answer_said(
     said: Said<'_>,
     out: &mut Vec<u8>,
 ) -> Result<(), AllocError>
-    ensures { OnOk result ((text : List ℕ) × (out.new.items ≡ out.old.items ++ text) × Does (said_view said.entry) world.old text world.new) }
+    ensures { OnOk result ((text : List ℕ) × (out.new.items ≡ out.old.items ++ text)
+        × Does (said_view said.entry) world.old text world.new) }
 {
     match said {
         Said::Call(session, op, arguments) => {

@@ -62,7 +62,8 @@ impl Script {
         out: &mut Vec<u8>,
     ) -> Result<bool, AllocError>
         requires { self.old.named ≡ false }
-        ensures { IfOk result (λ goes. (text : List ℕ) × (out.new.items ≡ out.old.items ++ text) × Writes (told_of self.old) number line.now text goes (told_of self.new)) }
+        ensures { IfOk result (λ goes. (text : List ℕ) × (out.new.items ≡ out.old.items ++ text)
+            × Writes (told_of self.old) number line.now text goes (told_of self.new)) }
     {
         if names_object(self.world.desk().accepted().object(), line) {
             self.named = true;
@@ -80,7 +81,8 @@ impl Script {
         out: &mut Vec<u8>,
     ) -> Result<bool, AllocError>
         requires { self.old.named ≡ true }
-        ensures { IfOk result (λ goes. (text : List ℕ) × (out.new.items ≡ out.old.items ++ text) × Writes (told_of self.old) number line.now text goes (told_of self.new)) }
+        ensures { IfOk result (λ goes. (text : List ℕ) × (out.new.items ≡ out.old.items ++ text)
+            × Writes (told_of self.old) number line.now text goes (told_of self.new)) }
     {
         if is_skipped(line) {
             return Ok(true);
