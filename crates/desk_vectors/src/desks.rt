@@ -52,27 +52,22 @@ fn are_pages(pins: &Pins, want: &[&[u64]]) -> bool {
     pins.len() == want.len()
 }
 
-// What a call comes to: its reply, the numbers of the files that it frees, and those of the published pins then.
-#[derive(Clone, Copy)]
-struct Ending<'a> {
-    reply: Reply,
-    free: &'a [u64],
-    pins: &'a [&'a [u64]],
-}
-
-// Whether a call with the argument 1 comes to this.
+// Whether a call with the argument 1 replies so, frees the files of these numbers, and leaves the published pins of
+// those.
 fn comes_to<H: Hand>(
     alloc: Global,
     desk: &mut Desk,
     hand: &mut H,
     op: &str,
-    ending: Ending<'_>,
+    want: Reply,
+    free: &[u64],
+    pins: &[&[u64]],
 ) -> bool {
     match receipt_of(alloc, desk, hand, op, &[Datum::Integer(1)]) {
         Some(receipt) => {
-            *receipt.noted.reply() == ending.reply
-                && are_files(&receipt.free, ending.free)
-                && are_pages(&desk.pins(), ending.pins)
+            *receipt.noted.reply() == want
+                && are_files(&receipt.free, free)
+                && are_pages(&desk.pins(), pins)
         }
         None => false,
     }
@@ -91,21 +86,17 @@ fn a_failed_call_frees_what_it_sealed(rt: HostRuntime) {
             &mut desk,
             &mut hand,
             "both",
-            Ending {
-                reply: FAILED,
-                free: &[3],
-                pins: &[&[1], &[2]]
-            }
+            FAILED,
+            &[3],
+            &[&[1], &[2]]
         ) && comes_to(
             alloc,
             &mut desk,
             &mut hand,
             "both",
-            Ending {
-                reply: DONE,
-                free: &[1, 2],
-                pins: &[&[4], &[5]]
-            }
+            DONE,
+            &[1, 2],
+            &[&[4], &[5]]
         )
     );
 }
@@ -129,17 +120,7 @@ type Row = (&'static str, &'static [u64], [&'static [u64]; 2]);
 // one call replaces both.
 fn are_freed_once(alloc: Global, desk: &mut Desk, hand: &mut MemHand, rows: &[Row]) -> bool {
     for (op, free, pins) in rows {
-        if !comes_to(
-            alloc,
-            desk,
-            hand,
-            op,
-            Ending {
-                reply: DONE,
-                free,
-                pins,
-            },
-        ) {
+        if !comes_to(alloc, desk, hand, op, DONE, free, pins) {
             return false;
         }
     }
@@ -190,27 +171,8 @@ fn is_damaged(rt: &impl Abort, alloc: Global, bytes: Bytes) -> bool {
     let mut hand = MemHand::new(alloc);
     let pins = pinned(rt, &mut hand, &[bytes]);
     let mut desk = desk_of(rt, alloc, CELL, pins);
-    comes_to(
-        alloc,
-        &mut desk,
-        &mut hand,
-        "put",
-        Ending {
-            reply: DAMAGED,
-            free: &[],
-            pins: &[&[1]],
-        },
-    ) && comes_to(
-        alloc,
-        &mut desk,
-        &mut hand,
-        "bump",
-        Ending {
-            reply: DAMAGED,
-            free: &[],
-            pins: &[&[1]],
-        },
-    )
+    comes_to(alloc, &mut desk, &mut hand, "put", DAMAGED, &[], &[&[1]])
+        && comes_to(alloc, &mut desk, &mut hand, "bump", DAMAGED, &[], &[&[1]])
 }
 
 #[test]

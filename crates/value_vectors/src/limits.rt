@@ -115,34 +115,34 @@ fn is_damaged_kept(alloc: Global, kind: Kind, bytes: &[u8]) -> bool {
     decode_kept(alloc, kind, bytes).err() == Some(DecodeFault::Damaged)
 }
 
-// Asserts that a value has so many elements of the kind, and is spelled by these bytes, in one growth.
-fn is_spelled(
-    rt: &impl Abort,
-    alloc: Global,
-    value: &Value,
+// What bytes are to give: a value of this kind with so many elements, which is spelled so.
+#[derive(Clone, Copy)]
+struct Expected<'a> {
     kind: Kind,
     count: u32,
-    spelling: &[u8],
-) {
+    spelling: &'a [u8],
+}
+
+// Asserts that a value is the expected one, and is spelled in one growth.
+fn is_spelled(rt: &impl Abort, alloc: Global, value: &Value, expected: Expected<'_>) {
+    let Expected {
+        kind,
+        count,
+        spelling,
+    } = expected;
     let spelled = encode(alloc, value).expect(rt, "memory");
     assert!(rt; spelled.as_slice() == spelling && spelled.capacity() == spelling.len());
     assert!(rt; value.kind() == kind && value.count() == count);
 }
 
-// Asserts that bytes of a format give a value, there and where either format is read, and none in the other format.
-fn is_given(
-    rt: &impl Abort,
-    alloc: Global,
-    format: Format,
-    kind: Kind,
-    count: u32,
-    bytes: &[u8],
-    spelling: &[u8],
-) {
+// Asserts that bytes of a format give the expected value, there and where either format is read, and none in the other
+// format.
+fn is_given(rt: &impl Abort, alloc: Global, format: Format, bytes: &[u8], expected: Expected<'_>) {
+    let kind = expected.kind;
     let value = decoded(alloc, format, kind, bytes).expect(rt, "a value");
-    is_spelled(rt, alloc, &value, kind, count, spelling);
+    is_spelled(rt, alloc, &value, expected);
     let kept = decode_kept(alloc, kind, bytes).expect(rt, "a value in either format");
-    is_spelled(rt, alloc, &kept, kind, count, spelling);
+    is_spelled(rt, alloc, &kept, expected);
     let other = match format {
         Format::First => Format::Second,
         Format::Second => Format::First,
@@ -170,19 +170,23 @@ fn each_kind_at_0_1_1024_and_1025_elements(rt: HostRuntime) {
                     &rt,
                     rt.alloc(),
                     Format::First,
-                    kind,
-                    u32::from(count),
                     &first,
-                    &second,
+                    Expected {
+                        kind,
+                        count: u32::from(count),
+                        spelling: &second,
+                    },
                 );
                 is_given(
                     &rt,
                     rt.alloc(),
                     Format::Second,
-                    kind,
-                    u32::from(count),
                     &second,
-                    &second,
+                    Expected {
+                        kind,
+                        count: u32::from(count),
+                        spelling: &second,
+                    },
                 );
             } else {
                 is_refused(&rt, rt.alloc(), Format::First, kind, &first);
@@ -199,14 +203,34 @@ fn texts_of_0_255_256_1000_and_1001_bytes(rt: HostRuntime) {
             let second = long_by_hand(rt.alloc(), Format::Second, code, len).expect(&rt, "memory");
             let kind = kind_of(code, 1);
             if len <= 1000 {
-                is_given(&rt, rt.alloc(), Format::Second, kind, 1, &second, &second);
+                is_given(
+                    &rt,
+                    rt.alloc(),
+                    Format::Second,
+                    &second,
+                    Expected {
+                        kind,
+                        count: 1,
+                        spelling: &second,
+                    },
+                );
             } else {
                 is_refused(&rt, rt.alloc(), Format::Second, kind, &second);
             }
             // one byte tells no length above 255: of a longer text it is too low
             let first = long_by_hand(rt.alloc(), Format::First, code, len).expect(&rt, "memory");
             if len <= 255 {
-                is_given(&rt, rt.alloc(), Format::First, kind, 1, &first, &second);
+                is_given(
+                    &rt,
+                    rt.alloc(),
+                    Format::First,
+                    &first,
+                    Expected {
+                        kind,
+                        count: 1,
+                        spelling: &second,
+                    },
+                );
             } else {
                 is_refused(&rt, rt.alloc(), Format::First, kind, &first);
             }
@@ -289,18 +313,22 @@ fn each_format_is_read_alone(rt: HostRuntime) {
         &rt,
         rt.alloc(),
         Format::First,
-        INTEGER,
-        1,
         SEVEN_FIRST,
-        SEVEN_SECOND,
+        Expected {
+            kind: INTEGER,
+            count: 1,
+            spelling: SEVEN_SECOND,
+        },
     );
     is_given(
         &rt,
         rt.alloc(),
         Format::Second,
-        INTEGER,
-        1,
         SEVEN_SECOND,
-        SEVEN_SECOND,
+        Expected {
+            kind: INTEGER,
+            count: 1,
+            spelling: SEVEN_SECOND,
+        },
     );
 }
