@@ -1,6 +1,6 @@
 //! Statements, done on the values of parts.
 
-ghost use Rattle.std.specs.Prelude.{◌≡◌, ◌<◌, ⊥, length, map, Option};
+ghost use Rattle.std.specs.Prelude.{◌≡◌, ◌<◌, length, map, Option};
 ghost use Rattle.std.specs.Result.{IsErrOf};
 ghost use Rattle.value_core.specs.declared.datum.Datum.{Datum};
 ghost use Rattle.value_core.specs.Contents.{kind_of};
