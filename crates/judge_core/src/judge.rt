@@ -223,6 +223,7 @@ fn needed(parts: &[Value], part: PartId, index: u32) -> Verdict
     ensures page { result ≡ verdicts.Needs part (in_page index) }
     ensures contents { IsContents (part_at parts.now part) }
 {
+    // Called for its contract alone: what lies there are contents that a value can have.
     let _kind = parts[part.place() as usize].kind();
     Verdict::Needs(part.place() as usize, page_of(index))
 }

@@ -51,6 +51,7 @@ fn needing_nothing(stop: Stop, parts: &[Value]) -> WholeStop
         Stop::Refused(word) => WholeStop::Refused(word),
         Stop::Memory => WholeStop::Memory,
         Stop::Needs(part, _) => {
+            // Called for its contract alone: what lies there are contents that a value can have, so this cannot be.
             let _kind = parts[part.place() as usize].kind();
             unreachable!()
         }

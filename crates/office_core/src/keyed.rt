@@ -42,6 +42,7 @@ impl Room {
         }) key result }
         ensures sound { IsSound self.now.board }
     {
+        // Called for its contract alone: the board is sound.
         let _history = self.desk.history();
         self.desk.kept(seat.session(), key, op, args)
     }

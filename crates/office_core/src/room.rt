@@ -139,6 +139,7 @@ impl Room {
         ensures sound { IsSound self.now.board }
         ensures rests { Rests self.now.board }
     {
+        // Called for its contract alone: the board is sound.
         let _history = self.desk.history();
         &self.desk
     }
@@ -205,6 +206,7 @@ impl Room {
         ensures tells { Tells submitted result }
         ensures room { Tries self.old submitted result self.new }
     {
+        // Called for its contract alone: the board is sound.
         let _history = self.desk.history();
         match self.desk.collect(submitted.number) {
             Collected::Ticket(ticket) => {
