@@ -1,6 +1,6 @@
 //! The explanation of a source.
 
-use crate::proposal::{place_for_path, proposal};
+use crate::proposal::{Pair, place_for_path, proposal};
 use crate::refusal::{Case, push_case};
 use decl_core::object::Object;
 use decl_read::fault::DeclFault;
@@ -84,7 +84,8 @@ fn push_unseparated(
     };
     push_case(out, page, case)?;
     let at = place_for_path(tokens);
-    let line = proposal(alloc, page.source, object, number, at, first, second)?;
+    let apart = Pair { first, second };
+    let line = proposal(alloc, page.source, object, number, at, apart)?;
     push_proposal(out, page, line, at, first == second, names)
 }
 

@@ -14,12 +14,18 @@ use std::alloc::{AllocError, Global};
 /// How many objects a source has at most, and operations an object.
 const MOST_OPERATIONS: usize = 32;
 
+/// Two operations of an object that are not kept apart, by their places.
+#[derive(Clone, Copy)]
+pub(crate) struct Pair {
+    pub first: usize,
+    pub second: usize,
+}
+
 // What the analyser says of an object of a source.
 #[derive(Clone, Copy)]
 enum Judged {
     Accepted,
-    // Two operations are not kept apart.
-    Refused(usize, usize),
+    Refused(Pair),
     // The source has no such object.
     Lacking,
 }
@@ -30,7 +36,7 @@ fn judge(alloc: Global, object: Object) -> Result<Judged, AllocError> {
         Ok(_) => Ok(Judged::Accepted),
         Err(refused) => match refused.why {
             Refusal::Memory => Err(AllocError),
-            Refusal::Unseparated(first, second, _) => Ok(Judged::Refused(first, second)),
+            Refusal::Unseparated(first, second, _) => Ok(Judged::Refused(Pair { first, second })),
         },
     }
 }
@@ -133,28 +139,27 @@ fn header_end(object: &[Token]) -> &[Token] {
     tokens_from(object, parts.min(operations).saturating_sub(1))
 }
 
-/// A path with which the object of this number is accepted, where it stands at this byte: it was put there, and the
-/// source was read and analysed again. `None` where none was found.
+/// A path with which the object of this number, which is refused for this pair, is accepted, where it stands at this
+/// byte: it was put there, and the source was read and analysed again. `None` where none was found.
 pub(crate) fn proposal(
     alloc: Global,
     source: &[u8],
     object: &Object,
     number: usize,
     at: usize,
-    first: usize,
-    second: usize,
+    pair: Pair,
 ) -> Result<Option<Vec<u8>>, AllocError> {
     let mut chosen = Vec::new(alloc);
-    chosen.push(first)?;
-    chosen.push(second)?;
+    chosen.push(pair.first)?;
+    chosen.push(pair.second)?;
     for _ in 0..MOST_OPERATIONS {
         let line = path_over(alloc, object, &chosen)?;
         let longer = with_line(alloc, source, at, &line)?;
         match judge_in(alloc, &longer, number)? {
             Judged::Accepted => return Ok(Some(line)),
-            Judged::Refused(first, second) => {
-                chosen.push(first)?;
-                chosen.push(second)?;
+            Judged::Refused(pair) => {
+                chosen.push(pair.first)?;
+                chosen.push(pair.second)?;
             }
             Judged::Lacking => return Ok(None),
         }

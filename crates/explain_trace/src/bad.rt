@@ -1,7 +1,7 @@
 //! Lines that are none of a trace, or have no place where they stand.
 
 use crate::reply::{call_of, number_in, operation_name, push_numbered};
-use crate::story::{MOST_CALLS, Story, bytes_of, operation_named, value_of};
+use crate::story::{FaultyLine, MOST_CALLS, Story, bytes_of, operation_named, value_of};
 use apply_core::fits::arguments_fit;
 use decl_core::object::{Object, Operation, Part};
 use explain_line::finding::{
@@ -418,12 +418,15 @@ fn of_line_one() -> Said {
 pub(crate) fn push_bad(
     alloc: Global,
     out: &mut Vec<u8>,
-    page: Page<'_>,
-    object: &Object,
-    story: &Story,
-    words: &LineWords<'_>,
-    number: u64,
+    faulty: FaultyLine<'_>,
 ) -> Result<(), AllocError> {
+    let FaultyLine {
+        page,
+        object,
+        story,
+        words,
+        number,
+    } = faulty;
     let whole = Finding {
         span: words.line,
         said: of_line_one(),

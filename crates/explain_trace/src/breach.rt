@@ -1,11 +1,9 @@
 //! Starts that a path does not let.
 
 use crate::reply::{operation_name, push_counted, push_numbered};
-use crate::story::{Seen, Story, operation_named};
+use crate::story::{FaultyLine, Seen, Story, operation_named};
 use decl_core::object::Object;
-use explain_line::files::Files;
 use explain_line::finding::{only, two};
-use explain_line::line_words::LineWords;
 use itoa::Buffer;
 use note_core::page::{Page, push_help, push_note};
 use note_core::said::Words;
@@ -181,18 +179,22 @@ fn push_counts(
     Ok(())
 }
 
-/// Adds which path a start breaks, and what had happened to the operations that it names.
+/// Adds which path a start breaks, by its number from 1, and what had happened to the operations that it names.
+/// `declared` is the source.
 pub(crate) fn push_breach(
     alloc: Global,
     out: &mut Vec<u8>,
-    page: Page<'_>,
-    files: Files<'_>,
-    source: &[u8],
-    object: &Object,
-    story: &Story,
-    words: &LineWords<'_>,
+    faulty: FaultyLine<'_>,
+    declared: Page<'_>,
     number: usize,
 ) -> Result<(), AllocError> {
+    let FaultyLine {
+        page,
+        object,
+        story,
+        words,
+        number: _,
+    } = faulty;
     let name = match operation_named(object, words.bare(3)) {
         Some(place) => operation_name(object, place),
         None => words.bare(3),
@@ -204,13 +206,13 @@ pub(crate) fn push_breach(
         "`%` cannot start here",
         only(name),
     )?;
-    let Ok(tokens) = lex(alloc, source) else {
+    let Ok(tokens) = lex(alloc, declared.source) else {
         return Err(AllocError);
     };
     let path = path_tokens(object_tokens(&tokens, object.name.as_bytes()), number);
     let place = Page {
-        file: files.source.as_bytes(),
-        source,
+        file: declared.file,
+        source: declared.source,
         tokens: &tokens,
     };
     let sentence = "path $ of object `%` does not let it";

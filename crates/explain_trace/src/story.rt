@@ -4,9 +4,11 @@ use apply_core::apply::apply_all;
 use apply_core::fits::{arguments_fit, parts_fit};
 use apply_core::reply::Reply;
 use decl_core::object::{Object, Operation, Part};
+use explain_line::line_words::LineWords;
 use hex::FromHexError;
 use line_core::next_line;
 use line_core::words::is_same_word;
+use note_core::page::Page;
 use note_core::span::Span;
 use std::alloc::{AllocError, Global};
 use value_core::datum::Datum;
@@ -41,6 +43,17 @@ pub(crate) struct Seen {
 pub(crate) struct Story {
     pub values: Vec<Value>,
     pub calls: Vec<Option<Seen>>,
+}
+
+/// The first faulty line of a trace of an object: its page, what the lines before it told, its words, and its number,
+/// from 1.
+#[derive(Clone, Copy)]
+pub(crate) struct FaultyLine<'a> {
+    pub page: Page<'a>,
+    pub object: &'a Object,
+    pub story: &'a Story,
+    pub words: &'a LineWords<'a>,
+    pub number: u64,
 }
 
 /// The bytes that a word spells in hexadecimal.

@@ -3,7 +3,7 @@
 use crate::bad::push_bad;
 use crate::breach::push_breach;
 use crate::reply::{push_not_running, push_wrong_reply};
-use crate::story::story_before;
+use crate::story::{FaultyLine, story_before};
 use audit_core::audit::audit;
 use audit_core::verdict::Verdict;
 use decl_core::object::Object;
@@ -27,28 +27,32 @@ fn line_of(verdict: Verdict) -> Option<u64> {
     }
 }
 
-// Adds why the line of this number has this fault.
+// Adds why the line that a verdict tells, if it tells one, has that fault. `declared` is the source.
 fn push_fault(
     alloc: Global,
     out: &mut Vec<u8>,
     page: Page<'_>,
-    files: Files<'_>,
-    source: &[u8],
+    declared: Page<'_>,
     object: &Object,
     verdict: Verdict,
-    number: u64,
 ) -> Result<(), AllocError> {
+    let Some(number) = line_of(verdict) else {
+        return Ok(());
+    };
     let (story, line) = story_before(alloc, object, page.source, number)?;
     let words = words_at(alloc, page.source, line.span)?;
+    let faulty = FaultyLine {
+        page,
+        object,
+        story: &story,
+        words: &words,
+        number,
+    };
     match verdict {
-        Verdict::BreaksPath(_, path) => {
-            push_breach(
-                alloc, out, page, files, source, object, &story, &words, path,
-            )
-        }
+        Verdict::BreaksPath(_, path) => push_breach(alloc, out, faulty, declared, path),
         Verdict::WrongReply(_) => push_wrong_reply(alloc, out, page, object, &story, &words),
         Verdict::NotRunning(_) => push_not_running(out, page, object, &story, &words),
-        _ => push_bad(alloc, out, page, object, &story, &words, number),
+        _ => push_bad(alloc, out, faulty),
     }
 }
 
@@ -62,19 +66,12 @@ fn push_verdict(
     accepted: &Accepted,
 ) -> Result<(), AllocError> {
     let verdict = audit(alloc, accepted, page.source);
-    match line_of(verdict) {
-        Some(number) => push_fault(
-            alloc,
-            out,
-            page,
-            files,
-            source,
-            accepted.object(),
-            verdict,
-            number,
-        ),
-        None => Ok(()),
-    }
+    let declared = Page {
+        file: files.source.as_bytes(),
+        source,
+        tokens: &[],
+    };
+    push_fault(alloc, out, page, declared, accepted.object(), verdict)
 }
 
 /// What a person is told of the first faulty line of a trace, or of a first line that names no object of the source. It
