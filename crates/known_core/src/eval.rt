@@ -1,8 +1,8 @@
 //! Expressions and conditions, evaluated on what is known of the values of parts.
 
-ghost use Rattle.std.specs.Prelude.{◌≡◌, ◌<◌, List, length, map, IfOk};
+ghost use Rattle.std.specs.Prelude.{◌≡◌, ◌<◌, length, map, IfOk};
 ghost use Rattle.value_core.specs.Contents.{kind_of};
-ghost use Rattle.value_core.specs.declared.datum.Datum.{Datum};
+ghost use Rattle.value_core.specs.Meaning.{oldest_of};
 ghost use Rattle.value_core.specs.Datum.{elem_of};
 ghost use Rattle.decl_core.specs.Form.{
   element,
@@ -21,7 +21,6 @@ ghost use Rattle.decl_core.specs.Meaning.{part_at, argument_at, integer_in as in
 ghost use Rattle.decl_core.specs.Meaning.{compares as related};
 ghost use Rattle.known_core.specs.Partly.{if_known as where_known, datum_known, integer_known, text_known, value_known};
 ghost use Rattle.known_core.specs.Partly.{holds_known};
-ghost use Rattle.known_core.specs.Known.{Known};
 ghost use Rattle.known_core.specs.Masks.{known_by};
 ghost use Rattle.known_core.specs.Breaks.{given};
 ghost use Rattle.known_core.specs.declared.eval.Break.TheVariants.{Refused};
@@ -127,8 +126,7 @@ fn element_in(
 // The oldest element of a part.
 fn oldest_in(part: PartId, parts: &[Value]) -> Result<Datum, Break>
     requires fits { FromFits (map kind_of parts.now) (oldest part) }
-    ensures { (known : Known) (args : List Datum) →
-        datum_known known (seeing args parts.now) (oldest part) ≡ given result }
+    ensures { worded (oldest_of (part_at parts.now part)) ≡ given result }
 {
     let datum = value_of(parts, part).first()?;
     Ok(datum)
