@@ -4,17 +4,8 @@ ghost use Rattle.std.specs.Prelude.{◌≡◌, ◌<◌, length, map, IfOk};
 ghost use Rattle.value_core.specs.Contents.{kind_of};
 ghost use Rattle.value_core.specs.Meaning.{oldest_of};
 ghost use Rattle.value_core.specs.Datum.{elem_of};
-ghost use Rattle.decl_core.specs.Form.{
-  element,
-  oldest,
-  under,
-  integer_from as taken_integer,
-  an_integer,
-  a_text,
-  same_texts,
-  other_texts,
-  has,
-};
+ghost use Rattle.decl_core.specs.Form.{element, oldest, under, integer_from as taken_integer, an_integer, a_text};
+ghost use Rattle.decl_core.specs.Form.{same_texts, other_texts, has};
 ghost use Rattle.decl_core.specs.View.{from_of, integers_of, texts_of, form_of, condition_of};
 ghost use Rattle.decl_core.specs.Sorts.{sort_of_form};
 ghost use Rattle.decl_core.specs.Meaning.{part_at, argument_at, integer_in as in_integer, text_in as in_text};
