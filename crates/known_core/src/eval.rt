@@ -10,8 +10,8 @@ ghost use Rattle.decl_core.specs.View.{from_of, integers_of, texts_of, form_of, 
 ghost use Rattle.decl_core.specs.Sorts.{sort_of_form};
 ghost use Rattle.decl_core.specs.Meaning.{part_at, argument_at, integer_in as in_integer, text_in as in_text};
 ghost use Rattle.decl_core.specs.Meaning.{compares as related};
-ghost use Rattle.known_core.specs.Partly.{if_known as where_known, datum_known, integer_known, text_known, value_known};
-ghost use Rattle.known_core.specs.Partly.{holds_known};
+ghost use Rattle.known_core.specs.Partly.{worded, if_known as where_known};
+ghost use Rattle.known_core.specs.Partly.{datum_known, integer_known, text_known, value_known, holds_known};
 ghost use Rattle.known_core.specs.Masks.{known_by};
 ghost use Rattle.known_core.specs.Breaks.{given};
 ghost use Rattle.known_core.specs.declared.eval.Break.TheVariants.{Refused};
