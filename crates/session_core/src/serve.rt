@@ -27,6 +27,14 @@ use talk_core::mouth::Mouth;
 use talk_core::note::Note;
 use talk_core::output::{Health, Start};
 
+// The client of a session: what is read from it, what is written to it, and the bell at which its session ends.
+#[derive(Drop)]
+struct Client<'a, I: Read + Drop, W: Write + Drop> {
+    reader: I,
+    writer: W,
+    bell: &'a Bell,
+}
+
 // What a session hands back, by what was written and what its first thread left. All its threads have ended, so that
 // none of them takes the session of a client out that has come back.
 fn ended<R: Wait, W: Drop, H: Drop, O: Offices>(
@@ -93,7 +101,7 @@ fn work_beside<
     worked
 }
 
-// Serves one session on a writer that held this at first.
+// Serves one session of a client whose writer held this at first.
 fn serve_from<
     J: Start + Send + Sync,
     R: Threads + Wait + Clock + Sync,
@@ -101,20 +109,17 @@ fn serve_from<
     W: Write + Drop + Send,
     H: Hand + Drop,
     O: Offices + Sync,
->(
-    rt: &R,
-    alloc: Global,
-    reader: I,
-    writer: W,
-    bell: &Bell,
-    offices: &O,
-    hand: H,
-) -> SessionEnd<W, H>
-    requires { W.contents writer ≡ J.start }
+>(rt: &R, alloc: Global, client: Client<'_, I, W>, offices: &O, hand: H) -> SessionEnd<W, H>
+    requires { W.contents client.writer ≡ J.start }
     ensures kept { Keeps H.agrees hand result.hand }
     ensures told { AreTrue H.agrees result.hand result.receipts.items }
     ensures written { HasWritten J.start (W.contents result.writer) result.receipts.items result.fault }
 {
+    let Client {
+        reader,
+        writer,
+        bell,
+    } = client;
     let (to, from) = match crossbeam_channel::bounded(alloc, 1) {
         Ok(ends) => ends,
         Err(_) => {
@@ -190,9 +195,11 @@ pub fn serve_session<
     serve_from::<Brand, R, UntilBell<'_, I>, W, H, O>(
         rt,
         alloc,
-        UntilBell::new(reader, bell),
-        writer,
-        bell,
+        Client {
+            reader: UntilBell::new(reader, bell),
+            writer,
+            bell,
+        },
         offices,
         hand,
     )

@@ -48,6 +48,17 @@ use value_core::datum::Datum;
 /// held back. So long at most a line that stands ready is held back because calls behind it wait for their turn.
 const BRIEF: u64 = 10;
 
+/// What a session is served with, which its threads share. A call of it has the office of its object in place of all
+/// offices.
+#[derive_where(Clone, Copy)]
+struct Service<'a, R, P, W: Write + Drop, J: Start> {
+    rt: &'a R,
+    alloc: Global,
+    // The offices that the session may open, or the one of a call.
+    by: &'a P,
+    mouth: &'a Mouth<W, J>,
+}
+
 /// What the first thread leaves.
 #[derive(Drop)]
 pub(crate) struct Worked<H: Drop> {
@@ -75,14 +86,9 @@ enum Goes {
 }
 
 // Sends the lines that are held back. Where that fails, the session leaves its object.
-fn flush<R: Wait, W: Write + Drop, J: Start>(
-    rt: &R,
-    office: &Office,
-    mouth: &Mouth<W, J>,
-    seat: &Seat,
-) {
-    if !mouth.flush(rt) {
-        office.leave(rt, seat.session());
+fn flush<R: Wait, W: Write + Drop, J: Start>(service: Service<'_, R, Office, W, J>, seat: &Seat) {
+    if !service.mouth.flush(service.rt) {
+        service.by.leave(service.rt, seat.session());
     }
 }
 
@@ -132,21 +138,18 @@ fn awaited_beside<R: Wait, I: Read + Drop>(
 
 // Has what is held back sent by the third thread, since this one has a call that may start at any time.
 fn ask<R: Wait, I: Read + Drop, W: Write + Drop, J: Start>(
-    rt: &R,
-    mouth: &Mouth<W, J>,
+    service: Service<'_, R, Office, W, J>,
     reading: &Reading<'_, I>,
 ) {
     if let Some((at, session)) = reading.opened() {
-        mouth.ask(rt, at, session);
+        service.mouth.ask(service.rt, at, session);
     }
 }
 
 // Waits until a call starts or is cancelled, of which a look at its submission, just made, told this. Before a call is
 // waited for that does not start soon, the lines that are held back are sent, by the third thread.
 fn started<R: Wait + Clock, I: Read + Drop, W: Write + Drop, J: Start>(
-    rt: &R,
-    office: &Office,
-    mouth: &Mouth<W, J>,
+    service: Service<'_, R, Office, W, J>,
     late: &mut Late,
     seat: &Seat,
     reading: &mut Reading<'_, I>,
@@ -157,28 +160,26 @@ fn started<R: Wait + Clock, I: Read + Drop, W: Write + Drop, J: Start>(
     let waiting = match tried {
         Tried::Ticket(ticket) => return Some(ticket),
         Tried::Cancelled => return None,
-        Tried::Stranger(back) => return awaited(rt, office, back),
+        Tried::Stranger(back) => return awaited(service.rt, service.by, back),
         Tried::Waiting(back) => back,
     };
-    let most = late.left(rt, Duration::from_millis(BRIEF));
-    match office.try_start_within(rt, waiting, most) {
+    let most = late.left(service.rt, Duration::from_millis(BRIEF));
+    match service.by.try_start_within(service.rt, waiting, most) {
         Tried::Ticket(ticket) => Some(ticket),
         Tried::Cancelled => None,
         Tried::Waiting(back) => {
-            ask(rt, mouth, reading);
+            ask(service, reading);
             late.reset();
-            awaited_beside(rt, office, seat, reading, back)
+            awaited_beside(service.rt, service.by, seat, reading, back)
         }
-        Tried::Stranger(back) => awaited(rt, office, back),
+        Tried::Stranger(back) => awaited(service.rt, service.by, back),
     }
 }
 
 // Submits a call, and looks whether it has started. Where it is held back since a call runs that it would wait for, the
 // lines that stand ready are sent after a while, before it is submitted.
 fn submitted<R: Wait + Clock, W: Write + Drop, J: Start>(
-    rt: &R,
-    office: &Office,
-    mouth: &Mouth<W, J>,
+    service: Service<'_, R, Office, W, J>,
     late: &mut Late,
     seat: &mut Seat,
     op: &str,
@@ -187,12 +188,15 @@ fn submitted<R: Wait + Clock, W: Write + Drop, J: Start>(
     ensures { IfOk result (λ r. (s : Ask) × Asks op.now args.now s × (r.0 ≡ s.number) × Tells s r.1) }
 {
     let most = Duration::from_millis(BRIEF);
-    if let Some(answer) = office.submit_in_turn(rt, seat, op, args, late, most) {
+    if let Some(answer) = service
+        .by
+        .submit_in_turn(service.rt, seat, op, args, late, most)
+    {
         return answer;
     }
-    flush(rt, office, mouth, seat);
+    flush(service, seat);
     late.reset();
-    office.submit_and_try(rt, seat, op, args)
+    service.by.submit_and_try(service.rt, seat, op, args)
 }
 
 // Runs a started call.
@@ -237,16 +241,14 @@ fn put_off<H: Hand>(hand: &mut H, free: Vec<Stamp>, left: &mut Vec<Stamp>)
 }
 
 // Holds a line back.
-fn say<R: Wait, W: Write + Drop, J: Start>(rt: &R, mouth: &Mouth<W, J>, line: Line) {
-    let _said = mouth.say(rt, line);
+fn say<R: Wait, P, W: Write + Drop, J: Start>(service: Service<'_, R, P, W, J>, line: Line) {
+    let _said = service.mouth.say(service.rt, line);
 }
 
 // A call from its submission to its start, with the lines up to there. It answers no ticket where the
 // call does not start.
 fn begun<R: Wait + Clock, I: Read + Drop, W: Write + Drop, J: Start>(
-    rt: &R,
-    office: &Office,
-    mouth: &Mouth<W, J>,
+    service: Service<'_, R, Office, W, J>,
     late: &mut Late,
     reading: &mut Reading<'_, I>,
     seat: &mut Seat,
@@ -255,29 +257,28 @@ fn begun<R: Wait + Clock, I: Read + Drop, W: Write + Drop, J: Start>(
 ) -> Option<Ticket>
     ensures { IfSome result (λ t. (ticket_call t).arguments ≡ args.now) }
 {
-    let (number, tried) = match submitted(rt, office, mouth, late, seat, op, args) {
+    let (number, tried) = match submitted(service, late, seat, op, args) {
         Ok(answer) => answer,
         Err(fault) => {
-            say(rt, mouth, Line::Unsubmitted(fault));
+            say(service, Line::Unsubmitted(fault));
             return None;
         }
     };
-    say(rt, mouth, Line::Accepted(number));
+    say(service, Line::Accepted(number));
     let tried = match tried {
         Tried::Ticket(ticket) => return Some(ticket),
         other => other,
     };
-    let ticket = started(rt, office, mouth, late, seat, reading, tried);
+    let ticket = started(service, late, seat, reading, tried);
     if ticket.is_none() {
-        say(rt, mouth, Line::Withdrawn(number));
+        say(service, Line::Withdrawn(number));
     }
     ticket
 }
 
 // Makes room for a receipt, its note and its lines. Without memory it answers false.
 fn make_room<R: Wait, W: Write + Drop, J: Start>(
-    rt: &R,
-    mouth: &Mouth<W, J>,
+    service: Service<'_, R, Office, W, J>,
     receipts: &mut Vec<Slip>,
     room: &mut SlipRoom,
     args: &[Datum],
@@ -286,7 +287,7 @@ fn make_room<R: Wait, W: Write + Drop, J: Start>(
     ensures room { IsTrue result → vec_len receipts.new < vec_capacity receipts.new }
     ensures made { IsTrue result → IsMade args.now room.new }
 {
-    make_room_in(receipts) && room.make(args).is_ok() && mouth.make_room(rt)
+    make_room_in(receipts) && room.make(args).is_ok() && service.mouth.make_room(service.rt)
 }
 
 // Keeps what the receipt of an outcome tells. There is room for it, so that no receipt is lost.
@@ -303,10 +304,7 @@ fn keep(receipts: &mut Vec<Slip>, room: &mut SlipRoom, place: usize, session: u3
 // One call, where there is room for its receipt. What earlier calls left is retired before it is submitted, while no
 // other call waits for this one.
 fn serve_at<R: Wait + Clock, I: Read + Drop, W: Write + Drop, H: Hand + Drop, J: Start>(
-    rt: &R,
-    alloc: Global,
-    office: &Office,
-    mouth: &Mouth<W, J>,
+    service: Service<'_, R, Office, W, J>,
     reading: &mut Reading<'_, I>,
     seat: &mut Seat,
     worked: &mut Worked<H>,
@@ -317,18 +315,20 @@ fn serve_at<R: Wait + Clock, I: Read + Drop, W: Write + Drop, H: Hand + Drop, J:
     ensures told { AreTrue H.agrees worked.old.hand worked.old.receipts.items →
         AreTrue H.agrees worked.new.hand worked.new.receipts.items }
 {
-    retire_left(alloc, &mut worked.hand, &mut worked.free);
-    if !make_room(rt, mouth, &mut worked.receipts, &mut worked.room, args) {
-        say(rt, mouth, Line::Unsubmitted(SubmitFault::Memory));
+    retire_left(service.alloc, &mut worked.hand, &mut worked.free);
+    if !make_room(service, &mut worked.receipts, &mut worked.room, args) {
+        say(service, Line::Unsubmitted(SubmitFault::Memory));
         return;
     }
-    let begun = begun(rt, office, mouth, &mut worked.late, reading, seat, op, args);
+    let begun = begun(service, &mut worked.late, reading, seat, op, args);
     let Some(ticket) = begun else {
         return;
     };
-    let mut outcome = performed(alloc, ticket, &mut worked.hand);
-    let finished = completed(rt, office, seat, &mut outcome);
-    let _said = mouth.say_ended(rt, outcome.number(), outcome.reply());
+    let mut outcome = performed(service.alloc, ticket, &mut worked.hand);
+    let finished = completed(service.rt, service.by, seat, &mut outcome);
+    let _said = service
+        .mouth
+        .say_ended(service.rt, outcome.number(), outcome.reply());
     let Finished {
         place,
         session,
@@ -345,15 +345,15 @@ fn serve_at<R: Wait + Clock, I: Read + Drop, W: Write + Drop, H: Hand + Drop, J:
 }
 
 // Says what became of a call that was made before.
-fn say_kept<R: Wait, W: Write + Drop, J: Start>(rt: &R, mouth: &Mouth<W, J>, kept: &Kept)
+fn say_kept<R: Wait, W: Write + Drop, J: Start>(service: Service<'_, R, Office, W, J>, kept: &Kept)
     requires { (b : Board) × IsSound b × IsStateOf b kept.now.number kept.now.state }
 {
     match &kept.state {
-        CallState::Waiting => say(rt, mouth, Line::Kept(kept.number, Unended::Waiting)),
-        CallState::Running => say(rt, mouth, Line::Kept(kept.number, Unended::Running)),
-        CallState::Cancelled => say(rt, mouth, Line::Kept(kept.number, Unended::Cancelled)),
+        CallState::Waiting => say(service, Line::Kept(kept.number, Unended::Waiting)),
+        CallState::Running => say(service, Line::Kept(kept.number, Unended::Running)),
+        CallState::Cancelled => say(service, Line::Kept(kept.number, Unended::Cancelled)),
         CallState::Ended(reply) => {
-            let _said = mouth.say_repeated(rt, kept.number, reply);
+            let _said = service.mouth.say_repeated(service.rt, kept.number, reply);
         }
     }
 }
@@ -361,9 +361,7 @@ fn say_kept<R: Wait, W: Write + Drop, J: Start>(rt: &R, mouth: &Mouth<W, J>, kep
 // Whether a call is to be made: it has no key, or that of its session's next call. Any other is answered here, before
 // there is room for a call and whosever turn it is.
 fn is_new<R: Wait, W: Write + Drop, J: Start>(
-    rt: &R,
-    office: &Office,
-    mouth: &Mouth<W, J>,
+    service: Service<'_, R, Office, W, J>,
     seat: &Seat,
     key: Option<u32>,
     op: &str,
@@ -372,14 +370,14 @@ fn is_new<R: Wait, W: Write + Drop, J: Start>(
     let Some(key) = key else {
         return true;
     };
-    match office.kept(rt, seat, key, op, args) {
+    match service.by.kept(service.rt, seat, key, op, args) {
         Ok(None) => true,
         Ok(Some(kept)) => {
-            say_kept(rt, mouth, &kept);
+            say_kept(service, &kept);
             false
         }
         Err(fault) => {
-            say(rt, mouth, Line::Unkeyed(fault));
+            say(service, Line::Unkeyed(fault));
             false
         }
     }
@@ -394,10 +392,7 @@ fn serve_call<
     J: Start,
     O: Offices,
 >(
-    rt: &R,
-    alloc: Global,
-    offices: &O,
-    mouth: &Mouth<W, J>,
+    service: Service<'_, R, O, W, J>,
     reading: &mut Reading<'_, I>,
     worked: &mut Worked<H>,
     key: Option<u32>,
@@ -415,19 +410,15 @@ fn serve_call<
         return;
     };
     let mut entered = entered;
-    if let Some(office) = offices.office(entered.at) {
-        if is_new(rt, office, mouth, &entered.seat, key, op, args) {
-            serve_at(
-                rt,
-                alloc,
-                office,
-                mouth,
-                reading,
-                &mut entered.seat,
-                worked,
-                op,
-                args,
-            );
+    if let Some(office) = service.by.office(entered.at) {
+        let service = Service {
+            rt: service.rt,
+            alloc: service.alloc,
+            by: office,
+            mouth: service.mouth,
+        };
+        if is_new(service, &entered.seat, key, op, args) {
+            serve_at(service, reading, &mut entered.seat, worked, op, args);
         }
     }
     worked.seat = Some(entered);
@@ -435,23 +426,21 @@ fn serve_call<
 
 // Opens an object for this session, which goes on or, where memory is refused, leaves.
 fn enter<R: Wait, I: Read + Drop, W: Write + Drop, J: Start, O: Offices>(
-    rt: &R,
-    offices: &O,
-    mouth: &Mouth<W, J>,
+    service: Service<'_, R, O, W, J>,
     reading: &mut Reading<'_, I>,
     seat: &mut Option<Entered>,
     name: &Name,
     client: &Option<Name>,
 ) -> Goes {
-    match seat_at(rt, offices, name, client) {
+    match seat_at(service.rt, service.by, name, client) {
         Ok((entered, next)) => {
             reading.set_opened(entered.at, entered.seat.session());
-            let _said = mouth.say_opened(rt, name, next);
+            let _said = service.mouth.say_opened(service.rt, name, next);
             *seat = Some(entered);
             Goes::On
         }
         Err(NotEntered::Refused(refusal)) => {
-            say(rt, mouth, Line::Refused(refusal));
+            say(service, Line::Refused(refusal));
             Goes::On
         }
         Err(NotEntered::Memory) => Goes::Leaves(Some(HearFault::Memory)),
@@ -460,16 +449,14 @@ fn enter<R: Wait, I: Read + Drop, W: Write + Drop, J: Start, O: Offices>(
 
 // Cancels a call of the object that is opened.
 fn cancel<R: Wait, W: Write + Drop, J: Start, O: Offices>(
-    rt: &R,
-    offices: &O,
-    mouth: &Mouth<W, J>,
+    service: Service<'_, R, O, W, J>,
     seat: &Option<Entered>,
     number: u32,
 ) {
     if let Some(entered) = seat {
-        if let Some(office) = offices.office(entered.at) {
-            let answer = office.cancel(rt, number);
-            say(rt, mouth, Line::Cancel(number, answer));
+        if let Some(office) = service.by.office(entered.at) {
+            let answer = office.cancel(service.rt, number);
+            say(service, Line::Cancel(number, answer));
         }
     }
 }
@@ -487,10 +474,7 @@ fn leave_if_stopped<R: Wait, I: Read + Drop, O: Offices>(
 
 // Does what a line asks for.
 fn act<R: Wait + Clock, I: Read + Drop, W: Write + Drop, H: Hand + Drop, J: Start, O: Offices>(
-    rt: &R,
-    alloc: Global,
-    offices: &O,
-    mouth: &Mouth<W, J>,
+    service: Service<'_, R, O, W, J>,
     reading: &mut Reading<'_, I>,
     worked: &mut Worked<H>,
     action: Action,
@@ -501,36 +485,25 @@ fn act<R: Wait + Clock, I: Read + Drop, W: Write + Drop, H: Hand + Drop, J: Star
 {
     match action {
         Action::Open(name, client) => {
-            return enter(
-                rt,
-                offices,
-                mouth,
-                reading,
-                &mut worked.seat,
-                &name,
-                &client,
-            );
+            return enter(service, reading, &mut worked.seat, &name, &client);
         }
         Action::Call(key, op, args) => {
-            leave_if_stopped(rt, offices, reading);
-            serve_call(rt, alloc, offices, mouth, reading, worked, key, &op, &args)
+            leave_if_stopped(service.rt, service.by, reading);
+            serve_call(service, reading, worked, key, &op, &args)
         }
-        Action::Cancel(number) => cancel(rt, offices, mouth, &worked.seat, number),
+        Action::Cancel(number) => cancel(service, &worked.seat, number),
         Action::Quit => {
-            say(rt, mouth, Line::Bye);
+            say(service, Line::Bye);
             return Goes::Quits;
         }
-        Action::Answer(refusal) => say(rt, mouth, Line::Refused(refusal)),
+        Action::Answer(refusal) => say(service, Line::Refused(refusal)),
     }
     Goes::On
 }
 
 // Does what lines ask for, in order.
 fn act_all<R: Wait + Clock, I: Read + Drop, W: Write + Drop, H: Hand + Drop, J: Start, O: Offices>(
-    rt: &R,
-    alloc: Global,
-    offices: &O,
-    mouth: &Mouth<W, J>,
+    service: Service<'_, R, O, W, J>,
     reading: &mut Reading<'_, I>,
     worked: &mut Worked<H>,
     actions: Vec<Action>,
@@ -540,7 +513,7 @@ fn act_all<R: Wait + Clock, I: Read + Drop, W: Write + Drop, H: Hand + Drop, J: 
         AreTrue H.agrees worked.new.hand worked.new.receipts.items }
 {
     for action in actions {
-        match act(rt, alloc, offices, mouth, reading, worked, action) {
+        match act(service, reading, worked, action) {
             Goes::On => {}
             other => return other,
         }
@@ -550,27 +523,21 @@ fn act_all<R: Wait + Clock, I: Read + Drop, W: Write + Drop, H: Hand + Drop, J: 
 
 // Sends the lines that are held back, and retires the files that are left. It answers whether all lines were sent.
 fn rest<R: Wait, W: Write + Drop, H: Hand + Drop, J: Start, O: Offices>(
-    rt: &R,
-    alloc: Global,
-    offices: &O,
-    mouth: &Mouth<W, J>,
+    service: Service<'_, R, O, W, J>,
     worked: &mut Worked<H>,
 ) -> bool
     ensures kept { Keeps H.agrees worked.old.hand worked.new.hand }
     ensures same { worked.new.receipts.items ≡ worked.old.receipts.items }
 {
-    let sent = mouth.flush(rt);
+    let sent = service.mouth.flush(service.rt);
     worked.late.reset();
-    retire_left(alloc, &mut worked.hand, &mut worked.free);
+    retire_left(service.alloc, &mut worked.hand, &mut worked.free);
     sent
 }
 
 // Does what was heard. Before more is read, the lines that are held back are sent.
 fn heed<R: Wait + Clock, I: Read + Drop, W: Write + Drop, H: Hand + Drop, J: Start, O: Offices>(
-    rt: &R,
-    alloc: Global,
-    offices: &O,
-    mouth: &Mouth<W, J>,
+    service: Service<'_, R, O, W, J>,
     reading: &mut Reading<'_, I>,
     worked: &mut Worked<H>,
     heard: Heard,
@@ -580,14 +547,14 @@ fn heed<R: Wait + Clock, I: Read + Drop, W: Write + Drop, H: Hand + Drop, J: Sta
         AreTrue H.agrees worked.new.hand worked.new.receipts.items }
 {
     match heard {
-        Heard::Action(action) => act(rt, alloc, offices, mouth, reading, worked, action),
+        Heard::Action(action) => act(service, reading, worked, action),
         Heard::LineTooLong => {
-            say(rt, mouth, Line::Refused(Refusal::LineTooLong));
+            say(service, Line::Refused(Refusal::LineTooLong));
             Goes::On
         }
         Heard::End(fault) => Goes::Leaves(fault),
         Heard::Nothing => {
-            if !rest(rt, alloc, offices, mouth, worked) {
+            if !rest(service, worked) {
                 return Goes::Leaves(None);
             }
             reading.read();
@@ -599,10 +566,7 @@ fn heed<R: Wait + Clock, I: Read + Drop, W: Write + Drop, H: Hand + Drop, J: Sta
 // Does what the second thread heard. Where there is nothing to do, the lines that are held back are sent, and more is
 // waited for, or the reading side.
 fn follow<R: Wait + Clock, I: Read + Drop, W: Write + Drop, H: Hand + Drop, J: Start, O: Offices>(
-    rt: &R,
-    alloc: Global,
-    offices: &O,
-    mouth: &Mouth<W, J>,
+    service: Service<'_, R, O, W, J>,
     reading: &mut Reading<'_, I>,
     worked: &mut Worked<H>,
 ) -> Goes
@@ -610,23 +574,20 @@ fn follow<R: Wait + Clock, I: Read + Drop, W: Write + Drop, H: Hand + Drop, J: S
     ensures told { AreTrue H.agrees worked.old.hand worked.old.receipts.items →
         AreTrue H.agrees worked.new.hand worked.new.receipts.items }
 {
-    let actions = reading.taken(rt, alloc);
+    let actions = reading.taken(service.rt, service.alloc);
     if !actions.is_empty() {
-        return act_all(rt, alloc, offices, mouth, reading, worked, actions);
+        return act_all(service, reading, worked, actions);
     }
-    if !rest(rt, alloc, offices, mouth, worked) {
+    if !rest(service, worked) {
         return Goes::Leaves(None);
     }
-    reading.await_ear(rt);
+    reading.await_ear(service.rt);
     Goes::On
 }
 
 // One turn: what is heard next is done.
 fn turn<R: Wait + Clock, I: Read + Drop, W: Write + Drop, H: Hand + Drop, J: Start, O: Offices>(
-    rt: &R,
-    alloc: Global,
-    offices: &O,
-    mouth: &Mouth<W, J>,
+    service: Service<'_, R, O, W, J>,
     reading: &mut Reading<'_, I>,
     worked: &mut Worked<H>,
 ) -> Goes
@@ -634,9 +595,9 @@ fn turn<R: Wait + Clock, I: Read + Drop, W: Write + Drop, H: Hand + Drop, J: Sta
     ensures told { AreTrue H.agrees worked.old.hand worked.old.receipts.items →
         AreTrue H.agrees worked.new.hand worked.new.receipts.items }
 {
-    match reading.hear(alloc) {
-        Some(heard) => heed(rt, alloc, offices, mouth, reading, worked, heard),
-        None => follow(rt, alloc, offices, mouth, reading, worked),
+    match reading.hear(service.alloc) {
+        Some(heard) => heed(service, reading, worked, heard),
+        None => follow(service, reading, worked),
     }
 }
 
@@ -650,10 +611,7 @@ fn take_turns<
     J: Start,
     O: Offices,
 >(
-    rt: &R,
-    alloc: Global,
-    offices: &O,
-    mouth: &Mouth<W, J>,
+    service: Service<'_, R, O, W, J>,
     reading: &mut Reading<'_, I>,
     worked: &mut Worked<H>,
 ) -> Option<HearFault>
@@ -661,11 +619,11 @@ fn take_turns<
     ensures told { AreTrue H.agrees worked.old.hand worked.old.receipts.items →
         AreTrue H.agrees worked.new.hand worked.new.receipts.items }
 {
-    for _ in rt.forever() {
-        match turn(rt, alloc, offices, mouth, reading, worked) {
+    for _ in service.rt.forever() {
+        match turn(service, reading, worked) {
             Goes::On => {}
             Goes::Leaves(fault) => {
-                leave(rt, offices, reading.opened());
+                leave(service.rt, service.by, reading.opened());
                 return fault;
             }
             Goes::Quits => return None,
@@ -704,8 +662,14 @@ pub(crate) fn work<
         fault: None,
     };
     let mut reading = reading;
-    worked.fault = take_turns(rt, alloc, offices, mouth, &mut reading, &mut worked);
-    let _sent = rest(rt, alloc, offices, mouth, &mut worked);
+    let service = Service {
+        rt,
+        alloc,
+        by: offices,
+        mouth,
+    };
+    worked.fault = take_turns(service, &mut reading, &mut worked);
+    let _sent = rest(service, &mut worked);
     reading.over(rt);
     mouth.close(rt);
     worked
