@@ -48,13 +48,13 @@ use value_core::datum::Datum;
 /// held back. So long at most a line that stands ready is held back because calls behind it wait for their turn.
 const BRIEF: u64 = 10;
 
-/// What a session is served with, which its threads share. A call of it has the office of its object in place of all
-/// offices.
+/// What a session is served with. It is shared by its threads. For one call of it, the office of the object that is
+/// opened stands in place of all offices.
 #[derive_where(Clone, Copy)]
 struct Service<'a, R, P, W: Write + Drop, J: Start> {
     rt: &'a R,
     alloc: Global,
-    // The offices that the session may open, or the one of a call.
+    // All offices that the session may open, or the one of a call.
     by: &'a P,
     mouth: &'a Mouth<W, J>,
 }
