@@ -1,0 +1,4 @@
+mod Rows
+mod Sorts
+mod Turns
+mod Levels
