@@ -2,3 +2,8 @@ mod Rows
 mod Sorts
 mod Turns
 mod Levels
+mod Steps
+mod Uses
+mod Walks
+mod Found
+mod Whole

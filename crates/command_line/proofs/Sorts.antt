@@ -6,7 +6,7 @@ use Rattle.std.proofs.lemmas.List.{length-append}
 use Rattle.std.specs.Char.{encode_utf8}
 use Rattle.std.specs.Str.{chars}
 use Rattle.clap.specs.Lexer.{long_of, long_of_rest, name_and_value, short_of, short_of_rest, strip_byte, has_byte}
-use Rattle.clap.proofs.CutLemmas.{Lacks}
+use Rattle.clap.proofs.CutLemmas.{Lacks, list_any-at}
 use Rattle.clap.proofs.LexerLemmas.{name_and_value-at, name_and_value-without}
 use Rattle.command_line.specs.Forms.{Text, is_bare}
 
@@ -118,3 +118,16 @@ cut t = go (find_cut t)
     go : Found t → Cut t
     go (lacks l) = whole (name_and_value-without t l)
     go (has n value l is) = parts n value is (ap name_and_value is ∙ name_and_value-at n value l)
+
+clash : false ≡ true → ⊥
+clash x = cc
+
+no_cut : (n : Text) → has_byte 61 n ≡ false → Lacks 61 n
+no_cut n none = go (find_cut n)
+  where
+    go : Found n → Lacks 61 n
+    go (lacks l) = l
+    go (has m value l is) = absurd (clash (sym none ∙ ap (has_byte 61) is ∙ list_any-at 61 m value))
+
+pub sessions_lacks : Lacks 61 (codes "sessions")
+sessions_lacks = no_cut (codes "sessions") refl

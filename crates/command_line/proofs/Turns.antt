@@ -3,7 +3,7 @@ use Rattle.std.proofs.Common.{◌≡◌, ◌∙◌, ◌++◌, ◌&&◌, ◌||◌
 use Rattle.std.specs.Option.{option_map_or}
 use Rattle.std.specs.Str.{chars}
 use Rattle.clap.specs.Lexer.{long_of, name_and_value, short_of}
-use Rattle.clap.specs.Walk.{Held, Names, Row, Rule, Step, Text, Waiting, Walk, idle, option, arg_by_id, arg_by_index, arg_by_long, arg_by_short, is_pending, long_or_other, reacted, settled, settled_rows, short_or_plain, subcommand_met, subcommand_or_other, after_step, takes_several, takes_values, to_positional, trailing, value, walked, word_met}
+use Rattle.clap.specs.Walk.{Held, Names, Row, Rule, Step, Text, Waiting, Walk, idle, option, arg_by_id, arg_by_index, arg_by_long, arg_by_short, is_pending, long_or_other, long_word, plain_word, reacted, settled, settled_rows, short_or_plain, subcommand_met, subcommand_or_other, after_step, takes_several, takes_values, to_positional, trailing, value, walked, word_met}
 use Rattle.clap.specs.Simple.{App, Shape, filled, filled_from, help_rule, new_shape}
 use Rattle.clap.specs.Kinds.{Kinds as Faults, or_else}
 use Rattle.clap.specs.Faults.{bundle_fault, bundle_step_fault, flag_word_fault, flags_fault, long_fault, other_fault, positional_fault, react_fault, settle_fault, short_fault, step_fault, stray_fault, turn_fault, use_fault, walk_fault, word_fault}
@@ -59,8 +59,33 @@ module _ (s : Shape) (names : Names) (k : ℕ) (h : Held) where
     unfolding walked
     bare_after = ap (λ (m : Held × Step). after_step s.rules word (stands false idle) m.0 m.1) met
 
+  -- the value of an option
+  module _ (id word : Text) (is : BareWord word) where
+    value_met : word_met s.rules names false (option id) k word h ≡ plain_word s.rules (option id) word h
+    value_met = ap (λ b. cond b (h, trailing k) (long_or_other s.rules (option id) word (long_of word) h)) is.no_hyphens
+        ∙ ap (λ o. long_or_other s.rules (option id) word o h) is.no_long ∙ ap (λ o. short_or_plain s.rules (option id) word o h) is.no_short
+
+    value_no_fault : word_fault s names false (option id) word h ≡ []
+    value_no_fault = ap (λ b. cond b [] (flag_word_fault s.rules s.args_override_self (long_of word) word h)) is.no_hyphens
+        ∙ ap (λ o. flag_word_fault s.rules s.args_override_self o word h) is.no_long
+        ∙ ap (λ (o : Option Text). option_map_or (λ flags. bundle_fault s.rules s.args_override_self flags h) o []) is.no_short
+
+    pub value_fault : turn_fault s names (stands false (option id)) word ≡ step_fault s k (plain_word s.rules (option id) word h).0 (plain_word s.rules (option id) word h).1
+    value_fault = ap (λ (m : Held × Step). or_else (word_fault s names false (option id) word h) (step_fault s k m.0 m.1)) value_met
+        ∙ ap (λ x. or_else x (step_fault s k (plain_word s.rules (option id) word h).0 (plain_word s.rules (option id) word h).1)) value_no_fault
+
+    pub value_after : walked s.rules names (stands false (option id)) word
+        ≡ after_step s.rules word (stands false (option id)) (plain_word s.rules (option id) word h).0 (plain_word s.rules (option id) word h).1
+    unfolding walked
+    value_after = ap (λ (m : Held × Step). after_step s.rules word (stands false (option id)) m.0 m.1) value_met
+
   -- a flag
   module _ (waiting : Waiting) (word : Text) (no : subcommand_met names waiting word ≡ None) (open_word : bytes_eq word dashes ≡ false) where
+    long_met : (p : Text × Option Text) → long_of word ≡ Some p → word_met s.rules names false waiting k word h ≡ long_word s.rules waiting word p.0 p.1 h
+    long_met p is = ap (λ (o : Option Text). subcommand_or_other s.rules o waiting k word h) no
+        ∙ ap (λ b. cond b (h, trailing k) (long_or_other s.rules waiting word (long_of word) h)) open_word
+        ∙ ap (λ o. long_or_other s.rules waiting word o h) is
+
     flag_first : turn_fault s names (stands false waiting) word ≡ [] → flag_word_fault s.rules s.args_override_self (long_of word) word h ≡ []
     flag_first e =
         sym (ap (λ o. other_fault s o word h) no ∙ ap (λ b. cond b [] (flag_word_fault s.rules s.args_override_self (long_of word) word h)) open_word)
@@ -69,6 +94,21 @@ module _ (s : Shape) (names : Names) (k : ℕ) (h : Held) where
     pub long_first : (p : Text × Option Text) → long_of word ≡ Some p → turn_fault s names (stands false waiting) word ≡ []
         → long_fault s.rules s.args_override_self (arg_by_long s.rules p.0) p.1 h ≡ []
     long_first p is e = sym (ap (λ o. flag_word_fault s.rules s.args_override_self o word h) is) ∙ flag_first e
+
+    -- what a long flag does
+    pub long_turn : (p : Text × Option Text) → long_of word ≡ Some p → turn_fault s names (stands false waiting) word
+        ≡ or_else (long_fault s.rules s.args_override_self (arg_by_long s.rules p.0) p.1 h)
+        (step_fault s k (long_word s.rules waiting word p.0 p.1 h).0 (long_word s.rules waiting word p.0 p.1 h).1)
+    long_turn p is =
+        ap (λ (m : Held × Step). or_else (word_fault s names false waiting word h) (step_fault s k m.0 m.1)) (long_met p is)
+        ∙ ap (λ x. or_else x (step_fault s k (long_word s.rules waiting word p.0 p.1 h).0 (long_word s.rules waiting word p.0 p.1 h).1))
+        (ap (λ o. other_fault s o word h) no ∙ ap (λ b. cond b [] (flag_word_fault s.rules s.args_override_self (long_of word) word h)) open_word
+        ∙ ap (λ o. flag_word_fault s.rules s.args_override_self o word h) is)
+
+    pub long_after : (p : Text × Option Text) → long_of word ≡ Some p → walked s.rules names (stands false waiting) word
+        ≡ after_step s.rules word (stands false waiting) (long_word s.rules waiting word p.0 p.1 h).0 (long_word s.rules waiting word p.0 p.1 h).1
+    unfolding walked
+    long_after p is = ap (λ (m : Held × Step). after_step s.rules word (stands false waiting) m.0 m.1) (long_met p is)
 
     pub short_first : (flags : Text) → long_of word ≡ None → short_of word ≡ Some flags → turn_fault s names (stands false waiting) word ≡ []
         → bundle_fault s.rules s.args_override_self flags h ≡ []

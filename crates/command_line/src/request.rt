@@ -288,7 +288,7 @@ pub fn request_of<'a>(alloc: Global, words: &'a [&'a str]) -> Result<Request<'a>
     Ok(matched_request(&matches))
 }
 
-#[tactic(auto, using(crate::proofs::Rows::seen_at_end, crate::proofs::Sorts::cut, crate::proofs::Turns::bundle_first, crate::proofs::Levels::short_is))]
+#[tactic(auto, using(crate::proofs::Whole::line_completes))]
 fn scratch(x: u8) -> u8
     ensures { result ≡ x }
 {
