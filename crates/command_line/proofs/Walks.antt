@@ -532,26 +532,26 @@ module _ (v : Verb) (g : Given) (rows : List Row) (q : Option (Text × List Text
           nothing : None ≡ Some n → ⊥
           nothing x = cc
       alone name o is_name is_none (is_spaced has_it named none ok) = sound_spaced w ws (is ∙ ap (λ (x : Text). 45 ∷ 45 ∷ x) (is_name ∙ named)) has_it texts e rest_tail
-      paired : (name value : Text) (o : Option Text) → t ≡ name ++ 61 ∷ value → Some value ≡ o → Passes (rules v) (held rows q) v name o → Sound v true g (w ∷ ws) rows q
-      paired name value o is_cut is_value (is_explain has_it named none ok works) = absurd (nothing (is_value ∙ none))
+      paired : (name sign_text : Text) (o : Option Text) → t ≡ name ++ 61 ∷ sign_text → Some sign_text ≡ o → Passes (rules v) (held rows q) v name o → Sound v true g (w ∷ ws) rows q
+      paired name sign_text o is_cut is_value (is_explain has_it named none ok works) = absurd (nothing (is_value ∙ none))
         where
-          nothing : Some value ≡ None → ⊥
+          nothing : Some sign_text ≡ None → ⊥
           nothing x = cc
-      paired name value o is_cut is_value (is_stop has_it named none ok works) = absurd (nothing (is_value ∙ none))
+      paired name sign_text o is_cut is_value (is_stop has_it named none ok works) = absurd (nothing (is_value ∙ none))
         where
-          nothing : Some value ≡ None → ⊥
+          nothing : Some sign_text ≡ None → ⊥
           nothing x = cc
-      paired name value o is_cut is_value (is_joined n has_it named some ok works) =
-          let same_value : value ≡ n = ap (λ (o : Option Text). unwrap_or o value) (is_value ∙ some) in
+      paired name sign_text o is_cut is_value (is_joined n has_it named some ok works) =
+          let same_value : sign_text ≡ n = ap (λ (o : Option Text). unwrap_or o sign_text) (is_value ∙ some) in
           sound_joined w n ws (is ∙ ap (λ (x : Text). 45 ∷ 45 ∷ x) (is_cut ∙ ap₂ (λ (x y : Text). x ++ 61 ∷ y) named same_value)) has_it works texts e rest
-      paired name value o is_cut is_value (is_spaced has_it named none ok) = absurd (nothing (is_value ∙ none))
+      paired name sign_text o is_cut is_value (is_spaced has_it named none ok) = absurd (nothing (is_value ∙ none))
         where
-          nothing : Some value ≡ None → ⊥
+          nothing : Some sign_text ≡ None → ⊥
           nothing x = cc
       by_cut : Cut t → Sound v true g (w ∷ ws) rows q
       by_cut (whole is_whole) = alone (name_and_value t).0 (name_and_value t).1 (sym (ap (λ (p : Text × Option Text). p.0) is_whole)) (sym (ap (λ (p : Text × Option Text). p.1) is_whole)) passed
-      by_cut (parts n value is_cut is_parts) =
-          paired (name_and_value t).0 value (name_and_value t).1 (is_cut ∙ ap (λ (x : Text). x ++ 61 ∷ value) (sym (ap (λ (p : Text × Option Text). p.0) is_parts))) (sym (ap (λ (p : Text × Option Text). p.1) is_parts)) passed
+      by_cut (parts n sign_text is_cut is_parts) =
+          paired (name_and_value t).0 sign_text (name_and_value t).1 (is_cut ∙ ap (λ (x : Text). x ++ 61 ∷ sign_text) (sym (ap (λ (p : Text × Option Text). p.0) is_parts))) (sym (ap (λ (p : Text × Option Text). p.1) is_parts)) passed
 
   sound_one : (free : Bool) (w : Text) (ws : List Text) → AreTexts (w ∷ ws) → tail_fault v (here free) (w ∷ ws) ≡ [] → Rest v ws → RestTail v ws → Sound v free g (w ∷ ws) rows q
   sound_one false w ws texts e rest rest_tail = sound_word false w ws (λ x. absurd (clash x)) texts.1 e rest

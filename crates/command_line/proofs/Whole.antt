@@ -386,7 +386,7 @@ hyphens_go = refl
 behind_fails : (ws : List Text) → walk_fault top names behind ws ≡ [] → ws ≡ []
 unfolding walk_fault
 behind_fails [] e = refl
-behind_fails (w ∷ ws) e = absurd (stray 1 nothing_held (first_of (turn_fault top names behind w) _ e))
+behind_fails (w ∷ ws) e = absurd (stray 1 nothing_held (first_of (turn_fault top names behind w) (walk_fault top names (walked top.rules names behind w) ws) e))
 
 checked_none : (ws : List Text) (w : Walk) → walk top.rules names nothing_held ws ≡ w → w.stopped ≡ None → built_fault whole nothing_held ws ≡ [] → ⊥
 checked_none ws w is none e =
