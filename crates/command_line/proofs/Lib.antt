@@ -7,3 +7,6 @@ mod Uses
 mod Walks
 mod Found
 mod Whole
+mod Making
+mod Once
+mod Asking

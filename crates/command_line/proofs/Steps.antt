@@ -16,7 +16,6 @@ use Rattle.clap.specs.declared.builder.value_parser.Reading.TheVariants.{AsWritt
 use Rattle.clap.specs.declared.parser.matches.ValueSource.TheVariants.{CommandLine}
 use Rattle.command_line.specs.Forms.{Verb, paths, check, run, audit, serve, has_explain, has_sessions, is_bare, Given, Takes, IsNumber, number_of, Gives, ends, word, explain, stop, sessions, joined, hyphens as ends_flags}
 use Rattle.command_line.proofs.Rows.{seen, row_with, seen_new, seen_other, used_new, no_row, any_found}
-use Rattle.command_line.proofs.Sorts.{Kind, bare, hyphens, long, short, kind, BareWord, bare_word, dashes, first_char, Cut, whole, parts, cut}
 use Rattle.command_line.proofs.Turns.{some_fault, first_of, then_of, neither, stands, bare_fault, bare_after, long_first, short_first, bundle_first}
 use Rattle.command_line.proofs.Levels.{rules, leaf, place_rule, place_after, place_names, text_row, Places, AreOthers, places_kept, Place, place, number_passes, passes_number, flag, sessions_built, help_built, long_rule, long_is, short_is}
 

@@ -3,14 +3,16 @@ use Rattle.std.proofs.Common.{◌≡◌, ◌∙◌, ◌++◌, ◌&&◌, ◌||◌
 use Rattle.std.specs.Option.{option_map_or}
 use Rattle.std.specs.Str.{chars}
 use Rattle.clap.specs.Lexer.{long_of, name_and_value, short_of}
-use Rattle.clap.specs.Walk.{Held, Names, Row, Rule, Step, Text, Waiting, Walk, idle, option, arg_by_id, arg_by_index, arg_by_long, arg_by_short, is_pending, long_or_other, long_word, plain_word, reacted, settled, settled_rows, short_or_plain, subcommand_met, subcommand_or_other, after_step, takes_several, takes_values, to_positional, trailing, value, walked, word_met}
+use Rattle.clap.specs.Walk.{Held, Names, Row, Rule, Step, Text, Waiting, Walk, idle, option, arg_by_id, arg_by_index, arg_by_long, arg_by_short, is_pending, Outcome, after_flag, bundle, plain, long_or_other, long_word, plain_word, reacted, settled, settled_rows, short_or_plain, subcommand_met, subcommand_or_other, after_step, takes_several, takes_values, to_positional, trailing, value, walked, word_met}
 use Rattle.clap.specs.Simple.{App, Shape, filled, filled_from, help_rule, new_shape}
 use Rattle.clap.specs.Kinds.{Kinds as Faults, or_else}
 use Rattle.clap.specs.Faults.{bundle_fault, bundle_step_fault, flag_word_fault, flags_fault, long_fault, other_fault, positional_fault, react_fault, settle_fault, short_fault, step_fault, stray_fault, turn_fault, use_fault, walk_fault, word_fault}
 use Rattle.clap.specs.declared.error.kind.ErrorKind.{ErrorKind}
 use Rattle.clap.specs.declared.error.kind.ErrorKind.TheVariants as kinds
 use Rattle.command_line.specs.Forms.{Verb, is_bare}
-use Rattle.command_line.proofs.Sorts.{Kind, BareWord, bare_word, dashes, first_char}
+use Rattle.clap.proofs.FaultLemmas.{fault_ends}
+use Rattle.clap.proofs.WalkLemmas.{bundle_ends}
+use Rattle.command_line.proofs.Sorts.{BareWord, dashes}
 
 -- ---- lists of faults
 
@@ -28,6 +30,24 @@ then_of (k ∷ ks) b e = absurd (some_fault k ks e)
 pub neither : (a b : Faults) → a ≡ [] → b ≡ [] → or_else a b ≡ []
 neither a b e f = ap (λ x. or_else x b) e ∙ f
 
+-- ---- a hyphen with no character behind it
+
+module _ (c : List Rule) (h : Held) (zero_skip : h.skip ≡ 0) where
+  no_skip : ◌≡◌ {A = Held} (record h { skip = 0 }) h
+  no_skip = ap (λ n. record h { skip = n }) (sym zero_skip)
+
+  pub no_flag : (waiting : Waiting) (word : Text) (o : Option Text) → ((flags : Text) → o ≡ Some flags → slice_get (chars flags) 0 ≡ None)
+      → short_or_plain c waiting word o h ≡ plain_word c waiting word h
+  no_flag waiting word None none = refl
+  no_flag waiting word (Some flags) none =
+      let ended : bundle c flags h ≡ (h, plain) = sym (bundle_ends c (length flags) flags h.skip plain (record h { skip = 0 }) (sym (none flags refl))) ∙ ap (λ x. (x, plain)) no_skip in
+      ap (λ (m : Held × Outcome). after_flag c waiting word m.0 m.1) ended
+
+  pub no_flag_fault : (again : Bool) (o : Option Text) → ((flags : Text) → o ≡ Some flags → slice_get (chars flags) 0 ≡ None)
+      → option_map_or (λ flags. bundle_fault c again flags h) o [] ≡ []
+  no_flag_fault again None none = refl
+  no_flag_fault again (Some flags) none = sym (fault_ends c again (length flags) flags h.skip (record h { skip = 0 }) (sym (none flags refl)))
+
 -- ---- one word, of any command
 
 module _ (s : Shape) (names : Names) (k : ℕ) (h : Held) where
@@ -39,10 +59,10 @@ module _ (s : Shape) (names : Names) (k : ℕ) (h : Held) where
   word_first is_trailing waiting word e = first_of (word_fault s names is_trailing waiting word h) _ e
 
   -- a word that is no flag, nor a subcommand
-  module _ (word : Text) (is : BareWord word) (no : subcommand_met names idle word ≡ None) where
+  module _ (word : Text) (is : BareWord word) (zero_skip : h.skip ≡ 0) (no : subcommand_met names idle word ≡ None) where
     met : word_met s.rules names false idle k word h ≡ (h, value)
     met = ap (λ (o : Option Text). subcommand_case o) no ∙ ap (λ b. cond b (h, trailing k) (long_or_other s.rules idle word (long_of word) h)) is.no_hyphens
-        ∙ ap (λ o. long_or_other s.rules idle word o h) is.no_long ∙ ap (λ o. short_or_plain s.rules idle word o h) is.no_short
+        ∙ ap (λ o. long_or_other s.rules idle word o h) is.no_long ∙ no_flag s.rules h zero_skip idle word (short_of word) is.no_flags
       where
         subcommand_case : Option Text → Held × Step
         subcommand_case o = subcommand_or_other s.rules o idle k word h
@@ -50,7 +70,7 @@ module _ (s : Shape) (names : Names) (k : ℕ) (h : Held) where
     no_fault : word_fault s names false idle word h ≡ []
     no_fault = ap (λ o. other_fault s o word h) no ∙ ap (λ b. cond b [] (flag_word_fault s.rules s.args_override_self (long_of word) word h)) is.no_hyphens
         ∙ ap (λ o. flag_word_fault s.rules s.args_override_self o word h) is.no_long
-        ∙ ap (λ (o : Option Text). option_map_or (λ flags. bundle_fault s.rules s.args_override_self flags h) o []) is.no_short
+        ∙ no_flag_fault s.rules h zero_skip s.args_override_self (short_of word) is.no_flags
 
     pub bare_fault : turn_fault s names (stands false idle) word ≡ step_fault s k h value
     bare_fault = ap (λ (m : Held × Step). or_else (word_fault s names false idle word h) (step_fault s k m.0 m.1)) met ∙ ap (λ x. or_else x (step_fault s k h value)) no_fault
@@ -60,15 +80,15 @@ module _ (s : Shape) (names : Names) (k : ℕ) (h : Held) where
     bare_after = ap (λ (m : Held × Step). after_step s.rules word (stands false idle) m.0 m.1) met
 
   -- the value of an option
-  module _ (id word : Text) (is : BareWord word) where
+  module _ (id word : Text) (is : BareWord word) (zero_skip : h.skip ≡ 0) where
     value_met : word_met s.rules names false (option id) k word h ≡ plain_word s.rules (option id) word h
     value_met = ap (λ b. cond b (h, trailing k) (long_or_other s.rules (option id) word (long_of word) h)) is.no_hyphens
-        ∙ ap (λ o. long_or_other s.rules (option id) word o h) is.no_long ∙ ap (λ o. short_or_plain s.rules (option id) word o h) is.no_short
+        ∙ ap (λ o. long_or_other s.rules (option id) word o h) is.no_long ∙ no_flag s.rules h zero_skip (option id) word (short_of word) is.no_flags
 
     value_no_fault : word_fault s names false (option id) word h ≡ []
     value_no_fault = ap (λ b. cond b [] (flag_word_fault s.rules s.args_override_self (long_of word) word h)) is.no_hyphens
         ∙ ap (λ o. flag_word_fault s.rules s.args_override_self o word h) is.no_long
-        ∙ ap (λ (o : Option Text). option_map_or (λ flags. bundle_fault s.rules s.args_override_self flags h) o []) is.no_short
+        ∙ no_flag_fault s.rules h zero_skip s.args_override_self (short_of word) is.no_flags
 
     pub value_fault : turn_fault s names (stands false (option id)) word ≡ step_fault s k (plain_word s.rules (option id) word h).0 (plain_word s.rules (option id) word h).1
     value_fault = ap (λ (m : Held × Step). or_else (word_fault s names false (option id) word h) (step_fault s k m.0 m.1)) value_met

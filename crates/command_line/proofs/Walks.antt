@@ -1,7 +1,8 @@
 -- A walk over words does not fail exactly where they give something, and finds that.
-use Rattle.std.proofs.Common.{◌≡◌, ◌∙◌, ◌++◌, ◌&&◌, ◌||◌, ◌==◌, ◌⊎◌, inl, inr, cond, not, Bool, true, false, ℕ, zero, suc, List, [], ◌∷◌, length, Option, Some, None, is_some, refl, sym, ap, subst, bytes_eq, codes, option_map, fold, IsUtf8, ap₂}
+use Rattle.std.proofs.Common.{◌≡◌, ◌∙◌, ◌++◌, ◌&&◌, ◌||◌, ◌==◌, ◌⊎◌, inl, inr, cond, not, Bool, true, false, ℕ, zero, suc, List, [], ◌∷◌, length, Option, Some, None, is_some, refl, sym, ap, subst, bytes_eq, codes, option_map, fold, slice_get, ap₂}
 use Rattle.std.specs.Prelude.{⊤, unwrap_or}
 use Rattle.std.specs.Option.{option_map_or}
+use Rattle.std.specs.Str.{chars}
 use Rattle.std.proofs.lemmas.Slice.Eq.{bytes_eq-Decides}
 use Rattle.clap.specs.Lexer.{long_of, name_and_value, short_of}
 use Rattle.clap.specs.Walk.{Held, Row, Rule, Text, Waiting, Walk, idle, option, arg_by_id, arg_by_index, arg_by_long, arg_by_short, has_row, is_pending, positional_held, pushed, settled, subcommand_met, takes_several, to_positional, used, used_by_id, value, walked, with_values, without}
@@ -15,7 +16,7 @@ use Rattle.clap.specs.declared.parser.matches.ValueSource.TheVariants.{CommandLi
 use Rattle.clap.proofs.LexerLemmas.{name_and_value-at}
 use Rattle.command_line.specs.Forms.{Verb, paths, check, run, audit, serve, has_explain, has_sessions, is_bare, Given, Takes, IsNumber, Gives, ends, word, explain, stop, sessions, joined, hyphens as ends_flags}
 use Rattle.command_line.proofs.Rows.{seen, row_with, used_new}
-use Rattle.command_line.proofs.Sorts.{Kind, bare, hyphens, long, short, kind, bare_word, dashes, first_char, Cut, whole, parts, cut, sessions_lacks}
+use Rattle.command_line.proofs.Sorts.{Kind, bare, hyphens, long, short, kind, bare_word, dashes, Cut, whole, parts, cut, sessions_lacks}
 use Rattle.command_line.proofs.Turns.{some_fault, first_of, then_of, neither, stands, bare_fault, bare_after, long_first, long_turn, long_after, short_first, bundle_first, value_fault, value_after}
 use Rattle.command_line.proofs.Levels.{rules, leaf, place_rule, place_after, place_names, text_row, Place, place, flag, sessions_built, help_built, short_is}
 use Rattle.command_line.proofs.Steps.{held, at, rows_now, settle, flag_row, flag_seen, Holding, Stands, and_false, or_false, word_use, word_accepted, sessions_use, sessions_used, flag_use, flag_used, not_given, no_number, holds_explain, holds_stop, holds_sessions, holds_word}
@@ -59,7 +60,7 @@ module _ (v : Verb) (words : List Text) (p : Place v words) (rows : List Row) (q
       ∙ ap (λ b. cond b [] (settle v rows q)) (several (held rows q))
 
   word_turn : (free : Bool) (w : Text) → (free ≡ true → is_bare w ≡ true) → turn_fault (leaf v) [] (at free (place_after words) (held rows q)) w ≡ settle v rows q
-  word_turn true w is = bare_fault (leaf v) [] (place_after words) (held rows q) w (bare_word w (is refl)) refl ∙ step_is
+  word_turn true w is = bare_fault (leaf v) [] (place_after words) (held rows q) w (bare_word w (is refl)) refl refl ∙ step_is
   word_turn false w is = step_is
 
   goes_to : (free : Bool) (w : Text) → to_positional (rules v) (arg_by_index (rules v) (place_after words)) w (at free (place_after words) (held rows q)) (held rows q)
@@ -77,7 +78,7 @@ module _ (v : Verb) (words : List Text) (p : Place v words) (rows : List Row) (q
   word_after : (free : Bool) (w : Text) → (free ≡ true → is_bare w ≡ true) → walked (rules v) [] (at free (place_after words) (held rows q)) w
       ≡ at free (place_after (words ++ w ∷ [])) (held (rows_now v rows q) (Some (p.name, w ∷ [])))
   unfolding walked
-  word_after true w is = bare_after (leaf v) [] (place_after words) (held rows q) w (bare_word w (is refl)) refl ∙ goes_to true w
+  word_after true w is = bare_after (leaf v) [] (place_after words) (held rows q) w (bare_word w (is refl)) refl refl ∙ goes_to true w
   word_after false w is = goes_to false w
 
   -- what is pending then
@@ -163,10 +164,10 @@ module _ (k : ℕ) (rows : List Row) (q : Option (Text × List Text)) where
   spaced_after = long_after (leaf serve) [] k (held rows q) idle (codes "--sessions") refl refl (codes "sessions", None) refl
 
   given_turn : (n : Text) → is_bare n ≡ true → turn_fault (leaf serve) [] (waits serve) n ≡ []
-  given_turn n is = value_fault (leaf serve) [] k (held (rows_now serve rows q) (Some (codes "sessions", []))) (codes "sessions") n (bare_word n is)
+  given_turn n is = value_fault (leaf serve) [] k (held (rows_now serve rows q) (Some (codes "sessions", []))) (codes "sessions") n (bare_word n is) refl
 
   given_after : (n : Text) → is_bare n ≡ true → walked (rules serve) [] (waits serve) n ≡ at true k (held (rows_now serve rows q) (Some (codes "sessions", n ∷ [])))
-  given_after n is = value_after (leaf serve) [] k (held (rows_now serve rows q) (Some (codes "sessions", []))) (codes "sessions") n (bare_word n is)
+  given_after n is = value_after (leaf serve) [] k (held (rows_now serve rows q) (Some (codes "sessions", []))) (codes "sessions") n (bare_word n is) refl
 
 -- ---- what stands after a flag
 
@@ -351,11 +352,6 @@ completes v free g ws after (ends_flags x y w more is rest) rows q st =
 
 -- ---- words that do not fail give something
 
--- each word is a text
-abbrev pub AreTexts : List Text → Type 0
-AreTexts [] = ⊤
-AreTexts (w ∷ ws) = IsUtf8 w × AreTexts ws
-
 module _ (v : Verb) (words : List Text) (rows : List Row) (q : Option (Text × List Text)) where
   -- what is pending does not fail where a word is taken
   value_settles : step_fault (leaf v) (place_after words) (held rows q) value ≡ [] → settle v rows q ≡ []
@@ -369,14 +365,14 @@ module _ (v : Verb) (words : List Text) (rows : List Row) (q : Option (Text × L
   closed_settles waiting (w ∷ ws) e = value_settles (next_tail v (stands (leaf v) [] (place_after words) (held rows q) true waiting) w ws e).0
 
 -- a short flag fails
-short_absurd : (v : Verb) (k : ℕ) (rows : List Row) (q : Option (Text × List Text)) (waiting : Waiting) (w : Text) (x : ℕ) (xs : Text) → subcommand_met [] waiting w ≡ None → IsUtf8 w → w ≡ 45 ∷ x ∷ xs
-    → bytes_eq w dashes ≡ false → long_of w ≡ None → short_of w ≡ Some (x ∷ xs) → turn_fault (leaf v) [] (stands (leaf v) [] k (held rows q) false waiting) w ≡ [] → ⊥
-short_absurd v k rows q waiting w x xs none utf is two no_long has e =
-    let ch = first_char x xs (subst IsUtf8 is utf) in
+short_absurd : (v : Verb) (k : ℕ) (rows : List Row) (q : Option (Text × List Text)) (waiting : Waiting) (w : Text) (x : ℕ) (xs : Text) (ch : ℕ) → subcommand_met [] waiting w ≡ None
+    → slice_get (chars (x ∷ xs)) 0 ≡ Some ch → bytes_eq w dashes ≡ false → long_of w ≡ None → short_of w ≡ Some (x ∷ xs)
+    → turn_fault (leaf v) [] (stands (leaf v) [] k (held rows q) false waiting) w ≡ [] → ⊥
+short_absurd v k rows q waiting w x xs ch none char two no_long has e =
     let bundled = short_first (leaf v) [] k (held rows q) waiting w none two (x ∷ xs) no_long has e in
-    let first = bundle_first (rules v) false x xs (held rows q) ch.0 refl ch.1 bundled in
-    short_fails (rules v) (held rows q) (104 == ch.0) first.0 first.1
-    (ap (λ o. short_fault (rules v) false o first.0 (held rows q) first.1) (sym (short_is v ch.0)) ∙ first.2)
+    let first = bundle_first (rules v) false x xs (held rows q) ch refl char bundled in
+    short_fails (rules v) (held rows q) (104 == ch) first.0 first.1
+    (ap (λ o. short_fault (rules v) false o first.0 (held rows q) first.1) (sym (short_is v ch)) ∙ first.2)
 
 pub settle_of : (v : Verb) (rows : List Row) (q : Option (Text × List Text)) (name : Text) (o : Option Text) → Passes (rules v) (held rows q) v name o → settle v rows q ≡ []
 settle_of v rows q name o (is_explain has is none ok works) = ok
@@ -389,26 +385,26 @@ unfolding walked
 hyphens_wait v k h = refl
 
 -- what is pending does not fail where the words behind it do not
-settles : (v : Verb) (free : Bool) (words : List Text) (rows : List Row) (q : Option (Text × List Text)) (ws : List Text) → AreTexts ws
+settles : (v : Verb) (free : Bool) (words : List Text) (rows : List Row) (q : Option (Text × List Text)) (ws : List Text)
     → tail_fault v (at free (place_after words) (held rows q)) ws ≡ [] → settle v rows q ≡ []
-settles v false words rows q ws texts e = closed_settles v words rows q idle ws e
-settles v true words rows q [] texts e = sym (empty_tail v (at true (place_after words) (held rows q))) ∙ e
-settles v true words rows q (w ∷ ws) texts e =
+settles v false words rows q ws e = closed_settles v words rows q idle ws e
+settles v true words rows q [] e = sym (empty_tail v (at true (place_after words) (held rows q))) ∙ e
+settles v true words rows q (w ∷ ws) e =
     let next = next_tail v (at true (place_after words) (held rows q)) w ws e in
     elim (kind w) [
-      | bare is two no_long no_short ↦ value_settles v words rows q (sym (bare_fault (leaf v) [] (place_after words) (held rows q) w (bare_word w is) refl) ∙ next.0)
+      | bare is word_is ↦ value_settles v words rows q (sym (bare_fault (leaf v) [] (place_after words) (held rows q) w (bare_word w is) refl refl) ∙ next.0)
       | hyphens is ↦ closed_settles v words rows q idle ws
           (ap (λ x. tail_fault v x ws) (sym (ap (λ x. walked (rules v) [] (at true (place_after words) (held rows q)) x) is ∙ hyphens_after v (place_after words) (held rows q))) ∙ next.1)
       | long t is two has ↦ settle_of v rows q (name_and_value t).0 (name_and_value t).1
           (passes v (held rows q) (name_and_value t).0 (name_and_value t).1 (long_first (leaf v) [] (place_after words) (held rows q) idle w refl two (name_and_value t) has next.0))
-      | short x xs is two no_long has ↦ absurd (short_absurd v (place_after words) rows q idle w x xs refl texts.0 is two no_long has next.0)
+      | short x xs ch is two no_long has char ↦ absurd (short_absurd v (place_after words) rows q idle w x xs ch refl char two no_long has next.0)
     ]
 
 abbrev pub Sound : Verb → Bool → Given → List Text → List Row → Option (Text × List Text) → Type 0
 Sound v free g ws rows q = (after : Given) × Gives v free g ws after × Ended v after (end_of v (at free (place_after g.words) (held rows q)) ws)
 
 abbrev pub Rest : Verb → List Text → Type 0
-Rest v ws = (free : Bool) (g : Given) (rows : List Row) (q : Option (Text × List Text)) → AreTexts ws → Stands v g rows q
+Rest v ws = (free : Bool) (g : Given) (rows : List Row) (q : Option (Text × List Text)) → Stands v g rows q
     → tail_fault v (at free (place_after g.words) (held rows q)) ws ≡ [] → Sound v free g ws rows q
 
 abbrev pub RestTail : Verb → List Text → Type 0
@@ -426,63 +422,63 @@ module _ (v : Verb) (g : Given) (rows : List Row) (q : Option (Text × List Text
   ended_back : (W W2 : Walk) (w : Text) (ws : List Text) (after : Given) → walked (rules v) [] W w ≡ W2 → Ended v after (end_of v W2 ws) → Ended v after (end_of v W (w ∷ ws))
   ended_back W W2 w ws after goes is = subst (λ x. Ended v after (end_of v x ws)) (sym goes) is
 
-  sound_word : (free : Bool) (w : Text) (ws : List Text) → (free ≡ true → is_bare w ≡ true) → AreTexts ws → tail_fault v (here free) (w ∷ ws) ≡ [] → Rest v ws → Sound v free g (w ∷ ws) rows q
-  sound_word free w ws is texts e rest = elim (place v g.words) [
+  sound_word : (free : Bool) (w : Text) (ws : List Text) → (free ≡ true → is_bare w ≡ true) → tail_fault v (here free) (w ∷ ws) ≡ [] → Rest v ws → Sound v free g (w ∷ ws) rows q
+  sound_word free w ws is e rest = elim (place v g.words) [
     | inl p ↦
         let goes = word_after v g.words p rows q free w is in
         let later = follows free (at free (place_after (g.words ++ w ∷ [])) (held (rows_now v rows q) (Some (p.name, w ∷ [])))) w ws goes e in
-        let pending = settles v free (g.words ++ w ∷ []) (rows_now v rows q) (Some (p.name, w ∷ [])) ws texts later in
+        let pending = settles v free (g.words ++ w ∷ []) (rows_now v rows q) (Some (p.name, w ∷ [])) ws later in
         let takes = p.only w (word_accepted (place_after g.words) p.name p.parser w (rows_now v rows q) (sym (pending_is v g.words p rows q w (rows_now v rows q)) ∙ pending)) in
-        let found = rest free (record g { words = g.words ++ w ∷ [] }) (rows_now v rows q) (Some (p.name, w ∷ [])) texts (word_stands v g rows q p w st takes) later in
+        let found = rest free (record g { words = g.words ++ w ∷ [] }) (rows_now v rows q) (Some (p.name, w ∷ [])) (word_stands v g rows q p w st takes) later in
         (found.0, word free g found.0 w ws is takes found.1, ended_back (here free) _ w ws found.0 goes found.2)
     | inr none ↦ absurd (some_fault _ _ (sym (ap (λ a. option_map_or (λ a. positional_fault (rules v) false a (held rows q)) a (stray_fault (leaf v))) none) ∙ sym (turn_is free is) ∙ (next_tail v (here free) w ws e).0))
   ]
     where
       turn_is : (free : Bool) → (free ≡ true → is_bare w ≡ true) → turn_fault (leaf v) [] (at free (place_after g.words) (held rows q)) w ≡ step_fault (leaf v) (place_after g.words) (held rows q) value
-      turn_is true is = bare_fault (leaf v) [] (place_after g.words) (held rows q) w (bare_word w (is refl)) refl
+      turn_is true is = bare_fault (leaf v) [] (place_after g.words) (held rows q) w (bare_word w (is refl)) refl refl
       turn_is false is = refl
 
-  sound_hyphens : (w : Text) (ws : List Text) → w ≡ dashes → AreTexts ws → tail_fault v (here true) (w ∷ ws) ≡ [] → Rest v ws → Sound v true g (w ∷ ws) rows q
-  sound_hyphens w ws is texts e rest =
+  sound_hyphens : (w : Text) (ws : List Text) → w ≡ dashes → tail_fault v (here true) (w ∷ ws) ≡ [] → Rest v ws → Sound v true g (w ∷ ws) rows q
+  sound_hyphens w ws is e rest =
       let goes = ap (λ x. walked (rules v) [] (here true) x) is ∙ hyphens_after v (place_after g.words) (held rows q) in
       let later = follows true (here false) w ws goes e in
-      let found = rest false g rows q texts st later in
+      let found = rest false g rows q st later in
       (found.0, ends_flags g found.0 w ws is found.1, ended_back (here true) (here false) w ws found.0 goes found.2)
 
   sound_explain : (w : Text) (ws : List Text) → w ≡ codes "--explain" → has_explain v ≡ true → use_fault false (flag (codes "explain")) [] (rows_now v rows q) ≡ []
-      → AreTexts ws → tail_fault v (here true) (w ∷ ws) ≡ [] → Rest v ws → Sound v true g (w ∷ ws) rows q
-  sound_explain w ws is has works texts e rest =
+      → tail_fault v (here true) (w ∷ ws) ≡ [] → Rest v ws → Sound v true g (w ∷ ws) rows q
+  sound_explain w ws is has works e rest =
       let off = not_given v g (rows_now v rows q) st.holds (codes "explain") g.explains st.holds.explains (flag_used (codes "explain") (rows_now v rows q) works) in
       let goes = ap (λ x. walked (rules v) [] (here true) x) is ∙ explain_after (place_after g.words) rows q v has in
       let later = follows true (at true (place_after g.words) (held (used (flag (codes "explain")) [] (rows_now v rows q)) None)) w ws goes e in
-      let found = rest true (record g { explains = true }) (used (flag (codes "explain")) [] (rows_now v rows q)) None texts (explain_stands v g rows q st off) later in
+      let found = rest true (record g { explains = true }) (used (flag (codes "explain")) [] (rows_now v rows q)) None (explain_stands v g rows q st off) later in
       (found.0, explain g found.0 w ws is has off found.1, ended_back (here true) _ w ws found.0 goes found.2)
 
   sound_stop : (w : Text) (ws : List Text) → w ≡ codes "--stop-with-input" → has_sessions v ≡ true → use_fault false (flag (codes "stop-with-input")) [] (rows_now v rows q) ≡ []
-      → AreTexts ws → tail_fault v (here true) (w ∷ ws) ≡ [] → Rest v ws → Sound v true g (w ∷ ws) rows q
-  sound_stop w ws is has works texts e rest =
+      → tail_fault v (here true) (w ∷ ws) ≡ [] → Rest v ws → Sound v true g (w ∷ ws) rows q
+  sound_stop w ws is has works e rest =
       let off = not_given v g (rows_now v rows q) st.holds (codes "stop-with-input") g.stops st.holds.stops (flag_used (codes "stop-with-input") (rows_now v rows q) works) in
       let goes = ap (λ x. walked (rules v) [] (here true) x) is ∙ stop_goes v has g rows q in
       let later = follows true (at true (place_after g.words) (held (used (flag (codes "stop-with-input")) [] (rows_now v rows q)) None)) w ws goes e in
-      let found = rest true (record g { stops = true }) (used (flag (codes "stop-with-input")) [] (rows_now v rows q)) None texts (stop_stands v g rows q st off) later in
+      let found = rest true (record g { stops = true }) (used (flag (codes "stop-with-input")) [] (rows_now v rows q)) None (stop_stands v g rows q st off) later in
       (found.0, stop g found.0 w ws is has off found.1, ended_back (here true) _ w ws found.0 goes found.2)
 
   sound_joined : (w n : Text) (ws : List Text) → w ≡ codes "--sessions=" ++ n → has_sessions v ≡ true → use_fault false sessions_built (n ∷ []) (rows_now v rows q) ≡ []
-      → AreTexts ws → tail_fault v (here true) (w ∷ ws) ≡ [] → Rest v ws → Sound v true g (w ∷ ws) rows q
-  sound_joined w n ws is has works texts e rest =
+      → tail_fault v (here true) (w ∷ ws) ≡ [] → Rest v ws → Sound v true g (w ∷ ws) rows q
+  sound_joined w n ws is has works e rest =
       let got = sessions_used n (rows_now v rows q) works in
       let off = no_number v g (rows_now v rows q) st.holds g.sessions st.holds.sessions got.0 in
       let goes = ap (λ x. walked (rules v) [] (here true) x) is ∙ joined_goes v has g rows q n in
       let later = follows true (at true (place_after g.words) (held (used sessions_built (n ∷ []) (rows_now v rows q)) None)) w ws goes e in
-      let found = rest true (record g { sessions = Some n }) (used sessions_built (n ∷ []) (rows_now v rows q)) None texts (joined_then v has g rows q n st off got.1) later in
+      let found = rest true (record g { sessions = Some n }) (used sessions_built (n ∷ []) (rows_now v rows q)) None (joined_then v has g rows q n st off got.1) later in
       (found.0, joined g found.0 w n ws is has off got.1 found.1, ended_back (here true) _ w ws found.0 goes found.2)
 
   abbrev waiting : Walk
   waiting = waits (place_after g.words) rows q v
 
-  sound_spaced : (w : Text) (ws : List Text) → w ≡ codes "--sessions" → has_sessions v ≡ true → AreTexts ws → tail_fault v (here true) (w ∷ ws) ≡ [] → RestTail v ws
+  sound_spaced : (w : Text) (ws : List Text) → w ≡ codes "--sessions" → has_sessions v ≡ true → tail_fault v (here true) (w ∷ ws) ≡ [] → RestTail v ws
       → Sound v true g (w ∷ ws) rows q
-  sound_spaced w ws is has texts e rest = go ws texts rest later
+  sound_spaced w ws is has e rest = go ws rest later
     where
       goes : walked (rules v) [] (here true) w ≡ waiting
       goes = ap (λ x. walked (rules v) [] (here true) x) is ∙ spaced_goes v has g rows q
@@ -492,46 +488,46 @@ module _ (v : Verb) (g : Given) (rows : List Row) (q : Option (Text × List Text
       fails = no_value v has g rows q
       trailing_after : (n : Text) → n ≡ dashes → walked (rules v) [] waiting n ≡ stands (leaf v) [] (place_after g.words) (held (rows_now v rows q) (Some (codes "sessions", []))) true (option (codes "sessions"))
       trailing_after n at_end = ap (λ x. walked (rules v) [] waiting x) at_end ∙ hyphens_wait v (place_after g.words) (held (rows_now v rows q) (Some (codes "sessions", [])))
-      given : (n : Text) (more : List Text) → is_bare n ≡ true → AreTexts more → tail_fault v waiting (n ∷ more) ≡ [] → Rest v more → Sound v true g (w ∷ n ∷ more) rows q
-      given n more plain texts e rest =
+      given : (n : Text) (more : List Text) → is_bare n ≡ true → tail_fault v waiting (n ∷ more) ≡ [] → Rest v more → Sound v true g (w ∷ n ∷ more) rows q
+      given n more plain e rest =
           let goes_on = given_goes v has g rows q n plain in
           let last = ap (λ x. tail_fault v x more) (sym goes_on) ∙ (next_tail v waiting n more e).1 in
-          let pending = settles v true g.words (rows_now v rows q) (Some (codes "sessions", n ∷ [])) more texts last in
+          let pending = settles v true g.words (rows_now v rows q) (Some (codes "sessions", n ∷ [])) more last in
           let got = sessions_used n (rows_now v rows q) (sym (value_is v has g rows q n) ∙ pending) in
           let off = no_number v g (rows_now v rows q) st.holds g.sessions st.holds.sessions got.0 in
-          let found = rest true (record g { sessions = Some n }) (rows_now v rows q) (Some (codes "sessions", n ∷ [])) texts (given_then v has g rows q n st off got.1) last in
+          let found = rest true (record g { sessions = Some n }) (rows_now v rows q) (Some (codes "sessions", n ∷ [])) (given_then v has g rows q n st off got.1) last in
           (found.0, sessions g found.0 w n more is plain has off got.1 found.1,
           ended_back (here true) waiting w (n ∷ more) found.0 goes (ended_back waiting _ n more found.0 goes_on found.2))
-      go : (ws : List Text) → AreTexts ws → RestTail v ws → tail_fault v waiting ws ≡ [] → Sound v true g (w ∷ ws) rows q
-      go [] texts rest e = absurd (fails (sym (empty_tail v waiting) ∙ e))
-      go (n ∷ more) texts rest e =
+      go : (ws : List Text) → RestTail v ws → tail_fault v waiting ws ≡ [] → Sound v true g (w ∷ ws) rows q
+      go [] rest e = absurd (fails (sym (empty_tail v waiting) ∙ e))
+      go (n ∷ more) rest e =
           let next = next_tail v waiting n more e in
           elim (kind n) [
-            | bare plain two no_long no_short ↦ given n more plain texts.1 e rest
+            | bare plain word_is ↦ given n more plain e rest
             | hyphens at_end ↦ absurd (fails (closed_settles v g.words (rows_now v rows q) (Some (codes "sessions", [])) (option (codes "sessions")) more
                 (ap (λ x. tail_fault v x more) (sym (trailing_after n at_end)) ∙ next.1)))
             | long t at_front two has_long ↦ absurd (fails (settle_of v (rows_now v rows q) (Some (codes "sessions", [])) (name_and_value t).0 (name_and_value t).1
                 (passes v (held (rows_now v rows q) (Some (codes "sessions", []))) (name_and_value t).0 (name_and_value t).1
                 (long_first (leaf v) [] (place_after g.words) (held (rows_now v rows q) (Some (codes "sessions", []))) (option (codes "sessions")) n refl two (name_and_value t) has_long next.0))))
-            | short x xs at_front two no_long has_short ↦ absurd (short_absurd v (place_after g.words) (rows_now v rows q) (Some (codes "sessions", [])) (option (codes "sessions")) n x xs refl texts.0 at_front two no_long has_short next.0)
+            | short x xs ch at_front two no_long has_short char ↦ absurd (short_absurd v (place_after g.words) (rows_now v rows q) (Some (codes "sessions", [])) (option (codes "sessions")) n x xs ch refl char two no_long has_short next.0)
           ]
 
   -- a long flag
   sound_long : (w t : Text) (ws : List Text) → w ≡ 45 ∷ 45 ∷ t → bytes_eq w dashes ≡ false → long_of w ≡ Some (name_and_value t)
-      → AreTexts ws → tail_fault v (here true) (w ∷ ws) ≡ [] → Rest v ws → RestTail v ws → Sound v true g (w ∷ ws) rows q
-  sound_long w t ws is two has texts e rest rest_tail = by_cut (cut t)
+      → tail_fault v (here true) (w ∷ ws) ≡ [] → Rest v ws → RestTail v ws → Sound v true g (w ∷ ws) rows q
+  sound_long w t ws is two has e rest rest_tail = by_cut (cut t)
     where
       passed : Passes (rules v) (held rows q) v (name_and_value t).0 (name_and_value t).1
       passed = passes v (held rows q) (name_and_value t).0 (name_and_value t).1
           (long_first (leaf v) [] (place_after g.words) (held rows q) idle w refl two (name_and_value t) has (next_tail v (here true) w ws e).0)
       alone : (name : Text) (o : Option Text) → t ≡ name → None ≡ o → Passes (rules v) (held rows q) v name o → Sound v true g (w ∷ ws) rows q
-      alone name o is_name is_none (is_explain has_it named none ok works) = sound_explain w ws (is ∙ ap (λ (x : Text). 45 ∷ 45 ∷ x) (is_name ∙ named)) has_it works texts e rest
-      alone name o is_name is_none (is_stop has_it named none ok works) = sound_stop w ws (is ∙ ap (λ (x : Text). 45 ∷ 45 ∷ x) (is_name ∙ named)) has_it works texts e rest
+      alone name o is_name is_none (is_explain has_it named none ok works) = sound_explain w ws (is ∙ ap (λ (x : Text). 45 ∷ 45 ∷ x) (is_name ∙ named)) has_it works e rest
+      alone name o is_name is_none (is_stop has_it named none ok works) = sound_stop w ws (is ∙ ap (λ (x : Text). 45 ∷ 45 ∷ x) (is_name ∙ named)) has_it works e rest
       alone name o is_name is_none (is_joined n has_it named some ok works) = absurd (nothing (is_none ∙ some))
         where
           nothing : None ≡ Some n → ⊥
           nothing x = cc
-      alone name o is_name is_none (is_spaced has_it named none ok) = sound_spaced w ws (is ∙ ap (λ (x : Text). 45 ∷ 45 ∷ x) (is_name ∙ named)) has_it texts e rest_tail
+      alone name o is_name is_none (is_spaced has_it named none ok) = sound_spaced w ws (is ∙ ap (λ (x : Text). 45 ∷ 45 ∷ x) (is_name ∙ named)) has_it e rest_tail
       paired : (name sign_text : Text) (o : Option Text) → t ≡ name ++ 61 ∷ sign_text → Some sign_text ≡ o → Passes (rules v) (held rows q) v name o → Sound v true g (w ∷ ws) rows q
       paired name sign_text o is_cut is_value (is_explain has_it named none ok works) = absurd (nothing (is_value ∙ none))
         where
@@ -543,7 +539,7 @@ module _ (v : Verb) (g : Given) (rows : List Row) (q : Option (Text × List Text
           nothing x = cc
       paired name sign_text o is_cut is_value (is_joined n has_it named some ok works) =
           let same_value : sign_text ≡ n = ap (λ (o : Option Text). unwrap_or o sign_text) (is_value ∙ some) in
-          sound_joined w n ws (is ∙ ap (λ (x : Text). 45 ∷ 45 ∷ x) (is_cut ∙ ap₂ (λ (x y : Text). x ++ 61 ∷ y) named same_value)) has_it works texts e rest
+          sound_joined w n ws (is ∙ ap (λ (x : Text). 45 ∷ 45 ∷ x) (is_cut ∙ ap₂ (λ (x y : Text). x ++ 61 ∷ y) named same_value)) has_it works e rest
       paired name sign_text o is_cut is_value (is_spaced has_it named none ok) = absurd (nothing (is_value ∙ none))
         where
           nothing : Some sign_text ≡ None → ⊥
@@ -553,20 +549,20 @@ module _ (v : Verb) (g : Given) (rows : List Row) (q : Option (Text × List Text
       by_cut (parts n sign_text is_cut is_parts) =
           paired (name_and_value t).0 sign_text (name_and_value t).1 (is_cut ∙ ap (λ (x : Text). x ++ 61 ∷ sign_text) (sym (ap (λ (p : Text × Option Text). p.0) is_parts))) (sym (ap (λ (p : Text × Option Text). p.1) is_parts)) passed
 
-  sound_one : (free : Bool) (w : Text) (ws : List Text) → AreTexts (w ∷ ws) → tail_fault v (here free) (w ∷ ws) ≡ [] → Rest v ws → RestTail v ws → Sound v free g (w ∷ ws) rows q
-  sound_one false w ws texts e rest rest_tail = sound_word false w ws (λ x. absurd (clash x)) texts.1 e rest
-  sound_one true w ws texts e rest rest_tail = elim (kind w) [
-    | bare is two no_long no_short ↦ sound_word true w ws (λ x. is) texts.1 e rest
-    | hyphens is ↦ sound_hyphens w ws is texts.1 e rest
-    | long t is two has ↦ sound_long w t ws is two has texts.1 e rest rest_tail
-    | short x xs is two no_long has ↦ absurd (short_absurd v (place_after g.words) rows q idle w x xs refl texts.0 is two no_long has (next_tail v (here true) w ws e).0)
+  sound_one : (free : Bool) (w : Text) (ws : List Text) → tail_fault v (here free) (w ∷ ws) ≡ [] → Rest v ws → RestTail v ws → Sound v free g (w ∷ ws) rows q
+  sound_one false w ws e rest rest_tail = sound_word false w ws (λ x. absurd (clash x)) e rest
+  sound_one true w ws e rest rest_tail = elim (kind w) [
+    | bare is word_is ↦ sound_word true w ws (λ x. is) e rest
+    | hyphens is ↦ sound_hyphens w ws is e rest
+    | long t is two has ↦ sound_long w t ws is two has e rest rest_tail
+    | short x xs ch is two no_long has char ↦ absurd (short_absurd v (place_after g.words) rows q idle w x xs ch refl char two no_long has (next_tail v (here true) w ws e).0)
   ]
 
 both_sound : (v : Verb) (ws : List Text) → Rest v ws × RestTail v ws
-both_sound v [] = (λ free g rows q texts st e. (g, ends free g, record { rows = rows; pending = q; is = refl; stands = st }), tt)
+both_sound v [] = (λ free g rows q st e. (g, ends free g, record { rows = rows; pending = q; is = refl; stands = st }), tt)
 both_sound v (w ∷ ws) =
     let rest = both_sound v ws in
-    (λ free g rows q texts st e. sound_one v g rows q st free w ws texts e rest.0 rest.1, rest.0)
+    (λ free g rows q st e. sound_one v g rows q st free w ws e rest.0 rest.1, rest.0)
 
 pub sound : (v : Verb) (ws : List Text) → Rest v ws
 sound v ws = (both_sound v ws).0

@@ -1,5 +1,5 @@
 -- What the parser makes of a whole command line is what its words ask for.
-use Rattle.std.proofs.Common.{◌≡◌, ◌∙◌, ◌++◌, ◌&&◌, ◌||◌, ◌==◌, ◌⊎◌, inl, inr, cond, not, Bool, true, false, ℕ, zero, suc, List, [], ◌∷◌, length, Option, Some, None, is_some, refl, sym, ap, ap₂, subst, bytes_eq, codes, option_map, option_and_then, fold, find, IsUtf8, drop, slice_get}
+use Rattle.std.proofs.Common.{◌≡◌, ◌∙◌, ◌++◌, ◌&&◌, ◌||◌, ◌==◌, ◌⊎◌, inl, inr, cond, not, Bool, true, false, ℕ, zero, suc, List, [], ◌∷◌, length, Option, Some, None, is_some, refl, sym, ap, ap₂, subst, bytes_eq, codes, option_map, option_and_then, fold, find, drop, slice_get}
 use Rattle.std.specs.Prelude.{⊤}
 use Rattle.std.specs.Option.{option_map_or, option_or}
 use Rattle.std.specs.List.{list_all, list_any}
@@ -22,12 +22,12 @@ use Rattle.command_line.specs.Commands.{Holds, program}
 use Rattle.command_line.specs.declared.request.Request.{Request}
 use Rattle.command_line.specs.declared.request.Request.TheVariants as requests
 use Rattle.command_line.proofs.Rows.{seen, row_with, seen_at_end, default_seen}
-use Rattle.command_line.proofs.Sorts.{Kind, bare, hyphens, long, short, kind, bare_word, dashes, first_char}
+use Rattle.command_line.proofs.Sorts.{Kind, bare, hyphens, long, short, kind, bare_word, dashes}
 use Rattle.command_line.proofs.Turns.{some_fault, first_of, then_of, neither, stands, bare_fault, long_first, short_first, bundle_first}
 use Rattle.command_line.proofs.Levels.{rules, leaf, top, leaves, whole, built_is, place_names, text_row, Places, number_passes, passes_number, help_built}
 use Rattle.command_line.proofs.Steps.{held, at, rows_now, flag_row, flag_seen, AreFit, Holding, Stands}
 use Rattle.command_line.proofs.Uses.{by_help, short_fails}
-use Rattle.command_line.proofs.Walks.{AreTexts, Ended, completes, sound, tail_fault, end_of}
+use Rattle.command_line.proofs.Walks.{Ended, completes, sound, tail_fault, end_of}
 
 clash : false ≡ true → ⊥
 clash x = cc
@@ -242,11 +242,19 @@ module _ (v : Verb) (ws : List Text) where
       level_back done.0 (ap (λ h. check_fault (leaf v) (finished (rules v) h) false) done.1.is
       ∙ check_is v (last v R) ∙ ap (λ b. cond b (kinds.MissingRequiredArgument ∷ []) []) (full_lacks_none v g.words R done.1.stands.holds.places full))
 
-  pub level_sound : AreTexts ws → level_fault (leaf v) [] nothing_held ws false [] ≡ []
+  pub level_holds : (g : Given) → Gives v true nothing ws g → IsFull v g.words → Holds v g (rows_after (rules v) [] ws)
+  level_holds g gives full =
+      let done = (completes v true nothing ws g gives [] None (nothing_stands v)).1 in
+      let R = rows_now v done.rows done.pending in
+      let none = full_lacks_none v g.words R done.stands.holds.places full in
+      subst (λ h. Holds v g (finished (rules v) h)) (sym done.is)
+      (holds_all v g g.words R refl done.stands.holds.places done.stands.holds.port done.stands.holds none).1
+
+  pub level_sound : level_fault (leaf v) [] nothing_held ws false [] ≡ []
       → (g : Given) × Gives v true nothing ws g × IsFull v g.words × Holds v g (rows_after (rules v) [] ws)
-  level_sound texts e =
+  level_sound e =
       let parts = level_parts e in
-      let found = sound v ws true nothing [] None texts (nothing_stands v) parts.0 in
+      let found = sound v ws true nothing [] None (nothing_stands v) parts.0 in
       let R = rows_now v found.2.rows found.2.pending in
       let none = lacks_none v (last v R) (ap (λ h. check_fault (leaf v) (finished (rules v) h) false) (sym found.2.is) ∙ parts.1) in
       let held_all = holds_all v found.0 found.0.words R refl found.2.stands.holds.places found.2.stands.holds.port found.2.stands.holds none in
@@ -254,7 +262,7 @@ module _ (v : Verb) (ws : List Text) where
 
 -- ---- the whole line
 
-abbrev names : Names
+abbrev pub names : Names
 names = names_of whole
 
 verb_turn : (v : Verb) → turn_fault top names start (name_of v) ≡ []
@@ -364,7 +372,7 @@ no_index k = refl
 stray : (k : ℕ) (h : Held) → step_fault top k h value ≡ [] → ⊥
 stray k h e = some_fault _ _ e
 
-module _ (w : Text) (ws : List Text) (none : subcommand_met names idle w ≡ None) (texts : AreTexts (w ∷ ws)) (e : built_fault whole nothing_held (w ∷ ws) ≡ []) where
+module _ (w : Text) (ws : List Text) (none : subcommand_met names idle w ≡ None) (e : built_fault whole nothing_held (w ∷ ws) ≡ []) where
   walks : walk_fault top names start (w ∷ ws) ≡ []
   walks = first_of (walk_fault top names start (w ∷ ws)) _ e
 
@@ -396,20 +404,19 @@ checked_none ws w is none e =
     some_fault _ _ (then_of (defaults_fault (settled top.rules (walk top.rules names nothing_held ws).held).rows top.rules) _
     (then_of (settle_fault top.rules false (walk top.rules names nothing_held ws).held) _ (then_of (walk_fault top names start ws) _ whole_none)))
 
-no_subcommand : (w : Text) (ws : List Text) → subcommand_met names idle w ≡ None → AreTexts (w ∷ ws) → built_fault whole nothing_held (w ∷ ws) ≡ [] → ⊥
-no_subcommand w ws none texts e = elim (kind w) [
-  | bare is two no_long no_short ↦ stray 1 nothing_held (sym (bare_fault top names 1 nothing_held w (bare_word w is) none) ∙ turn_none w ws none texts e)
+no_subcommand : (w : Text) (ws : List Text) → subcommand_met names idle w ≡ None → built_fault whole nothing_held (w ∷ ws) ≡ [] → ⊥
+no_subcommand w ws none e = elim (kind w) [
+  | bare is word_is ↦ stray 1 nothing_held (sym (bare_fault top names 1 nothing_held w (bare_word w is) refl none) ∙ turn_none w ws none e)
   | long t is two has ↦ help_fails (bytes_eq (codes "help") (name_and_value t).0) (name_and_value t).1 nothing_held
       (ap (λ o. long_fault top.rules false o (name_and_value t).1 nothing_held) (sym (top_help (name_and_value t).0))
-      ∙ long_first top names 1 nothing_held idle w none two (name_and_value t) has (turn_none w ws none texts e))
-  | short x xs is two no_long has ↦
-      let ch = first_char x xs (subst IsUtf8 is texts.0) in
-      let bundled = short_first top names 1 nothing_held idle w none two (x ∷ xs) no_long has (turn_none w ws none texts e) in
-      let got = bundle_first top.rules false x xs nothing_held ch.0 refl ch.1 bundled in
-      short_fails top.rules nothing_held (104 == ch.0) got.0 got.1 (ap (λ o. short_fault top.rules false o got.0 nothing_held got.1) (sym (top_short ch.0)) ∙ got.2)
+      ∙ long_first top names 1 nothing_held idle w none two (name_and_value t) has (turn_none w ws none e))
+  | short x xs ch is two no_long has char ↦
+      let bundled = short_first top names 1 nothing_held idle w none two (x ∷ xs) no_long has (turn_none w ws none e) in
+      let got = bundle_first top.rules false x xs nothing_held ch refl char bundled in
+      short_fails top.rules nothing_held (104 == ch) got.0 got.1 (ap (λ o. short_fault top.rules false o got.0 nothing_held got.1) (sym (top_short ch)) ∙ got.2)
   | hyphens is ↦
       let goes : walked top.rules names start w ≡ behind = ap (λ x. walked top.rules names start x) is ∙ hyphens_go in
-      let ends = behind_fails ws (ap (λ x. walk_fault top names x ws) (sym goes) ∙ later w ws none texts e) in
+      let ends = behind_fails ws (ap (λ x. walk_fault top names x ws) (sym goes) ∙ later w ws none e) in
       checked_none (w ∷ ws) behind (ap (λ x. fold (walked top.rules names) x ws) goes ∙ ap (λ xs. fold (walked top.rules names) behind xs) ends) refl e
 ]
 
@@ -421,12 +428,12 @@ unfolding walk_fault
 helped w ws e = first_of (turn_fault top names start w) _ (first_of (walk_fault top names start (w ∷ ws)) _ e)
 
 -- a line that does not fail names a subcommand
-pub named : (rest : List Text) → AreTexts rest → built_fault whole nothing_held rest ≡ [] → (v : Verb) × (ws : List Text) × (rest ≡ name_of v ∷ ws)
-named [] texts e = absurd (checked_none [] start refl refl e)
-named (w ∷ ws) texts e = elim (first w) [
+pub named : (rest : List Text) → built_fault whole nothing_held rest ≡ [] → (v : Verb) × (ws : List Text) × (rest ≡ name_of v ∷ ws)
+named [] e = absurd (checked_none [] start refl refl e)
+named (w ∷ ws) e = elim (first w) [
   | verb v is ↦ (v, ws, ap (λ x. x ∷ ws) is)
   | help is ↦ absurd (some_fault _ _ (sym (ap (turn_fault top names start) is ∙ help_turn) ∙ helped w ws e))
-  | other none ↦ absurd (no_subcommand w ws none texts e)
+  | other none ↦ absurd (no_subcommand w ws none e)
 ]
 
 -- ---- the laws of the command line
@@ -441,17 +448,16 @@ abbrev pub Found : List Text → Type 0
 Found words = (p : Text) × (v : Verb) × (ws : List Text) × (g : Given) × (words ≡ p ∷ name_of v ∷ ws) × Gives v true nothing ws g × IsFull v g.words
     × (subcommand_of program words ≡ Some (name_of v, rows_after (rules v) [] ws)) × Holds v g (rows_after (rules v) [] ws)
 
-pub line_sound : (words : List Text) → AreTexts words → fault_of program words ≡ [] → Found words
-line_sound [] texts e = absurd (checked_none [] start refl refl e)
-line_sound (p ∷ rest) texts e =
-    let is = named rest texts.1 e in
+pub line_sound : (words : List Text) → fault_of program words ≡ [] → Found words
+line_sound [] e = absurd (checked_none [] start refl refl e)
+line_sound (p ∷ rest) e =
+    let is = named rest e in
     let here : built_fault whole nothing_held (name_of is.0 ∷ is.1) ≡ [] = ap (built_fault whole nothing_held) (sym is.2) ∙ e in
-    let below_texts = (subst AreTexts is.2 texts.1).1 in
-    let below = level_sound is.0 is.1 below_texts (whole_sound is.0 is.1 here) in
+    let below = level_sound is.0 is.1 (whole_sound is.0 is.1 here) in
     (p, is.0, is.1, below.0, ap (λ xs. p ∷ xs) is.2, below.1, below.2,
     ap (λ xs. entered whole (stop_after top.rules names xs)) is.2 ∙ found_is is.0 is.1, below.3)
 
-full_from : (v : Verb) (g : Given) (q : Request) → Makes v g q → IsFull v g.words
+pub full_from : (v : Verb) (g : Given) (q : Request) → Makes v g q → IsFull v g.words
 full_from paths g q m = tt
 full_from check g (requests.Check file explains) m = subst (IsFull check) (sym m.0) tt
 full_from check g q m = absurd m

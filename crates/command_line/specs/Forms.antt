@@ -1,5 +1,6 @@
 -- What the words of a command line ask for.
-use Rattle.std.specs.Prelude.{◌≡◌, ◌≤◌, ◌++◌, ⊤, ℕ, ◌==◌, Bool, true, false, not, List, [], ◌∷◌, Option, Some, None, codes}
+use Rattle.std.specs.Prelude.{◌≡◌, ◌≤◌, ◌++◌, ◌||◌, ⊤, ℕ, ◌==◌, Bool, true, false, not, List, [], ◌∷◌, length, Option, Some, None, codes}
+use Rattle.std.specs.Str.{chars}
 use Rattle.std.specs.Str.Parse.{IsNumeral, digits_value, without_leading_plus}
 use Rattle.command_line.specs.declared.request.Request.{Request}
 use Rattle.command_line.specs.declared.request.Request.TheVariants as requests
@@ -54,11 +55,10 @@ Takes serve (file ∷ []) word = ⊤
 Takes serve (file ∷ folder ∷ []) word = IsNumber 1 65535 word
 Takes v words word = ⊥
 
--- a word that is no flag: it does not begin with a hyphen (45), or is a hyphen alone
+-- a word that is no flag: it does not begin with a hyphen (45), or no character stands behind the hyphen
 abbrev pub is_bare : Text → Bool
 is_bare [] = true
-is_bare (b ∷ []) = true
-is_bare (b ∷ more) = not (b == 45)
+is_bare (b ∷ more) = not (b == 45) || length (chars more) == 0
 
 -- what a subcommand was given
 pub record Given : Type 0 where

@@ -287,10 +287,3 @@ pub fn request_of<'a>(alloc: Global, words: &'a [&'a str]) -> Result<Request<'a>
     let matches = command(alloc)?.try_get_matches_from(words)?;
     Ok(matched_request(&matches))
 }
-
-#[tactic(auto, using(crate::proofs::Whole::line_completes))]
-fn scratch(x: u8) -> u8
-    ensures { result ≡ x }
-{
-    x
-}
