@@ -45,15 +45,15 @@ pub record IsNumber (low high : ℕ) (text : Text) : Type 0 where
 
 -- behind these words a subcommand takes this one: FILE of `check`, FILE SCRIPT of `run`, FILE TRACE of `audit`, FILE DIR PORT of `serve`
 abbrev pub Takes : Verb → List Text → Text → Type 0
-Takes check [] word = ⊤
-Takes run [] word = ⊤
-Takes run (file ∷ []) word = ⊤
-Takes audit [] word = ⊤
-Takes audit (file ∷ []) word = ⊤
-Takes serve [] word = ⊤
-Takes serve (file ∷ []) word = ⊤
-Takes serve (file ∷ folder ∷ []) word = IsNumber 1 65535 word
-Takes v words word = ⊥
+Takes check [] w = ⊤
+Takes run [] w = ⊤
+Takes run (file ∷ []) w = ⊤
+Takes audit [] w = ⊤
+Takes audit (file ∷ []) w = ⊤
+Takes serve [] w = ⊤
+Takes serve (file ∷ []) w = ⊤
+Takes serve (file ∷ folder ∷ []) w = IsNumber 1 65535 w
+Takes v words w = ⊥
 
 -- a word that is no flag: it does not begin with a hyphen (45), or no character stands behind the hyphen
 abbrev pub is_bare : Text → Bool
