@@ -2,4 +2,5 @@
 #![tactic(auto)]
 
 mod help;
+pub mod laws;
 pub mod request;

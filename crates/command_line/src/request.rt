@@ -1,5 +1,15 @@
 //! The command line.
 
+ghost use Rattle.std.specs.Prelude.{◌≡◌, false, map, codes, IfOk, IfErr, Some};
+ghost use Rattle.clap.specs.Matches.{first_value, found_of, one_text};
+ghost use Rattle.clap.specs.Simple.{app_of};
+ghost use Rattle.clap.specs.declared.builder.command.Command.TheViews.{out-Command};
+ghost use Rattle.clap.specs.declared.error.kind.ErrorKind.TheVariants.{OutOfMemory};
+ghost use Rattle.clap.specs.Walk.{rows_of, rule_of};
+ghost use Rattle.clap.specs.Values.{bool_text, kind_of};
+ghost use Rattle.command_line.specs.Forms.{Asks, Given, Makes, number_of, Verb, paths, check as check_verb, run as run_verb, audit as audit_verb, serve as serve_verb};
+ghost use Rattle.command_line.specs.Commands.{Holds, IsMatched, app_for, flag_rule, port_rule, program, required_rule, sessions_rule};
+
 use crate::help;
 use clap::builder::ValueParser;
 use clap::{Arg, ArgAction, ArgMatches, Command, Error};
@@ -44,12 +54,18 @@ const SESSIONS: &str = "16";
 const MOST_SESSIONS: u64 = 64;
 
 // An argument that has to be there.
-fn required<'a>(alloc: Global, name: &'a str, help: &'a str) -> Arg<'a> {
+fn required<'a>(alloc: Global, name: &'a str, help: &'a str) -> Arg<'a>
+    ensures rule { rule_of result ≡ required_rule name.entry.now }
+    ensures local { result.global ≡ false }
+{
     Arg::new(alloc, name).required(true).help(help)
 }
 
 // The flag `--explain`.
-fn explain_flag<'a>(alloc: Global, help: &'a str) -> Arg<'a> {
+fn explain_flag<'a>(alloc: Global, help: &'a str) -> Arg<'a>
+    ensures rule { rule_of result ≡ flag_rule (codes "explain") }
+    ensures local { result.global ≡ false }
+{
     Arg::new(alloc, "explain")
         .long("explain")
         .action(ArgAction::SetTrue)
@@ -57,7 +73,10 @@ fn explain_flag<'a>(alloc: Global, help: &'a str) -> Arg<'a> {
 }
 
 // The flag `--stop-with-input`.
-fn stop_flag<'a>(alloc: Global) -> Arg<'a> {
+fn stop_flag<'a>(alloc: Global) -> Arg<'a>
+    ensures rule { rule_of result ≡ flag_rule (codes "stop-with-input") }
+    ensures local { result.global ≡ false }
+{
     Arg::new(alloc, "stop-with-input")
         .long("stop-with-input")
         .action(ArgAction::SetTrue)
@@ -65,14 +84,18 @@ fn stop_flag<'a>(alloc: Global) -> Arg<'a> {
 }
 
 // `pathserve paths`.
-fn paths_command<'a>(alloc: Global) -> Command<'a> {
+fn paths_command<'a>(alloc: Global) -> Command<'a>
+    ensures { (app_of result ≡ app_for paths) × ((out-Command result).has_globals ≡ false) }
+{
     Command::new(alloc, "paths")
         .about(help::PATHS)
         .after_help(help::PATHS_MORE)
 }
 
 // `pathserve check`.
-fn check_command<'a>(alloc: Global) -> Result<Command<'a>, AllocError> {
+fn check_command<'a>(alloc: Global) -> Result<Command<'a>, AllocError>
+    ensures { IfOk result (λ c. (app_of c ≡ app_for check_verb) × ((out-Command c).has_globals ≡ false)) }
+{
     Command::new(alloc, "check")
         .about(help::CHECK)
         .after_help(help::CHECK_MORE)
@@ -81,7 +104,9 @@ fn check_command<'a>(alloc: Global) -> Result<Command<'a>, AllocError> {
 }
 
 // `pathserve run`.
-fn run_command<'a>(alloc: Global) -> Result<Command<'a>, AllocError> {
+fn run_command<'a>(alloc: Global) -> Result<Command<'a>, AllocError>
+    ensures { IfOk result (λ c. (app_of c ≡ app_for run_verb) × ((out-Command c).has_globals ≡ false)) }
+{
     Command::new(alloc, "run")
         .about(help::RUN)
         .after_help(help::RUN_MORE)
@@ -91,7 +116,9 @@ fn run_command<'a>(alloc: Global) -> Result<Command<'a>, AllocError> {
 }
 
 // `pathserve audit`.
-fn audit_command<'a>(alloc: Global) -> Result<Command<'a>, AllocError> {
+fn audit_command<'a>(alloc: Global) -> Result<Command<'a>, AllocError>
+    ensures { IfOk result (λ c. (app_of c ≡ app_for audit_verb) × ((out-Command c).has_globals ≡ false)) }
+{
     Command::new(alloc, "audit")
         .about(help::AUDIT)
         .after_help(help::AUDIT_MORE)
@@ -100,30 +127,46 @@ fn audit_command<'a>(alloc: Global) -> Result<Command<'a>, AllocError> {
         .arg(explain_flag(alloc, help::AUDIT_EXPLAIN))
 }
 
-// `pathserve serve`.
-fn serve_command<'a>(alloc: Global) -> Result<Command<'a>, AllocError> {
-    let port = required(alloc, "PORT", help::SERVE_PORT).value_parser(ValueParser::unsigned(
-        1, 65_535,
-    ));
-    let sessions = Arg::new(alloc, "sessions")
+// The argument `PORT`.
+fn port_argument<'a>(alloc: Global) -> Arg<'a>
+    ensures rule { rule_of result ≡ port_rule }
+    ensures local { result.global ≡ false }
+{
+    required(alloc, "PORT", help::SERVE_PORT).value_parser(ValueParser::unsigned(1, 65_535))
+}
+
+// The option `--sessions`.
+fn sessions_option<'a>(alloc: Global) -> Arg<'a>
+    ensures rule { rule_of result ≡ sessions_rule }
+    ensures local { result.global ≡ false }
+{
+    Arg::new(alloc, "sessions")
         .long("sessions")
         .value_name("N")
         .default_value(SESSIONS)
         .value_parser(ValueParser::unsigned(1, MOST_SESSIONS))
-        .help(help::SERVE_SESSIONS);
+        .help(help::SERVE_SESSIONS)
+}
+
+// `pathserve serve`.
+fn serve_command<'a>(alloc: Global) -> Result<Command<'a>, AllocError>
+    ensures { IfOk result (λ c. (app_of c ≡ app_for serve_verb) × ((out-Command c).has_globals ≡ false)) }
+{
     Command::new(alloc, "serve")
         .about(help::SERVE)
         .after_help(help::SERVE_MORE)
         .arg(required(alloc, "FILE", help::SERVE_FILE))?
         .arg(required(alloc, "DIR", help::SERVE_DIR))?
-        .arg(port)?
-        .arg(sessions)?
+        .arg(port_argument(alloc))?
+        .arg(sessions_option(alloc))?
         .arg(stop_flag(alloc))?
         .arg(explain_flag(alloc, help::EXPLAIN))
 }
 
 // The commands of the program.
-fn command<'a>(alloc: Global) -> Result<Command<'a>, AllocError> {
+fn command<'a>(alloc: Global) -> Result<Command<'a>, AllocError>
+    ensures { IfOk result (λ c. app_of c ≡ program) }
+{
     Command::new(alloc, "pathserve")
         .about(help::PROGRAM)
         .after_help(help::PROGRAM_MORE)
@@ -135,59 +178,113 @@ fn command<'a>(alloc: Global) -> Result<Command<'a>, AllocError> {
         .subcommand(serve_command(alloc)?)
 }
 
+// The word under this name.
+fn word_of<'a>(matches: &ArgMatches<'a>, name: &str) -> &'a str
+    requires { (word : _) × (first_value (found_of matches.now) name.now ≡ Some word) }
+    ensures { first_value (found_of matches.now) name.now ≡ Some result.now }
+{
+    match matches.get_str(name) {
+        Some(word) => word,
+        None => unreachable!(),
+    }
+}
+
 // What the words of `check` ask for.
-fn check_request<'a>(check: &ArgMatches<'a>) -> Option<Request<'a>> {
-    let file = check.get_str("FILE")?;
-    Some(Request::Check(file, check.get_flag("explain")))
+fn check_request<'a>(check: &ArgMatches<'a>) -> Request<'a>
+    requires { (g : Given) × Holds check_verb g (rows_of (found_of check.now)) }
+    ensures { (g : Given) → Holds check_verb g (rows_of (found_of check.now)) → Makes check_verb g result }
+{
+    Request::Check(word_of(check, "FILE"), check.get_flag("explain"))
 }
 
 // What the words of `run` ask for.
-fn run_request<'a>(run: &ArgMatches<'a>) -> Option<Request<'a>> {
-    let file = run.get_str("FILE")?;
-    let script = run.get_str("SCRIPT")?;
-    Some(Request::Run(file, script, run.get_flag("explain")))
+fn run_request<'a>(run: &ArgMatches<'a>) -> Request<'a>
+    requires { (g : Given) × Holds run_verb g (rows_of (found_of run.now)) }
+    ensures { (g : Given) → Holds run_verb g (rows_of (found_of run.now)) → Makes run_verb g result }
+{
+    Request::Run(
+        word_of(run, "FILE"),
+        word_of(run, "SCRIPT"),
+        run.get_flag("explain"),
+    )
 }
 
 // What the words of `audit` ask for.
-fn audit_request<'a>(audit: &ArgMatches<'a>) -> Option<Request<'a>> {
-    let file = audit.get_str("FILE")?;
-    let trace = audit.get_str("TRACE")?;
-    Some(Request::Audit(file, trace, audit.get_flag("explain")))
+fn audit_request<'a>(audit: &ArgMatches<'a>) -> Request<'a>
+    requires { (g : Given) × Holds audit_verb g (rows_of (found_of audit.now)) }
+    ensures { (g : Given) → Holds audit_verb g (rows_of (found_of audit.now)) → Makes audit_verb g result }
+{
+    Request::Audit(
+        word_of(audit, "FILE"),
+        word_of(audit, "TRACE"),
+        audit.get_flag("explain"),
+    )
+}
+
+// The port.
+fn port_of(serve: &ArgMatches<'_>) -> u16
+    requires { (g : Given) × Holds serve_verb g (rows_of (found_of serve.now)) }
+    ensures { (text : _) → one_text (found_of serve.now) (codes "PORT") ≡ Some text → result ≡ number_of text }
+{
+    match serve.get_one("PORT") {
+        Some(port) => port,
+        None => unreachable!(),
+    }
+}
+
+// The number of connections.
+fn sessions_in(serve: &ArgMatches<'_>) -> u8
+    requires { (g : Given) × Holds serve_verb g (rows_of (found_of serve.now)) }
+    ensures { (text : _) → one_text (found_of serve.now) (codes "sessions") ≡ Some text → result ≡ number_of text }
+{
+    match serve.get_one("sessions") {
+        Some(sessions) => sessions,
+        None => unreachable!(),
+    }
 }
 
 // What the words of `serve` ask for.
-fn serve_request<'a>(serve: &ArgMatches<'a>) -> Option<Request<'a>> {
-    let file = serve.get_str("FILE")?;
-    let folder = serve.get_str("DIR")?;
-    let port: u16 = serve.get_one("PORT")?;
-    let sessions: u8 = serve.get_one("sessions")?;
-    Some(Request::Serve(Serving {
-        file,
-        folder,
-        port,
-        sessions: usize::from(sessions),
+fn serve_request<'a>(serve: &ArgMatches<'a>) -> Request<'a>
+    requires { (g : Given) × Holds serve_verb g (rows_of (found_of serve.now)) }
+    ensures { (g : Given) → Holds serve_verb g (rows_of (found_of serve.now)) → Makes serve_verb g result }
+{
+    Request::Serve(Serving {
+        file: word_of(serve, "FILE"),
+        folder: word_of(serve, "DIR"),
+        port: port_of(serve),
+        sessions: usize::from(sessions_in(serve)),
         stops: serve.get_flag("stop-with-input"),
         explains: serve.get_flag("explain"),
-    }))
+    })
+}
+
+// What the words ask for in which this was found.
+fn matched_request<'a>(matches: &ArgMatches<'a>) -> Request<'a>
+    requires { (v : Verb) × (g : Given) × IsMatched v g matches.now }
+    ensures { (v : Verb) (g : Given) → IsMatched v g matches.now → Makes v g result }
+{
+    if let Some(check) = matches.subcommand_matches("check") {
+        return check_request(check);
+    }
+    if let Some(run) = matches.subcommand_matches("run") {
+        return run_request(run);
+    }
+    if let Some(audit) = matches.subcommand_matches("audit") {
+        return audit_request(audit);
+    }
+    if let Some(serve) = matches.subcommand_matches("serve") {
+        return serve_request(serve);
+    }
+    Request::Paths
 }
 
 /// What these words, the first of which names the program, ask for.
 ///
 /// An error is a mistake in them or a request for help, with the text to print, or a want of memory.
-pub fn request_of<'a>(alloc: Global, words: &'a [&'a str]) -> Result<Request<'a>, Error> {
+pub fn request_of<'a>(alloc: Global, words: &'a [&'a str]) -> Result<Request<'a>, Error>
+    ensures asked { IfOk result (λ q. Asks (map (λ w. w.now) words.now) q) }
+    ensures refused { IfErr result (λ e. (q : Request) → Asks (map (λ w. w.now) words.now) q → kind_of e ≡ OutOfMemory) }
+{
     let matches = command(alloc)?.try_get_matches_from(words)?;
-    // each has the arguments that it requires, so none is `Paths` for want of one
-    if let Some(run) = matches.subcommand_matches("run") {
-        return Ok(run_request(run).unwrap_or(Request::Paths));
-    }
-    if let Some(audit) = matches.subcommand_matches("audit") {
-        return Ok(audit_request(audit).unwrap_or(Request::Paths));
-    }
-    if let Some(serve) = matches.subcommand_matches("serve") {
-        return Ok(serve_request(serve).unwrap_or(Request::Paths));
-    }
-    match matches.subcommand_matches("check") {
-        Some(check) => Ok(check_request(check).unwrap_or(Request::Paths)),
-        None => Ok(Request::Paths),
-    }
+    Ok(matched_request(&matches))
 }

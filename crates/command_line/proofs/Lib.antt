@@ -1,0 +1,12 @@
+mod Rows
+mod Sorts
+mod Turns
+mod Levels
+mod Steps
+mod Uses
+mod Walks
+mod Found
+mod Whole
+mod Making
+mod Once
+mod Asking

@@ -1,0 +1,106 @@
+-- Words ask for one thing at most.
+use Rattle.std.proofs.Common.{◌≡◌, ◌∙◌, Bool, true, false, ℕ, List, [], ◌∷◌, Option, Some, None, refl, sym, ap, ap₂, subst, codes, bytes_eq}
+use Rattle.std.specs.Prelude.{⊤}
+use Rattle.std.specs.List.{slice_index_or}
+use Rattle.clap.specs.Walk.{Row, Text, first_of, one_of, rows_after, stop_after}
+use Rattle.clap.specs.Simple.{entered, subcommand_of}
+use Rattle.clap.specs.Values.{bool_text}
+use Rattle.command_line.specs.declared.request.Request.{Request}
+use Rattle.command_line.specs.declared.request.Request.TheVariants as requests
+use Rattle.command_line.specs.Forms.{Verb, paths, check, run, audit, serve, name_of, Given, nothing, Gives, IsNumber, number_of, sessions_of, Makes, Asks}
+use Rattle.command_line.specs.Commands.{Holds, program}
+use Rattle.command_line.specs.Laws.{IsSame, AsksOnce}
+use Rattle.command_line.proofs.Found.{same_verb, some_same}
+use Rattle.command_line.proofs.Levels.{rules, top, whole}
+use Rattle.command_line.proofs.Whole.{level_holds, full_from, found_is, names}
+
+module _ (rows : List Row) where
+  same_first : (id a b : Text) → first_of id rows ≡ Some a → first_of id rows ≡ Some b → a ≡ b
+  same_first id a b e f = some_same a b (sym e ∙ f)
+
+  same_one : (id a b : Text) → one_of id rows ≡ Some a → one_of id rows ≡ Some b → a ≡ b
+  same_one id a b e f = some_same a b (sym e ∙ f)
+
+bools : (b c : Bool) → bool_text b ≡ bool_text c → b ≡ c
+bools true true e = refl
+bools false false e = refl
+bools true false e = ap (λ t. bytes_eq t (codes "true")) e
+bools false true e = ap (λ t. bytes_eq t (codes "true")) e
+
+abbrev word_at : ℕ → List Text → Text
+word_at k ws = slice_index_or ws k []
+
+-- the same word of two lists that end alike
+same_at : (k : ℕ) (ws us vs xs : List Text) → ws ≡ us → vs ≡ xs → word_at k us ≡ word_at k xs → word_at k ws ≡ word_at k vs
+same_at k ws us vs xs e f same = ap (word_at k) e ∙ same ∙ sym (ap (word_at k) f)
+
+same_made : (v : Verb) (g h : Given) (rows : List Row) (p q : Request) → Holds v g rows → Holds v h rows → Makes v g p → Makes v h q → IsSame p q
+same_made paths g h rows requests.Paths requests.Paths a b m n = tt
+same_made paths g h rows requests.Paths q a b m n = absurd n
+same_made paths g h rows p q a b m n = absurd m
+same_made check g h rows (requests.Check file explains) (requests.Check file2 explains2) a b m n =
+    (same_at 0 (file.now ∷ []) (a.0 ∷ []) (file2.now ∷ []) (b.0 ∷ []) (sym m.0 ∙ a.1) (sym n.0 ∙ b.1) (same_first rows (codes "FILE") a.0 b.0 a.2 b.2),
+    sym m.1 ∙ bools g.explains h.explains (same_one rows (codes "explain") _ _ a.3 b.3) ∙ n.1)
+same_made check g h rows (requests.Check file explains) q a b m n = absurd n
+same_made check g h rows p q a b m n = absurd m
+same_made run g h rows (requests.Run file script explains) (requests.Run file2 script2 explains2) a b m n =
+    let first = same_first rows (codes "FILE") a.0 b.0 a.3 b.3 in
+    let second = same_first rows (codes "SCRIPT") a.1 b.1 a.4 b.4 in
+    (same_at 0 (file.now ∷ script.now ∷ []) (a.0 ∷ a.1 ∷ []) (file2.now ∷ script2.now ∷ []) (b.0 ∷ b.1 ∷ []) (sym m.0 ∙ a.2) (sym n.0 ∙ b.2) first,
+    same_at 1 (file.now ∷ script.now ∷ []) (a.0 ∷ a.1 ∷ []) (file2.now ∷ script2.now ∷ []) (b.0 ∷ b.1 ∷ []) (sym m.0 ∙ a.2) (sym n.0 ∙ b.2) second,
+    sym m.1 ∙ bools g.explains h.explains (same_one rows (codes "explain") _ _ a.5 b.5) ∙ n.1)
+same_made run g h rows (requests.Run file script explains) q a b m n = absurd n
+same_made run g h rows p q a b m n = absurd m
+same_made audit g h rows (requests.Audit file trace explains) (requests.Audit file2 trace2 explains2) a b m n =
+    let first = same_first rows (codes "FILE") a.0 b.0 a.3 b.3 in
+    let second = same_first rows (codes "TRACE") a.1 b.1 a.4 b.4 in
+    (same_at 0 (file.now ∷ trace.now ∷ []) (a.0 ∷ a.1 ∷ []) (file2.now ∷ trace2.now ∷ []) (b.0 ∷ b.1 ∷ []) (sym m.0 ∙ a.2) (sym n.0 ∙ b.2) first,
+    same_at 1 (file.now ∷ trace.now ∷ []) (a.0 ∷ a.1 ∷ []) (file2.now ∷ trace2.now ∷ []) (b.0 ∷ b.1 ∷ []) (sym m.0 ∙ a.2) (sym n.0 ∙ b.2) second,
+    sym m.1 ∙ bools g.explains h.explains (same_one rows (codes "explain") _ _ a.5 b.5) ∙ n.1)
+same_made audit g h rows (requests.Audit file trace explains) q a b m n = absurd n
+same_made audit g h rows p q a b m n = absurd m
+same_made serve g h rows (requests.Serve s) (requests.Serve t) a b m n =
+    let first = same_first rows (codes "FILE") a.0 b.0 a.5 b.5 in
+    let second = same_first rows (codes "DIR") a.1 b.1 a.6 b.6 in
+    let third = same_one rows (codes "PORT") a.2 b.2 a.7 b.7 in
+    let mine = same_at 2 (s.file.now ∷ s.folder.now ∷ m.0 ∷ []) (a.0 ∷ a.1 ∷ a.2 ∷ []) (t.file.now ∷ t.folder.now ∷ n.0 ∷ []) (b.0 ∷ b.1 ∷ b.2 ∷ []) (sym m.1 ∙ a.4) (sym n.1 ∙ b.4) third in
+    let counts = same_one rows (codes "sessions") a.3 b.3 a.9 b.9 in
+    (same_at 0 (s.file.now ∷ s.folder.now ∷ m.0 ∷ []) (a.0 ∷ a.1 ∷ a.2 ∷ []) (t.file.now ∷ t.folder.now ∷ n.0 ∷ []) (b.0 ∷ b.1 ∷ b.2 ∷ []) (sym m.1 ∙ a.4) (sym n.1 ∙ b.4) first,
+    same_at 1 (s.file.now ∷ s.folder.now ∷ m.0 ∷ []) (a.0 ∷ a.1 ∷ a.2 ∷ []) (t.file.now ∷ t.folder.now ∷ n.0 ∷ []) (b.0 ∷ b.1 ∷ b.2 ∷ []) (sym m.1 ∙ a.4) (sym n.1 ∙ b.4) second,
+    m.2 ∙ ap number_of mine ∙ sym n.2,
+    m.3 ∙ a.11 ∙ ap number_of counts ∙ sym b.11 ∙ sym n.3,
+    sym m.4 ∙ bools g.stops h.stops (same_one rows (codes "stop-with-input") _ _ a.12 b.12) ∙ n.4,
+    sym m.5 ∙ bools g.explains h.explains (same_one rows (codes "explain") _ _ a.13 b.13) ∙ n.5)
+same_made serve g h rows (requests.Serve s) q a b m n = absurd n
+same_made serve g h rows p q a b m n = absurd m
+
+-- what words ask for is what the walk finds in them
+record Finds (words : List Text) (q : Request) : Type 0 where
+  verb : Verb
+  given : Given
+  rows : List Row
+  found : subcommand_of program words ≡ Some (name_of verb, rows)
+  holds : Holds verb given rows
+  makes : Makes verb given q
+
+finds : (words : List Text) (q : Request) → Asks words q → Finds words q
+finds words q a = record {
+  verb = a.verb;
+  given = a.given;
+  rows = rows_after (rules a.verb) [] a.rest;
+  found = ap (subcommand_of program) a.are ∙ found_is a.verb a.rest;
+  holds = level_holds a.verb a.rest a.given a.gives (full_from a.verb a.given q a.makes);
+  makes = a.makes;
+}
+
+both_found : (words : List Text) (p q : Request) → Finds words p → Finds words q → IsSame p q
+both_found words p q a b =
+    let same = some_same (name_of a.verb, a.rows) (name_of b.verb, b.rows) (sym a.found ∙ b.found) in
+    let verbs : a.verb ≡ b.verb = same_verb a.verb b.verb (ap (λ (x : Text × List Row). x.0) same) in
+    let rows_same : a.rows ≡ b.rows = ap (λ (x : Text × List Row). x.1) same in
+    same_made a.verb a.given b.given a.rows p q a.holds
+    (subst (λ v. Holds v b.given a.rows) (sym verbs) (subst (Holds b.verb b.given) (sym rows_same) b.holds))
+    a.makes (subst (λ v. Makes v b.given q) (sym verbs) b.makes)
+
+pub asks_once : AsksOnce
+asks_once words p q a b = both_found words p q (finds words p a) (finds words q b)

@@ -1,0 +1,568 @@
+-- A walk over words does not fail exactly where they give something, and finds that.
+use Rattle.std.proofs.Common.{◌≡◌, ◌∙◌, ◌++◌, ◌&&◌, ◌||◌, ◌==◌, ◌⊎◌, inl, inr, cond, not, Bool, true, false, ℕ, zero, suc, List, [], ◌∷◌, length, Option, Some, None, is_some, refl, sym, ap, subst, bytes_eq, codes, option_map, fold, slice_get, ap₂}
+use Rattle.std.specs.Prelude.{⊤, unwrap_or}
+use Rattle.std.specs.Option.{option_map_or}
+use Rattle.std.specs.Str.{chars}
+use Rattle.std.proofs.lemmas.Slice.Eq.{bytes_eq-Decides}
+use Rattle.clap.specs.Lexer.{long_of, name_and_value, short_of}
+use Rattle.clap.specs.Walk.{Held, Row, Rule, Text, Waiting, Walk, idle, option, arg_by_id, arg_by_index, arg_by_long, arg_by_short, has_row, is_pending, positional_held, pushed, settled, subcommand_met, takes_several, to_positional, used, used_by_id, value, walked, with_values, without}
+use Rattle.clap.specs.Values.{reading_of}
+use Rattle.clap.specs.Kinds.{Kinds as Faults, or_else}
+use Rattle.clap.specs.Faults.{bundle_fault, long_fault, positional_fault, settle_fault, short_fault, step_fault, stray_fault, turn_fault, use_fault, walk_fault}
+use Rattle.clap.specs.declared.error.kind.ErrorKind.TheVariants as kinds
+use Rattle.clap.specs.declared.builder.value_parser.Reading.{Reading}
+use Rattle.clap.specs.declared.builder.value_parser.Reading.TheVariants.{AsWritten}
+use Rattle.clap.specs.declared.parser.matches.ValueSource.TheVariants.{CommandLine}
+use Rattle.clap.proofs.LexerLemmas.{name_and_value-at}
+use Rattle.command_line.specs.Forms.{Verb, paths, check, run, audit, serve, has_explain, has_sessions, is_bare, Given, Takes, IsNumber, Gives, ends, word, explain, stop, sessions, joined, hyphens as ends_flags}
+use Rattle.command_line.proofs.Rows.{seen, row_with, used_new}
+use Rattle.command_line.proofs.Sorts.{Kind, bare, hyphens, long, short, kind, bare_word, dashes, Cut, whole, parts, cut, sessions_lacks}
+use Rattle.command_line.proofs.Turns.{some_fault, first_of, then_of, neither, stands, bare_fault, bare_after, long_first, long_turn, long_after, short_first, bundle_first, value_fault, value_after}
+use Rattle.command_line.proofs.Levels.{rules, leaf, place_rule, place_after, place_names, text_row, Place, place, flag, sessions_built, help_built, short_is}
+use Rattle.command_line.proofs.Steps.{held, at, rows_now, settle, flag_row, flag_seen, Holding, Stands, and_false, or_false, word_use, word_accepted, sessions_use, sessions_used, flag_use, flag_used, not_given, no_number, holds_explain, holds_stop, holds_sessions, holds_word}
+use Rattle.command_line.proofs.Uses.{Passes, is_explain, is_stop, is_joined, is_spaced, passes, short_fails}
+
+abbrev pub end_of : Verb → Walk → List Text → Held
+end_of v w ws = (fold (walked (rules v) []) w ws).held
+
+-- the faults of a walk, and of what is pending at its end
+abbrev pub tail_fault : Verb → Walk → List Text → Faults
+tail_fault v w ws = or_else (walk_fault (leaf v) [] w ws) (settle_fault (rules v) false (end_of v w ws))
+
+pub record Ended (v : Verb) (g : Given) (h : Held) : Type 0 where
+  pub rows : List Row
+  pub pending : Option (Text × List Text)
+  pub is : h ≡ held rows pending
+  pub stands : Stands v g rows pending
+
+module _ (v : Verb) (W : Walk) (w : Text) (ws : List Text) where
+  next_tail : tail_fault v W (w ∷ ws) ≡ [] → (turn_fault (leaf v) [] W w ≡ []) × (tail_fault v (walked (rules v) [] W w) ws ≡ [])
+  unfolding walk_fault
+  next_tail e =
+      let walks = first_of (or_else (turn_fault (leaf v) [] W w) (walk_fault (leaf v) [] (walked (rules v) [] W w) ws)) (settle_fault (rules v) false (end_of v W (w ∷ ws))) e in
+      (first_of (turn_fault (leaf v) [] W w) _ walks,
+      neither _ _ (then_of (turn_fault (leaf v) [] W w) _ walks) (then_of (or_else (turn_fault (leaf v) [] W w) (walk_fault (leaf v) [] (walked (rules v) [] W w) ws)) _ e))
+
+  back_tail : turn_fault (leaf v) [] W w ≡ [] → tail_fault v (walked (rules v) [] W w) ws ≡ [] → tail_fault v W (w ∷ ws) ≡ []
+  unfolding walk_fault
+  back_tail turn rest =
+      neither _ _ (neither _ _ turn (first_of (walk_fault (leaf v) [] (walked (rules v) [] W w) ws) _ rest))
+      (then_of (walk_fault (leaf v) [] (walked (rules v) [] W w) ws) _ rest)
+
+-- ---- a word
+
+module _ (v : Verb) (words : List Text) (p : Place v words) (rows : List Row) (q : Option (Text × List Text)) where
+  several : (h : Held) → (is_pending (place_rule (place_after words) p.name p.parser) h.pending && takes_several (place_rule (place_after words) p.name p.parser)) ≡ false
+  several h = and_false (is_pending (place_rule (place_after words) p.name p.parser) h.pending)
+
+  step_is : step_fault (leaf v) (place_after words) (held rows q) value ≡ settle v rows q
+  step_is = ap (λ a. option_map_or (λ a. positional_fault (rules v) false a (held rows q)) a (stray_fault (leaf v))) p.indexed
+      ∙ ap (λ b. cond b [] (settle v rows q)) (several (held rows q))
+
+  word_turn : (free : Bool) (w : Text) → (free ≡ true → is_bare w ≡ true) → turn_fault (leaf v) [] (at free (place_after words) (held rows q)) w ≡ settle v rows q
+  word_turn true w is = bare_fault (leaf v) [] (place_after words) (held rows q) w (bare_word w (is refl)) refl refl ∙ step_is
+  word_turn false w is = step_is
+
+  goes_to : (free : Bool) (w : Text) → to_positional (rules v) (arg_by_index (rules v) (place_after words)) w (at free (place_after words) (held rows q)) (held rows q)
+      ≡ at free (place_after (words ++ w ∷ [])) (held (rows_now v rows q) (Some (p.name, w ∷ [])))
+  goes_to free w =
+      let kept : positional_held (rules v) (place_rule (place_after words) p.name p.parser) w (held rows q) ≡ held (rows_now v rows q) (Some (p.name, w ∷ [])) =
+      ap (λ b. pushed p.name w (cond b (held rows q) (settled (rules v) (held rows q)))) (several (held rows q)) in
+      let place_next = p.next w in
+      let closed = or_false (not free) in
+      let made : to_positional (rules v) (Some (place_rule (place_after words) p.name p.parser)) w (at free (place_after words) (held rows q)) (held rows q)
+          ≡ at free (place_after (words ++ w ∷ [])) (held (rows_now v rows q) (Some (p.name, w ∷ []))) =
+          λ i. record { held = kept i; waiting = idle; position = place_next i; is_trailing = closed i; stopped = None } in
+      ap (λ a. to_positional (rules v) a w (at free (place_after words) (held rows q)) (held rows q)) p.indexed ∙ made
+
+  word_after : (free : Bool) (w : Text) → (free ≡ true → is_bare w ≡ true) → walked (rules v) [] (at free (place_after words) (held rows q)) w
+      ≡ at free (place_after (words ++ w ∷ [])) (held (rows_now v rows q) (Some (p.name, w ∷ [])))
+  unfolding walked
+  word_after true w is = bare_after (leaf v) [] (place_after words) (held rows q) w (bare_word w (is refl)) refl refl ∙ goes_to true w
+  word_after false w is = goes_to false w
+
+  -- what is pending then
+  pending_is : (w : Text) (now : List Row) → settle v now (Some (p.name, w ∷ [])) ≡ use_fault false (place_rule (place_after words) p.name p.parser) (w ∷ []) now
+  pending_is w now = ap (λ o. option_map_or (λ a. use_fault false a (w ∷ []) now) o []) p.by_id
+
+  rows_then : (w : Text) (now : List Row) → seen p.name now ≡ None → rows_now v now (Some (p.name, w ∷ [])) ≡ now ++ text_row p.name w ∷ []
+  rows_then w now none =
+      ap (λ o. used_by_id o (w ∷ []) now) p.by_id
+      ∙ used_new p.name (reading_of p.parser) (w ∷ []) now none
+      ∙ ap (λ r. now ++ row_with CommandLine p.name r (w ∷ []) ∷ []) p.read
+
+word_stands : (v : Verb) (g : Given) (rows : List Row) (q : Option (Text × List Text)) (p : Place v g.words) (w : Text) → Stands v g rows q → Takes v g.words w
+    → Stands v (record g { words = g.words ++ w ∷ [] }) (rows_now v rows q) (Some (p.name, w ∷ []))
+word_stands v g rows q p w st takes =
+    let none = p.unseen (rows_now v rows q) st.holds.places in record {
+      valid = pending_is v g.words p rows q w (rows_now v rows q) ∙ word_use (place_after g.words) p.name p.parser w (rows_now v rows q) none (p.takes w takes);
+      holds = subst (Holding v (record g { words = g.words ++ w ∷ [] })) (sym (rows_then v g.words p rows q w (rows_now v rows q) none))
+          (holds_word v g (rows_now v rows q) st.holds p w takes);
+    }
+
+-- ---- hyphens
+
+hyphens_turn : (v : Verb) (k : ℕ) (h : Held) → turn_fault (leaf v) [] (at true k h) dashes ≡ []
+hyphens_turn v k h = refl
+
+hyphens_after : (v : Verb) (k : ℕ) (h : Held) → walked (rules v) [] (at true k h) dashes ≡ at false k h
+unfolding walked
+hyphens_after v k h = refl
+
+-- ---- flags
+
+module _ (k : ℕ) (rows : List Row) (q : Option (Text × List Text)) where
+  explain_turn : (v : Verb) → has_explain v ≡ true → turn_fault (leaf v) [] (at true k (held rows q)) (codes "--explain")
+      ≡ or_else (or_else (settle v rows q) (use_fault false (flag (codes "explain")) [] (rows_now v rows q))) []
+  explain_turn paths has = absurd (clash has)
+    where
+      clash : false ≡ true → ⊥
+      clash x = cc
+  explain_turn check has = long_turn (leaf check) [] k (held rows q) idle (codes "--explain") refl refl (codes "explain", None) refl
+  explain_turn run has = long_turn (leaf run) [] k (held rows q) idle (codes "--explain") refl refl (codes "explain", None) refl
+  explain_turn audit has = long_turn (leaf audit) [] k (held rows q) idle (codes "--explain") refl refl (codes "explain", None) refl
+  explain_turn serve has = long_turn (leaf serve) [] k (held rows q) idle (codes "--explain") refl refl (codes "explain", None) refl
+
+  explain_after : (v : Verb) → has_explain v ≡ true → walked (rules v) [] (at true k (held rows q)) (codes "--explain")
+      ≡ at true k (held (used (flag (codes "explain")) [] (rows_now v rows q)) None)
+  explain_after paths has = absurd (clash has)
+    where
+      clash : false ≡ true → ⊥
+      clash x = cc
+  explain_after check has = long_after (leaf check) [] k (held rows q) idle (codes "--explain") refl refl (codes "explain", None) refl
+  explain_after run has = long_after (leaf run) [] k (held rows q) idle (codes "--explain") refl refl (codes "explain", None) refl
+  explain_after audit has = long_after (leaf audit) [] k (held rows q) idle (codes "--explain") refl refl (codes "explain", None) refl
+  explain_after serve has = long_after (leaf serve) [] k (held rows q) idle (codes "--explain") refl refl (codes "explain", None) refl
+
+  stop_turn : turn_fault (leaf serve) [] (at true k (held rows q)) (codes "--stop-with-input")
+      ≡ or_else (or_else (settle serve rows q) (use_fault false (flag (codes "stop-with-input")) [] (rows_now serve rows q))) []
+  stop_turn = long_turn (leaf serve) [] k (held rows q) idle (codes "--stop-with-input") refl refl (codes "stop-with-input", None) refl
+
+  stop_after : walked (rules serve) [] (at true k (held rows q)) (codes "--stop-with-input")
+      ≡ at true k (held (used (flag (codes "stop-with-input")) [] (rows_now serve rows q)) None)
+  stop_after = long_after (leaf serve) [] k (held rows q) idle (codes "--stop-with-input") refl refl (codes "stop-with-input", None) refl
+
+  joined_long : (n : Text) → long_of (codes "--sessions=" ++ n) ≡ Some (codes "sessions", Some n)
+  joined_long n = ap (λ x. Some x) (name_and_value-at (codes "sessions") n sessions_lacks)
+
+  joined_turn : (n : Text) → turn_fault (leaf serve) [] (at true k (held rows q)) (codes "--sessions=" ++ n)
+      ≡ or_else (or_else (settle serve rows q) (use_fault false sessions_built (n ∷ []) (rows_now serve rows q))) []
+  joined_turn n = long_turn (leaf serve) [] k (held rows q) idle (codes "--sessions=" ++ n) refl refl (codes "sessions", Some n) (joined_long n)
+
+  joined_after : (n : Text) → walked (rules serve) [] (at true k (held rows q)) (codes "--sessions=" ++ n)
+      ≡ at true k (held (used sessions_built (n ∷ []) (rows_now serve rows q)) None)
+  joined_after n = long_after (leaf serve) [] k (held rows q) idle (codes "--sessions=" ++ n) refl refl (codes "sessions", Some n) (joined_long n)
+
+  -- the option that waits for its value
+  abbrev waits : Verb → Walk
+  waits v = record { held = held (rows_now v rows q) (Some (codes "sessions", [])); waiting = option (codes "sessions"); position = k; is_trailing = false; stopped = None }
+
+  spaced_turn : turn_fault (leaf serve) [] (at true k (held rows q)) (codes "--sessions") ≡ or_else (settle serve rows q) []
+  spaced_turn = long_turn (leaf serve) [] k (held rows q) idle (codes "--sessions") refl refl (codes "sessions", None) refl
+
+  spaced_after : walked (rules serve) [] (at true k (held rows q)) (codes "--sessions") ≡ waits serve
+  spaced_after = long_after (leaf serve) [] k (held rows q) idle (codes "--sessions") refl refl (codes "sessions", None) refl
+
+  given_turn : (n : Text) → is_bare n ≡ true → turn_fault (leaf serve) [] (waits serve) n ≡ []
+  given_turn n is = value_fault (leaf serve) [] k (held (rows_now serve rows q) (Some (codes "sessions", []))) (codes "sessions") n (bare_word n is) refl
+
+  given_after : (n : Text) → is_bare n ≡ true → walked (rules serve) [] (waits serve) n ≡ at true k (held (rows_now serve rows q) (Some (codes "sessions", n ∷ [])))
+  given_after n is = value_after (leaf serve) [] k (held (rows_now serve rows q) (Some (codes "sessions", []))) (codes "sessions") n (bare_word n is) refl
+
+-- ---- what stands after a flag
+
+explain_stands : (v : Verb) (g : Given) (rows : List Row) (q : Option (Text × List Text)) → Stands v g rows q → g.explains ≡ false
+    → Stands v (record g { explains = true }) (used (flag (codes "explain")) [] (rows_now v rows q)) None
+explain_stands v g rows q st off =
+    let none : seen (codes "explain") (rows_now v rows q) ≡ None = st.holds.explains ∙ ap (flag_seen (codes "explain")) off in record {
+      valid = refl;
+      holds = subst (Holding v (record g { explains = true })) (sym (used_new (codes "explain") AsWritten (codes "true" ∷ []) (rows_now v rows q) none))
+          (holds_explain v g (rows_now v rows q) st.holds off);
+    }
+
+stop_stands : (v : Verb) (g : Given) (rows : List Row) (q : Option (Text × List Text)) → Stands v g rows q → g.stops ≡ false
+    → Stands v (record g { stops = true }) (used (flag (codes "stop-with-input")) [] (rows_now v rows q)) None
+stop_stands v g rows q st off =
+    let none : seen (codes "stop-with-input") (rows_now v rows q) ≡ None = st.holds.stops ∙ ap (flag_seen (codes "stop-with-input")) off in record {
+      valid = refl;
+      holds = subst (Holding v (record g { stops = true })) (sym (used_new (codes "stop-with-input") AsWritten (codes "true" ∷ []) (rows_now v rows q) none))
+          (holds_stop v g (rows_now v rows q) st.holds off);
+    }
+
+module _ (g : Given) (rows : List Row) (q : Option (Text × List Text)) (st : Stands serve g rows q) (n : Text) (off : g.sessions ≡ None) (is : IsNumber 1 64 n) where
+  unseen : seen (codes "sessions") (rows_now serve rows q) ≡ None
+  unseen = st.holds.sessions ∙ ap (option_map (text_row (codes "sessions"))) off
+
+  joined_stands : Stands serve (record g { sessions = Some n }) (used sessions_built (n ∷ []) (rows_now serve rows q)) None
+  joined_stands = record {
+    valid = refl;
+    holds = subst (Holding serve (record g { sessions = Some n })) (sym (used_new (codes "sessions") AsWritten (n ∷ []) (rows_now serve rows q) unseen))
+        (holds_sessions serve g (rows_now serve rows q) st.holds n off is);
+  }
+
+  given_stands : Stands serve (record g { sessions = Some n }) (rows_now serve rows q) (Some (codes "sessions", n ∷ []))
+  given_stands = record {
+    valid = sessions_use n (rows_now serve rows q) unseen is;
+    holds = subst (Holding serve (record g { sessions = Some n })) (sym (used_new (codes "sessions") AsWritten (n ∷ []) (rows_now serve rows q) unseen))
+        (holds_sessions serve g (rows_now serve rows q) st.holds n off is);
+  }
+
+-- ---- words that give something do not fail
+
+abbrev pub Completes : Verb → Bool → Given → List Text → Given → List Row → Option (Text × List Text) → Type 0
+Completes v free g ws after rows q = (tail_fault v (at free (place_after g.words) (held rows q)) ws ≡ []) × Ended v after (end_of v (at free (place_after g.words) (held rows q)) ws)
+
+-- one more word before words that do not fail
+one_more : (v : Verb) (W W2 : Walk) (w : Text) (ws : List Text) (after : Given) → turn_fault (leaf v) [] W w ≡ [] → walked (rules v) [] W w ≡ W2
+    → (tail_fault v W2 ws ≡ []) × Ended v after (end_of v W2 ws) → (tail_fault v W (w ∷ ws) ≡ []) × Ended v after (end_of v W (w ∷ ws))
+one_more v W W2 w ws after turn goes rest =
+    (back_tail v W w ws turn (ap (λ x. tail_fault v x ws) goes ∙ rest.0), subst (λ x. Ended v after (end_of v x ws)) (sym goes) rest.1)
+
+none_left : (v : Verb) (w : Text) (words : List Text) → Takes v words w → arg_by_index (rules v) (place_after words) ≡ None → ⊥
+none_left paths w [] t e = t
+none_left paths w (a ∷ more) t e = t
+none_left check w [] t e = cc
+none_left check w (a ∷ more) t e = t
+none_left run w [] t e = cc
+none_left run w (a ∷ []) t e = cc
+none_left run w (a ∷ b ∷ more) t e = t
+none_left audit w [] t e = cc
+none_left audit w (a ∷ []) t e = cc
+none_left audit w (a ∷ b ∷ more) t e = t
+none_left serve w [] t e = cc
+none_left serve w (a ∷ []) t e = cc
+none_left serve w (a ∷ b ∷ []) t e = cc
+none_left serve w (a ∷ b ∷ c ∷ more) t e = t
+
+clash : false ≡ true → ⊥
+clash x = cc
+
+only_serve : (v : Verb) → has_sessions v ≡ true → serve ≡ v
+only_serve serve has = refl
+only_serve paths has = absurd (clash has)
+only_serve check has = absurd (clash has)
+only_serve run has = absurd (clash has)
+only_serve audit has = absurd (clash has)
+
+-- what holds of `serve` holds of the one that has sessions
+of_serve : (P : Verb → Type 0) (v : Verb) → has_sessions v ≡ true → P serve → P v
+of_serve P v has x = subst P (only_serve v has) x
+
+empty_tail : (v : Verb) (W : Walk) → tail_fault v W [] ≡ settle_fault (rules v) false W.held
+unfolding walk_fault
+empty_tail v W = refl
+
+-- the flags that only one has, by which one it is
+module _ (v : Verb) (has : has_sessions v ≡ true) (g : Given) (rows : List Row) (q : Option (Text × List Text)) where
+  abbrev k : ℕ
+  k = place_after g.words
+
+  stop_turns : turn_fault (leaf v) [] (at true k (held rows q)) (codes "--stop-with-input")
+      ≡ or_else (or_else (settle v rows q) (use_fault false (flag (codes "stop-with-input")) [] (rows_now v rows q))) []
+  stop_turns = of_serve (λ v. turn_fault (leaf v) [] (at true k (held rows q)) (codes "--stop-with-input")
+      ≡ or_else (or_else (settle v rows q) (use_fault false (flag (codes "stop-with-input")) [] (rows_now v rows q))) []) v has (stop_turn k rows q)
+
+  stop_goes : walked (rules v) [] (at true k (held rows q)) (codes "--stop-with-input") ≡ at true k (held (used (flag (codes "stop-with-input")) [] (rows_now v rows q)) None)
+  stop_goes = of_serve (λ v. walked (rules v) [] (at true k (held rows q)) (codes "--stop-with-input") ≡ at true k (held (used (flag (codes "stop-with-input")) [] (rows_now v rows q)) None))
+      v has (stop_after k rows q)
+
+  joined_turns : (n : Text) → turn_fault (leaf v) [] (at true k (held rows q)) (codes "--sessions=" ++ n)
+      ≡ or_else (or_else (settle v rows q) (use_fault false sessions_built (n ∷ []) (rows_now v rows q))) []
+  joined_turns n = of_serve (λ v. turn_fault (leaf v) [] (at true k (held rows q)) (codes "--sessions=" ++ n)
+      ≡ or_else (or_else (settle v rows q) (use_fault false sessions_built (n ∷ []) (rows_now v rows q))) []) v has (joined_turn k rows q n)
+
+  joined_goes : (n : Text) → walked (rules v) [] (at true k (held rows q)) (codes "--sessions=" ++ n) ≡ at true k (held (used sessions_built (n ∷ []) (rows_now v rows q)) None)
+  joined_goes n = of_serve (λ v. walked (rules v) [] (at true k (held rows q)) (codes "--sessions=" ++ n) ≡ at true k (held (used sessions_built (n ∷ []) (rows_now v rows q)) None))
+      v has (joined_after k rows q n)
+
+  spaced_turns : turn_fault (leaf v) [] (at true k (held rows q)) (codes "--sessions") ≡ or_else (settle v rows q) []
+  spaced_turns = of_serve (λ v. turn_fault (leaf v) [] (at true k (held rows q)) (codes "--sessions") ≡ or_else (settle v rows q) []) v has (spaced_turn k rows q)
+
+  spaced_goes : walked (rules v) [] (at true k (held rows q)) (codes "--sessions") ≡ waits k rows q v
+  spaced_goes = of_serve (λ v. walked (rules v) [] (at true k (held rows q)) (codes "--sessions") ≡ waits k rows q v) v has (spaced_after k rows q)
+
+  given_turns : (n : Text) → is_bare n ≡ true → turn_fault (leaf v) [] (waits k rows q v) n ≡ []
+  given_turns n is = of_serve (λ v. turn_fault (leaf v) [] (waits k rows q v) n ≡ []) v has (given_turn k rows q n is)
+
+  given_goes : (n : Text) → is_bare n ≡ true → walked (rules v) [] (waits k rows q v) n ≡ at true k (held (rows_now v rows q) (Some (codes "sessions", n ∷ [])))
+  given_goes n is = of_serve (λ v. walked (rules v) [] (waits k rows q v) n ≡ at true k (held (rows_now v rows q) (Some (codes "sessions", n ∷ [])))) v has (given_after k rows q n is)
+
+  -- the option does not do without a value
+  no_value : settle v (rows_now v rows q) (Some (codes "sessions", [])) ≡ [] → ⊥
+  no_value = of_serve (λ v. settle v (rows_now v rows q) (Some (codes "sessions", [])) ≡ [] → ⊥) v has (λ e. some_fault _ _ e)
+
+  value_is : (n : Text) → settle v (rows_now v rows q) (Some (codes "sessions", n ∷ [])) ≡ use_fault false sessions_built (n ∷ []) (rows_now v rows q)
+  value_is n = of_serve (λ v. settle v (rows_now v rows q) (Some (codes "sessions", n ∷ [])) ≡ use_fault false sessions_built (n ∷ []) (rows_now v rows q)) v has refl
+
+  module _ (n : Text) (st : Stands v g rows q) (off : g.sessions ≡ None) (is : IsNumber 1 64 n) where
+    no_sessions_row : seen (codes "sessions") (rows_now v rows q) ≡ None
+    no_sessions_row = st.holds.sessions ∙ ap (option_map (text_row (codes "sessions"))) off
+
+    joined_then : Stands v (record g { sessions = Some n }) (used sessions_built (n ∷ []) (rows_now v rows q)) None
+    joined_then = of_serve (λ v. Stands v g rows q → Stands v (record g { sessions = Some n }) (used sessions_built (n ∷ []) (rows_now v rows q)) None) v has
+        (λ st. joined_stands g rows q st n off is) st
+
+    given_then : Stands v (record g { sessions = Some n }) (rows_now v rows q) (Some (codes "sessions", n ∷ []))
+    given_then = of_serve (λ v. Stands v g rows q → Stands v (record g { sessions = Some n }) (rows_now v rows q) (Some (codes "sessions", n ∷ []))) v has
+        (λ st. given_stands g rows q st n off is) st
+
+pub completes : (v : Verb) (free : Bool) (g : Given) (ws : List Text) (after : Given) → Gives v free g ws after
+    → (rows : List Row) (q : Option (Text × List Text)) → Stands v g rows q → Completes v free g ws after rows q
+completes v free g ws after (ends f x) rows q st =
+    (empty_tail v (at free (place_after g.words) (held rows q)) ∙ st.valid, record { rows = rows; pending = q; is = refl; stands = st })
+completes v free g ws after (word f x y w more is takes rest) rows q st = elim (place v g.words) [
+  | inl p ↦ one_more v (at free (place_after g.words) (held rows q)) (at free (place_after (g.words ++ w ∷ [])) (held (rows_now v rows q) (Some (p.name, w ∷ [])))) w more after
+      (word_turn v g.words p rows q free w is ∙ st.valid) (word_after v g.words p rows q free w is)
+      (completes v free (record g { words = g.words ++ w ∷ [] }) more after rest (rows_now v rows q) (Some (p.name, w ∷ [])) (word_stands v g rows q p w st takes))
+  | inr none ↦ absurd (none_left v w g.words takes none)
+]
+completes v free g ws after (explain x y w more is has off rest) rows q st =
+    let none : seen (codes "explain") (rows_now v rows q) ≡ None = st.holds.explains ∙ ap (flag_seen (codes "explain")) off in
+    one_more v (at true (place_after g.words) (held rows q)) (at true (place_after g.words) (held (used (flag (codes "explain")) [] (rows_now v rows q)) None)) w more after
+    (ap (λ x. turn_fault (leaf v) [] (at true (place_after g.words) (held rows q)) x) is ∙ explain_turn (place_after g.words) rows q v has
+    ∙ neither _ _ (neither _ _ st.valid (flag_use (codes "explain") (rows_now v rows q) none)) refl)
+    (ap (λ x. walked (rules v) [] (at true (place_after g.words) (held rows q)) x) is ∙ explain_after (place_after g.words) rows q v has)
+    (completes v true (record g { explains = true }) more after rest (used (flag (codes "explain")) [] (rows_now v rows q)) None (explain_stands v g rows q st off))
+completes v free g ws after (stop x y w more is has off rest) rows q st =
+    let none : seen (codes "stop-with-input") (rows_now v rows q) ≡ None = st.holds.stops ∙ ap (flag_seen (codes "stop-with-input")) off in
+    one_more v (at true (place_after g.words) (held rows q)) (at true (place_after g.words) (held (used (flag (codes "stop-with-input")) [] (rows_now v rows q)) None)) w more after
+    (ap (λ x. turn_fault (leaf v) [] (at true (place_after g.words) (held rows q)) x) is ∙ stop_turns v has g rows q
+    ∙ neither _ _ (neither _ _ st.valid (flag_use (codes "stop-with-input") (rows_now v rows q) none)) refl)
+    (ap (λ x. walked (rules v) [] (at true (place_after g.words) (held rows q)) x) is ∙ stop_goes v has g rows q)
+    (completes v true (record g { stops = true }) more after rest (used (flag (codes "stop-with-input")) [] (rows_now v rows q)) None (stop_stands v g rows q st off))
+completes v free g ws after (sessions x y w n more is plain has off number rest) rows q st =
+    one_more v (at true (place_after g.words) (held rows q)) (waits (place_after g.words) rows q v) w (n ∷ more) after
+    (ap (λ x. turn_fault (leaf v) [] (at true (place_after g.words) (held rows q)) x) is ∙ spaced_turns v has g rows q ∙ neither _ _ st.valid refl)
+    (ap (λ x. walked (rules v) [] (at true (place_after g.words) (held rows q)) x) is ∙ spaced_goes v has g rows q)
+    (one_more v (waits (place_after g.words) rows q v) (at true (place_after g.words) (held (rows_now v rows q) (Some (codes "sessions", n ∷ [])))) n more after
+    (given_turns v has g rows q n plain) (given_goes v has g rows q n plain)
+    (completes v true (record g { sessions = Some n }) more after rest (rows_now v rows q) (Some (codes "sessions", n ∷ [])) (given_then v has g rows q n st off number)))
+completes v free g ws after (joined x y w n more is has off number rest) rows q st =
+    let none : seen (codes "sessions") (rows_now v rows q) ≡ None = st.holds.sessions ∙ ap (option_map (text_row (codes "sessions"))) off in
+    one_more v (at true (place_after g.words) (held rows q)) (at true (place_after g.words) (held (used sessions_built (n ∷ []) (rows_now v rows q)) None)) w more after
+    (ap (λ x. turn_fault (leaf v) [] (at true (place_after g.words) (held rows q)) x) is ∙ joined_turns v has g rows q n
+    ∙ neither _ _ (neither _ _ st.valid (sessions_use n (rows_now v rows q) none number)) refl)
+    (ap (λ x. walked (rules v) [] (at true (place_after g.words) (held rows q)) x) is ∙ joined_goes v has g rows q n)
+    (completes v true (record g { sessions = Some n }) more after rest (used sessions_built (n ∷ []) (rows_now v rows q)) None (joined_then v has g rows q n st off number))
+completes v free g ws after (ends_flags x y w more is rest) rows q st =
+    one_more v (at true (place_after g.words) (held rows q)) (at false (place_after g.words) (held rows q)) w more after
+    (ap (λ x. turn_fault (leaf v) [] (at true (place_after g.words) (held rows q)) x) is ∙ hyphens_turn v (place_after g.words) (held rows q))
+    (ap (λ x. walked (rules v) [] (at true (place_after g.words) (held rows q)) x) is ∙ hyphens_after v (place_after g.words) (held rows q))
+    (completes v false g more after rest rows q st)
+
+-- ---- words that do not fail give something
+
+module _ (v : Verb) (words : List Text) (rows : List Row) (q : Option (Text × List Text)) where
+  -- what is pending does not fail where a word is taken
+  value_settles : step_fault (leaf v) (place_after words) (held rows q) value ≡ [] → settle v rows q ≡ []
+  value_settles e = elim (place v words) [
+    | inl p ↦ sym (step_is v words p rows q) ∙ e
+    | inr none ↦ absurd (some_fault _ _ (sym (ap (λ a. option_map_or (λ a. positional_fault (rules v) false a (held rows q)) a (stray_fault (leaf v))) none) ∙ e))
+  ]
+
+  closed_settles : (waiting : Waiting) (ws : List Text) → tail_fault v (stands (leaf v) [] (place_after words) (held rows q) true waiting) ws ≡ [] → settle v rows q ≡ []
+  closed_settles waiting [] e = sym (empty_tail v (stands (leaf v) [] (place_after words) (held rows q) true waiting)) ∙ e
+  closed_settles waiting (w ∷ ws) e = value_settles (next_tail v (stands (leaf v) [] (place_after words) (held rows q) true waiting) w ws e).0
+
+-- a short flag fails
+short_absurd : (v : Verb) (k : ℕ) (rows : List Row) (q : Option (Text × List Text)) (waiting : Waiting) (w : Text) (x : ℕ) (xs : Text) (ch : ℕ) → subcommand_met [] waiting w ≡ None
+    → slice_get (chars (x ∷ xs)) 0 ≡ Some ch → bytes_eq w dashes ≡ false → long_of w ≡ None → short_of w ≡ Some (x ∷ xs)
+    → turn_fault (leaf v) [] (stands (leaf v) [] k (held rows q) false waiting) w ≡ [] → ⊥
+short_absurd v k rows q waiting w x xs ch none char two no_long has e =
+    let bundled = short_first (leaf v) [] k (held rows q) waiting w none two (x ∷ xs) no_long has e in
+    let first = bundle_first (rules v) false x xs (held rows q) ch refl char bundled in
+    short_fails (rules v) (held rows q) (104 == ch) first.0 first.1
+    (ap (λ o. short_fault (rules v) false o first.0 (held rows q) first.1) (sym (short_is v ch)) ∙ first.2)
+
+pub settle_of : (v : Verb) (rows : List Row) (q : Option (Text × List Text)) (name : Text) (o : Option Text) → Passes (rules v) (held rows q) v name o → settle v rows q ≡ []
+settle_of v rows q name o (is_explain has is none ok works) = ok
+settle_of v rows q name o (is_stop has is none ok works) = ok
+settle_of v rows q name o (is_joined n has is none ok works) = ok
+settle_of v rows q name o (is_spaced has is none ok) = ok
+
+hyphens_wait : (v : Verb) (k : ℕ) (h : Held) → walked (rules v) [] (stands (leaf v) [] k h false (option (codes "sessions"))) dashes ≡ stands (leaf v) [] k h true (option (codes "sessions"))
+unfolding walked
+hyphens_wait v k h = refl
+
+-- what is pending does not fail where the words behind it do not
+settles : (v : Verb) (free : Bool) (words : List Text) (rows : List Row) (q : Option (Text × List Text)) (ws : List Text)
+    → tail_fault v (at free (place_after words) (held rows q)) ws ≡ [] → settle v rows q ≡ []
+settles v false words rows q ws e = closed_settles v words rows q idle ws e
+settles v true words rows q [] e = sym (empty_tail v (at true (place_after words) (held rows q))) ∙ e
+settles v true words rows q (w ∷ ws) e =
+    let next = next_tail v (at true (place_after words) (held rows q)) w ws e in
+    elim (kind w) [
+      | bare is word_is ↦ value_settles v words rows q (sym (bare_fault (leaf v) [] (place_after words) (held rows q) w (bare_word w is) refl refl) ∙ next.0)
+      | hyphens is ↦ closed_settles v words rows q idle ws
+          (ap (λ x. tail_fault v x ws) (sym (ap (λ x. walked (rules v) [] (at true (place_after words) (held rows q)) x) is ∙ hyphens_after v (place_after words) (held rows q))) ∙ next.1)
+      | long t is two has ↦ settle_of v rows q (name_and_value t).0 (name_and_value t).1
+          (passes v (held rows q) (name_and_value t).0 (name_and_value t).1 (long_first (leaf v) [] (place_after words) (held rows q) idle w refl two (name_and_value t) has next.0))
+      | short x xs ch is two no_long has char ↦ absurd (short_absurd v (place_after words) rows q idle w x xs ch refl char two no_long has next.0)
+    ]
+
+abbrev pub Sound : Verb → Bool → Given → List Text → List Row → Option (Text × List Text) → Type 0
+Sound v free g ws rows q = (after : Given) × Gives v free g ws after × Ended v after (end_of v (at free (place_after g.words) (held rows q)) ws)
+
+abbrev pub Rest : Verb → List Text → Type 0
+Rest v ws = (free : Bool) (g : Given) (rows : List Row) (q : Option (Text × List Text)) → Stands v g rows q
+    → tail_fault v (at free (place_after g.words) (held rows q)) ws ≡ [] → Sound v free g ws rows q
+
+abbrev pub RestTail : Verb → List Text → Type 0
+RestTail v [] = ⊤
+RestTail v (w ∷ ws) = Rest v ws
+
+module _ (v : Verb) (g : Given) (rows : List Row) (q : Option (Text × List Text)) (st : Stands v g rows q) where
+  abbrev here : Bool → Walk
+  here free = at free (place_after g.words) (held rows q)
+
+  -- what follows one word
+  follows : (free : Bool) (W2 : Walk) (w : Text) (ws : List Text) → walked (rules v) [] (here free) w ≡ W2 → tail_fault v (here free) (w ∷ ws) ≡ [] → tail_fault v W2 ws ≡ []
+  follows free W2 w ws goes e = ap (λ x. tail_fault v x ws) (sym goes) ∙ (next_tail v (here free) w ws e).1
+
+  ended_back : (W W2 : Walk) (w : Text) (ws : List Text) (after : Given) → walked (rules v) [] W w ≡ W2 → Ended v after (end_of v W2 ws) → Ended v after (end_of v W (w ∷ ws))
+  ended_back W W2 w ws after goes is = subst (λ x. Ended v after (end_of v x ws)) (sym goes) is
+
+  sound_word : (free : Bool) (w : Text) (ws : List Text) → (free ≡ true → is_bare w ≡ true) → tail_fault v (here free) (w ∷ ws) ≡ [] → Rest v ws → Sound v free g (w ∷ ws) rows q
+  sound_word free w ws is e rest = elim (place v g.words) [
+    | inl p ↦
+        let goes = word_after v g.words p rows q free w is in
+        let later = follows free (at free (place_after (g.words ++ w ∷ [])) (held (rows_now v rows q) (Some (p.name, w ∷ [])))) w ws goes e in
+        let pending = settles v free (g.words ++ w ∷ []) (rows_now v rows q) (Some (p.name, w ∷ [])) ws later in
+        let takes = p.only w (word_accepted (place_after g.words) p.name p.parser w (rows_now v rows q) (sym (pending_is v g.words p rows q w (rows_now v rows q)) ∙ pending)) in
+        let found = rest free (record g { words = g.words ++ w ∷ [] }) (rows_now v rows q) (Some (p.name, w ∷ [])) (word_stands v g rows q p w st takes) later in
+        (found.0, word free g found.0 w ws is takes found.1, ended_back (here free) _ w ws found.0 goes found.2)
+    | inr none ↦ absurd (some_fault _ _ (sym (ap (λ a. option_map_or (λ a. positional_fault (rules v) false a (held rows q)) a (stray_fault (leaf v))) none) ∙ sym (turn_is free is) ∙ (next_tail v (here free) w ws e).0))
+  ]
+    where
+      turn_is : (free : Bool) → (free ≡ true → is_bare w ≡ true) → turn_fault (leaf v) [] (at free (place_after g.words) (held rows q)) w ≡ step_fault (leaf v) (place_after g.words) (held rows q) value
+      turn_is true is = bare_fault (leaf v) [] (place_after g.words) (held rows q) w (bare_word w (is refl)) refl refl
+      turn_is false is = refl
+
+  sound_hyphens : (w : Text) (ws : List Text) → w ≡ dashes → tail_fault v (here true) (w ∷ ws) ≡ [] → Rest v ws → Sound v true g (w ∷ ws) rows q
+  sound_hyphens w ws is e rest =
+      let goes = ap (λ x. walked (rules v) [] (here true) x) is ∙ hyphens_after v (place_after g.words) (held rows q) in
+      let later = follows true (here false) w ws goes e in
+      let found = rest false g rows q st later in
+      (found.0, ends_flags g found.0 w ws is found.1, ended_back (here true) (here false) w ws found.0 goes found.2)
+
+  sound_explain : (w : Text) (ws : List Text) → w ≡ codes "--explain" → has_explain v ≡ true → use_fault false (flag (codes "explain")) [] (rows_now v rows q) ≡ []
+      → tail_fault v (here true) (w ∷ ws) ≡ [] → Rest v ws → Sound v true g (w ∷ ws) rows q
+  sound_explain w ws is has works e rest =
+      let off = not_given v g (rows_now v rows q) st.holds (codes "explain") g.explains st.holds.explains (flag_used (codes "explain") (rows_now v rows q) works) in
+      let goes = ap (λ x. walked (rules v) [] (here true) x) is ∙ explain_after (place_after g.words) rows q v has in
+      let later = follows true (at true (place_after g.words) (held (used (flag (codes "explain")) [] (rows_now v rows q)) None)) w ws goes e in
+      let found = rest true (record g { explains = true }) (used (flag (codes "explain")) [] (rows_now v rows q)) None (explain_stands v g rows q st off) later in
+      (found.0, explain g found.0 w ws is has off found.1, ended_back (here true) _ w ws found.0 goes found.2)
+
+  sound_stop : (w : Text) (ws : List Text) → w ≡ codes "--stop-with-input" → has_sessions v ≡ true → use_fault false (flag (codes "stop-with-input")) [] (rows_now v rows q) ≡ []
+      → tail_fault v (here true) (w ∷ ws) ≡ [] → Rest v ws → Sound v true g (w ∷ ws) rows q
+  sound_stop w ws is has works e rest =
+      let off = not_given v g (rows_now v rows q) st.holds (codes "stop-with-input") g.stops st.holds.stops (flag_used (codes "stop-with-input") (rows_now v rows q) works) in
+      let goes = ap (λ x. walked (rules v) [] (here true) x) is ∙ stop_goes v has g rows q in
+      let later = follows true (at true (place_after g.words) (held (used (flag (codes "stop-with-input")) [] (rows_now v rows q)) None)) w ws goes e in
+      let found = rest true (record g { stops = true }) (used (flag (codes "stop-with-input")) [] (rows_now v rows q)) None (stop_stands v g rows q st off) later in
+      (found.0, stop g found.0 w ws is has off found.1, ended_back (here true) _ w ws found.0 goes found.2)
+
+  sound_joined : (w n : Text) (ws : List Text) → w ≡ codes "--sessions=" ++ n → has_sessions v ≡ true → use_fault false sessions_built (n ∷ []) (rows_now v rows q) ≡ []
+      → tail_fault v (here true) (w ∷ ws) ≡ [] → Rest v ws → Sound v true g (w ∷ ws) rows q
+  sound_joined w n ws is has works e rest =
+      let got = sessions_used n (rows_now v rows q) works in
+      let off = no_number v g (rows_now v rows q) st.holds g.sessions st.holds.sessions got.0 in
+      let goes = ap (λ x. walked (rules v) [] (here true) x) is ∙ joined_goes v has g rows q n in
+      let later = follows true (at true (place_after g.words) (held (used sessions_built (n ∷ []) (rows_now v rows q)) None)) w ws goes e in
+      let found = rest true (record g { sessions = Some n }) (used sessions_built (n ∷ []) (rows_now v rows q)) None (joined_then v has g rows q n st off got.1) later in
+      (found.0, joined g found.0 w n ws is has off got.1 found.1, ended_back (here true) _ w ws found.0 goes found.2)
+
+  abbrev waiting : Walk
+  waiting = waits (place_after g.words) rows q v
+
+  sound_spaced : (w : Text) (ws : List Text) → w ≡ codes "--sessions" → has_sessions v ≡ true → tail_fault v (here true) (w ∷ ws) ≡ [] → RestTail v ws
+      → Sound v true g (w ∷ ws) rows q
+  sound_spaced w ws is has e rest = go ws rest later
+    where
+      goes : walked (rules v) [] (here true) w ≡ waiting
+      goes = ap (λ x. walked (rules v) [] (here true) x) is ∙ spaced_goes v has g rows q
+      later : tail_fault v waiting ws ≡ []
+      later = follows true waiting w ws goes e
+      fails : settle v (rows_now v rows q) (Some (codes "sessions", [])) ≡ [] → ⊥
+      fails = no_value v has g rows q
+      trailing_after : (n : Text) → n ≡ dashes → walked (rules v) [] waiting n ≡ stands (leaf v) [] (place_after g.words) (held (rows_now v rows q) (Some (codes "sessions", []))) true (option (codes "sessions"))
+      trailing_after n at_end = ap (λ x. walked (rules v) [] waiting x) at_end ∙ hyphens_wait v (place_after g.words) (held (rows_now v rows q) (Some (codes "sessions", [])))
+      given : (n : Text) (more : List Text) → is_bare n ≡ true → tail_fault v waiting (n ∷ more) ≡ [] → Rest v more → Sound v true g (w ∷ n ∷ more) rows q
+      given n more plain e rest =
+          let goes_on = given_goes v has g rows q n plain in
+          let last = ap (λ x. tail_fault v x more) (sym goes_on) ∙ (next_tail v waiting n more e).1 in
+          let pending = settles v true g.words (rows_now v rows q) (Some (codes "sessions", n ∷ [])) more last in
+          let got = sessions_used n (rows_now v rows q) (sym (value_is v has g rows q n) ∙ pending) in
+          let off = no_number v g (rows_now v rows q) st.holds g.sessions st.holds.sessions got.0 in
+          let found = rest true (record g { sessions = Some n }) (rows_now v rows q) (Some (codes "sessions", n ∷ [])) (given_then v has g rows q n st off got.1) last in
+          (found.0, sessions g found.0 w n more is plain has off got.1 found.1,
+          ended_back (here true) waiting w (n ∷ more) found.0 goes (ended_back waiting _ n more found.0 goes_on found.2))
+      go : (ws : List Text) → RestTail v ws → tail_fault v waiting ws ≡ [] → Sound v true g (w ∷ ws) rows q
+      go [] rest e = absurd (fails (sym (empty_tail v waiting) ∙ e))
+      go (n ∷ more) rest e =
+          let next = next_tail v waiting n more e in
+          elim (kind n) [
+            | bare plain word_is ↦ given n more plain e rest
+            | hyphens at_end ↦ absurd (fails (closed_settles v g.words (rows_now v rows q) (Some (codes "sessions", [])) (option (codes "sessions")) more
+                (ap (λ x. tail_fault v x more) (sym (trailing_after n at_end)) ∙ next.1)))
+            | long t at_front two has_long ↦ absurd (fails (settle_of v (rows_now v rows q) (Some (codes "sessions", [])) (name_and_value t).0 (name_and_value t).1
+                (passes v (held (rows_now v rows q) (Some (codes "sessions", []))) (name_and_value t).0 (name_and_value t).1
+                (long_first (leaf v) [] (place_after g.words) (held (rows_now v rows q) (Some (codes "sessions", []))) (option (codes "sessions")) n refl two (name_and_value t) has_long next.0))))
+            | short x xs ch at_front two no_long has_short char ↦ absurd (short_absurd v (place_after g.words) (rows_now v rows q) (Some (codes "sessions", [])) (option (codes "sessions")) n x xs ch refl char two no_long has_short next.0)
+          ]
+
+  -- a long flag
+  sound_long : (w t : Text) (ws : List Text) → w ≡ 45 ∷ 45 ∷ t → bytes_eq w dashes ≡ false → long_of w ≡ Some (name_and_value t)
+      → tail_fault v (here true) (w ∷ ws) ≡ [] → Rest v ws → RestTail v ws → Sound v true g (w ∷ ws) rows q
+  sound_long w t ws is two has e rest rest_tail = by_cut (cut t)
+    where
+      passed : Passes (rules v) (held rows q) v (name_and_value t).0 (name_and_value t).1
+      passed = passes v (held rows q) (name_and_value t).0 (name_and_value t).1
+          (long_first (leaf v) [] (place_after g.words) (held rows q) idle w refl two (name_and_value t) has (next_tail v (here true) w ws e).0)
+      alone : (name : Text) (o : Option Text) → t ≡ name → None ≡ o → Passes (rules v) (held rows q) v name o → Sound v true g (w ∷ ws) rows q
+      alone name o is_name is_none (is_explain has_it named none ok works) = sound_explain w ws (is ∙ ap (λ (x : Text). 45 ∷ 45 ∷ x) (is_name ∙ named)) has_it works e rest
+      alone name o is_name is_none (is_stop has_it named none ok works) = sound_stop w ws (is ∙ ap (λ (x : Text). 45 ∷ 45 ∷ x) (is_name ∙ named)) has_it works e rest
+      alone name o is_name is_none (is_joined n has_it named some ok works) = absurd (nothing (is_none ∙ some))
+        where
+          nothing : None ≡ Some n → ⊥
+          nothing x = cc
+      alone name o is_name is_none (is_spaced has_it named none ok) = sound_spaced w ws (is ∙ ap (λ (x : Text). 45 ∷ 45 ∷ x) (is_name ∙ named)) has_it e rest_tail
+      paired : (name sign_text : Text) (o : Option Text) → t ≡ name ++ 61 ∷ sign_text → Some sign_text ≡ o → Passes (rules v) (held rows q) v name o → Sound v true g (w ∷ ws) rows q
+      paired name sign_text o is_cut is_value (is_explain has_it named none ok works) = absurd (nothing (is_value ∙ none))
+        where
+          nothing : Some sign_text ≡ None → ⊥
+          nothing x = cc
+      paired name sign_text o is_cut is_value (is_stop has_it named none ok works) = absurd (nothing (is_value ∙ none))
+        where
+          nothing : Some sign_text ≡ None → ⊥
+          nothing x = cc
+      paired name sign_text o is_cut is_value (is_joined n has_it named some ok works) =
+          let same_value : sign_text ≡ n = ap (λ (o : Option Text). unwrap_or o sign_text) (is_value ∙ some) in
+          sound_joined w n ws (is ∙ ap (λ (x : Text). 45 ∷ 45 ∷ x) (is_cut ∙ ap₂ (λ (x y : Text). x ++ 61 ∷ y) named same_value)) has_it works e rest
+      paired name sign_text o is_cut is_value (is_spaced has_it named none ok) = absurd (nothing (is_value ∙ none))
+        where
+          nothing : Some sign_text ≡ None → ⊥
+          nothing x = cc
+      by_cut : Cut t → Sound v true g (w ∷ ws) rows q
+      by_cut (whole is_whole) = alone (name_and_value t).0 (name_and_value t).1 (sym (ap (λ (p : Text × Option Text). p.0) is_whole)) (sym (ap (λ (p : Text × Option Text). p.1) is_whole)) passed
+      by_cut (parts n sign_text is_cut is_parts) =
+          paired (name_and_value t).0 sign_text (name_and_value t).1 (is_cut ∙ ap (λ (x : Text). x ++ 61 ∷ sign_text) (sym (ap (λ (p : Text × Option Text). p.0) is_parts))) (sym (ap (λ (p : Text × Option Text). p.1) is_parts)) passed
+
+  sound_one : (free : Bool) (w : Text) (ws : List Text) → tail_fault v (here free) (w ∷ ws) ≡ [] → Rest v ws → RestTail v ws → Sound v free g (w ∷ ws) rows q
+  sound_one false w ws e rest rest_tail = sound_word false w ws (λ x. absurd (clash x)) e rest
+  sound_one true w ws e rest rest_tail = elim (kind w) [
+    | bare is word_is ↦ sound_word true w ws (λ x. is) e rest
+    | hyphens is ↦ sound_hyphens w ws is e rest
+    | long t is two has ↦ sound_long w t ws is two has e rest rest_tail
+    | short x xs ch is two no_long has char ↦ absurd (short_absurd v (place_after g.words) rows q idle w x xs ch refl char two no_long has (next_tail v (here true) w ws e).0)
+  ]
+
+both_sound : (v : Verb) (ws : List Text) → Rest v ws × RestTail v ws
+both_sound v [] = (λ free g rows q st e. (g, ends free g, record { rows = rows; pending = q; is = refl; stands = st }), tt)
+both_sound v (w ∷ ws) =
+    let rest = both_sound v ws in
+    (λ free g rows q st e. sound_one v g rows q st free w ws e rest.0 rest.1, rest.0)
+
+pub sound : (v : Verb) (ws : List Text) → Rest v ws
+sound v ws = (both_sound v ws).0

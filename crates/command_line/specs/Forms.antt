@@ -1,0 +1,111 @@
+-- What the words of a command line ask for.
+use Rattle.std.specs.Prelude.{◌≡◌, ◌≤◌, ◌++◌, ◌||◌, ⊤, ℕ, ◌==◌, Bool, true, false, not, List, [], ◌∷◌, length, Option, Some, None, codes}
+use Rattle.std.specs.Str.{chars}
+use Rattle.std.specs.Str.Parse.{IsNumeral, digits_value, without_leading_plus}
+use Rattle.command_line.specs.declared.request.Request.{Request}
+use Rattle.command_line.specs.declared.request.Request.TheVariants as requests
+
+abbrev pub Text : Type 0
+Text = List ℕ
+
+-- the subcommands
+pub data Verb : Type 0 where
+  paths : Verb
+  check : Verb
+  run : Verb
+  audit : Verb
+  serve : Verb
+
+abbrev pub name_of : Verb → Text
+name_of paths = codes "paths"
+name_of check = codes "check"
+name_of run = codes "run"
+name_of audit = codes "audit"
+name_of serve = codes "serve"
+
+-- which have the flag `--explain`
+abbrev pub has_explain : Verb → Bool
+has_explain paths = false
+has_explain v = true
+
+-- which have the flag `--stop-with-input` and the option `--sessions`
+abbrev pub has_sessions : Verb → Bool
+has_sessions serve = true
+has_sessions v = false
+
+-- the number that a text writes: digits, which a plus may stand before
+abbrev pub number_of : Text → ℕ
+number_of text = digits_value 10 (without_leading_plus text)
+
+-- the text writes a number from `low` to `high`
+pub record IsNumber (low high : ℕ) (text : Text) : Type 0 where
+  pub digits : IsNumeral 10 (without_leading_plus text)
+  pub above : low ≤ number_of text
+  pub below : number_of text ≤ high
+
+-- behind these words a subcommand takes this one: FILE of `check`, FILE SCRIPT of `run`, FILE TRACE of `audit`, FILE DIR PORT of `serve`
+abbrev pub Takes : Verb → List Text → Text → Type 0
+Takes check [] w = ⊤
+Takes run [] w = ⊤
+Takes run (file ∷ []) w = ⊤
+Takes audit [] w = ⊤
+Takes audit (file ∷ []) w = ⊤
+Takes serve [] w = ⊤
+Takes serve (file ∷ []) w = ⊤
+Takes serve (file ∷ folder ∷ []) w = IsNumber 1 65535 w
+Takes v words w = ⊥
+
+-- a word that is no flag: it does not begin with a hyphen (45), or no character stands behind the hyphen
+abbrev pub is_bare : Text → Bool
+is_bare [] = true
+is_bare (b ∷ more) = not (b == 45) || length (chars more) == 0
+
+-- what a subcommand was given
+pub record Given : Type 0 where
+  pub words : List Text
+  pub explains : Bool
+  pub stops : Bool
+  pub sessions : Option Text
+
+abbrev pub nothing : Given
+nothing = record { words = []; explains = false; stops = false; sessions = None }
+
+-- the words behind the name of a subcommand, each with what it adds to what was given before; no flag is given twice, and `--` ends the flags: `free` is whether they may come
+pub data Gives (v : Verb) : Bool → Given → List Text → Given → Type 0 where
+  ends : (free : Bool) (g : Given) → Gives v free g [] g
+  word : (free : Bool) (g after : Given) (w : Text) (ws : List Text) → (free ≡ true → is_bare w ≡ true) → Takes v g.words w
+      → Gives v free (record g { words = g.words ++ w ∷ [] }) ws after → Gives v free g (w ∷ ws) after
+  explain : (g after : Given) (w : Text) (ws : List Text) → w ≡ codes "--explain" → has_explain v ≡ true → g.explains ≡ false
+      → Gives v true (record g { explains = true }) ws after → Gives v true g (w ∷ ws) after
+  stop : (g after : Given) (w : Text) (ws : List Text) → w ≡ codes "--stop-with-input" → has_sessions v ≡ true → g.stops ≡ false
+      → Gives v true (record g { stops = true }) ws after → Gives v true g (w ∷ ws) after
+  sessions : (g after : Given) (w n : Text) (ws : List Text) → w ≡ codes "--sessions" → is_bare n ≡ true → has_sessions v ≡ true → g.sessions ≡ None → IsNumber 1 64 n
+      → Gives v true (record g { sessions = Some n }) ws after → Gives v true g (w ∷ n ∷ ws) after
+  joined : (g after : Given) (w n : Text) (ws : List Text) → w ≡ codes "--sessions=" ++ n → has_sessions v ≡ true → g.sessions ≡ None → IsNumber 1 64 n
+      → Gives v true (record g { sessions = Some n }) ws after → Gives v true g (w ∷ ws) after
+  hyphens : (g after : Given) (w : Text) (ws : List Text) → w ≡ codes "--" → Gives v false g ws after → Gives v true g (w ∷ ws) after
+
+-- how many connections are taken: 16 where no number is given
+abbrev pub sessions_of : Option Text → ℕ
+sessions_of None = 16
+sessions_of (Some n) = number_of n
+
+-- the table: what a subcommand asks for with all that it was given
+abbrev pub Makes : Verb → Given → Request → Type 0
+Makes paths g requests.Paths = ⊤
+Makes check g (requests.Check file explains) = (g.words ≡ file.now ∷ []) × (g.explains ≡ explains)
+Makes run g (requests.Run file script explains) = (g.words ≡ file.now ∷ script.now ∷ []) × (g.explains ≡ explains)
+Makes audit g (requests.Audit file trace explains) = (g.words ≡ file.now ∷ trace.now ∷ []) × (g.explains ≡ explains)
+Makes serve g (requests.Serve s) = (port : Text) × (g.words ≡ s.file.now ∷ s.folder.now ∷ port ∷ []) × (s.port ≡ number_of port)
+    × (s.sessions ≡ sessions_of g.sessions) × (g.stops ≡ s.stops) × (g.explains ≡ s.explains)
+Makes v g q = ⊥
+
+-- these words, the first of which names the program, ask for this
+pub record Asks (words : List Text) (q : Request) : Type 0 where
+  pub program : Text
+  pub verb : Verb
+  pub rest : List Text
+  pub given : Given
+  pub are : words ≡ program ∷ name_of verb ∷ rest
+  pub gives : Gives verb true nothing rest given
+  pub makes : Makes verb given q
