@@ -137,59 +137,131 @@ place paths (a ∷ []) = inr refl
 place paths (a ∷ b ∷ []) = inr refl
 place paths (a ∷ b ∷ c ∷ more) = inr refl
 place check [] = inl (record {
-  name = codes "FILE"; parser = parsers.String; indexed = refl; by_id = refl; next = λ w. refl; read = refl;
-  takes = λ w t. refl; only = λ w e. tt; unseen = λ rows h. h.0;
+  name = codes "FILE";
+  parser = parsers.String;
+  indexed = refl;
+  by_id = refl;
+  next = λ w. refl;
+  read = refl;
+  takes = λ w t. refl;
+  only = λ w e. tt;
+  unseen = λ rows h. h.0;
   adds = λ w rows h. (new_row (codes "FILE") w refl rows h.0, tt);
-  no_explain = refl; no_stop = refl; no_sessions = refl;
+  no_explain = refl;
+  no_stop = refl;
+  no_sessions = refl;
 })
 place check (a ∷ []) = inr refl
 place check (a ∷ b ∷ []) = inr refl
 place check (a ∷ b ∷ c ∷ more) = inr refl
 place run [] = inl (record {
-  name = codes "FILE"; parser = parsers.String; indexed = refl; by_id = refl; next = λ w. refl; read = refl;
-  takes = λ w t. refl; only = λ w e. tt; unseen = λ rows h. h.0;
+  name = codes "FILE";
+  parser = parsers.String;
+  indexed = refl;
+  by_id = refl;
+  next = λ w. refl;
+  read = refl;
+  takes = λ w t. refl;
+  only = λ w e. tt;
+  unseen = λ rows h. h.0;
   adds = λ w rows h. (new_row (codes "FILE") w refl rows h.0, (seen_other (codes "SCRIPT") (text_row (codes "FILE") w) rows refl ∙ h.1.0, tt));
-  no_explain = refl; no_stop = refl; no_sessions = refl;
+  no_explain = refl;
+  no_stop = refl;
+  no_sessions = refl;
 })
 place run (a ∷ []) = inl (record {
-  name = codes "SCRIPT"; parser = parsers.String; indexed = refl; by_id = refl; next = λ w. refl; read = refl;
-  takes = λ w t. refl; only = λ w e. tt; unseen = λ rows h. h.1.0;
+  name = codes "SCRIPT";
+  parser = parsers.String;
+  indexed = refl;
+  by_id = refl;
+  next = λ w. refl;
+  read = refl;
+  takes = λ w t. refl;
+  only = λ w e. tt;
+  unseen = λ rows h. h.1.0;
   adds = λ w rows h. (seen_other (codes "FILE") (text_row (codes "SCRIPT") w) rows refl ∙ h.0, (new_row (codes "SCRIPT") w refl rows h.1.0, tt));
-  no_explain = refl; no_stop = refl; no_sessions = refl;
+  no_explain = refl;
+  no_stop = refl;
+  no_sessions = refl;
 })
 place run (a ∷ b ∷ []) = inr refl
 place run (a ∷ b ∷ c ∷ more) = inr refl
 place audit [] = inl (record {
-  name = codes "FILE"; parser = parsers.String; indexed = refl; by_id = refl; next = λ w. refl; read = refl;
-  takes = λ w t. refl; only = λ w e. tt; unseen = λ rows h. h.0;
+  name = codes "FILE";
+  parser = parsers.String;
+  indexed = refl;
+  by_id = refl;
+  next = λ w. refl;
+  read = refl;
+  takes = λ w t. refl;
+  only = λ w e. tt;
+  unseen = λ rows h. h.0;
   adds = λ w rows h. (new_row (codes "FILE") w refl rows h.0, (seen_other (codes "TRACE") (text_row (codes "FILE") w) rows refl ∙ h.1.0, tt));
-  no_explain = refl; no_stop = refl; no_sessions = refl;
+  no_explain = refl;
+  no_stop = refl;
+  no_sessions = refl;
 })
 place audit (a ∷ []) = inl (record {
-  name = codes "TRACE"; parser = parsers.String; indexed = refl; by_id = refl; next = λ w. refl; read = refl;
-  takes = λ w t. refl; only = λ w e. tt; unseen = λ rows h. h.1.0;
+  name = codes "TRACE";
+  parser = parsers.String;
+  indexed = refl;
+  by_id = refl;
+  next = λ w. refl;
+  read = refl;
+  takes = λ w t. refl;
+  only = λ w e. tt;
+  unseen = λ rows h. h.1.0;
   adds = λ w rows h. (seen_other (codes "FILE") (text_row (codes "TRACE") w) rows refl ∙ h.0, (new_row (codes "TRACE") w refl rows h.1.0, tt));
-  no_explain = refl; no_stop = refl; no_sessions = refl;
+  no_explain = refl;
+  no_stop = refl;
+  no_sessions = refl;
 })
 place audit (a ∷ b ∷ []) = inr refl
 place audit (a ∷ b ∷ c ∷ more) = inr refl
 place serve [] = inl (record {
-  name = codes "FILE"; parser = parsers.String; indexed = refl; by_id = refl; next = λ w. refl; read = refl;
-  takes = λ w t. refl; only = λ w e. tt; unseen = λ rows h. h.0;
+  name = codes "FILE";
+  parser = parsers.String;
+  indexed = refl;
+  by_id = refl;
+  next = λ w. refl;
+  read = refl;
+  takes = λ w t. refl;
+  only = λ w e. tt;
+  unseen = λ rows h. h.0;
   adds = λ w rows h. (new_row (codes "FILE") w refl rows h.0, (seen_other (codes "DIR") (text_row (codes "FILE") w) rows refl ∙ h.1.0, (seen_other (codes "PORT") (text_row (codes "FILE") w) rows refl ∙ h.1.1.0, tt)));
-  no_explain = refl; no_stop = refl; no_sessions = refl;
+  no_explain = refl;
+  no_stop = refl;
+  no_sessions = refl;
 })
 place serve (a ∷ []) = inl (record {
-  name = codes "DIR"; parser = parsers.String; indexed = refl; by_id = refl; next = λ w. refl; read = refl;
-  takes = λ w t. refl; only = λ w e. tt; unseen = λ rows h. h.1.0;
+  name = codes "DIR";
+  parser = parsers.String;
+  indexed = refl;
+  by_id = refl;
+  next = λ w. refl;
+  read = refl;
+  takes = λ w t. refl;
+  only = λ w e. tt;
+  unseen = λ rows h. h.1.0;
   adds = λ w rows h. (seen_other (codes "FILE") (text_row (codes "DIR") w) rows refl ∙ h.0, (new_row (codes "DIR") w refl rows h.1.0, (seen_other (codes "PORT") (text_row (codes "DIR") w) rows refl ∙ h.1.1.0, tt)));
-  no_explain = refl; no_stop = refl; no_sessions = refl;
+  no_explain = refl;
+  no_stop = refl;
+  no_sessions = refl;
 })
 place serve (a ∷ b ∷ []) = inl (record {
-  name = codes "PORT"; parser = parsers.Unsigned 1 65535; indexed = refl; by_id = refl; next = λ w. refl; read = refl;
-  takes = λ w t. number_passes 1 65535 w (omega arith) t; only = λ w e. passes_number 1 65535 w e; unseen = λ rows h. h.1.1.0;
+  name = codes "PORT";
+  parser = parsers.Unsigned 1 65535;
+  indexed = refl;
+  by_id = refl;
+  next = λ w. refl;
+  read = refl;
+  takes = λ w t. number_passes 1 65535 w (omega arith) t;
+  only = λ w e. passes_number 1 65535 w e;
+  unseen = λ rows h. h.1.1.0;
   adds = λ w rows h. (seen_other (codes "FILE") (text_row (codes "PORT") w) rows refl ∙ h.0, (seen_other (codes "DIR") (text_row (codes "PORT") w) rows refl ∙ h.1.0, (new_row (codes "PORT") w refl rows h.1.1.0, tt)));
-  no_explain = refl; no_stop = refl; no_sessions = refl;
+  no_explain = refl;
+  no_stop = refl;
+  no_sessions = refl;
 })
 place serve (a ∷ b ∷ c ∷ more) = inr refl
 

@@ -38,25 +38,28 @@ same_made : (v : Verb) (g h : Given) (rows : List Row) (p q : Request) → Holds
 same_made paths g h rows requests.Paths requests.Paths a b m n = tt
 same_made paths g h rows requests.Paths q a b m n = absurd n
 same_made paths g h rows p q a b m n = absurd m
-same_made check g h rows (requests.Check file explains) (requests.Check file2 explains2) a b m n =
-    (same_at 0 (file.now ∷ []) (a.0 ∷ []) (file2.now ∷ []) (b.0 ∷ []) (sym m.0 ∙ a.1) (sym n.0 ∙ b.1) (same_first rows (codes "FILE") a.0 b.0 a.2 b.2),
-    sym m.1 ∙ bools g.explains h.explains (same_one rows (codes "explain") _ _ a.3 b.3) ∙ n.1)
+same_made check g h rows (requests.Check file explains) (requests.Check file2 explains2) a b m n = (
+  same_at 0 (file.now ∷ []) (a.0 ∷ []) (file2.now ∷ []) (b.0 ∷ []) (sym m.0 ∙ a.1) (sym n.0 ∙ b.1) (same_first rows (codes "FILE") a.0 b.0 a.2 b.2),
+  sym m.1 ∙ bools g.explains h.explains (same_one rows (codes "explain") _ _ a.3 b.3) ∙ n.1,
+)
 same_made check g h rows (requests.Check file explains) q a b m n = absurd n
 same_made check g h rows p q a b m n = absurd m
 same_made run g h rows (requests.Run file script explains) (requests.Run file2 script2 explains2) a b m n =
     let first = same_first rows (codes "FILE") a.0 b.0 a.3 b.3 in
-    let second = same_first rows (codes "SCRIPT") a.1 b.1 a.4 b.4 in
-    (same_at 0 (file.now ∷ script.now ∷ []) (a.0 ∷ a.1 ∷ []) (file2.now ∷ script2.now ∷ []) (b.0 ∷ b.1 ∷ []) (sym m.0 ∙ a.2) (sym n.0 ∙ b.2) first,
-    same_at 1 (file.now ∷ script.now ∷ []) (a.0 ∷ a.1 ∷ []) (file2.now ∷ script2.now ∷ []) (b.0 ∷ b.1 ∷ []) (sym m.0 ∙ a.2) (sym n.0 ∙ b.2) second,
-    sym m.1 ∙ bools g.explains h.explains (same_one rows (codes "explain") _ _ a.5 b.5) ∙ n.1)
+    let second = same_first rows (codes "SCRIPT") a.1 b.1 a.4 b.4 in (
+      same_at 0 (file.now ∷ script.now ∷ []) (a.0 ∷ a.1 ∷ []) (file2.now ∷ script2.now ∷ []) (b.0 ∷ b.1 ∷ []) (sym m.0 ∙ a.2) (sym n.0 ∙ b.2) first,
+      same_at 1 (file.now ∷ script.now ∷ []) (a.0 ∷ a.1 ∷ []) (file2.now ∷ script2.now ∷ []) (b.0 ∷ b.1 ∷ []) (sym m.0 ∙ a.2) (sym n.0 ∙ b.2) second,
+      sym m.1 ∙ bools g.explains h.explains (same_one rows (codes "explain") _ _ a.5 b.5) ∙ n.1,
+    )
 same_made run g h rows (requests.Run file script explains) q a b m n = absurd n
 same_made run g h rows p q a b m n = absurd m
 same_made audit g h rows (requests.Audit file trace explains) (requests.Audit file2 trace2 explains2) a b m n =
     let first = same_first rows (codes "FILE") a.0 b.0 a.3 b.3 in
-    let second = same_first rows (codes "TRACE") a.1 b.1 a.4 b.4 in
-    (same_at 0 (file.now ∷ trace.now ∷ []) (a.0 ∷ a.1 ∷ []) (file2.now ∷ trace2.now ∷ []) (b.0 ∷ b.1 ∷ []) (sym m.0 ∙ a.2) (sym n.0 ∙ b.2) first,
-    same_at 1 (file.now ∷ trace.now ∷ []) (a.0 ∷ a.1 ∷ []) (file2.now ∷ trace2.now ∷ []) (b.0 ∷ b.1 ∷ []) (sym m.0 ∙ a.2) (sym n.0 ∙ b.2) second,
-    sym m.1 ∙ bools g.explains h.explains (same_one rows (codes "explain") _ _ a.5 b.5) ∙ n.1)
+    let second = same_first rows (codes "TRACE") a.1 b.1 a.4 b.4 in (
+      same_at 0 (file.now ∷ trace.now ∷ []) (a.0 ∷ a.1 ∷ []) (file2.now ∷ trace2.now ∷ []) (b.0 ∷ b.1 ∷ []) (sym m.0 ∙ a.2) (sym n.0 ∙ b.2) first,
+      same_at 1 (file.now ∷ trace.now ∷ []) (a.0 ∷ a.1 ∷ []) (file2.now ∷ trace2.now ∷ []) (b.0 ∷ b.1 ∷ []) (sym m.0 ∙ a.2) (sym n.0 ∙ b.2) second,
+      sym m.1 ∙ bools g.explains h.explains (same_one rows (codes "explain") _ _ a.5 b.5) ∙ n.1,
+    )
 same_made audit g h rows (requests.Audit file trace explains) q a b m n = absurd n
 same_made audit g h rows p q a b m n = absurd m
 same_made serve g h rows (requests.Serve s) (requests.Serve t) a b m n =
@@ -64,13 +67,14 @@ same_made serve g h rows (requests.Serve s) (requests.Serve t) a b m n =
     let second = same_first rows (codes "DIR") a.1 b.1 a.6 b.6 in
     let third = same_one rows (codes "PORT") a.2 b.2 a.7 b.7 in
     let mine = same_at 2 (s.file.now ∷ s.folder.now ∷ m.0 ∷ []) (a.0 ∷ a.1 ∷ a.2 ∷ []) (t.file.now ∷ t.folder.now ∷ n.0 ∷ []) (b.0 ∷ b.1 ∷ b.2 ∷ []) (sym m.1 ∙ a.4) (sym n.1 ∙ b.4) third in
-    let counts = same_one rows (codes "sessions") a.3 b.3 a.9 b.9 in
-    (same_at 0 (s.file.now ∷ s.folder.now ∷ m.0 ∷ []) (a.0 ∷ a.1 ∷ a.2 ∷ []) (t.file.now ∷ t.folder.now ∷ n.0 ∷ []) (b.0 ∷ b.1 ∷ b.2 ∷ []) (sym m.1 ∙ a.4) (sym n.1 ∙ b.4) first,
-    same_at 1 (s.file.now ∷ s.folder.now ∷ m.0 ∷ []) (a.0 ∷ a.1 ∷ a.2 ∷ []) (t.file.now ∷ t.folder.now ∷ n.0 ∷ []) (b.0 ∷ b.1 ∷ b.2 ∷ []) (sym m.1 ∙ a.4) (sym n.1 ∙ b.4) second,
-    m.2 ∙ ap number_of mine ∙ sym n.2,
-    m.3 ∙ a.11 ∙ ap number_of counts ∙ sym b.11 ∙ sym n.3,
-    sym m.4 ∙ bools g.stops h.stops (same_one rows (codes "stop-with-input") _ _ a.12 b.12) ∙ n.4,
-    sym m.5 ∙ bools g.explains h.explains (same_one rows (codes "explain") _ _ a.13 b.13) ∙ n.5)
+    let counts = same_one rows (codes "sessions") a.3 b.3 a.9 b.9 in (
+      same_at 0 (s.file.now ∷ s.folder.now ∷ m.0 ∷ []) (a.0 ∷ a.1 ∷ a.2 ∷ []) (t.file.now ∷ t.folder.now ∷ n.0 ∷ []) (b.0 ∷ b.1 ∷ b.2 ∷ []) (sym m.1 ∙ a.4) (sym n.1 ∙ b.4) first,
+      same_at 1 (s.file.now ∷ s.folder.now ∷ m.0 ∷ []) (a.0 ∷ a.1 ∷ a.2 ∷ []) (t.file.now ∷ t.folder.now ∷ n.0 ∷ []) (b.0 ∷ b.1 ∷ b.2 ∷ []) (sym m.1 ∙ a.4) (sym n.1 ∙ b.4) second,
+      m.2 ∙ ap number_of mine ∙ sym n.2,
+      m.3 ∙ a.11 ∙ ap number_of counts ∙ sym b.11 ∙ sym n.3,
+      sym m.4 ∙ bools g.stops h.stops (same_one rows (codes "stop-with-input") _ _ a.12 b.12) ∙ n.4,
+      sym m.5 ∙ bools g.explains h.explains (same_one rows (codes "explain") _ _ a.13 b.13) ∙ n.5,
+    )
 same_made serve g h rows (requests.Serve s) q a b m n = absurd n
 same_made serve g h rows p q a b m n = absurd m
 

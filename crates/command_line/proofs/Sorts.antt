@@ -59,12 +59,16 @@ behind_hyphen x xs e = go (chars (x ∷ xs)) refl
   where
     two : bytes_eq (45 ∷ x ∷ xs) dashes ≡ false
     two = ap (λ b. b && bytes_eq xs []) e
+
     no_long : long_of (45 ∷ x ∷ xs) ≡ None
     no_long = ap (λ b. option_and_then long_of_rest (cond b (Some xs) None)) e
+
     flags : short_of (45 ∷ x ∷ xs) ≡ Some (x ∷ xs)
     flags = ap (λ b. cond b None (Some (x ∷ xs))) e
+
     none_there : (cs : List ℕ) → chars (x ∷ xs) ≡ [] → (t : Text) → short_of (45 ∷ x ∷ xs) ≡ Some t → slice_get (chars t) 0 ≡ None
     none_there cs none t is = subst (λ (u : Text). slice_get (chars u) 0 ≡ None) (ap (λ (o : Option Text). unwrap_or o t) (sym flags ∙ is)) (ap (λ (cs : List ℕ). slice_get cs 0) none)
+
     go : (cs : List ℕ) → chars (x ∷ xs) ≡ cs → Kind (45 ∷ x ∷ xs)
     go [] none = bare (ap (λ (cs : List ℕ). length cs == 0) none) (record { no_hyphens = two; no_long = no_long; no_flags = none_there [] none })
     go (ch ∷ cs) is = short x xs ch refl two no_long flags (ap (λ (t : List ℕ). slice_get t 0) is)
@@ -112,6 +116,7 @@ bare_word w is = go (kind w)
   where
     dashed_not : (t : Text) → w ≡ 45 ∷ 45 ∷ t → ⊥
     dashed_not t e = not_bare (45 ∷ t) 45 (hyphen_char t) (sym (ap is_bare e) ∙ is)
+
     go : Kind w → BareWord w
     go (bare b word) = word
     go (hyphens e) = absurd (dashed_not [] e)
@@ -138,6 +143,7 @@ find_cut (x ∷ xs) = go (x == 61) refl (find_cut xs)
   where
     differs : (x == 61) ≡ false → x ≡ 61 → ⊥
     differs e is = let wrong : false ≡ true = sym e ∙ (Decides-eqb x 61).1 is in cc
+
     go : (b : Bool) → (x == 61) ≡ b → Found xs → Found (x ∷ xs)
     go true e f = has [] xs (λ i lt. absurd (omega arith)) (ap (λ n. n ∷ xs) ((Decides-eqb x 61).0 e))
     go false e (lacks l) = lacks (lacks_more x xs (differs e) l)

@@ -87,13 +87,15 @@ sessions_use n rows none is =
     (ap (λ b. or_else (cond b [] (kinds.ValueValidation ∷ [])) []) (number_passes 1 64 n (omega arith) is))
 
 pub sessions_used : (n : Text) (rows : List Row) → use_fault false sessions_built (n ∷ []) rows ≡ [] → (has_row (codes "sessions") rows ≡ false) × IsNumber 1 64 n
-sessions_used n rows e =
-    (unseen (has_row (codes "sessions") rows) (first_of (cond (has_row (codes "sessions") rows && true) (kinds.ArgumentConflict ∷ []) []) _ e),
-    passes_number 1 64 n (passed (accepts false (parsers.Unsigned 1 64) n) (first_of _ [] (then_of (cond (has_row (codes "sessions") rows && true) (kinds.ArgumentConflict ∷ []) []) _ e))))
+sessions_used n rows e = (
+  unseen (has_row (codes "sessions") rows) (first_of (cond (has_row (codes "sessions") rows && true) (kinds.ArgumentConflict ∷ []) []) _ e),
+  passes_number 1 64 n (passed (accepts false (parsers.Unsigned 1 64) n) (first_of _ [] (then_of (cond (has_row (codes "sessions") rows && true) (kinds.ArgumentConflict ∷ []) []) _ e))),
+)
   where
     unseen : (b : Bool) → cond (b && true) (kinds.ArgumentConflict ∷ []) [] ≡ [] → b ≡ false
     unseen true e = absurd (some_fault _ _ e)
     unseen false e = refl
+
     passed : (b : Bool) → cond b [] (kinds.ValueValidation ∷ []) ≡ [] → b ≡ true
     passed true e = refl
     passed false e = absurd (some_fault _ _ e)

@@ -39,9 +39,10 @@ module _ (v : Verb) (W : Walk) (w : Text) (ws : List Text) where
   next_tail : tail_fault v W (w ∷ ws) ≡ [] → (turn_fault (leaf v) [] W w ≡ []) × (tail_fault v (walked (rules v) [] W w) ws ≡ [])
   unfolding walk_fault
   next_tail e =
-      let walks = first_of (or_else (turn_fault (leaf v) [] W w) (walk_fault (leaf v) [] (walked (rules v) [] W w) ws)) (settle_fault (rules v) false (end_of v W (w ∷ ws))) e in
-      (first_of (turn_fault (leaf v) [] W w) _ walks,
-      neither _ _ (then_of (turn_fault (leaf v) [] W w) _ walks) (then_of (or_else (turn_fault (leaf v) [] W w) (walk_fault (leaf v) [] (walked (rules v) [] W w) ws)) _ e))
+      let walks = first_of (or_else (turn_fault (leaf v) [] W w) (walk_fault (leaf v) [] (walked (rules v) [] W w) ws)) (settle_fault (rules v) false (end_of v W (w ∷ ws))) e in (
+        first_of (turn_fault (leaf v) [] W w) _ walks,
+        neither _ _ (then_of (turn_fault (leaf v) [] W w) _ walks) (then_of (or_else (turn_fault (leaf v) [] W w) (walk_fault (leaf v) [] (walked (rules v) [] W w) ws)) _ e),
+      )
 
   back_tail : turn_fault (leaf v) [] W w ≡ [] → tail_fault v (walked (rules v) [] W w) ws ≡ [] → tail_fault v W (w ∷ ws) ≡ []
   unfolding walk_fault
@@ -71,8 +72,8 @@ module _ (v : Verb) (words : List Text) (p : Place v words) (rows : List Row) (q
       let place_next = p.next w in
       let closed = or_false (not free) in
       let made : to_positional (rules v) (Some (place_rule (place_after words) p.name p.parser)) w (at free (place_after words) (held rows q)) (held rows q)
-          ≡ at free (place_after (words ++ w ∷ [])) (held (rows_now v rows q) (Some (p.name, w ∷ []))) =
-          λ i. record { held = kept i; waiting = idle; position = place_next i; is_trailing = closed i; stopped = None } in
+      ≡ at free (place_after (words ++ w ∷ [])) (held (rows_now v rows q) (Some (p.name, w ∷ []))) =
+      λ i. record { held = kept i; waiting = idle; position = place_next i; is_trailing = closed i; stopped = None } in
       ap (λ a. to_positional (rules v) a w (at free (place_after words) (held rows q)) (held rows q)) p.indexed ∙ made
 
   word_after : (free : Bool) (w : Text) → (free ≡ true → is_bare w ≡ true) → walked (rules v) [] (at free (place_after words) (held rows q)) w
@@ -482,12 +483,16 @@ module _ (v : Verb) (g : Given) (rows : List Row) (q : Option (Text × List Text
     where
       goes : walked (rules v) [] (here true) w ≡ waiting
       goes = ap (λ x. walked (rules v) [] (here true) x) is ∙ spaced_goes v has g rows q
+
       later : tail_fault v waiting ws ≡ []
       later = follows true waiting w ws goes e
+
       fails : settle v (rows_now v rows q) (Some (codes "sessions", [])) ≡ [] → ⊥
       fails = no_value v has g rows q
+
       trailing_after : (n : Text) → n ≡ dashes → walked (rules v) [] waiting n ≡ stands (leaf v) [] (place_after g.words) (held (rows_now v rows q) (Some (codes "sessions", []))) true (option (codes "sessions"))
       trailing_after n at_end = ap (λ x. walked (rules v) [] waiting x) at_end ∙ hyphens_wait v (place_after g.words) (held (rows_now v rows q) (Some (codes "sessions", [])))
+
       given : (n : Text) (more : List Text) → is_bare n ≡ true → tail_fault v waiting (n ∷ more) ≡ [] → Rest v more → Sound v true g (w ∷ n ∷ more) rows q
       given n more plain e rest =
           let goes_on = given_goes v has g rows q n plain in
@@ -495,9 +500,12 @@ module _ (v : Verb) (g : Given) (rows : List Row) (q : Option (Text × List Text
           let pending = settles v true g.words (rows_now v rows q) (Some (codes "sessions", n ∷ [])) more last in
           let got = sessions_used n (rows_now v rows q) (sym (value_is v has g rows q n) ∙ pending) in
           let off = no_number v g (rows_now v rows q) st.holds g.sessions st.holds.sessions got.0 in
-          let found = rest true (record g { sessions = Some n }) (rows_now v rows q) (Some (codes "sessions", n ∷ [])) (given_then v has g rows q n st off got.1) last in
-          (found.0, sessions g found.0 w n more is plain has off got.1 found.1,
-          ended_back (here true) waiting w (n ∷ more) found.0 goes (ended_back waiting _ n more found.0 goes_on found.2))
+          let found = rest true (record g { sessions = Some n }) (rows_now v rows q) (Some (codes "sessions", n ∷ [])) (given_then v has g rows q n st off got.1) last in (
+            found.0,
+            sessions g found.0 w n more is plain has off got.1 found.1,
+            ended_back (here true) waiting w (n ∷ more) found.0 goes (ended_back waiting _ n more found.0 goes_on found.2),
+          )
+
       go : (ws : List Text) → RestTail v ws → tail_fault v waiting ws ≡ [] → Sound v true g (w ∷ ws) rows q
       go [] rest e = absurd (fails (sym (empty_tail v waiting) ∙ e))
       go (n ∷ more) rest e =
@@ -520,6 +528,7 @@ module _ (v : Verb) (g : Given) (rows : List Row) (q : Option (Text × List Text
       passed : Passes (rules v) (held rows q) v (name_and_value t).0 (name_and_value t).1
       passed = passes v (held rows q) (name_and_value t).0 (name_and_value t).1
           (long_first (leaf v) [] (place_after g.words) (held rows q) idle w refl two (name_and_value t) has (next_tail v (here true) w ws e).0)
+
       alone : (name : Text) (o : Option Text) → t ≡ name → None ≡ o → Passes (rules v) (held rows q) v name o → Sound v true g (w ∷ ws) rows q
       alone name o is_name is_none (is_explain has_it named none ok works) = sound_explain w ws (is ∙ ap (λ (x : Text). 45 ∷ 45 ∷ x) (is_name ∙ named)) has_it works e rest
       alone name o is_name is_none (is_stop has_it named none ok works) = sound_stop w ws (is ∙ ap (λ (x : Text). 45 ∷ 45 ∷ x) (is_name ∙ named)) has_it works e rest
@@ -528,6 +537,7 @@ module _ (v : Verb) (g : Given) (rows : List Row) (q : Option (Text × List Text
           nothing : None ≡ Some n → ⊥
           nothing x = cc
       alone name o is_name is_none (is_spaced has_it named none ok) = sound_spaced w ws (is ∙ ap (λ (x : Text). 45 ∷ 45 ∷ x) (is_name ∙ named)) has_it e rest_tail
+
       paired : (name sign_text : Text) (o : Option Text) → t ≡ name ++ 61 ∷ sign_text → Some sign_text ≡ o → Passes (rules v) (held rows q) v name o → Sound v true g (w ∷ ws) rows q
       paired name sign_text o is_cut is_value (is_explain has_it named none ok works) = absurd (nothing (is_value ∙ none))
         where
@@ -544,6 +554,7 @@ module _ (v : Verb) (g : Given) (rows : List Row) (q : Option (Text × List Text
         where
           nothing : Some sign_text ≡ None → ⊥
           nothing x = cc
+
       by_cut : Cut t → Sound v true g (w ∷ ws) rows q
       by_cut (whole is_whole) = alone (name_and_value t).0 (name_and_value t).1 (sym (ap (λ (p : Text × Option Text). p.0) is_whole)) (sym (ap (λ (p : Text × Option Text). p.1) is_whole)) passed
       by_cut (parts n sign_text is_cut is_parts) =

@@ -137,9 +137,12 @@ sessions_last g R h = go g.sessions refl
   where
     go : (o : Option Text) → g.sessions ≡ o → (t : Text) × (one_of (codes "sessions") (last serve R) ≡ Some t) × IsNumber 1 64 t × (sessions_of g.sessions ≡ number_of t)
     go (Some n) e = (n, one_last serve R (codes "sessions") n (h.sessions ∙ ap (option_map (text_row (codes "sessions"))) e), h.number n e, ap sessions_of e)
-    go None e = (codes "16",
+    go None e = (
+      codes "16",
       ap (option_and_then row_text) (seen_at_end (codes "sessions") (rules serve) R ∙ ap (λ o. option_or o (default_seen (codes "sessions") (rules serve))) (h.sessions ∙ ap (option_map (text_row (codes "sessions"))) e)),
-      passes_number 1 64 (codes "16") refl, ap sessions_of e)
+      passes_number 1 64 (codes "16") refl,
+      ap sessions_of e,
+    )
 
 -- what lacks nothing holds what was given
 holds_all : (v : Verb) (g : Given) (ws : List Text) (R : List Row) → g.words ≡ ws → Places (place_names v) ws R → AreFit v ws → Holding v g R → lacks v (last v R) ≡ false
@@ -164,9 +167,25 @@ holds_all serve g [] R e places port h none = absurd (lacks_this _ _ (missing_la
 holds_all serve g (a ∷ []) R e places port h none = absurd (lacks_this _ _ (missing_last serve R (codes "DIR") refl places.1.0) (lacks_later _ _ none))
 holds_all serve g (a ∷ b ∷ []) R e places port h none = absurd (lacks_this _ _ (missing_last serve R (codes "PORT") refl places.1.1.0) (lacks_later _ _ (lacks_later _ _ none)))
 holds_all serve g (a ∷ b ∷ c ∷ []) R e places port h none =
-    let s = sessions_last g R h in
-    (tt, (a, b, c, s.0, e, word_last serve R FILE a places.0, word_last serve R (codes "DIR") b places.1.0, one_last serve R (codes "PORT") c places.1.1.0, port, s.1, s.2, s.3,
-    flag_last serve R (codes "stop-with-input") g.stops refl h.stops, flag_last serve R (codes "explain") g.explains refl h.explains))
+    let s = sessions_last g R h in (
+      tt,
+      (
+        a,
+        b,
+        c,
+        s.0,
+        e,
+        word_last serve R FILE a places.0,
+        word_last serve R (codes "DIR") b places.1.0,
+        one_last serve R (codes "PORT") c places.1.1.0,
+        port,
+        s.1,
+        s.2,
+        s.3,
+        flag_last serve R (codes "stop-with-input") g.stops refl h.stops,
+        flag_last serve R (codes "explain") g.explains refl h.explains,
+      ),
+    )
 holds_all serve g (a ∷ b ∷ c ∷ d ∷ more) R e places port h none = absurd places.1.1.1
 
 full_lacks_none : (v : Verb) (ws : List Text) (R : List Row) → Places (place_names v) ws R → IsFull v ws → lacks v (last v R) ≡ false
@@ -201,12 +220,14 @@ nothing_stands v = record {
   where
     none_some : (n : Text) → None ≡ Some n → ⊥
     none_some n e = cc
+
     none_placed : (v : Verb) → Places (place_names v) [] []
     none_placed paths = tt
     none_placed check = (refl, tt)
     none_placed run = (refl, (refl, tt))
     none_placed audit = (refl, (refl, tt))
     none_placed serve = (refl, (refl, (refl, tt)))
+
     fit : (v : Verb) → AreFit v []
     fit paths = tt
     fit check = tt
@@ -347,6 +368,7 @@ first w = go (bytes_eq (codes "paths") w) (bytes_eq (codes "check") w) (bytes_eq
   where
     is : (n : Text) → bytes_eq n w ≡ true → w ≡ n
     is n e = sym ((bytes_eq-Decides n w).0 e)
+
     go : (a b c d e f : Bool) → bytes_eq (codes "paths") w ≡ a → bytes_eq (codes "check") w ≡ b → bytes_eq (codes "run") w ≡ c → bytes_eq (codes "audit") w ≡ d → bytes_eq (codes "serve") w ≡ e
         → bytes_eq (codes "help") w ≡ f → subcommand_met names idle w ≡ pick a b c d e f → First w
     go true b c d e f p q r s t u m = verb paths (is (codes "paths") p)
@@ -453,9 +475,17 @@ line_sound [] e = absurd (checked_none [] start refl refl e)
 line_sound (p ∷ rest) e =
     let is = named rest e in
     let here : built_fault whole nothing_held (name_of is.0 ∷ is.1) ≡ [] = ap (built_fault whole nothing_held) (sym is.2) ∙ e in
-    let below = level_sound is.0 is.1 (whole_sound is.0 is.1 here) in
-    (p, is.0, is.1, below.0, ap (λ xs. p ∷ xs) is.2, below.1, below.2,
-    ap (λ xs. entered whole (stop_after top.rules names xs)) is.2 ∙ found_is is.0 is.1, below.3)
+    let below = level_sound is.0 is.1 (whole_sound is.0 is.1 here) in (
+      p,
+      is.0,
+      is.1,
+      below.0,
+      ap (λ xs. p ∷ xs) is.2,
+      below.1,
+      below.2,
+      ap (λ xs. entered whole (stop_after top.rules names xs)) is.2 ∙ found_is is.0 is.1,
+      below.3,
+    )
 
 pub full_from : (v : Verb) (g : Given) (q : Request) → Makes v g q → IsFull v g.words
 full_from paths g q m = tt

@@ -6,7 +6,8 @@ use Rattle.clap.specs.Simple.{App, new_app, new_rule, on_top, subcommand_rows_of
 use Rattle.clap.specs.declared.builder.action.ArgAction.TheVariants.{SetTrue}
 use Rattle.clap.specs.declared.builder.value_parser.ValueParser.TheVariants as parsers
 use Rattle.clap.specs.declared.parser.matches.ArgMatches.{ArgMatches}
-use Rattle.command_line.specs.Forms.{Text, Verb, paths, check, run, audit, serve, name_of, Given, IsNumber, number_of, sessions_of}
+use Rattle.command_line.specs.Forms.{Text, Verb, paths, check, run, audit, serve, name_of, Given, IsNumber, number_of}
+use Rattle.command_line.specs.Forms.{sessions_of}
 
 -- a word that has to be there
 abbrev pub required_rule : Text → Rule
@@ -32,7 +33,9 @@ own_rules paths = []
 own_rules check = required_rule (codes "FILE") ∷ flag_rule (codes "explain") ∷ []
 own_rules run = required_rule (codes "FILE") ∷ required_rule (codes "SCRIPT") ∷ flag_rule (codes "explain") ∷ []
 own_rules audit = required_rule (codes "FILE") ∷ required_rule (codes "TRACE") ∷ flag_rule (codes "explain") ∷ []
-own_rules serve = required_rule (codes "FILE") ∷ required_rule (codes "DIR") ∷ port_rule ∷ sessions_rule ∷ flag_rule (codes "stop-with-input") ∷ flag_rule (codes "explain") ∷ []
+own_rules serve =
+    required_rule (codes "FILE") ∷ required_rule (codes "DIR") ∷ port_rule ∷ sessions_rule
+    ∷ flag_rule (codes "stop-with-input") ∷ flag_rule (codes "explain") ∷ []
 
 abbrev pub with_rules : App → List Rule → App
 with_rules a [] = a
@@ -55,10 +58,14 @@ Holds run g rows = (file script : Text) × (g.words ≡ file ∷ script ∷ []) 
     × (first_of (codes "SCRIPT") rows ≡ Some script) × (one_of (codes "explain") rows ≡ Some (bool_text g.explains))
 Holds audit g rows = (file trace : Text) × (g.words ≡ file ∷ trace ∷ []) × (first_of (codes "FILE") rows ≡ Some file)
     × (first_of (codes "TRACE") rows ≡ Some trace) × (one_of (codes "explain") rows ≡ Some (bool_text g.explains))
-Holds serve g rows = (file folder port sessions : Text) × (g.words ≡ file ∷ folder ∷ port ∷ []) × (first_of (codes "FILE") rows ≡ Some file)
+Holds serve g rows =
+    (file folder port sessions : Text) × (g.words ≡ file ∷ folder ∷ port ∷ [])
+    × (first_of (codes "FILE") rows ≡ Some file)
     × (first_of (codes "DIR") rows ≡ Some folder) × (one_of (codes "PORT") rows ≡ Some port) × IsNumber 1 65535 port
-    × (one_of (codes "sessions") rows ≡ Some sessions) × IsNumber 1 64 sessions × (sessions_of g.sessions ≡ number_of sessions)
-    × (one_of (codes "stop-with-input") rows ≡ Some (bool_text g.stops)) × (one_of (codes "explain") rows ≡ Some (bool_text g.explains))
+    × (one_of (codes "sessions") rows ≡ Some sessions) × IsNumber 1 64 sessions
+    × (sessions_of g.sessions ≡ number_of sessions)
+    × (one_of (codes "stop-with-input") rows ≡ Some (bool_text g.stops)) × (one_of (codes "explain") rows
+    ≡ Some (bool_text g.explains))
 
 -- the matches are those of a subcommand that was given this
 abbrev pub IsMatched : Verb → Given → ArgMatches → Type 0

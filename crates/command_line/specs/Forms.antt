@@ -1,5 +1,6 @@
 -- What the words of a command line ask for.
-use Rattle.std.specs.Prelude.{◌≡◌, ◌≤◌, ◌++◌, ◌||◌, ⊤, ℕ, ◌==◌, Bool, true, false, not, List, [], ◌∷◌, length, Option, Some, None, codes}
+use Rattle.std.specs.Prelude.{◌≡◌, ◌≤◌, ◌++◌, ◌||◌, ⊤, ℕ, ◌==◌, Bool, true, false, not, List, [], ◌∷◌, length, Option}
+use Rattle.std.specs.Prelude.{Some, None, codes}
 use Rattle.std.specs.Str.{chars}
 use Rattle.std.specs.Str.Parse.{IsNumeral, digits_value, without_leading_plus}
 use Rattle.command_line.specs.declared.request.Request.{Request}
@@ -43,7 +44,8 @@ pub record IsNumber (low high : ℕ) (text : Text) : Type 0 where
   pub above : low ≤ number_of text
   pub below : number_of text ≤ high
 
--- behind these words a subcommand takes this one: FILE of `check`, FILE SCRIPT of `run`, FILE TRACE of `audit`, FILE DIR PORT of `serve`
+-- behind these words a subcommand takes this one: FILE of `check`, FILE SCRIPT of `run`, FILE TRACE of `audit`,
+-- FILE DIR PORT of `serve`
 abbrev pub Takes : Verb → List Text → Text → Type 0
 Takes check [] w = ⊤
 Takes run [] w = ⊤
@@ -70,20 +72,27 @@ pub record Given : Type 0 where
 abbrev pub nothing : Given
 nothing = record { words = []; explains = false; stops = false; sessions = None }
 
--- the words behind the name of a subcommand, each with what it adds to what was given before; no flag is given twice, and `--` ends the flags: `free` is whether they may come
+-- the words behind the name of a subcommand, each with what it adds to what was given before; no flag is given twice,
+-- and `--` ends the flags: `free` is whether they may come
 pub data Gives (v : Verb) : Bool → Given → List Text → Given → Type 0 where
   ends : (free : Bool) (g : Given) → Gives v free g [] g
-  word : (free : Bool) (g after : Given) (w : Text) (ws : List Text) → (free ≡ true → is_bare w ≡ true) → Takes v g.words w
+  word : (free : Bool) (g after : Given) (w : Text) (ws : List Text) → (free ≡ true → is_bare w ≡ true) →
+      Takes v g.words w
       → Gives v free (record g { words = g.words ++ w ∷ [] }) ws after → Gives v free g (w ∷ ws) after
-  explain : (g after : Given) (w : Text) (ws : List Text) → w ≡ codes "--explain" → has_explain v ≡ true → g.explains ≡ false
+  explain : (g after : Given) (w : Text) (ws : List Text) → w ≡ codes "--explain" → has_explain v ≡ true →
+      g.explains ≡ false
       → Gives v true (record g { explains = true }) ws after → Gives v true g (w ∷ ws) after
-  stop : (g after : Given) (w : Text) (ws : List Text) → w ≡ codes "--stop-with-input" → has_sessions v ≡ true → g.stops ≡ false
+  stop : (g after : Given) (w : Text) (ws : List Text) → w ≡ codes "--stop-with-input" → has_sessions v ≡ true →
+      g.stops ≡ false
       → Gives v true (record g { stops = true }) ws after → Gives v true g (w ∷ ws) after
-  sessions : (g after : Given) (w n : Text) (ws : List Text) → w ≡ codes "--sessions" → is_bare n ≡ true → has_sessions v ≡ true → g.sessions ≡ None → IsNumber 1 64 n
+  sessions : (g after : Given) (w n : Text) (ws : List Text) → w ≡ codes "--sessions" → is_bare n ≡ true →
+      has_sessions v ≡ true → g.sessions ≡ None → IsNumber 1 64 n
       → Gives v true (record g { sessions = Some n }) ws after → Gives v true g (w ∷ n ∷ ws) after
-  joined : (g after : Given) (w n : Text) (ws : List Text) → w ≡ codes "--sessions=" ++ n → has_sessions v ≡ true → g.sessions ≡ None → IsNumber 1 64 n
+  joined : (g after : Given) (w n : Text) (ws : List Text) → w ≡ codes "--sessions=" ++ n → has_sessions v ≡ true →
+      g.sessions ≡ None → IsNumber 1 64 n
       → Gives v true (record g { sessions = Some n }) ws after → Gives v true g (w ∷ ws) after
-  hyphens : (g after : Given) (w : Text) (ws : List Text) → w ≡ codes "--" → Gives v false g ws after → Gives v true g (w ∷ ws) after
+  hyphens : (g after : Given) (w : Text) (ws : List Text) → w ≡ codes "--" → Gives v false g ws after →
+      Gives v true g (w ∷ ws) after
 
 -- how many connections are taken: 16 where no number is given
 abbrev pub sessions_of : Option Text → ℕ
@@ -96,7 +105,8 @@ Makes paths g requests.Paths = ⊤
 Makes check g (requests.Check file explains) = (g.words ≡ file.now ∷ []) × (g.explains ≡ explains)
 Makes run g (requests.Run file script explains) = (g.words ≡ file.now ∷ script.now ∷ []) × (g.explains ≡ explains)
 Makes audit g (requests.Audit file trace explains) = (g.words ≡ file.now ∷ trace.now ∷ []) × (g.explains ≡ explains)
-Makes serve g (requests.Serve s) = (port : Text) × (g.words ≡ s.file.now ∷ s.folder.now ∷ port ∷ []) × (s.port ≡ number_of port)
+Makes serve g (requests.Serve s) =
+    (port : Text) × (g.words ≡ s.file.now ∷ s.folder.now ∷ port ∷ []) × (s.port ≡ number_of port)
     × (s.sessions ≡ sessions_of g.sessions) × (g.stops ≡ s.stops) × (g.explains ≡ s.explains)
 Makes v g q = ⊥
 

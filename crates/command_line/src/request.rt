@@ -7,8 +7,10 @@ ghost use Rattle.clap.specs.declared.builder.command.Command.TheViews.{out-Comma
 ghost use Rattle.clap.specs.declared.error.kind.ErrorKind.TheVariants.{OutOfMemory};
 ghost use Rattle.clap.specs.Walk.{rows_of, rule_of};
 ghost use Rattle.clap.specs.Values.{bool_text, kind_of};
-ghost use Rattle.command_line.specs.Forms.{Asks, Given, Makes, number_of, Verb, paths, check as check_verb, run as run_verb, audit as audit_verb, serve as serve_verb};
-ghost use Rattle.command_line.specs.Commands.{Holds, IsMatched, app_for, flag_rule, port_rule, program, required_rule, sessions_rule};
+ghost use Rattle.command_line.specs.Forms.{Asks, Given, Makes, number_of, Verb, paths, check as check_verb};
+ghost use Rattle.command_line.specs.Forms.{run as run_verb, audit as audit_verb, serve as serve_verb};
+ghost use Rattle.command_line.specs.Commands.{Holds, IsMatched, app_for, flag_rule, port_rule, program, required_rule};
+ghost use Rattle.command_line.specs.Commands.{sessions_rule};
 
 use crate::help;
 use clap::builder::ValueParser;
@@ -283,7 +285,8 @@ fn matched_request<'a>(matches: &ArgMatches<'a>) -> Request<'a>
 /// An error is a mistake in them or a request for help, with the text to print, or a want of memory.
 pub fn request_of<'a>(alloc: Global, words: &'a [&'a str]) -> Result<Request<'a>, Error>
     ensures asked { IfOk result (λ q. Asks (map (λ w. w.now) words.now) q) }
-    ensures refused { IfErr result (λ e. (q : Request) → Asks (map (λ w. w.now) words.now) q → kind_of e ≡ OutOfMemory) }
+    ensures refused { IfErr result (λ e. (q : Request) → Asks (map (λ w. w.now) words.now) q →
+        kind_of e ≡ OutOfMemory) }
 {
     let matches = command(alloc)?.try_get_matches_from(words)?;
     Ok(matched_request(&matches))
