@@ -1,14 +1,16 @@
 //! The end of a server: each object is closed, its parts are saved and its trace is written.
 
-ghost use Rattle.std.specs.Prelude.{◌≡◌, ◌++◌, OnOk, IsTrue, codes, decimal};
-ghost use Rattle.std.specs.Io.KnownBytes.{Appends, Keeps};
+ghost use Rattle.std.specs.Prelude.{◌≡◌, ◌++◌, ◌+◌, ◌<◌, ◌≤◌, ℕ, [], ◌∷◌, OnOk, OnErr, length};
 ghost use Rattle.std.specs.FinMap.{insert};
 ghost use Rattle.hand_core.specs.Papers.{Papers};
+ghost use Rattle.hand_core.specs.Device.{Assignment};
 ghost use Rattle.decl_core.specs.ObjectMap.{object_of};
 ghost use Rattle.trace_core.specs.Text.{trace_text as text_of};
+ghost use Rattle.store_core.specs.Saved.{MaySave, StoreLeaves};
 ghost use Rattle.desk_core.specs.Told.{lines_told};
-ghost use Rattle.line_core.specs.Reply.{reply};
-ghost use Rattle.keep_core.specs.Ends.{IsKept};
+ghost use Rattle.keep_core.specs.Ends.{kept_in, KeepsDesk, Ended, IsOf, IsEnding};
+ghost use Rattle.keep_core.specs.Kept.{fault_by, Notes, Saves, StoresText, Traces};
+ghost use Rattle.keep_core.specs.Lines.{IsWritten, AreTold, entries_line, entries_lines, refused_line, damaged_line};
 
 use crate::open::{push_damaged, push_part};
 use crate::trouble::Trouble;
@@ -20,6 +22,7 @@ use line_core::reply::{push_count, push_number, push_reply};
 use line_core::{LinesFault, write_whole};
 use office_core::office::Office;
 use office_core::seat::Seat;
+use page_core::pins::Pins;
 use path_tree::name::Name;
 use slip_core::slip::Slip;
 use std::alloc::{AllocError, Global};
@@ -44,8 +47,8 @@ pub struct Closing<S: Shelf + Drop, T: Shelf + Drop, H: Hand + Drop> {
     pub trouble: Trouble,
 }
 
-/// An object at the end: its name, its office, the values with which its parts opened, and the seats and receipts that
-/// its sessions left.
+/// An object at the end: its name, its office, the values with which its parts opened, and the seats and receipts that its
+/// sessions left.
 #[derive(Drop)]
 pub struct Ending {
     pub name: Name,
@@ -68,19 +71,18 @@ pub struct Became {
 
 // Whether it was closed, saved and traced.
 fn is_kept(became: Became) -> bool
-    ensures yes { IsTrue result → IsKept became }
-    ensures no { IsKept became → IsTrue result }
+    ensures { result ≡ kept_in became }
 {
     became.closed && became.saved && became.traced
 }
 
-// Writes a line.
+// Writes a line, where it was made.
 fn tell<W: Write>(
     writer: &mut W,
     line: &[u8],
     made: Result<(), AllocError>,
 ) -> Result<(), LinesFault>
-    ensures { OnOk result (Appends (W.contents writer.old) (W.contents writer.new) line.now) }
+    ensures { IsWritten made line.now result (W.contents writer.old) (W.contents writer.new) }
 {
     match made {
         Ok(()) => write_whole(writer, line),
@@ -93,21 +95,24 @@ fn tell_refused<W: Write>(
     line: &mut Vec<u8>,
     name: &[u8],
     writer: &mut W,
-) -> Result<(), LinesFault> {
+) -> Result<(), LinesFault>
+    ensures { AreTold (refused_line name.now ∷ []) result (W.contents writer.old) (W.contents writer.new) }
+{
     line.clear();
     let made = push_refused(line, name);
     tell(writer, line.as_slice(), made)
 }
 
-fn push_refused(line: &mut Vec<u8>, name: &[u8]) -> Result<(), AllocError> {
+fn push_refused(line: &mut Vec<u8>, name: &[u8]) -> Result<(), AllocError>
+    ensures { OnOk result (line.new.items ≡ line.old.items ++ refused_line name.now) }
+{
     line.extend_from_slice(b"close ")?;
     push_reply(line, name, b" refused")
 }
 
 // Adds `NAME entries K`.
 fn push_entries(line: &mut Vec<u8>, name: &[u8], entries: usize) -> Result<(), AllocError>
-    ensures { OnOk result (line.new.items ≡ line.old.items
-        ++ (name.now ++ reply (codes " entries ") (decimal entries))) }
+    ensures { OnOk result (line.new.items ≡ line.old.items ++ entries_line name.now entries) }
 {
     line.extend_from_slice(name)?;
     push_count(line, b" entries ", entries as u64)
@@ -121,23 +126,14 @@ fn tell_entries<W: Write>(
     entries: usize,
     writer: &mut W,
 ) -> Result<(), LinesFault>
-    ensures kept { OnOk result (IsKept became →
-        Appends (W.contents writer.old) (W.contents writer.new) (name.now
-        ++ reply (codes " entries ") (decimal entries))) }
-    ensures not { (IsKept became → ⊥) → Keeps (W.contents writer.old) (W.contents writer.new) }
+    ensures { AreTold (entries_lines (kept_in became) name.now entries) result (W.contents writer.old) (W.contents writer.new) }
 {
     if !is_kept(became) {
         return Ok(());
     }
     line.clear();
-    match push_entries(line, name, entries) {
-        Ok(()) => {}
-        Err(_) => return Err(LinesFault::Memory),
-    }
-    match write_whole(writer, line.as_slice()) {
-        Ok(()) => Ok(()),
-        Err(fault) => Err(fault),
-    }
+    let made = push_entries(line, name, entries);
+    tell(writer, line.as_slice(), made)
 }
 
 // `part OBJECT.PART damaged`.
@@ -146,14 +142,15 @@ fn tell_damaged<W: Write>(
     object: &Object,
     part: usize,
     writer: &mut W,
-) -> Result<(), LinesFault> {
+) -> Result<(), LinesFault>
+    ensures { AreTold (damaged_line object.now part ∷ []) result (W.contents writer.old) (W.contents writer.new) }
+{
     line.clear();
     let made = push_damaged(line, object, part);
     tell(writer, line.as_slice(), made)
 }
 
-// Says on standard error which files hold the value of a part that is not saved, page by page: `OBJECT.PART
-// not saved: N.val ..`.
+// Says on standard error which files hold the value of a part that is not saved, page by page: `OBJECT.PART not saved: N.val ..`.
 fn tell_unsaved<E: Write>(
     line: &mut Vec<u8>,
     object: &Object,
@@ -191,7 +188,9 @@ fn tell_untraced<E: Write>(line: &mut Vec<u8>, name: &[u8], error: &mut E) {
 }
 
 // The fault of a write to a folder.
-fn fault_of_hand(fault: HandFault) -> LinesFault {
+fn fault_of_hand(fault: HandFault) -> LinesFault
+    ensures { result ≡ fault_by fault }
+{
     match fault {
         HandFault::Device => LinesFault::WriteFault,
         HandFault::Memory => LinesFault::Memory,
@@ -199,18 +198,154 @@ fn fault_of_hand(fault: HandFault) -> LinesFault {
 }
 
 // The first part that is not saved for sure, where saving all ended so: those before it are.
-fn first_unsaved(fault: SaveFault) -> usize {
+fn first_unsaved(fault: SaveFault) -> usize
+    ensures { (k : ℕ) → MaySave fault k → result ≤ k }
+{
     match fault {
         SaveFault::Damaged(part) | SaveFault::Device(part) => part,
         SaveFault::Memory => 0,
     }
 }
 
+// Notes why a part is not saved, and says so where it is damaged.
+fn note_unsaved<W: Write>(
+    line: &mut Vec<u8>,
+    object: &Object,
+    part: usize,
+    fault: SaveFault,
+    trouble: &mut Trouble,
+    writer: &mut W,
+)
+    ensures { Notes object.now part fault trouble.old trouble.new (W.contents writer.old) (W.contents writer.new) }
+{
+    match fault {
+        SaveFault::Damaged(_) => {
+            trouble.refuse();
+            let told = tell_damaged(line, object, part, writer);
+            trouble.heed(told);
+        }
+        SaveFault::Device(_) => trouble.note(LinesFault::WriteFault),
+        SaveFault::Memory => trouble.note(LinesFault::Memory),
+    }
+}
+
+// Saves one part of an object. Where that fails it is noted, and it says which files hold the part's value. It answers whether the part is saved.
+fn save_one<S: Shelf, H: Hand, W: Write, E: Write>(
+    alloc: Global,
+    object: &Object,
+    pins: &Pins,
+    place: usize,
+    shelf: &mut S,
+    hand: &mut H,
+    key: &mut Vec<u8>,
+    line: &mut Vec<u8>,
+    trouble: &mut Trouble,
+    writer: &mut W,
+    error: &mut E,
+) -> bool
+    requires pinned { length pins.now ≡ length object.now.parts.items }
+    requires within { place < length object.now.parts.items }
+    ensures saves { Saves (H.agrees hand.new) object.now pins.now place (place + 1) (S.holds shelf.old) (S.holds shelf.new) result trouble.old trouble.new (W.contents writer.old) (W.contents writer.new) }
+    ensures files { (a : Assignment) → H.agrees hand.new a → H.agrees hand.old a }
+{
+    let part = &object.parts[place];
+    let lists = pins.as_slice();
+    let pin = &lists[place];
+    match save_part(alloc, &object.name, part, place, pin, shelf, hand, key) {
+        Ok(()) => true,
+        Err(fault) => {
+            note_unsaved(line, object, place, fault, trouble, writer);
+            tell_unsaved(line, object, place, pin.stamps(), error);
+            false
+        }
+    }
+}
+
+// Saves each part from this one on that can be saved by itself. It answers whether all of them are saved.
+fn save_from<S: Shelf, H: Hand, W: Write, E: Write>(
+    alloc: Global,
+    object: &Object,
+    pins: &Pins,
+    first: usize,
+    shelf: &mut S,
+    hand: &mut H,
+    key: &mut Vec<u8>,
+    line: &mut Vec<u8>,
+    trouble: &mut Trouble,
+    writer: &mut W,
+    error: &mut E,
+) -> bool
+    requires { length pins.now ≡ length object.now.parts.items }
+    ensures saves { Saves (H.agrees hand.new) object.now pins.now first (length object.now.parts.items) (S.holds shelf.old) (S.holds shelf.new) result trouble.old trouble.new (W.contents writer.old) (W.contents writer.new) }
+    ensures files { (a : Assignment) → H.agrees hand.new a → H.agrees hand.old a }
+{
+    if first >= object.parts.len() {
+        return true;
+    }
+    let one = save_one(
+        alloc, object, pins, first, shelf, hand, key, line, trouble, writer, error,
+    );
+    let more = save_from(
+        alloc,
+        object,
+        pins,
+        first + 1,
+        shelf,
+        hand,
+        key,
+        line,
+        trouble,
+        writer,
+        error,
+    );
+    one && more
+}
+
+// Saves the parts of an object. Where that fails each part is tried by itself, so what is wrong with one of them keeps no other one from
+// being saved, and neither does memory that was refused once. It answers whether all are saved.
+fn save_all<S: Shelf, H: Hand, W: Write, E: Write>(
+    alloc: Global,
+    desk: &Desk,
+    shelf: &mut S,
+    hand: &mut H,
+    line: &mut Vec<u8>,
+    trouble: &mut Trouble,
+    writer: &mut W,
+    error: &mut E,
+) -> bool
+    ensures saves { Saves (H.agrees hand.new) desk.now.object desk.now.pins 0 (length desk.now.object.parts.items) (S.holds shelf.old) (S.holds shelf.new) result trouble.old trouble.new (W.contents writer.old) (W.contents writer.new) }
+    ensures files { (a : Assignment) → H.agrees hand.new a → H.agrees hand.old a }
+{
+    // The board is sound: each part has a pin.
+    desk.history();
+    let object = desk.accepted().object();
+    let pins = desk.pins();
+    match save_parts(alloc, object, &pins, shelf, hand) {
+        Ok(()) => true,
+        Err(fault) => {
+            let mut key = Vec::new(alloc);
+            save_from(
+                alloc,
+                object,
+                &pins,
+                first_unsaved(fault),
+                shelf,
+                hand,
+                &mut key,
+                line,
+                trouble,
+                writer,
+                error,
+            )
+        }
+    }
+}
+
 // Writes the trace of an object, in place of the one that is there.
 fn store_trace<T: Shelf>(desk: &Desk, opening: &[Value], traces: &mut T) -> Result<(), HandFault>
-    ensures { OnOk result ((papers : Papers) → T.holds traces.new papers → (before : Papers) × T.holds traces.old before
-        × (papers ≡ insert before desk.now.object.name (text_of (object_of desk.now.object) opening.now
-        (lines_told desk.now)))) }
+    ensures stored { OnOk result ((papers : Papers) → T.holds traces.new papers → (before : Papers) × T.holds traces.old before
+        × (papers ≡ insert before desk.now.object.name (text_of (object_of desk.now.object) opening.now (lines_told desk.now)))) }
+    ensures left { OnErr result (StoreLeaves (T.holds traces.old) (T.holds traces.new) desk.now.object.name (text_of (object_of desk.now.object) opening.now (lines_told desk.now))) }
 {
     let Ok(text) = desk.trace_text(opening) else {
         return Err(HandFault::Memory);
@@ -218,6 +353,39 @@ fn store_trace<T: Shelf>(desk: &Desk, opening: &[Value], traces: &mut T) -> Resu
     match traces.store(desk.accepted().object().name.as_bytes(), &text) {
         Ok(()) => Ok(()),
         Err(fault) => Err(fault),
+    }
+}
+
+// The same, and once more where memory was refused.
+fn store_again<T: Shelf>(desk: &Desk, opening: &[Value], traces: &mut T) -> Result<(), HandFault>
+    ensures stored { OnOk result (StoresText 1 desk.now.object.name (text_of (object_of desk.now.object) opening.now (lines_told desk.now)) (T.holds traces.old) (T.holds traces.new)) }
+    ensures left { OnErr result (StoresText 0 desk.now.object.name (text_of (object_of desk.now.object) opening.now (lines_told desk.now)) (T.holds traces.old) (T.holds traces.new)) }
+{
+    match store_trace(desk, opening, traces) {
+        Ok(()) => Ok(()),
+        Err(HandFault::Device) => Err(HandFault::Device),
+        Err(HandFault::Memory) => store_trace(desk, opening, traces),
+    }
+}
+
+// Writes the trace of an object, and notes and says where that fails. It answers whether it is written.
+fn keep_trace<T: Shelf, E: Write>(
+    desk: &Desk,
+    opening: &[Value],
+    traces: &mut T,
+    line: &mut Vec<u8>,
+    trouble: &mut Trouble,
+    error: &mut E,
+) -> bool
+    ensures { Traces desk.now.object.name (text_of (object_of desk.now.object) opening.now (lines_told desk.now)) (T.holds traces.old) (T.holds traces.new) result trouble.old trouble.new }
+{
+    match store_again(desk, opening, traces) {
+        Ok(()) => true,
+        Err(fault) => {
+            trouble.note(fault_of_hand(fault));
+            tell_untraced(line, desk.accepted().object().name.as_bytes(), error);
+            false
+        }
     }
 }
 
@@ -244,88 +412,6 @@ impl<S: Shelf + Drop, T: Shelf + Drop, H: Hand + Drop> Closing<S, T, H> {
         (&mut self.parts, &mut self.hand)
     }
 
-    // Saves each part from this one on that can be saved by itself, and says which files hold the value of each other
-    // one. It answers whether all of them are saved.
-    fn save_each<W: Write, E: Write>(
-        &mut self,
-        alloc: Global,
-        desk: &Desk,
-        first: usize,
-        writer: &mut W,
-        error: &mut E,
-    ) -> bool {
-        let object = desk.accepted().object();
-        let pins = desk.pins();
-        let mut all = true;
-        let mut key = Vec::new(alloc);
-        for number in first..object.parts.len() {
-            let (Some(part), Some(pin)) = (object.parts.get(number), pins.get(number)) else {
-                return false;
-            };
-            let saved = save_part(
-                alloc,
-                &object.name,
-                part,
-                number,
-                &pin,
-                &mut self.parts,
-                &mut self.hand,
-                &mut key,
-            );
-            let Err(fault) = saved else {
-                continue;
-            };
-            all = false;
-            match fault {
-                SaveFault::Damaged(_) => {
-                    self.trouble.refuse();
-                    let told = tell_damaged(&mut self.line, object, number, writer);
-                    self.trouble.heed(told);
-                }
-                SaveFault::Device(_) => self.trouble.note(LinesFault::WriteFault),
-                SaveFault::Memory => self.trouble.note(LinesFault::Memory),
-            }
-            tell_unsaved(&mut self.line, object, number, pin.stamps(), error);
-        }
-        all
-    }
-
-    // Saves the parts of an object. Where that fails each part is tried by itself, so what is wrong with one of them
-    // keeps no other one from being saved, and neither does memory that was refused once. It answers
-    // whether all are saved.
-    fn save<W: Write, E: Write>(
-        &mut self,
-        alloc: Global,
-        desk: &Desk,
-        writer: &mut W,
-        error: &mut E,
-    ) -> bool {
-        // The board is sound: each part has a pin.
-        desk.history();
-        let object = desk.accepted().object();
-        match save_parts(alloc, object, &desk.pins(), &mut self.parts, &mut self.hand) {
-            Ok(()) => true,
-            Err(fault) => self.save_each(alloc, desk, first_unsaved(fault), writer, error),
-        }
-    }
-
-    // Writes the trace of an object, a second time where memory was refused. It answers whether it is written.
-    fn trace<E: Write>(&mut self, desk: &Desk, opening: &[Value], error: &mut E) -> bool {
-        let mut stored = store_trace(desk, opening, &mut self.traces);
-        if matches!(&stored, Err(HandFault::Memory)) {
-            stored = store_trace(desk, opening, &mut self.traces);
-        }
-        match stored {
-            Ok(()) => true,
-            Err(fault) => {
-                self.trouble.note(fault_of_hand(fault));
-                let name = desk.accepted().object().name.as_bytes();
-                tell_untraced(&mut self.line, name, error);
-                false
-            }
-        }
-    }
-
     // Saves the parts of an object and writes its trace.
     fn keep<W: Write, E: Write>(
         &mut self,
@@ -335,9 +421,28 @@ impl<S: Shelf + Drop, T: Shelf + Drop, H: Hand + Drop> Closing<S, T, H> {
         closed: bool,
         writer: &mut W,
         error: &mut E,
-    ) -> Became {
-        let saved = self.save(alloc, desk, writer, error);
-        let traced = self.trace(desk, opening, error);
+    ) -> Became
+        ensures kept { KeepsDesk (H.agrees self.new.hand) (S.holds self.old.parts) (S.holds self.new.parts) (T.holds self.old.traces) (T.holds self.new.traces) desk.now opening.now closed result self.old.trouble self.new.trouble self.old.keeps_all self.new.keeps_all (W.contents writer.old) (W.contents writer.new) }
+        ensures files { (a : Assignment) → H.agrees self.new.hand a → H.agrees self.old.hand a }
+    {
+        let saved = save_all(
+            alloc,
+            desk,
+            &mut self.parts,
+            &mut self.hand,
+            &mut self.line,
+            &mut self.trouble,
+            writer,
+            error,
+        );
+        let traced = keep_trace(
+            desk,
+            opening,
+            &mut self.traces,
+            &mut self.line,
+            &mut self.trouble,
+            error,
+        );
         self.keeps_all = self.keeps_all && saved && traced;
         Became {
             closed,
@@ -346,16 +451,19 @@ impl<S: Shelf + Drop, T: Shelf + Drop, H: Hand + Drop> Closing<S, T, H> {
         }
     }
 
-    /// Closes one object, saves its parts, writes its trace, and says how many entries its history has, where all of
-    /// this was done. A fault is noted, and what does not hang on it is still done: an object that does not close
-    /// is saved all the same.
+    /// Closes one object, saves its parts, writes its trace, and says how many entries its history has, where all of this was done. A fault is
+    /// noted, and what does not hang on it is still done: an object that does not close is saved all the same.
     pub fn close_one<W: Write, E: Write>(
         &mut self,
         alloc: Global,
         ending: Ending,
         writer: &mut W,
         error: &mut E,
-    ) {
+    )
+        ensures ended { (e : Ended) × IsOf ending.name ending.opening.items ending.seats.items ending.receipts.items e
+            × IsEnding (H.agrees self.new.hand) (S.holds self.old.parts) (S.holds self.new.parts) (T.holds self.old.traces) (T.holds self.new.traces) e self.old.trouble self.new.trouble self.old.keeps_all self.new.keeps_all (W.contents writer.old) (W.contents writer.new) }
+        ensures files { (a : Assignment) → H.agrees self.new.hand a → H.agrees self.old.hand a }
+    {
         let Ending {
             name,
             office,

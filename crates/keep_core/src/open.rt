@@ -1,6 +1,8 @@
 //! The office of an accepted object, whose parts are read from a folder.
 
-ghost use Rattle.std.specs.Prelude.{◌≡◌, length, IfOk};
+ghost use Rattle.std.specs.Prelude.{◌≡◌, ◌++◌, length, IfOk, IfErr, OnOk};
+ghost use Rattle.keep_core.specs.Lines.{part_text, damaged_line};
+ghost use Rattle.keep_core.specs.Opening.{IsNotOpened};
 
 use decl_core::object::Object;
 use exclude_core::analyse::Accepted;
@@ -45,7 +47,9 @@ impl From<AllocError> for NotOpened {
 }
 
 /// Adds `OBJECT.PART`, the part by its place.
-pub fn push_part(out: &mut Vec<u8>, object: &Object, part: usize) -> Result<(), AllocError> {
+pub fn push_part(out: &mut Vec<u8>, object: &Object, part: usize) -> Result<(), AllocError>
+    ensures { OnOk result (out.new.items ≡ out.old.items ++ part_text object.now part) }
+{
     out.extend_from_slice(object.name.as_bytes())?;
     out.extend_from_slice(b".")?;
     if let Some(part) = object.parts.get(part) {
@@ -55,7 +59,9 @@ pub fn push_part(out: &mut Vec<u8>, object: &Object, part: usize) -> Result<(), 
 }
 
 /// Adds `part OBJECT.PART damaged`.
-pub fn push_damaged(out: &mut Vec<u8>, object: &Object, part: usize) -> Result<(), AllocError> {
+pub fn push_damaged(out: &mut Vec<u8>, object: &Object, part: usize) -> Result<(), AllocError>
+    ensures { OnOk result (out.new.items ≡ out.old.items ++ damaged_line object.now part) }
+{
     out.extend_from_slice(b"part ")?;
     push_part(out, object, part)?;
     out.extend_from_slice(b" damaged\n")
@@ -68,7 +74,8 @@ fn parts_of<S: Shelf, H: Hand>(
     shelf: &mut S,
     hand: &mut H,
 ) -> Result<(Pins, Vec<Value>), NotOpened>
-    ensures { IfOk result (λ opened. length opened.0 ≡ length accepted.now.parts.items) }
+    ensures each { IfOk result (λ opened. length opened.0 ≡ length accepted.now.parts.items) }
+    ensures not { IfErr result (IsNotOpened accepted.now) }
 {
     match open_parts(alloc, accepted.object(), shelf, hand) {
         Ok(opened) => Ok(opened),
@@ -88,7 +95,10 @@ pub fn open_one<S: Shelf, H: Hand>(
     accepted: Accepted,
     shelf: &mut S,
     hand: &mut H,
-) -> Result<Opened, NotOpened> {
+) -> Result<Opened, NotOpened>
+    ensures name { IfOk result (λ opened. opened.name ≡ accepted.name) }
+    ensures not { IfErr result (IsNotOpened accepted) }
+{
     let name = accepted.object().name.copy(alloc)?;
     let (pins, opening) = parts_of(alloc, &accepted, shelf, hand)?;
     let room = Room::open(alloc, accepted, pins)?;

@@ -6,8 +6,8 @@ use Rattle.trace_core.specs.Text.{trace_text as text_of}
 use Rattle.desk_core.specs.Told.{lines_told}
 use Rattle.keep_core.proofs.close.store_trace.Goals as goal
 
-pub returns-in-Ok-store : goal.returns-in-Ok-store
-returns-in-Ok-store g c = λ papers is.
+pub returns-in-Ok-store-clause-stored : goal.returns-in-Ok-store-clause-stored
+returns-in-Ok-store-clause-stored g c = λ papers is.
     let one = c.in-Ok-store.ensures.agrees papers is in
     let key : c.as_bytes.result.now ≡ c.args.desk.now.object.name = c.as_bytes.ensures.bytes ∙ ap (λ (o : Object). o.name) (c.object.ensures.same ∙ c.accepted.ensures) in
     let text : c.deref.result.now ≡ text_of (object_of c.args.desk.now.object) c.args.opening.now (lines_told c.args.desk.now) = c.deref.ensures.value ∙ c.in-Ok.ensures in

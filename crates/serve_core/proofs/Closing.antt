@@ -1,0 +1,104 @@
+-- Objects that are closed one after the other.
+use Rattle.std.proofs.Common.{◌≡◌, ◌∙◌, ap, sym, subst, refl, ℕ, ◌≤◌, List, [], ◌∷◌, ◌++◌, length, map, Bool, true, false, cond, Option, Some, None}
+use Rattle.std.specs.Prelude.{IsTrue}
+use Rattle.std.proofs.lemmas.List.{append-nil, append_assoc, map-append}
+use Rattle.std.proofs.lemmas.Bool.{true≢false}
+use Rattle.line_core.specs.declared.machine.LinesFault.{LinesFault}
+use Rattle.hand_core.specs.Device.{Assignment}
+use Rattle.hand_core.specs.Papers.{Papers}
+use Rattle.decl_core.specs.declared.object.Object.{Object}
+use Rattle.hand_core.specs.declared.hand.Stamp.{Stamp}
+use Rattle.board_core.specs.Lists.{Every}
+use Rattle.keep_core.specs.declared.trouble.Trouble.{Trouble}
+use Rattle.keep_core.specs.Troubles.{first_of}
+use Rattle.keep_core.specs.Lines.{AreSaid}
+use Rattle.keep_core.specs.Kept.{AreStored, refused_by, stored_times, once}
+use Rattle.keep_core.specs.Ends.{Ended, IsAtEnd, IsKept, IsEnding, lines_of, refused_after, trace_of}
+use Rattle.keep_core.proofs.Telling.{nothing_said, said_then, first_none, second_none, first_first, closing_first}
+use Rattle.keep_core.proofs.Keeping.{first_nothing}
+use Rattle.keep_core.proofs.Ending.{not_refused}
+use Rattle.serve_core.specs.Closes.{names_of, lines_all, refused_all, AreStoredAll, AreTracedAll, IsWhole, AreEndings, Closes}
+
+every_one : {X : Type 0} (P : X → Type 0) (xs : List X) (y : X) → Every P xs → P y → Every P (xs ++ y ∷ [])
+every_one P [] y all one = (one, tt)
+every_one P (x ∷ xs) y (here, all) one = (here, every_one P xs y all one)
+
+lines_one : (ends : List Ended) (e : Ended) → lines_all ends ++ lines_of e ≡ lines_all (ends ++ e ∷ [])
+lines_one [] e = sym (append-nil (lines_of e))
+lines_one (first ∷ ends) e = append_assoc (lines_of first) (lines_all ends) (lines_of e) ∙ ap (λ (ls : List (List ℕ)). lines_of first ++ ls) (lines_one ends e)
+
+refused_one : (refused : Bool) (ends : List Ended) (e : Ended) → refused_after (refused_all refused ends) e ≡ refused_all refused (ends ++ e ∷ [])
+refused_one refused [] e = refl
+refused_one refused (first ∷ ends) e = refused_one (refused_after refused first) ends e
+
+-- where nothing is refused in the end, nothing was before
+apart : (refused closed : Bool) (damaged : List ℕ) → cond closed (refused_by refused damaged) true ≡ false → (refused ≡ false) × (cond closed (refused_by false damaged) true ≡ false)
+apart false true damaged is = (refl, is)
+apart true true [] is = absurd (true≢false is)
+apart true true (place ∷ damaged) is = absurd (true≢false is)
+apart refused false damaged is = absurd (true≢false is)
+
+no_damage : (closed : Bool) (damaged : List ℕ) → cond closed (refused_by false damaged) true ≡ false → damaged ≡ []
+no_damage true damaged is = not_refused damaged is
+no_damage false damaged is = absurd (true≢false is)
+
+-- what is stored by one assignment is so by another one that agrees with less
+stored_as : {then agrees : Assignment → Type 0} {object : Object} {pins : List (List Stamp)} {first end : ℕ} {all : Bool} {before papers : Papers} → ((a : Assignment) → agrees a → then a) → AreStored then object pins first end all before papers →
+    AreStored agrees object pins first end all before papers
+stored_as files s = record { stores = s.stores; parts = s.parts; pinned = λ a is. s.pinned a (files a is); after = s.after; whole = s.whole }
+
+stored_one : {then agrees : Assignment → Type 0} (ends : List Ended) (e : Ended) (before mid papers : Papers) → ((a : Assignment) → agrees a → then a) → AreStoredAll then before ends mid →
+    AreStored agrees e.board.object e.board.pins 0 (length e.board.object.parts.items) e.became.saved mid papers → AreStoredAll agrees before (ends ++ e ∷ []) papers
+stored_one {agrees = agrees} [] e before mid papers files all one = (papers, subst (λ (p : Papers). AreStored agrees e.board.object e.board.pins 0 (length e.board.object.parts.items) e.became.saved p papers) all one, refl)
+stored_one (first ∷ ends) e before mid papers files (next, here, all) one = (next, stored_as files here, stored_one ends e next mid papers files all one)
+
+traced_one : (ends : List Ended) (e : Ended) (before mid papers : Papers) (times : ℕ) → AreTracedAll before ends mid → once e.became.traced ≤ times → papers ≡ stored_times times mid e.board.object.name (trace_of e.board e.opening) →
+    AreTracedAll before (ends ++ e ∷ []) papers
+traced_one [] e before mid papers times all least is = (papers, (times, least, subst (λ (p : Papers). papers ≡ stored_times times p e.board.object.name (trace_of e.board e.opening)) all is), refl)
+traced_one (first ∷ ends) e before mid papers times (next, here, all) least is = (next, here, traced_one ends e next mid papers times all least is)
+
+-- no object is closed yet
+pub endings_none : (agrees : Assignment → Type 0) (parts traces : Papers → Type 0) (t : Trouble) (kept_all : Bool) (known : Option (List ℕ)) → AreEndings agrees parts parts traces traces [] t t kept_all kept_all known known
+endings_none agrees parts traces t kept_all known = record {
+  each = tt;
+  met = None;
+  closing = tt;
+  fault = first_nothing t.fault;
+  refused = refl;
+  said = nothing_said None known;
+  whole = λ none quiet. tt;
+  stored = λ papers is. (papers, is, refl);
+  traced = λ papers is. (papers, is, refl);
+  keeps = λ keeps. (keeps, tt);
+}
+
+-- one object more is closed
+pub endings_more : {then agrees : Assignment → Type 0} {pw pm pa tw tm ta : Papers → Type 0} {before middle after : Trouble} {first mid last : Bool} {old known new : Option (List ℕ)} (ends : List Ended) (e : Ended) →
+    AreEndings then pw pm tw tm ends before middle first mid old known → IsEnding agrees pm pa tm ta e middle after mid last known new → ((a : Assignment) → agrees a → then a) →
+    AreEndings agrees pw pa tw ta (ends ++ e ∷ []) before after first last old new
+endings_more {before = before} {old = old} {new = new} ends e so one files =
+    let met : Option LinesFault = first_of so.met one.met in
+    record {
+      each = every_one IsAtEnd ends e so.each one.ended;
+      met = met;
+      closing = closing_first so.met one.met so.closing one.closing;
+      fault = one.fault ∙ ap (λ (f : Option LinesFault). first_of f one.met) so.fault ∙ first_first before.fault so.met one.met;
+      refused = one.refused ∙ ap (λ (r : Bool). refused_after r e) so.refused ∙ refused_one before.refused ends e;
+      said = subst (λ (ls : List (List ℕ)). AreSaid ls met old new) (lines_one ends e) (said_then so.said one.said (first_none so.met one.met) (second_none so.met one.met));
+      whole = λ none quiet.
+          let split = apart (refused_all false ends) e.became.closed e.damaged (refused_one false ends e ∙ quiet) in
+          every_one IsWhole ends e (so.whole (first_none so.met one.met none) split.0)
+          (one.whole (second_none so.met one.met none) split.1, no_damage e.became.closed e.damaged split.1);
+      stored = λ papers is.
+          let last_one = one.stored papers is in
+          let early = so.stored last_one.0 last_one.1 in
+          (early.0, early.1, stored_one ends e early.0 last_one.0 papers files early.2 last_one.2);
+      traced = λ papers is.
+          let last_one = one.traced papers is in
+          let early = so.traced last_one.0 last_one.1 in
+          (early.0, early.1, traced_one ends e early.0 last_one.0 papers last_one.2 early.2 last_one.3 last_one.4);
+      keeps = λ keeps.
+          let last_one = one.keeps keeps in
+          let early = so.keeps last_one.0 in
+          (early.0, every_one (λ (x : Ended). IsTrue x.became.saved × IsTrue x.became.traced) ends e early.1 (last_one.1, last_one.2));
+    }

@@ -1,0 +1,66 @@
+-- What closing all objects comes to.
+use Rattle.std.specs.Prelude.{◌≡◌, ◌≤◌, ℕ, List, [], ◌∷◌, ◌++◌, length, map, Bool, true, false, IsTrue, Option, None}
+use Rattle.line_core.specs.declared.machine.LinesFault.{LinesFault}
+use Rattle.hand_core.specs.Device.{Assignment}
+use Rattle.hand_core.specs.Papers.{Papers}
+use Rattle.board_core.specs.Lists.{Every}
+use Rattle.keep_core.specs.declared.trouble.Trouble.{Trouble}
+use Rattle.keep_core.specs.Troubles.{first_of}
+use Rattle.keep_core.specs.Lines.{AreSaid, IsOfClosing, entries_line}
+use Rattle.keep_core.specs.Kept.{AreStored, stored_times, once}
+use Rattle.keep_core.specs.Ends.{Ended, IsAtEnd, IsKept, lines_of, refused_after, trace_of}
+
+-- the names of objects that have ended
+abbrev pub names_of : List Ended → List (List ℕ)
+names_of ends = map (λ (e : Ended). e.name) ends
+
+-- the lines that are told of them, in order
+abbrev pub lines_all : List Ended → List (List ℕ)
+lines_all [] = []
+lines_all (e ∷ ends) = lines_of e ++ lines_all ends
+
+-- `NAME entries K` of each
+abbrev pub entries_all : List Ended → List (List ℕ)
+entries_all [] = []
+entries_all (e ∷ ends) = entries_line e.name (length e.board.history) ∷ entries_all ends
+
+-- whether a line said that something is refused or damaged, where these have ended too
+abbrev pub refused_all : Bool → List Ended → Bool
+refused_all refused [] = refused
+refused_all refused (e ∷ ends) = refused_all (refused_after refused e) ends
+
+-- the parts of each were stored, those of one behind those of the other
+abbrev pub AreStoredAll : (Assignment → Type 0) → Papers → List Ended → Papers → Type 0
+AreStoredAll agrees before [] papers = papers ≡ before
+AreStoredAll agrees before (e ∷ ends) papers =
+    (mid : Papers) × AreStored agrees e.board.object e.board.pins 0 (length e.board.object.parts.items) e.became.saved before mid × AreStoredAll agrees mid ends papers
+
+-- the trace of each was stored, where it is said to be
+abbrev pub AreTracedAll : Papers → List Ended → Papers → Type 0
+AreTracedAll before [] papers = papers ≡ before
+AreTracedAll before (e ∷ ends) papers =
+    (mid : Papers) × ((times : ℕ) × (once e.became.traced ≤ times) × (mid ≡ stored_times times before e.board.object.name (trace_of e.board e.opening))) × AreTracedAll mid ends papers
+
+-- closed, saved and traced, and no part is damaged
+abbrev pub IsWhole : Ended → Type 0
+IsWhole e = IsKept e.became × (e.damaged ≡ [])
+
+-- What closing objects, one after the other, comes to: the first fault that was met, what was told and noted, and what is stored.
+pub record AreEndings (agrees : Assignment → Type 0) (parts_were parts_are traces_were traces_are : Papers → Type 0) (ends : List Ended) (before after : Trouble) (kept_all keeps_all : Bool) (old new : Option (List ℕ)) : Type 0 where
+  pub each : Every IsAtEnd ends
+  pub met : Option LinesFault
+  pub closing : IsOfClosing met
+  pub fault : after.fault ≡ first_of before.fault met
+  pub refused : after.refused ≡ refused_all before.refused ends
+  pub said : AreSaid (lines_all ends) met old new
+  pub whole : met ≡ None → refused_all false ends ≡ false → Every IsWhole ends
+  pub stored : (papers : Papers) → parts_are papers → (base : Papers) × parts_were base × AreStoredAll agrees base ends papers
+  pub traced : (papers : Papers) → traces_are papers → (base : Papers) × traces_were base × AreTracedAll base ends papers
+  pub keeps : IsTrue keeps_all → IsTrue kept_all × Every (λ (e : Ended). IsTrue e.became.saved × IsTrue e.became.traced) ends
+
+-- Objects of these names were closed.
+pub record Closes (agrees earlier : Assignment → Type 0) (parts_were parts_are traces_were traces_are : Papers → Type 0) (names : List (List ℕ)) (before after : Trouble) (kept_all keeps_all : Bool) (old new : Option (List ℕ)) : Type 0 where
+  pub ends : List Ended
+  pub named : names_of ends ≡ names
+  pub endings : AreEndings agrees parts_were parts_are traces_were traces_are ends before after kept_all keeps_all old new
+  pub files : (a : Assignment) → agrees a → earlier a
