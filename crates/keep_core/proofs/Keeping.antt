@@ -20,8 +20,8 @@ use Rattle.store_core.specs.declared.save.SaveFault.TheVariants as save
 use Rattle.store_core.specs.Saved.{IsFetched, AreFetched, with_parts, IsDamagedPin, IsSavedTo, IsStored, MaySave, PartLeaves, PartLeft, PinSaveCause, SaveLeaves, StoreLeaves}
 use Rattle.board_core.specs.Lists.{Every, Among}
 use Rattle.keep_core.specs.declared.trouble.Trouble.{Trouble}
-use Rattle.keep_core.specs.Troubles.{first_of}
-use Rattle.keep_core.specs.Lines.{AreSaid, IsOfClosing, damaged_line, damaged_lines}
+use Rattle.keep_core.specs.Troubles.{first_of, fault_in}
+use Rattle.keep_core.specs.Lines.{AreSaid, AreTold, IsOfClosing, damaged_line, damaged_lines}
 use Rattle.keep_core.specs.Kept.{Stored, with_stores, IsOfPart, IsOfPin, HasStore, AreStored, refused_by, Saves, damaged_by, IsMetBy, Notes, fault_by, once, stored_times, StoresText, Traces}
 use Rattle.keep_core.proofs.Telling.{nothing_said, said_then, first_none, second_none, first_first, closing_first, met_not}
 
@@ -258,6 +258,21 @@ saves_not {agrees = agrees} {object = object} {pins = pins} failed place part pi
       let s = left papers is in
       (s.0, s.1, stored_left place part pin why there under s.2);
 }
+
+-- what is noted of a part that is damaged
+pub notes_damaged : {object : Object} {place : ℕ} {before refused after : Trouble} {old new : Option (List ℕ)} (n : ℕ) (result : Result (Unit {0}) LinesFault) →
+    refused.fault ≡ before.fault → refused.refused ≡ true → AreTold (damaged_line object place ∷ []) result old new → after.fault ≡ first_of refused.fault (fault_in result) → after.refused ≡ refused.refused →
+    Notes object place (Damaged n) before after old new
+notes_damaged n result same marked told fault kept =
+    record { met = fault_in result; by = told.closing; fault = fault ∙ ap (λ (f : Option LinesFault). first_of f (fault_in result)) same; refused = kept ∙ marked; said = told.said }
+
+-- what is noted of a part at which a device failed
+pub notes_device : {object : Object} {place : ℕ} {before after : Trouble} {known : Option (List ℕ)} (n : ℕ) → after.fault ≡ first_of before.fault (Some WriteFault) → after.refused ≡ before.refused → Notes object place (Device n) before after known known
+notes_device {known = known} n fault kept = record { met = Some WriteFault; by = refl; fault = fault; refused = kept; said = nothing_said (Some WriteFault) known }
+
+-- what is noted of a part that memory was refused for
+pub notes_memory : {object : Object} {place : ℕ} {before after : Trouble} {known : Option (List ℕ)} → after.fault ≡ first_of before.fault (Some Memory) → after.refused ≡ before.refused → Notes object place save.Memory before after known known
+notes_memory {known = known} fault kept = record { met = Some Memory; by = refl; fault = fault; refused = kept; said = nothing_said (Some Memory) known }
 
 damaged_then : (object : Object) (one two : List ℕ) → damaged_lines object one ++ damaged_lines object two ≡ damaged_lines object (one ++ two)
 damaged_then object [] two = refl

@@ -80,6 +80,14 @@ pub made_told : {old new : Option (List ℕ)} (line wanted : List ℕ) (made : R
 made_told {old = old} {new = new} line wanted (Ok done) result is told = subst (λ (l : List ℕ). AreTold (l ∷ []) result old new) is told
 made_told line wanted (Err refused) result is told = unmade_told result told.0 told.1
 
+-- a line that was made in fresh room, and what was written of it
+pub line_told : {old new : Option (List ℕ)} (fresh items slice wanted : List ℕ) (made : Result (Unit {0}) AllocError) (result : Result (Unit {0}) LinesFault) →
+    fresh ≡ [] → OnOk made (items ≡ fresh ++ wanted) → slice ≡ items → IsWritten made slice result old new → AreTold (wanted ∷ []) result old new
+line_told fresh items slice wanted made result none is same told = made_told slice wanted made result (line_is made is) told where
+  line_is : (m : Result (Unit {0}) AllocError) → OnOk m (items ≡ fresh ++ wanted) → OnOk m (slice ≡ wanted)
+  line_is (Ok done) put = same ∙ put ∙ ap (λ (t : List ℕ). t ++ wanted) none
+  line_is (Err refused) put = tt
+
 -- nothing is to be told
 pub none_told : {old : Option (List ℕ)} → AreTold [] (Ok tt) old old
 none_told {old = old} = record { said = nothing_said None old; closing = tt }

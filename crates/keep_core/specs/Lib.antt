@@ -1,5 +1,6 @@
 pub mod Ends
 pub mod Kept
+pub mod Laws
 pub mod Lines
 pub mod Opening
 pub mod Troubles

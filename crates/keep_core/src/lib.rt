@@ -6,5 +6,6 @@
 #![tactic(auto)]
 
 pub mod close;
+pub mod laws;
 pub mod open;
 pub mod trouble;

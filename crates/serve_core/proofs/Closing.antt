@@ -1,5 +1,5 @@
 -- Objects that are closed one after the other.
-use Rattle.std.proofs.Common.{◌≡◌, ◌∙◌, ap, sym, subst, refl, ℕ, ◌≤◌, List, [], ◌∷◌, ◌++◌, length, map, Bool, true, false, cond, Option, Some, None}
+use Rattle.std.proofs.Common.{◌≡◌, ◌∙◌, ap, sym, subst, refl, arith, ℕ, ◌+◌, ◌≤◌, List, [], ◌∷◌, ◌++◌, length, map, Bool, true, false, cond, Option, Some, None}
 use Rattle.std.specs.Prelude.{IsTrue}
 use Rattle.std.proofs.lemmas.List.{append-nil, append_assoc, map-append}
 use Rattle.std.proofs.lemmas.Bool.{true≢false}
@@ -101,4 +101,47 @@ endings_more {before = before} {old = old} {new = new} ends e so one files =
           let last_one = one.keeps keeps in
           let early = so.keeps last_one.0 in
           (early.0, every_one (λ (x : Ended). IsTrue x.became.saved × IsTrue x.became.traced) ends e early.1 (last_one.1, last_one.2));
+    }
+
+-- Of objects of all these names those before the rest are closed.
+pub record ClosedSoFar (agrees earlier : Assignment → Type 0) (pw pa tw ta : Papers → Type 0) (all rest : List (List ℕ)) (left : ℕ) (before after : Trouble) (kept_all keeps_all : Bool) (old new : Option (List ℕ)) : Type 0 where
+  pub ends : List Ended
+  pub named : names_of ends ++ rest ≡ all
+  pub counted : left ≡ length rest
+  pub endings : AreEndings agrees pw pa tw ta ends before after kept_all keeps_all old new
+  pub files : (a : Assignment) → agrees a → earlier a
+
+pub closed_none : (agrees : Assignment → Type 0) (parts traces : Papers → Type 0) (all rest : List (List ℕ)) (left : ℕ) (t : Trouble) (kept_all : Bool) (known : Option (List ℕ)) → rest ≡ all → left ≡ length rest →
+    ClosedSoFar agrees agrees parts parts traces traces all rest left t t kept_all kept_all known known
+closed_none agrees parts traces all rest left t kept_all known same counted =
+    record { ends = []; named = same; counted = counted; endings = endings_none agrees parts traces t kept_all known; files = λ a is. is }
+
+pub closed_more : {then agrees earlier : Assignment → Type 0} {pw pm pa tw tm ta : Papers → Type 0} {all rest : List (List ℕ)} {left : ℕ} {before middle after : Trouble} {first mid last : Bool} {old known new : Option (List ℕ)} (name : List ℕ) (later : List (List ℕ)) (fewer : ℕ) →
+    ClosedSoFar then earlier pw pm tw tm all rest left before middle first mid old known → rest ≡ name ∷ later → fewer + 1 ≡ left →
+    (e : Ended) × (e.name ≡ name) × IsEnding agrees pm pa tm ta e middle after mid last known new → ((a : Assignment) → agrees a → then a) →
+    ClosedSoFar agrees earlier pw pa tw ta all later fewer before after first last old new
+closed_more name later fewer so is fewer_is (e, same, one) files =
+    let names : names_of (so.ends ++ e ∷ []) ++ later ≡ names_of so.ends ++ (e.name ∷ later) =
+    ap (λ (ns : List (List ℕ)). ns ++ later) (map-append (λ (x : Ended). x.name) so.ends (e ∷ [])) ∙ append_assoc (names_of so.ends) (e.name ∷ []) later in
+    record {
+      ends = so.ends ++ e ∷ [];
+      named = names ∙ ap (λ (n : List ℕ). names_of so.ends ++ (n ∷ later)) same ∙ ap (λ (ns : List (List ℕ)). names_of so.ends ++ ns) (sym is) ∙ so.named;
+      counted = omega (arith, fewer_is, so.counted, ap length is);
+      endings = endings_more so.ends e so.endings one files;
+      files = λ a at. so.files a (files a at);
+    }
+
+no_rest : {X : Type 0} (xs : List X) → length xs ≡ 0 → xs ≡ []
+no_rest [] none = refl
+no_rest (x ∷ xs) none = absurd (omega (arith, none))
+
+pub closed_all : {agrees earlier : Assignment → Type 0} {pw pa tw ta : Papers → Type 0} {all : List (List ℕ)} {before after : Trouble} {kept_all keeps_all : Bool} {old new : Option (List ℕ)} (rest : List (List ℕ)) (left : ℕ) →
+    ClosedSoFar agrees earlier pw pa tw ta all rest left before after kept_all keeps_all old new → left ≡ 0 → Closes agrees earlier pw pa tw ta all before after kept_all keeps_all old new
+closed_all rest left so none =
+    let empty : rest ≡ [] = no_rest rest (omega (arith, so.counted, none)) in
+    record {
+      ends = so.ends;
+      named = sym (append-nil (names_of so.ends)) ∙ ap (λ (ns : List (List ℕ)). names_of so.ends ++ ns) (sym empty) ∙ so.named;
+      endings = so.endings;
+      files = so.files;
     }

@@ -1,1 +1,4 @@
 pub mod Sending
+pub mod Closing
+pub mod Opening
+pub mod Running

@@ -1,2 +1,4 @@
 pub mod Handled
 pub mod Ends
+pub mod Closes
+pub mod Runs

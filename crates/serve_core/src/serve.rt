@@ -1,8 +1,16 @@
 //! A server from its start to its end.
 
-ghost use Rattle.std.specs.Prelude.{IfOk};
+ghost use Rattle.std.specs.Prelude.{◌≡◌, ◌∷◌, ℕ, [], IfOk};
+ghost use Rattle.std.specs.Io.KnownBytes.{Appends};
+ghost use Rattle.hand_core.specs.Device.{Assignment};
+ghost use Rattle.decl_core.specs.ObjectMap.{object_names};
+ghost use Rattle.keep_core.specs.Troubles.{fault_in};
+ghost use Rattle.keep_core.specs.Lines.{AreSaid};
+ghost use Rattle.keep_core.specs.Ends.{Ended, IsEnding};
 ghost use Rattle.serve_core.specs.Handled.{IsHandled};
 ghost use Rattle.serve_core.specs.Ends.{IsEndOf};
+ghost use Rattle.serve_core.specs.Closes.{Closes};
+ghost use Rattle.serve_core.specs.Runs.{named_in, listening_line, ServesOr, IsRunOf, IsRefusedBy, IsRun, IsEndBehind};
 
 use crate::gate::Gate;
 use crate::gather::{Gathered, Gathering};
@@ -30,6 +38,8 @@ use std::rt::Files;
 use std::sync::{Arc, Wait};
 use std::thread::Threads;
 use std::time::Clock;
+use std::vec::IntoIter;
+use value_core::value::Value;
 
 /// Where a server keeps its files, and the hands of its sessions: it takes a connection for each.
 #[derive(Drop)]
@@ -74,11 +84,59 @@ fn end_of(trouble: Trouble) -> Result<ServeEnd, LinesFault>
 }
 
 // `listening PORT`.
-fn tell_port<W: Write>(alloc: Global, gate: &Gate, writer: &mut W) -> Result<(), LinesFault> {
-    let port = gate.port().map_err(fault_of)?;
+fn tell_port<W: Write>(alloc: Global, gate: &Gate, writer: &mut W) -> Result<(), LinesFault>
+    ensures { (port : ℕ) × AreSaid (listening_line port ∷ []) (fault_in result) (W.contents writer.old) (W.contents writer.new) }
+{
+    let port = match gate.port() {
+        Ok(port) => port,
+        Err(error) => return Err(fault_of(error)),
+    };
     let mut line = Vec::new(alloc);
-    push_count(&mut line, b"listening ", u64::from(port))?;
-    write_whole(writer, &line)
+    match push_count(&mut line, b"listening ", u64::from(port)) {
+        Ok(()) => {}
+        Err(_) => return Err(LinesFault::Memory),
+    }
+    match write_whole(writer, &line) {
+        Ok(()) => Ok(()),
+        Err(fault) => Err(fault),
+    }
+}
+
+// What the sessions of the next object left; where that is not there, nothing.
+fn next_room(alloc: Global, rooms: &mut IntoIter<Gathered>) -> Gathered {
+    match rooms.next() {
+        Some(gathered) => gathered,
+        None => Gathered {
+            seats: Vec::new(alloc),
+            receipts: Vec::new(alloc),
+        },
+    }
+}
+
+// Closes one object, with what its sessions left.
+fn close_next<S: Shelf + Drop, T: Shelf + Drop, H: Hand + Drop, W: Write, E: Write>(
+    alloc: Global,
+    named: Named,
+    opening: Vec<Value>,
+    gathered: Gathered,
+    closing: &mut Closing<S, T, H>,
+    writer: &mut W,
+    error: &mut E,
+)
+    ensures ended { (e : Ended) × (e.name ≡ named.name)
+        × IsEnding (H.agrees closing.new.hand) (S.holds closing.old.parts) (S.holds closing.new.parts) (T.holds closing.old.traces) (T.holds closing.new.traces) e closing.old.trouble closing.new.trouble closing.old.keeps_all closing.new.keeps_all (W.contents writer.old) (W.contents writer.new) }
+    ensures files { (a : Assignment) → H.agrees closing.new.hand a → H.agrees closing.old.hand a }
+{
+    let Named { name, office } = named;
+    let Gathered { seats, receipts } = gathered;
+    let ending = Ending {
+        name,
+        office,
+        opening,
+        seats,
+        receipts,
+    };
+    closing.close_one(alloc, ending, writer, error);
 }
 
 // Closes each object.
@@ -89,24 +147,24 @@ fn close_all<S: Shelf + Drop, T: Shelf + Drop, H: Hand + Drop, W: Write, E: Writ
     closing: &mut Closing<S, T, H>,
     writer: &mut W,
     error: &mut E,
-) {
+)
+    ensures { Closes (H.agrees closing.new.hand) (H.agrees closing.old.hand) (S.holds closing.old.parts) (S.holds closing.new.parts) (T.holds closing.old.traces) (T.holds closing.new.traces) (named_in served.offices.items) closing.old.trouble closing.new.trouble closing.old.keeps_all closing.new.keeps_all (W.contents writer.old) (W.contents writer.new) }
+{
     let Served { offices, openings } = served;
     let mut openings = openings.into_iter();
     let mut rooms = rooms.into_iter();
     for named in offices {
-        let (Some(opening), Some(gathered)) = (openings.next(), rooms.next()) else {
-            return;
-        };
-        let Named { name, office } = named;
-        let Gathered { seats, receipts } = gathered;
-        let ending = Ending {
-            name,
-            office,
-            opening,
-            seats,
-            receipts,
-        };
-        closing.close_one(alloc, ending, writer, error);
+        let opening = next_opening(alloc, &mut openings);
+        let gathered = next_room(alloc, &mut rooms);
+        close_next(alloc, named, opening, gathered, closing, writer, error);
+    }
+}
+
+// The values with which the parts of the next object opened.
+fn next_opening(alloc: Global, openings: &mut IntoIter<Vec<Value>>) -> Vec<Value> {
+    match openings.next() {
+        Some(opening) => opening,
+        None => Vec::new(alloc),
     }
 }
 
@@ -128,9 +186,17 @@ fn serve_opened<
     closing: &mut Closing<S, T, K>,
     writer: &mut W,
     error: &mut E,
-) -> Result<(), LinesFault> {
-    let mut gathering = Gathering::new(alloc, served.offices.len(), hands.len())?;
-    tell_port(alloc, gate, writer)?;
+) -> Result<(), LinesFault>
+    ensures { ServesOr (K.agrees closing.new.hand) (K.agrees closing.old.hand) (S.holds closing.old.parts) (S.holds closing.new.parts) (T.holds closing.old.traces) (T.holds closing.new.traces) (named_in served.offices.items) closing.new.trouble closing.old.keeps_all closing.new.keeps_all (W.contents writer.old) (W.contents writer.new) result }
+{
+    let mut gathering = match Gathering::new(alloc, served.offices.len(), hands.len()) {
+        Ok(gathering) => gathering,
+        Err(_) => return Err(LinesFault::Memory),
+    };
+    match tell_port(alloc, gate, writer) {
+        Ok(()) => {}
+        Err(fault) => return Err(fault),
+    }
     let offices = &served.offices;
     match serve_all(rt, alloc, gate, hands, offices) {
         Ok(all) => gathering.gather(all, offices, error, &mut closing.trouble),
@@ -139,6 +205,57 @@ fn serve_opened<
     let rooms = gathering.into_rooms();
     close_all(alloc, served, rooms, closing, writer, error);
     Ok(())
+}
+
+// Opens objects, serves them, and closes them.
+fn serve_closing<
+    R: Threads + Wait + Clock + Sync,
+    S: Shelf + Drop,
+    T: Shelf + Drop,
+    K: Hand + Drop,
+    H: Hand + Ends + Drop + Send,
+    W: Write,
+    E: Write,
+>(
+    rt: &R,
+    alloc: Global,
+    ready: Vec<Accepted>,
+    hands: Vec<H>,
+    gate: &Gate,
+    closing: &mut Closing<S, T, K>,
+    writer: &mut W,
+    error: &mut E,
+) -> Result<ServeEnd, LinesFault>
+    ensures { IsRunOf ready.items result (W.contents writer.old) (W.contents writer.new) }
+{
+    let (shelf, hand) = closing.devices();
+    match open_all(alloc, ready, shelf, hand) {
+        Ok(served) => {
+            match serve_opened(rt, alloc, served, hands, gate, closing, writer, error) {
+                Ok(()) => end_of(closing.trouble),
+                Err(fault) => Err(fault),
+            }
+        }
+        Err(NotOpened::Damaged(line)) => tell_refused(&line, writer),
+        Err(NotOpened::Fault(LinesFault::ReadFault)) => Ok(ServeEnd::Unopened),
+        Err(NotOpened::Fault(fault)) => Err(fault),
+    }
+}
+
+// What closes the objects in a folder.
+fn closing_in<R: Files + AllocGlobal + Clone + Drop>(
+    rt: &R,
+    alloc: Global,
+    folder: &str,
+    numbers: &Arc<Numbers>,
+) -> Result<Closing<DirShelf<R>, DirShelf<R>, DirHand<R>>, AllocError>
+where
+    R::File: FileExt,
+{
+    let parts = DirShelf::of(rt.clone()?, folder, Kept::Parts)?;
+    let traces = DirShelf::of(rt.clone()?, folder, Kept::Traces)?;
+    let hand = DirHand::new(rt.clone()?, folder, Arc::try_clone(numbers)?)?;
+    Closing::new(alloc, parts, traces, hand)
 }
 
 // Serves objects that are accepted, and removes the value files of this run where nothing hangs on them any more.
@@ -158,6 +275,7 @@ fn serve_ready<
 ) -> Result<ServeEnd, LinesFault>
 where
     R::File: FileExt,
+    ensures { IsRunOf ready.items result (W.contents writer.old) (W.contents writer.new) }
 {
     let Place {
         folder,
@@ -167,23 +285,15 @@ where
         hands,
     } = place;
     let folder = folder.as_str();
-    let parts = DirShelf::of(rt.clone()?, folder, Kept::Parts)?;
-    let traces = DirShelf::of(rt.clone()?, folder, Kept::Traces)?;
-    let hand = DirHand::new(rt.clone()?, folder, Arc::try_clone(&numbers)?)?;
-    let mut closing = Closing::new(alloc, parts, traces, hand)?;
-    move_left(rt, alloc, folder, &left, error)?;
-    let (shelf, hand) = closing.devices();
-    let ended = match open_all(alloc, ready, shelf, hand) {
-        Ok(served) => {
-            match serve_opened(rt, alloc, served, hands, gate, &mut closing, writer, error) {
-                Ok(()) => end_of(closing.trouble),
-                Err(fault) => Err(fault),
-            }
-        }
-        Err(NotOpened::Damaged(line)) => tell_not_opened(&line, writer),
-        Err(NotOpened::Fault(LinesFault::ReadFault)) => Ok(ServeEnd::Unopened),
-        Err(NotOpened::Fault(fault)) => Err(fault),
+    let mut closing = match closing_in(rt, alloc, folder, &numbers) {
+        Ok(closing) => closing,
+        Err(_) => return Err(LinesFault::Memory),
     };
+    match move_left(rt, alloc, folder, &left, error) {
+        Ok(()) => {}
+        Err(_) => return Err(LinesFault::Memory),
+    }
+    let ended = serve_closing(rt, alloc, ready, hands, gate, &mut closing, writer, error);
     if closing.keeps_all {
         // All numbers of this run are below the next one.
         remove_own(rt, folder, first, numbers.draw(), ended)
@@ -193,9 +303,14 @@ where
 }
 
 // Writes why nothing is served.
-fn tell_not_opened<W: Write>(line: &[u8], writer: &mut W) -> Result<ServeEnd, LinesFault> {
-    write_whole(writer, line)?;
-    Ok(ServeEnd::Refused)
+fn tell_refused<W: Write>(line: &[u8], writer: &mut W) -> Result<ServeEnd, LinesFault>
+    ensures by { IsRefusedBy line.now result (W.contents writer.old) (W.contents writer.new) }
+    ensures ok { IfOk result (λ end. (end ≡ ServeEnd.Refused) × Appends (W.contents writer.old) (W.contents writer.new) line.now) }
+{
+    match write_whole(writer, line) {
+        Ok(()) => Ok(ServeEnd::Refused),
+        Err(fault) => Err(fault),
+    }
 }
 
 // Removes the value files of this run, which has ended so. Where memory for that is refused they are left.
@@ -205,7 +320,9 @@ fn remove_own<R: Files + AllocGlobal + Clone + Drop>(
     first: u64,
     end: u64,
     ended: Result<ServeEnd, LinesFault>,
-) -> Result<ServeEnd, LinesFault> {
+) -> Result<ServeEnd, LinesFault>
+    ensures { IsEndBehind ended result }
+{
     match (remove_between(rt, folder, first, end), ended) {
         (Err(error), Ok(_)) if error.kind() == ErrorKind::OutOfMemory => Err(LinesFault::Memory),
         _ => ended,
@@ -213,24 +330,20 @@ fn remove_own<R: Files + AllocGlobal + Clone + Drop>(
 }
 
 /// Serves the objects of a source to so many connections at a gate, each on threads of its own, and ends when all have
-/// ended, or the gate is shut and those that were taken have ended. The parts of each object are read from the folder
-/// at the start, and saved there at the end, with its trace.
+/// ended, or the gate is shut and those that were taken have ended. The parts of each object are read from the folder at the start, and saved
+/// there at the end, with its trace.
 ///
-/// It writes `listening PORT` once connections are taken, and at the end `NAME entries K` for each object, in order,
-/// that was closed and saved, and whose trace was written. Where nothing is served it writes why: the fault of the
-/// source, or a line for each object that is refused, as a check does; or `part OBJECT.PART damaged`. At the end that
-/// line stands for a part that spells no value, and `close OBJECT refused` for an object that does not close; it
-/// is saved all the same.
+/// It writes `listening PORT` once connections are taken, and at the end `NAME entries K` for each object, in order, that was closed and
+/// saved, and whose trace was written. Where nothing is served it writes why: the fault of the source, or a line for each object that is
+/// refused, as a check does; or `part OBJECT.PART damaged`. At the end that line stands for a part that spells no value, and `close OBJECT
+/// refused` for an object that does not close; it is saved all the same.
 ///
-/// `error` is told what a user has to know beside that: `moved to left/K: N.val ..` of the value files that an earlier
-/// run left, where it did not save all; `session of NAME mixed`; `OBJECT.PART not saved: N.val ..` with the files that
-/// hold the value, page by page; `OBJECT.trace not written`.
-/// The value files of this run are removed at the end where each object was saved and traced, and
-/// where nothing was served.
+/// `error` is told what a user has to know beside that: `moved to left/K: N.val ..` of the value files that an earlier run left, where it
+/// did not save all; `session of NAME mixed`; `OBJECT.PART not saved: N.val ..` with the files that hold the value, page by page; `OBJECT.trace not written`.
+/// The value files of this run are removed at the end where each object was saved and traced, and where nothing was served.
 ///
-/// The faults: `ReadFault` where a connection could not be taken or served, after which all else is still done;
-/// `WriteFault` where a part or a trace cannot be saved or a line not be written; `Memory`. Of
-/// several the first is told.
+/// The faults: `ReadFault` where a connection could not be taken or served, after which all else is still done; `WriteFault`
+/// where a part or a trace cannot be saved or a line not be written; `Memory`. Of several the first is told.
 pub fn serve_on<
     R: Files + AllocGlobal + Threads + Wait + Clock + Clone + Drop + Sync,
     H: Hand + Ends + Drop + Send,
@@ -247,15 +360,13 @@ pub fn serve_on<
 ) -> Result<ServeEnd, LinesFault>
 where
     R::File: FileExt,
-    // A source that is not served: what says why is written, and nothing else. Of a source that is served
-    // each object is accepted.
-    ensures { IfOk result (IsHandled source.now (W.contents writer.old) (W.contents writer.new)) }
+    // A source that is not served: what says why is written, and nothing else. Of a source that is served each object is accepted.
+    ensures handled { IfOk result (IsHandled source.now (W.contents writer.old) (W.contents writer.new)) }
+    ensures run { IsRun source.now result (W.contents writer.old) (W.contents writer.new) }
 {
-    match judge(alloc, source)? {
-        Judged::Told(text) => {
-            write_whole(writer, &text)?;
-            Ok(ServeEnd::Refused)
-        }
-        Judged::Ready(ready) => serve_ready(rt, alloc, ready, place, gate, writer, error),
+    match judge(alloc, source) {
+        Ok(Judged::Told(text)) => tell_refused(&text, writer),
+        Ok(Judged::Ready(ready)) => serve_ready(rt, alloc, ready, place, gate, writer, error),
+        Err(_) => Err(LinesFault::Memory),
     }
 }

@@ -1,0 +1,105 @@
+-- What is saved of an object is what its history leads to.
+use Rattle.std.proofs.Common.{◌≡◌, ◌∙◌, ap, sym, subst, refl, inl, inr, ◌⊎◌, ℕ, List, [], ◌∷◌, ◌++◌, length, Bool, true, false, cond, Option, Some, None, arith}
+use Rattle.std.specs.Prelude.{slice_get, codes}
+use Rattle.std.specs.FinMap.{get, insert, get-insert}
+use Rattle.std.specs.Ordering.{nat_cmp, eq_by_cmp}
+use Rattle.std.specs.Cmp.Lexicographic.{slice_cmp, nat_list_cmp_total}
+use Rattle.std.proofs.lemmas.Cmp.{eq_by_cmp_equiv}
+use Rattle.std.proofs.lemmas.Map.Lookups.{exact_bytes}
+use Rattle.std.proofs.lemmas.Map.Views.{tells_apart}
+use Rattle.std.proofs.lemmas.List.{append_cancel_left}
+use Rattle.std.proofs.lemmas.Option.{same_Some, slice_get-map, slice_get_within}
+use Rattle.core.specs.Option.{option_map}
+use Rattle.value_core.specs.declared.kind.Kind.{Kind}
+use Rattle.value_core.specs.Contents.{Contents}
+use Rattle.value_core.specs.Spelling.{Spells}
+use Rattle.decl_core.specs.declared.object.Part.{Part}
+use Rattle.hand_core.specs.declared.hand.Stamp.{Stamp}
+use Rattle.hand_core.specs.Device.{Assignment}
+use Rattle.hand_core.specs.Papers.{Papers, part_key}
+use Rattle.page_core.specs.Bytes.{list_bytes}
+use Rattle.apply_core.specs.History.{leads_to}
+use Rattle.board_core.specs.Lists.{Every, Among}
+use Rattle.board_core.specs.Calls.{Noted}
+use Rattle.board_core.specs.Board.{Board}
+use Rattle.board_core.specs.Chain.{ShowContents, history_of}
+use Rattle.board_core.specs.Sound.{kinds_of}
+use Rattle.slip_core.specs.Slips.{Told, StandsIn}
+use Rattle.office_core.specs.Rooms.{RoomState}
+use Rattle.office_core.proofs.Law.{slips_are_legal}
+use Rattle.seat_core.specs.declared.seat.Seat.{Seat}
+use Rattle.keep_core.specs.Kept.{Stored, with_stores, IsOfPart, IsOfPin, HasStore}
+use Rattle.keep_core.specs.Ends.{IsClosed}
+use Rattle.keep_core.specs.Laws.{AreApart, HoldsPart, KeptIsHistory}
+
+-- under this name stand the bytes of these pages
+abbrev IsGood : Assignment → List ℕ → List Stamp → Papers → Type 0
+IsGood a key pages papers = (bytes : List ℕ) × (get papers key ≡ Some bytes) × (list_bytes a pages ≡ Some bytes)
+
+-- a store under the same name puts its bytes there
+put_here : (papers : Papers) (key : List ℕ) (bytes : List ℕ) → get (insert papers key bytes) key ≡ Some bytes
+put_here papers key bytes =
+    get-insert nat_list_cmp_total papers key bytes key ∙ ap (λ (b : Bool). cond b (Some bytes) (get papers key)) ((eq_by_cmp_equiv nat_list_cmp_total).refl key)
+
+module _ (a : Assignment) (object : List ℕ) (parts : List Part) (pins : List (List Stamp)) (apart : AreApart parts) (place : ℕ) (part : Part) (pages : List Stamp) (there : slice_get parts place ≡ Some part) (under : slice_get pins place ≡ Some pages) where
+  -- a store of this part
+  good_here : (papers : Papers) (s : Stored) → s.place ≡ place → IsOfPart parts s → IsOfPin a pins s → IsGood a (part_key object part.name) pages (insert papers (part_key object s.part.name) s.bytes)
+  good_here papers s same of (pin, pinned, fetched) =
+      let one : s.part ≡ part = same_Some s.part part (sym of ∙ ap (slice_get parts) same ∙ there) in
+      let pages_are : pin ≡ pages = same_Some pin pages (sym pinned ∙ ap (slice_get pins) same ∙ under) in (
+        s.bytes,
+        ap (λ (p : Part). get (insert papers (part_key object s.part.name) s.bytes) (part_key object p.name)) (sym one) ∙ put_here papers (part_key object s.part.name) s.bytes,
+        ap (list_bytes a) (sym pages_are) ∙ fetched.there,
+      )
+
+  -- a store of any part
+  good_still : (papers : Papers) (s : Stored) → IsGood a (part_key object part.name) pages papers → IsOfPart parts s → IsOfPin a pins s → IsGood a (part_key object part.name) pages (insert papers (part_key object s.part.name) s.bytes)
+  good_still papers s good of pinned = by_key (eq_by_cmp (slice_cmp nat_cmp) (part_key object part.name) (part_key object s.part.name)) refl where
+    by_key : (b : Bool) → eq_by_cmp (slice_cmp nat_cmp) (part_key object part.name) (part_key object s.part.name) ≡ b → IsGood a (part_key object part.name) pages (insert papers (part_key object s.part.name) s.bytes)
+    by_key true is =
+        let keys : part_key object part.name ≡ part_key object s.part.name = tells_apart exact_bytes (part_key object part.name) (part_key object s.part.name) is in
+        let names : part.name ≡ s.part.name = append_cancel_left (object ++ codes ".") part.name s.part.name keys in
+        good_here papers s (sym (apart place s.place part s.part there of names)) of pinned
+    by_key false is = (
+      good.0,
+      get-insert nat_list_cmp_total papers (part_key object s.part.name) s.bytes (part_key object part.name) ∙ ap (λ (b : Bool). cond b (Some s.bytes) (get papers (part_key object part.name))) is ∙ good.1,
+      good.2,
+    )
+
+  good_then : (papers : Papers) (stores : List Stored) → IsGood a (part_key object part.name) pages papers → Every (IsOfPart parts) stores → Every (IsOfPin a pins) stores → IsGood a (part_key object part.name) pages (with_stores papers object stores)
+  good_then papers [] good of pinned = good
+  good_then papers (s ∷ more) good (of, all_of) (pinned, all_pinned) = good_then (insert papers (part_key object s.part.name) s.bytes) more (good_still papers s good of pinned) all_of all_pinned
+
+  good_all : (papers : Papers) (stores : List Stored) → HasStore stores place → Every (IsOfPart parts) stores → Every (IsOfPin a pins) stores → IsGood a (part_key object part.name) pages (with_stores papers object stores)
+  good_all papers [] (s, among, same) of pinned = absurd among
+  good_all papers (first ∷ more) (s, inl is, same) (of, all_of) (pinned, all_pinned) =
+      good_then (insert papers (part_key object first.part.name) first.bytes) more (good_here papers first (ap (λ (t : Stored). t.place) is ∙ same) of pinned) all_of all_pinned
+  good_all papers (first ∷ more) (s, inr among, same) (of, all_of) (pinned, all_pinned) =
+      good_all (insert papers (part_key object first.part.name) first.bytes) more (s, among, same) all_of all_pinned
+
+-- the slips of a room that was closed stand in its history
+slips_stand : (closed : Bool) (r : RoomState) (b : Board) (seats : List Seat) (slips : List Told) → IsClosed closed r seats slips → closed ≡ true → r.board ≡ b → Every (StandsIn b.history) slips
+slips_stand closed r b seats slips how is same =
+    let all = subst (λ (v : Bool). IsClosed v r seats slips) is how in
+    subst (λ (c : Board). Every (StandsIn c.history) slips) same all.2
+
+pub kept_is_history : KeptIsHistory
+kept_is_history a e before papers contents ended closed have hold shows =
+    let o = e.board.object in
+    let stand : Every (StandsIn e.board.history) e.slips = slips_stand e.became.closed ended.room e.board e.seats e.slips ended.closed closed ended.of in
+    let law = slips_are_legal a e.board e.slips contents ended.sound stand have hold shows in (
+      law.0,
+      λ apart saved stored place part there.
+          let kind : slice_get (kinds_of o) place ≡ Some part.kind = slice_get-map (λ (p : Part). p.kind) o.parts.items place ∙ ap (option_map (λ (p : Part). p.kind)) there in
+          let shown = law.1.each place part.kind kind in
+          let has = stored.whole saved place (omega arith) (slice_get_within o.parts.items place part there) (slice_get_within o.parts.items place part there) in
+          let good = good_all a o.name o.parts.items e.board.pins apart place part shown.0 there shown.2 before stored.stores has stored.parts (stored.pinned a refl) in
+          let same : shown.4.bytes ≡ good.0 = same_Some shown.4.bytes good.0 (sym shown.4.there ∙ good.2) in
+          record {
+            bytes = good.0;
+            there = ap (λ (p : Papers). get p (part_key o.name part.name)) stored.after ∙ good.1;
+            value = shown.1;
+            at = shown.3;
+            spells = subst (λ (bs : List ℕ). Spells bs part.kind shown.1) same shown.4.spells;
+          },
+    )

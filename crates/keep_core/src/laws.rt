@@ -1,0 +1,9 @@
+//! A law of what is kept, over the definitions alone.
+
+ghost use Rattle.keep_core.specs.Laws.{KeptIsHistory};
+
+/// What is saved of an object that is closed is what its history leads to, where each entry has a slip and each slip is
+/// true.
+pub fn kept_is_history()
+    ensures { KeptIsHistory }
+{}
