@@ -31,13 +31,16 @@ stays_refused [] = refl
 stays_refused (place ∷ places) = refl
 
 -- an object that closes
-pub ending_closed : {agrees : Assignment → Type 0} {parts_were parts_are traces_were traces_are : Papers → Type 0} {opening : List Contents} {became : Became} {before kept : Trouble} {kept_all keeps_all : Bool} {old known new : Option (List ℕ)}
-    (name : List ℕ) (seats : List Seat) (slips : List Told) (b : Board) (after : Trouble) (result : Result (Unit {0}) LinesFault) →
-    (r : RoomState) × IsIdle r.board × AreSeatsOf r seats × Every (StandsIn r.board.history) slips × (b ≡ r.board) →
-    IsSound b → KeepsDesk agrees parts_were parts_are traces_were traces_are b opening true became before kept kept_all keeps_all old known →
-    AreTold (entries_lines (kept_in became) name (length b.history)) result known new → after.fault ≡ first_of kept.fault (fault_in result) → after.refused ≡ kept.refused →
+pub ending_closed : {agrees : Assignment → Type 0} {parts_were parts_are traces_were traces_are : Papers → Type 0} {became : Became} {before kept : Trouble} {kept_all keeps_all : Bool} {old known new : Option (List ℕ)} {given : List Contents} {stood : List Told} {called : List ℕ} {count : ℕ}
+    (name : List ℕ) (opening : List Contents) (seats : List Seat) (slips : List Told) (b : Board) (after : Trouble) (result : Result (Unit {0}) LinesFault) →
+    given ≡ opening → stood ≡ slips → called ≡ name → count ≡ length b.history →
+    (r : RoomState) × IsIdle r.board × AreSeatsOf r seats × Every (StandsIn r.board.history) stood × (b ≡ r.board) →
+    IsSound b → KeepsDesk agrees parts_were parts_are traces_were traces_are b given true became before kept kept_all keeps_all old known →
+    AreTold (entries_lines (kept_in became) called count) result known new → after.fault ≡ first_of kept.fault (fault_in result) → after.refused ≡ kept.refused →
     (e : Ended) × IsOf name opening seats slips e × IsEnding agrees parts_were parts_are traces_were traces_are e before after kept_all keeps_all old new
-ending_closed {opening = opening} {became = became} {before = before} {old = old} {new = new} name seats slips b after result (r, idle, all_seats, stand, is) sound k told fault refused =
+ending_closed {became = became} {before = before} {old = old} {known = known} {new = new} {given = given} {stood = stood} {called = called} name opening seats slips b after result opens slipped calls counts (r, idle, all_seats, stand, is) sound k wrote fault refused =
+    let told : AreTold (entries_lines (kept_in became) name (length b.history)) result known new =
+    subst (λ (n : List ℕ). AreTold (entries_lines (kept_in became) n (length b.history)) result known new) calls (subst (λ (n : ℕ). AreTold (entries_lines (kept_in became) called n) result known new) counts wrote) in
     let one : Option LinesFault = k.saves.met in
     let two : Option LinesFault = k.traces.met in
     let last : Option LinesFault = fault_in result in
@@ -46,8 +49,8 @@ ending_closed {opening = opening} {became = became} {before = before} {old = old
     let of_one : met ≡ None → one ≡ None = λ none. first_none one two (first_none (first_of one two) last none) in
     let rest : List (List ℕ) = damaged_lines b.object damaged ++ entries_lines (kept_in became) name (length b.history) in
     let said : AreSaid rest met old new = said_then k.saves.said told.said of_one (second_none (first_of one two) last) in
-    let e : Ended = record { name = name; opening = opening; seats = seats; slips = slips; board = b; became = became; damaged = damaged } in
-    (e, record { named = refl; opened = refl; seated = refl; slipped = refl }, record {
+    let e : Ended = record { name = name; opening = given; seats = seats; slips = stood; board = b; became = became; damaged = damaged } in
+    (e, record { named = refl; opened = opens; seated = refl; slipped = slipped }, record {
       ended = record { sound = sound; room = r; of = sym is; closed = subst (λ (v : Bool). IsClosed v r seats slips) (sym k.closed) (idle, all_seats, stand) };
       met = met;
       closing = closing_first (first_of one two) last (closing_first one two k.saves.closing k.traces.closing) told.closing;
@@ -65,13 +68,15 @@ ending_closed {opening = opening} {became = became} {before = before} {old = old
     })
 
 -- an object that does not close
-pub ending_refused : {agrees : Assignment → Type 0} {parts_were parts_are traces_were traces_are : Papers → Type 0} {opening : List Contents} {became : Became} {told_all after : Trouble} {kept_all keeps_all : Bool} {old known new : Option (List ℕ)}
-    (name : List ℕ) (seats : List Seat) (slips : List Told) (b : Board) (before refused : Trouble) (result : Result (Unit {0}) LinesFault) (why : CloseFault) →
-    (r : RoomState) × IsWhyBy Told StandsIn place_told r seats slips why × (b ≡ r.board) →
+pub ending_refused : {agrees : Assignment → Type 0} {parts_were parts_are traces_were traces_are : Papers → Type 0} {became : Became} {told_all after : Trouble} {kept_all keeps_all : Bool} {old known new : Option (List ℕ)} {given : List Contents} {stood : List Told} {called : List ℕ}
+    (name : List ℕ) (opening : List Contents) (seats : List Seat) (slips : List Told) (b : Board) (before refused : Trouble) (result : Result (Unit {0}) LinesFault) (why : CloseFault) →
+    given ≡ opening → stood ≡ slips → called ≡ name →
+    (r : RoomState) × IsWhyBy Told StandsIn place_told r seats stood why × (b ≡ r.board) →
     IsSound b → refused.fault ≡ before.fault → refused.refused ≡ true → told_all.fault ≡ first_of refused.fault (fault_in result) → told_all.refused ≡ refused.refused →
-    AreTold (refused_line name ∷ []) result old known → KeepsDesk agrees parts_were parts_are traces_were traces_are b opening false became told_all after kept_all keeps_all known new →
+    AreTold (refused_line called ∷ []) result old known → KeepsDesk agrees parts_were parts_are traces_were traces_are b given false became told_all after kept_all keeps_all known new →
     (e : Ended) × IsOf name opening seats slips e × IsEnding agrees parts_were parts_are traces_were traces_are e before after kept_all keeps_all old new
-ending_refused {opening = opening} {became = became} {told_all = told_all} {old = old} {new = new} name seats slips b before refused result why (r, is_why, is) sound same marked fault kept told k =
+ending_refused {became = became} {told_all = told_all} {old = old} {known = known} {new = new} {given = given} {stood = stood} name opening seats slips b before refused result why opens slipped calls (r, is_why, is) sound same marked fault kept wrote k =
+    let told : AreTold (refused_line name ∷ []) result old known = subst (λ (n : List ℕ). AreTold (refused_line n ∷ []) result old known) calls wrote in
     let early : Option LinesFault = fault_in result in
     let one : Option LinesFault = k.saves.met in
     let two : Option LinesFault = k.traces.met in
@@ -80,11 +85,11 @@ ending_refused {opening = opening} {became = became} {told_all = told_all} {old 
     let lines : List (List ℕ) = damaged_lines b.object damaged in
     let of_one : met ≡ None → one ≡ None = λ none. first_none one two (second_none early (first_of one two) none) in
     let none_kept : kept_in became ≡ false = ap (λ (v : Bool). cond v (cond became.saved became.traced false) false) k.closed in
-    let rest : AreSaid (lines ++ []) met _ new = said_then k.saves.said (nothing_said None new) of_one (λ none. refl) in
+    let rest : AreSaid (lines ++ []) met known new = said_then k.saves.said (nothing_said None new) of_one (λ none. refl) in
     let all : AreSaid ((refused_line name ∷ []) ++ (lines ++ [])) met old new = said_then told.said rest (first_none early (first_of one two)) (λ none. none) in
     let marked_still : told_all.refused ≡ true = kept ∙ marked in
-    let e : Ended = record { name = name; opening = opening; seats = seats; slips = slips; board = b; became = became; damaged = damaged } in
-    (e, record { named = refl; opened = refl; seated = refl; slipped = refl }, record {
+    let e : Ended = record { name = name; opening = given; seats = seats; slips = stood; board = b; became = became; damaged = damaged } in
+    (e, record { named = refl; opened = opens; seated = refl; slipped = slipped }, record {
       ended = record { sound = sound; room = r; of = sym is; closed = subst (λ (v : Bool). IsClosed v r seats slips) (sym k.closed) (why, is_why) };
       met = met;
       closing = closing_first early (first_of one two) told.closing (closing_first one two k.saves.closing k.traces.closing);

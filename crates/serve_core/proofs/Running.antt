@@ -52,21 +52,6 @@ data_whole None true end is whole = absurd (other (sym is ∙ whole)) where
     is_refused (Err f) = false
 data_whole None false end is whole = (refl, refl)
 
-end_unopened : (fault : Option LinesFault) (refused : Bool) (end : Result ServeEnd LinesFault) → IsEndOf fault refused end → end ≡ Ok Unopened → ⊥
-end_unopened (Some f) refused end is un = met_not (ap fault_of_end (sym is ∙ un))
-end_unopened None true end is un = true≢false (sym (ap is_unopened (sym is ∙ un))) where
-  is_unopened : Result ServeEnd LinesFault → Bool
-  is_unopened (Ok Whole) = false
-  is_unopened (Ok Refused) = false
-  is_unopened (Ok Unopened) = true
-  is_unopened (Err f) = false
-end_unopened None false end is un = true≢false (sym (ap is_unopened (sym is ∙ un))) where
-  is_unopened : Result ServeEnd LinesFault → Bool
-  is_unopened (Ok Whole) = false
-  is_unopened (Ok Refused) = false
-  is_unopened (Ok Unopened) = true
-  is_unopened (Err f) = false
-
 -- no fault is in the end only where none was noted
 end_quiet : (fault : Option LinesFault) (refused : Bool) (end : Result ServeEnd LinesFault) → IsEndOf fault refused end → fault_of_end end ≡ None → fault ≡ None
 end_quiet (Some f) refused end is none = met_not (sym (ap fault_of_end is) ∙ none)
@@ -102,8 +87,10 @@ run_served {old = old} {new = new} objects names after end s same is =
       named = s.closes.named ∙ same;
       each = all.each;
       said = said;
+      gathered = s.gathered;
+      met = all.met;
+      by = inl (subst (λ (f : Option LinesFault). IsEndOf f (refused_all s.gathered.refused ends) end) all.fault (subst (λ (r : Bool). IsEndOf after.fault r end) all.refused is));
       whole = whole;
-      opened = end_unopened after.fault after.refused end is;
     })
 
 -- a fault came before any was served
@@ -138,8 +125,10 @@ run_memory objects end (inl run) = inl (record {
   named = run.named;
   each = run.each;
   said = said_as run.said (λ none. met_not none);
+  gathered = run.gathered;
+  met = run.met;
+  by = inr refl;
   whole = λ done. met_not (ap fault_of_end done);
-  opened = λ done. met_not (ap fault_of_end done);
 })
 run_memory objects end (inr run) = inr (record { lines = run.lines; by = unserved_failed objects run.lines end run.by; said = said_as run.said (λ none. met_not none) })
 

@@ -15,11 +15,13 @@ use Rattle.source_core.specs.Judging.{IsServed, IsUnserved}
 use Rattle.keep_core.specs.declared.open.NotOpened.{NotOpened}
 use Rattle.keep_core.specs.declared.open.NotOpened.TheVariants.{Damaged, Fault}
 use Rattle.keep_core.specs.declared.trouble.Trouble.{Trouble}
+use Rattle.keep_core.specs.Troubles.{first_of}
 use Rattle.keep_core.specs.Lines.{AreSaid, damaged_line}
 use Rattle.keep_core.specs.Ends.{Ended, IsAtEnd}
 use Rattle.serve_core.specs.declared.serve.ServeEnd.{ServeEnd}
 use Rattle.serve_core.specs.declared.serve.ServeEnd.TheVariants.{Whole, Refused, Unopened}
-use Rattle.serve_core.specs.Closes.{names_of, lines_all, entries_all, IsWhole, Closes}
+use Rattle.serve_core.specs.Ends.{IsEndOf}
+use Rattle.serve_core.specs.Closes.{names_of, lines_all, entries_all, refused_all, IsWhole, Closes}
 
 -- the names under which offices are opened
 abbrev pub named_in : List Named → List (List ℕ)
@@ -56,16 +58,19 @@ abbrev pub ServesOr : (Assignment → Type 0) → (Assignment → Type 0) → (P
 ServesOr agrees earlier pw pa tw ta names after kept_all keeps_all old new (Ok done) = Serves agrees earlier pw pa tw ta names after kept_all keeps_all old new
 ServesOr agrees earlier pw pa tw ta names after kept_all keeps_all old new (Err fault) = (port : ℕ) × AreSaid (listening_line port ∷ []) (Some fault) old new
 
--- These objects were served: `listening PORT` is written, and then, for each object in order, the lines for how it ended. Where the end is
--- whole each of them was closed, saved and traced, and these lines are `NAME entries K`, K the length of its history.
+-- These objects were served: `listening PORT` is written, and then, for each object in order, the lines for how it ended. The end is the
+-- first fault, those of sessions before those of the objects' ends; else refused, where a line says that something is; else whole, and then
+-- each object was closed, saved and traced, and its line is `NAME entries K`, K the length of its history. Memory may be refused behind that.
 pub record AreServed (objects : List Object) (end : Result ServeEnd LinesFault) (old new : Option (List ℕ)) : Type 0 where
   pub port : ℕ
   pub ends : List Ended
   pub named : names_of ends ≡ object_names objects
   pub each : Every IsAtEnd ends
   pub said : AreSaid (listening_line port ∷ lines_all ends) (fault_of_end end) old new
+  pub gathered : Trouble
+  pub met : Option LinesFault
+  pub by : IsEndOf (first_of gathered.fault met) (refused_all gathered.refused ends) end ⊎ (end ≡ Err Memory)
   pub whole : end ≡ Ok Whole → Every IsWhole ends × Appends old new (concat (listening_line port ∷ entries_all ends))
-  pub opened : end ≡ Ok Unopened → ⊥
 
 -- What is written where no object is served: the line of a part that is damaged, or nothing; where a fault comes a front of one line at most.
 abbrev pub IsUnservedBy : List Object → List (List ℕ) → Result ServeEnd LinesFault → Type 0
