@@ -51,7 +51,7 @@ ending_closed {became = became} {before = before} {old = old} {known = known} {n
     let said : AreSaid rest met old new = said_then k.saves.said told.said of_one (second_none (first_of one two) last) in
     let e : Ended = record { name = name; opening = given; seats = seats; slips = stood; board = b; became = became; damaged = damaged } in
     (e, record { named = refl; opened = opens; seated = refl; slipped = slipped }, record {
-      ended = record { sound = sound; room = r; of = sym is; closed = subst (λ (v : Bool). IsClosed v r seats slips) (sym k.closed) (idle, all_seats, stand) };
+      ended = record { sound = sound; room = r; of = sym is; closed = subst (λ (v : Bool). IsClosed v r seats stood) (sym k.closed) (idle, all_seats, stand) };
       met = met;
       closing = closing_first (first_of one two) last (closing_first one two k.saves.closing k.traces.closing) told.closing;
       fault = fault ∙ ap (λ (f : Option LinesFault). first_of f last) (k.traces.fault ∙ ap (λ (f : Option LinesFault). first_of f two) k.saves.fault ∙ first_first before.fault one two) ∙ first_first before.fault (first_of one two) last;
@@ -90,7 +90,7 @@ ending_refused {became = became} {told_all = told_all} {old = old} {known = know
     let marked_still : told_all.refused ≡ true = kept ∙ marked in
     let e : Ended = record { name = name; opening = given; seats = seats; slips = stood; board = b; became = became; damaged = damaged } in
     (e, record { named = refl; opened = opens; seated = refl; slipped = slipped }, record {
-      ended = record { sound = sound; room = r; of = sym is; closed = subst (λ (v : Bool). IsClosed v r seats slips) (sym k.closed) (why, is_why) };
+      ended = record { sound = sound; room = r; of = sym is; closed = subst (λ (v : Bool). IsClosed v r seats stood) (sym k.closed) (why, is_why) };
       met = met;
       closing = closing_first early (first_of one two) told.closing (closing_first one two k.saves.closing k.traces.closing);
       fault = k.traces.fault ∙ ap (λ (f : Option LinesFault). first_of f two) k.saves.fault ∙ first_first told_all.fault one two

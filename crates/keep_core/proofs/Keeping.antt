@@ -1,6 +1,6 @@
 -- Parts that are stored one after the other, and traces.
 use Rattle.std.proofs.Common.{◌≡◌, ◌∙◌, ap, sym, subst, refl, ℕ, zero, suc, ◌+◌, ◌-◌, ◌<◌, ◌≤◌, ◌⊎◌, inl, inr, List, [], ◌∷◌, ◌++◌, length, take, Bool, true, false, Option, Some, None, Result, Ok, Err, arith}
-use Rattle.std.specs.Prelude.{slice_get, IsTrue}
+use Rattle.std.specs.Prelude.{slice_get, IsTrue, OnOk, OnErr}
 use Rattle.std.specs.FinMap.{insert}
 use Rattle.std.proofs.lemmas.List.{length-take, take_all}
 use Rattle.std.proofs.lemmas.Option.{none-some}
@@ -348,3 +348,12 @@ closing_of hand.Memory = tt
 pub traces_not : {name text : List ℕ} {were are : Papers → Type 0} {before after : Trouble} (why : HandFault) → StoresText 0 name text were are →
     after.fault ≡ first_of before.fault (Some (fault_by why)) → after.refused ≡ before.refused → Traces name text were are false before after
 traces_not why stored fault refused = record { met = Some (fault_by why); closing = closing_of why; fault = fault; refused = refused; quiet = λ whole. absurd (false≢true whole); loud = λ none. met_not none; stored = stored }
+
+-- what a result says where it is good, or where it is not, and what follows from that
+pub on_ok : {E P Q : Type 0} (result : Result (Unit {0}) E) → (P → Q) → OnOk result P → OnOk result Q
+on_ok (Ok done) follows is = follows is
+on_ok (Err why) follows is = tt
+
+pub on_err : {E P Q : Type 0} (result : Result (Unit {0}) E) → (P → Q) → OnErr result P → OnErr result Q
+on_err (Ok done) follows is = tt
+on_err (Err why) follows is = follows is

@@ -1,6 +1,6 @@
 //! The end of a server: each object is closed, its parts are saved and its trace is written.
 
-ghost use Rattle.std.specs.Prelude.{◌≡◌, ◌++◌, ◌+◌, ◌<◌, ◌≤◌, ℕ, [], ◌∷◌, OnOk, OnErr, length};
+ghost use Rattle.std.specs.Prelude.{◌≡◌, ◌++◌, ◌+◌, ◌<◌, ◌≤◌, ℕ, [], ◌∷◌, OnOk, OnErr, IsTrue, length};
 ghost use Rattle.std.specs.FinMap.{insert};
 ghost use Rattle.hand_core.specs.Papers.{Papers};
 ghost use Rattle.hand_core.specs.Device.{Assignment};
@@ -261,6 +261,14 @@ fn save_one<S: Shelf, H: Hand, W: Write, E: Write>(
     }
 }
 
+// Whether the one and the other is so.
+fn both(one: bool, more: bool) -> bool
+    ensures all { IsTrue result → IsTrue one × IsTrue more }
+    ensures back { IsTrue one → IsTrue more → IsTrue result }
+{
+    one && more
+}
+
 // Saves each part from this one on that can be saved by itself. It answers whether all of them are saved.
 fn save_from<S: Shelf, H: Hand, W: Write, E: Write>(
     alloc: Global,
@@ -298,7 +306,7 @@ fn save_from<S: Shelf, H: Hand, W: Write, E: Write>(
         writer,
         error,
     );
-    one && more
+    both(one, more)
 }
 
 // Saves the parts of an object. Where that fails each part is tried by itself, so what is wrong with one of them keeps no other one from
@@ -443,7 +451,8 @@ impl<S: Shelf + Drop, T: Shelf + Drop, H: Hand + Drop> Closing<S, T, H> {
             &mut self.trouble,
             error,
         );
-        self.keeps_all = self.keeps_all && saved && traced;
+        let kept = both(saved, traced);
+        self.keeps_all = both(self.keeps_all, kept);
         Became {
             closed,
             saved,
