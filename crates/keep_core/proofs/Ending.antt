@@ -49,23 +49,26 @@ ending_closed {became = became} {before = before} {old = old} {known = known} {n
     let of_one : met ≡ None → one ≡ None = λ none. first_none one two (first_none (first_of one two) last none) in
     let rest : List (List ℕ) = damaged_lines b.object damaged ++ entries_lines (kept_in became) name (length b.history) in
     let said : AreSaid rest met old new = said_then k.saves.said told.said of_one (second_none (first_of one two) last) in
-    let e : Ended = record { name = name; opening = given; seats = seats; slips = stood; board = b; became = became; damaged = damaged } in
-    (e, record { named = refl; opened = opens; seated = refl; slipped = slipped }, record {
-      ended = record { sound = sound; room = r; of = sym is; closed = subst (λ (v : Bool). IsClosed v r seats stood) (sym k.closed) (idle, all_seats, stand) };
-      met = met;
-      closing = closing_first (first_of one two) last (closing_first one two k.saves.closing k.traces.closing) told.closing;
-      fault = fault ∙ ap (λ (f : Option LinesFault). first_of f last) (k.traces.fault ∙ ap (λ (f : Option LinesFault). first_of f two) k.saves.fault ∙ first_first before.fault one two) ∙ first_first before.fault (first_of one two) last;
-      refused = refused ∙ k.traces.refused ∙ k.saves.refused ∙ sym (ap (λ (v : Bool). cond v (refused_by before.refused damaged) true) k.closed);
-      said = subst (λ (v : Bool). AreSaid (cond v [] (refused_line name ∷ []) ++ rest) met old new) (sym k.closed) said;
-      whole = λ none quiet. (
+    let e : Ended = record { name = name; opening = given; seats = seats; slips = stood; board = b; became = became; damaged = damaged } in (
+      e,
+      record { named = refl; opened = opens; seated = refl; slipped = slipped },
+      record {
+        ended = record { sound = sound; room = r; of = sym is; closed = subst (λ (v : Bool). IsClosed v r seats stood) (sym k.closed) (idle, all_seats, stand) };
+        met = met;
+        closing = closing_first (first_of one two) last (closing_first one two k.saves.closing k.traces.closing) told.closing;
+        fault = fault ∙ ap (λ (f : Option LinesFault). first_of f last) (k.traces.fault ∙ ap (λ (f : Option LinesFault). first_of f two) k.saves.fault ∙ first_first before.fault one two) ∙ first_first before.fault (first_of one two) last;
+        refused = refused ∙ k.traces.refused ∙ k.saves.refused ∙ sym (ap (λ (v : Bool). cond v (refused_by before.refused damaged) true) k.closed);
+        said = subst (λ (v : Bool). AreSaid (cond v [] (refused_line name ∷ []) ++ rest) met old new) (sym k.closed) said;
+        whole = λ none quiet. (
           k.closed,
           k.saves.loud (of_one none) (not_refused damaged (sym (ap (λ (v : Bool). cond v (refused_by false damaged) true) k.closed) ∙ quiet)),
           k.traces.loud (second_none one two (first_none (first_of one two) last none)),
-      );
-      stored = k.saves.stored;
-      traced = k.traces.stored;
-      keeps = k.keeps;
-    })
+        );
+        stored = k.saves.stored;
+        traced = k.traces.stored;
+        keeps = k.keeps;
+      },
+    )
 
 -- an object that does not close
 pub ending_refused : {agrees : Assignment → Type 0} {parts_were parts_are traces_were traces_are : Papers → Type 0} {became : Became} {told_all after : Trouble} {kept_all keeps_all : Bool} {old known new : Option (List ℕ)} {given : List Contents} {stood : List Told} {called : List ℕ}
@@ -88,18 +91,21 @@ ending_refused {became = became} {told_all = told_all} {old = old} {known = know
     let rest : AreSaid (lines ++ []) met known new = said_then k.saves.said (nothing_said None new) of_one (λ none. refl) in
     let all : AreSaid ((refused_line name ∷ []) ++ (lines ++ [])) met old new = said_then told.said rest (first_none early (first_of one two)) (λ none. none) in
     let marked_still : told_all.refused ≡ true = kept ∙ marked in
-    let e : Ended = record { name = name; opening = given; seats = seats; slips = stood; board = b; became = became; damaged = damaged } in
-    (e, record { named = refl; opened = opens; seated = refl; slipped = slipped }, record {
-      ended = record { sound = sound; room = r; of = sym is; closed = subst (λ (v : Bool). IsClosed v r seats stood) (sym k.closed) (why, is_why) };
-      met = met;
-      closing = closing_first early (first_of one two) told.closing (closing_first one two k.saves.closing k.traces.closing);
-      fault = k.traces.fault ∙ ap (λ (f : Option LinesFault). first_of f two) k.saves.fault ∙ first_first told_all.fault one two
-          ∙ ap (λ (f : Option LinesFault). first_of f (first_of one two)) (fault ∙ ap (λ (f : Option LinesFault). first_of f early) same) ∙ first_first before.fault early (first_of one two);
-      refused = k.traces.refused ∙ k.saves.refused ∙ ap (λ (v : Bool). refused_by v damaged) marked_still ∙ stays_refused damaged ∙ sym (ap (λ (v : Bool). cond v (refused_by before.refused damaged) true) k.closed);
-      said = subst (λ (v : Bool). AreSaid (cond v [] (refused_line name ∷ []) ++ (lines ++ entries_lines (kept_in became) name (length b.history))) met old new) (sym k.closed)
-          (subst (λ (v : Bool). AreSaid ((refused_line name ∷ []) ++ (lines ++ entries_lines v name (length b.history))) met old new) (sym none_kept) all);
-      whole = λ none quiet. absurd (true≢false (sym (ap (λ (v : Bool). cond v (refused_by false damaged) true) k.closed) ∙ quiet));
-      stored = k.saves.stored;
-      traced = k.traces.stored;
-      keeps = k.keeps;
-    })
+    let e : Ended = record { name = name; opening = given; seats = seats; slips = stood; board = b; became = became; damaged = damaged } in (
+      e,
+      record { named = refl; opened = opens; seated = refl; slipped = slipped },
+      record {
+        ended = record { sound = sound; room = r; of = sym is; closed = subst (λ (v : Bool). IsClosed v r seats stood) (sym k.closed) (why, is_why) };
+        met = met;
+        closing = closing_first early (first_of one two) told.closing (closing_first one two k.saves.closing k.traces.closing);
+        fault = k.traces.fault ∙ ap (λ (f : Option LinesFault). first_of f two) k.saves.fault ∙ first_first told_all.fault one two
+            ∙ ap (λ (f : Option LinesFault). first_of f (first_of one two)) (fault ∙ ap (λ (f : Option LinesFault). first_of f early) same) ∙ first_first before.fault early (first_of one two);
+        refused = k.traces.refused ∙ k.saves.refused ∙ ap (λ (v : Bool). refused_by v damaged) marked_still ∙ stays_refused damaged ∙ sym (ap (λ (v : Bool). cond v (refused_by before.refused damaged) true) k.closed);
+        said = subst (λ (v : Bool). AreSaid (cond v [] (refused_line name ∷ []) ++ (lines ++ entries_lines (kept_in became) name (length b.history))) met old new) (sym k.closed)
+            (subst (λ (v : Bool). AreSaid ((refused_line name ∷ []) ++ (lines ++ entries_lines v name (length b.history))) met old new) (sym none_kept) all);
+        whole = λ none quiet. absurd (true≢false (sym (ap (λ (v : Bool). cond v (refused_by false damaged) true) k.closed) ∙ quiet));
+        stored = k.saves.stored;
+        traced = k.traces.stored;
+        keeps = k.keeps;
+      },
+    )

@@ -166,13 +166,13 @@ stored_then {object = object} {pins = pins} {first = first} {mid = mid} {end = e
       after = more.after ∙ ap (λ (p : Papers). with_stores p object.name more.stores) so.after ∙ sym (with_stores_then base object.name so.stores more.stores);
       whole = λ all place from to within. place_of all place from to within (or_behind place mid);
     } where
-  place_of : IsTrue both → (place : ℕ) → first ≤ place → place < end → place < length object.parts.items → (place < mid) ⊎ (mid ≤ place) → HasStore (so.stores ++ more.stores) place
-  place_of all place from to within (inl below) =
-      let s = so.whole (whole all).0 place from below within in
-      (s.0, among_left s.0 so.stores more.stores s.1, s.2)
-  place_of all place from to within (inr behind) =
-      let s = more.whole (whole all).1 place behind to within in
-      (s.0, among_right s.0 so.stores more.stores s.1, s.2)
+      place_of : IsTrue both → (place : ℕ) → first ≤ place → place < end → place < length object.parts.items → (place < mid) ⊎ (mid ≤ place) → HasStore (so.stores ++ more.stores) place
+      place_of all place from to within (inl below) =
+          let s = so.whole (whole all).0 place from below within in
+          (s.0, among_left s.0 so.stores more.stores s.1, s.2)
+      place_of all place from to within (inr behind) =
+          let s = more.whole (whole all).1 place behind to within in
+          (s.0, among_right s.0 so.stores more.stores s.1, s.2)
 
 pub first_nothing : (before : Option LinesFault) → before ≡ first_of before None
 first_nothing None = refl

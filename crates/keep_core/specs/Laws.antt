@@ -34,5 +34,5 @@ KeptIsHistory = (a : Assignment) (e : Ended) (before papers : Papers) (contents 
     IsAtEnd e → IsTrue e.became.closed → HaveSlips e.board.history e.slips → Every (IsTrueTold a) e.slips → ShowContents a (kinds_of e.board.object) e.board.opening contents →
     IsLegal (history_of e.board.history) contents
     × (AreApart e.board.object.parts.items → IsTrue e.became.saved →
-        AreStored (λ (b : Assignment). b ≡ a) e.board.object e.board.pins 0 (length e.board.object.parts.items) e.became.saved before papers →
-        (place : ℕ) (part : Part) → slice_get e.board.object.parts.items place ≡ Some part → HoldsPart papers e.board.object.name part place (leads_to (history_of e.board.history) contents))
+    AreStored (λ (b : Assignment). b ≡ a) e.board.object e.board.pins 0 (length e.board.object.parts.items) e.became.saved before papers →
+    (place : ℕ) (part : Part) → slice_get e.board.object.parts.items place ≡ Some part → HoldsPart papers e.board.object.name part place (leads_to (history_of e.board.history) contents))

@@ -91,11 +91,7 @@ fn tell<W: Write>(
 }
 
 // `close NAME refused`.
-fn tell_refused<W: Write>(
-    line: &mut Vec<u8>,
-    name: &[u8],
-    writer: &mut W,
-) -> Result<(), LinesFault>
+fn tell_refused<W: Write>(line: &mut Vec<u8>, name: &[u8], writer: &mut W) -> Result<(), LinesFault>
     ensures { AreTold (refused_line name.now ∷ []) result (W.contents writer.old) (W.contents writer.new) }
 {
     line.clear();

@@ -96,10 +96,7 @@ fn tell_port<W: Write>(alloc: Global, gate: &Gate, writer: &mut W) -> Result<(),
         Ok(()) => {}
         Err(_) => return Err(LinesFault::Memory),
     }
-    match write_whole(writer, &line) {
-        Ok(()) => Ok(()),
-        Err(fault) => Err(fault),
-    }
+    write_whole(writer, &line)
 }
 
 // What the sessions of the next object left; where that is not there, nothing.
@@ -168,6 +165,29 @@ fn next_opening(alloc: Global, openings: &mut IntoIter<Vec<Value>>) -> Vec<Value
     }
 }
 
+// Serves objects whose parts are open, and gathers what their sessions leave.
+fn serve_gathered<
+    R: Threads + Wait + Clock + Sync,
+    H: Hand + Ends + Drop + Send,
+    E: Write,
+>(
+    rt: &R,
+    alloc: Global,
+    offices: &Vec<Named>,
+    hands: Vec<H>,
+    gate: &Gate,
+    gathering: Gathering,
+    trouble: &mut Trouble,
+    error: &mut E,
+) -> Vec<Gathered> {
+    let mut gathering = gathering;
+    match serve_all(rt, alloc, gate, hands, offices) {
+        Ok(all) => gathering.gather(all, offices, error, trouble),
+        Err(_) => trouble.note(LinesFault::Memory),
+    }
+    gathering.into_rooms()
+}
+
 // Serves objects whose parts are open, and closes them.
 fn serve_opened<
     R: Threads + Wait + Clock + Sync,
@@ -189,7 +209,7 @@ fn serve_opened<
 ) -> Result<(), LinesFault>
     ensures { ServesOr (K.agrees closing.new.hand) (K.agrees closing.old.hand) (S.holds closing.old.parts) (S.holds closing.new.parts) (T.holds closing.old.traces) (T.holds closing.new.traces) (named_in served.offices.items) closing.new.trouble closing.old.keeps_all closing.new.keeps_all (W.contents writer.old) (W.contents writer.new) result }
 {
-    let mut gathering = match Gathering::new(alloc, served.offices.len(), hands.len()) {
+    let gathering = match Gathering::new(alloc, served.offices.len(), hands.len()) {
         Ok(gathering) => gathering,
         Err(_) => return Err(LinesFault::Memory),
     };
@@ -197,12 +217,16 @@ fn serve_opened<
         Ok(()) => {}
         Err(fault) => return Err(fault),
     }
-    let offices = &served.offices;
-    match serve_all(rt, alloc, gate, hands, offices) {
-        Ok(all) => gathering.gather(all, offices, error, &mut closing.trouble),
-        Err(_) => closing.trouble.note(LinesFault::Memory),
-    }
-    let rooms = gathering.into_rooms();
+    let rooms = serve_gathered(
+        rt,
+        alloc,
+        &served.offices,
+        hands,
+        gate,
+        gathering,
+        &mut closing.trouble,
+        error,
+    );
     close_all(alloc, served, rooms, closing, writer, error);
     Ok(())
 }

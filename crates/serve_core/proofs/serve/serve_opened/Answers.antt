@@ -1,11 +1,19 @@
-use denote.Param.Send.{sendable}
-use Rattle.std.proofs.Crossing.{crosses}
-use Rattle.session_core.proofs.Sending.{named_sync, named_field_sync}
-use Rattle.serve_core.proofs.Sending.{gate_sync}
+use Rattle.line_core.specs.declared.machine.LinesFault.TheVariants.{Memory}
+use Rattle.keep_core.proofs.Telling.{none_said}
+use Rattle.serve_core.specs.Runs.{listening_line}
 use Rattle.serve_core.proofs.serve.serve_opened.Goals as goal
 
-pub serve_all-requires-sync-O : goal.serve_all-requires-sync-O
-serve_all-requires-sync-O g c κs = search (sendable, crosses, named_sync, named_field_sync) depth 40
+pub returns-in-Err : goal.returns-in-Err
+returns-in-Err g c = (0, none_said (listening_line 0) Memory (g.W.Write.contents c.args.writer.now))
 
-pub serve_all-requires-sync-D : goal.serve_all-requires-sync-D
-serve_all-requires-sync-D g c κs = search (sendable, gate_sync) depth 40
+pub returns-in-Err-tell_port : goal.returns-in-Err-tell_port
+returns-in-Err-tell_port g c = c.in-Err-tell_port.ensures
+
+pub returns : goal.returns
+returns g c = record {
+  port = c.in-Ok-tell_port.ensures.0;
+  known = g.W.Write.contents c.tell_port.new.writer;
+  listens = c.in-Ok-tell_port.ensures.1;
+  gathered = c.serve_gathered-rooms.new.trouble;
+  closes = c.close_all.ensures;
+}

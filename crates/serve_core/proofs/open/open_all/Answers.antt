@@ -1,0 +1,26 @@
+use Rattle.std.proofs.Common.{ap, sym, subst, length, arith}
+use Rattle.serve_core.specs.Runs.{named_in, IsNotOpenedOf}
+use Rattle.serve_core.proofs.Steps.{step_some, step_none}
+use Rattle.serve_core.proofs.Opening.{opened_none, opened_more, opened_all, opened_not}
+use Rattle.serve_core.proofs.open.open_all.Goals as goal
+
+pub loop-accepted-init : goal.loop-accepted-init
+loop-accepted-init g c =
+    let gives = c.into_iter-accepted-iterator.ensures.into_iter_gives in
+    opened_none _ _ _ _ gives.0 (omega (arith, gives.1, ap length gives.0, c.args.ready.ok.0)) (ap named_in c.new.ensures.items)
+
+pub loop-accepted-preserved : goal.loop-accepted-preserved
+loop-accepted-preserved g c =
+    let step = step_some _ _ c.in-Some.is c.next.ensures.steps in
+    opened_more c.in-Some.accepted _ _ _ c.in-Ok.opened.name c.loop-accepted.invariant step.0 step.1 c.in-Ok.ensures.name c.in-Ok-add.ensures.named
+
+pub returns-in-Err-clause-not : goal.returns-in-Err-clause-not
+returns-in-Err-clause-not g c =
+    let step = step_some _ _ c.in-Some.is c.next.ensures.steps in
+    opened_not c.in-Some.accepted _ c.in-Err.why c.loop-accepted.invariant step.0 c.in-Err.ensures.not
+
+pub returns-in-Err-add-clause-not : goal.returns-in-Err-add-clause-not
+returns-in-Err-add-clause-not g c = subst (IsNotOpenedOf c.args.ready.items) (sym c.in-Err-add.ensures.not) tt
+
+pub returns-clause-named : goal.returns-clause-named
+returns-clause-named g c = opened_all c.loop-accepted.invariant (step_none _ c.in-None.is c.next.ensures.steps)
