@@ -1,5 +1,5 @@
 -- How an object ends.
-use Rattle.std.proofs.Common.{◌≡◌, ◌∙◌, ap, sym, subst, refl, ℕ, List, [], ◌∷◌, ◌++◌, length, Bool, true, false, cond, Option, Some, None, Result, Ok, Err}
+use Rattle.std.proofs.Common.{◌≡◌, ◌∙◌, ap, sym, subst, refl, ℕ, List, [], ◌∷◌, ◌++◌, length, Bool, true, false, cond, Option, None, Result}
 use Rattle.std.proofs.lemmas.Bool.{true≢false}
 use Rattle.line_core.specs.declared.machine.LinesFault.{LinesFault}
 use Rattle.value_core.specs.Contents.{Contents}
@@ -18,7 +18,7 @@ use Rattle.keep_core.specs.declared.trouble.Trouble.{Trouble}
 use Rattle.keep_core.specs.Troubles.{first_of, fault_in}
 use Rattle.keep_core.specs.Lines.{AreSaid, AreTold, damaged_lines, entries_lines, refused_line}
 use Rattle.keep_core.specs.Kept.{refused_by}
-use Rattle.keep_core.specs.Ends.{kept_in, KeepsDesk, Ended, IsClosed, IsAtEnd, IsOf, IsEnding}
+use Rattle.keep_core.specs.Ends.{kept_in, KeepsDesk, Ended, IsClosed, IsOf, IsEnding}
 use Rattle.keep_core.proofs.Telling.{nothing_said, said_then, first_none, second_none, first_first, closing_first}
 
 -- where no line says so, no part is damaged

@@ -1,8 +1,8 @@
 -- Parts that are stored one after the other, and traces.
-use Rattle.std.proofs.Common.{◌≡◌, ◌∙◌, ap, sym, subst, refl, ℕ, zero, suc, ◌+◌, ◌-◌, ◌<◌, ◌≤◌, ◌⊎◌, inl, inr, List, [], ◌∷◌, ◌++◌, length, take, Bool, true, false, Option, Some, None, Result, Ok, Err, arith}
+use Rattle.std.proofs.Common.{◌≡◌, ◌∙◌, ap, sym, subst, refl, ℕ, zero, suc, ◌+◌, ◌<◌, ◌≤◌, ◌⊎◌, inl, inr, List, [], ◌∷◌, ◌++◌, length, take, Bool, true, false, Option, Some, None, Result, Ok, Err, arith}
 use Rattle.std.specs.Prelude.{slice_get, IsTrue, OnOk, OnErr}
 use Rattle.std.specs.FinMap.{insert}
-use Rattle.std.proofs.lemmas.List.{length-take, take_all}
+use Rattle.std.proofs.lemmas.List.{length-take}
 use Rattle.std.proofs.lemmas.Option.{none-some}
 use Rattle.std.proofs.lemmas.Bool.{false≢true}
 use Rattle.line_core.specs.declared.machine.LinesFault.{LinesFault}
@@ -17,12 +17,12 @@ use Rattle.hand_core.specs.Papers.{Papers, part_key}
 use Rattle.store_core.specs.declared.save.SaveFault.{SaveFault}
 use Rattle.store_core.specs.declared.save.SaveFault.TheVariants.{Damaged, Device}
 use Rattle.store_core.specs.declared.save.SaveFault.TheVariants as save
-use Rattle.store_core.specs.Saved.{IsFetched, AreFetched, with_parts, IsDamagedPin, IsSavedTo, IsStored, MaySave, PartLeaves, PartLeft, PinSaveCause, SaveLeaves, StoreLeaves}
+use Rattle.store_core.specs.Saved.{IsFetched, AreFetched, with_parts, IsDamagedPin, IsSavedTo, MaySave, PartLeaves, PartLeft, PinSaveCause, SaveLeaves, StoreLeaves}
 use Rattle.board_core.specs.Lists.{Every, Among}
 use Rattle.keep_core.specs.declared.trouble.Trouble.{Trouble}
 use Rattle.keep_core.specs.Troubles.{first_of, fault_in}
 use Rattle.keep_core.specs.Lines.{AreSaid, AreTold, IsOfClosing, damaged_line, damaged_lines}
-use Rattle.keep_core.specs.Kept.{Stored, with_stores, IsOfPart, IsOfPin, HasStore, AreStored, refused_by, Saves, damaged_by, IsMetBy, Notes, fault_by, once, stored_times, StoresText, Traces}
+use Rattle.keep_core.specs.Kept.{Stored, with_stores, IsOfPart, IsOfPin, HasStore, AreStored, refused_by, Saves, damaged_by, IsMetBy, Notes, fault_by, stored_times, StoresText, Traces}
 use Rattle.keep_core.proofs.Telling.{nothing_said, said_then, first_none, second_none, first_first, closing_first, met_not}
 
 -- it holds of each of some and of each of others

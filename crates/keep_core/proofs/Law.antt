@@ -1,5 +1,5 @@
 -- What is saved of an object is what its history leads to.
-use Rattle.std.proofs.Common.{◌≡◌, ◌∙◌, ap, sym, subst, refl, inl, inr, ◌⊎◌, ℕ, List, [], ◌∷◌, ◌++◌, length, Bool, true, false, cond, Option, Some, None, arith}
+use Rattle.std.proofs.Common.{◌≡◌, ◌∙◌, ap, sym, subst, refl, inl, inr, ℕ, List, [], ◌∷◌, ◌++◌, Bool, true, false, cond, Some, arith}
 use Rattle.std.specs.Prelude.{slice_get, codes}
 use Rattle.std.specs.FinMap.{get, insert, get-insert}
 use Rattle.std.specs.Ordering.{nat_cmp, eq_by_cmp}
@@ -10,19 +10,14 @@ use Rattle.std.proofs.lemmas.Map.Views.{tells_apart}
 use Rattle.std.proofs.lemmas.List.{append_cancel_left}
 use Rattle.std.proofs.lemmas.Option.{same_Some, slice_get-map, slice_get_within}
 use Rattle.std.specs.Option.{option_map}
-use Rattle.value_core.specs.declared.kind.Kind.{Kind}
-use Rattle.value_core.specs.Contents.{Contents}
 use Rattle.value_core.specs.Spelling.{Spells}
 use Rattle.decl_core.specs.declared.object.Part.{Part}
 use Rattle.hand_core.specs.declared.hand.Stamp.{Stamp}
 use Rattle.hand_core.specs.Device.{Assignment}
 use Rattle.hand_core.specs.Papers.{Papers, part_key}
 use Rattle.page_core.specs.Bytes.{list_bytes}
-use Rattle.apply_core.specs.History.{leads_to}
-use Rattle.board_core.specs.Lists.{Every, Among}
-use Rattle.board_core.specs.Calls.{Noted}
+use Rattle.board_core.specs.Lists.{Every}
 use Rattle.board_core.specs.Board.{Board}
-use Rattle.board_core.specs.Chain.{ShowContents, history_of}
 use Rattle.board_core.specs.Sound.{kinds_of}
 use Rattle.slip_core.specs.Slips.{Told, StandsIn}
 use Rattle.office_core.specs.Rooms.{RoomState}
@@ -30,7 +25,7 @@ use Rattle.office_core.proofs.Law.{slips_are_legal}
 use Rattle.seat_core.specs.declared.seat.Seat.{Seat}
 use Rattle.keep_core.specs.Kept.{Stored, with_stores, IsOfPart, IsOfPin, HasStore}
 use Rattle.keep_core.specs.Ends.{IsClosed}
-use Rattle.keep_core.specs.Laws.{AreApart, HoldsPart, KeptIsHistory}
+use Rattle.keep_core.specs.Laws.{AreApart, KeptIsHistory}
 
 -- under this name stand the bytes of these pages
 abbrev IsGood : Assignment → List ℕ → List Stamp → Papers → Type 0

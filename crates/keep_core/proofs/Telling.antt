@@ -1,5 +1,5 @@
 -- Lines that are told one after the other.
-use Rattle.std.proofs.Common.{◌≡◌, ◌∙◌, ap, sym, subst, refl, ℕ, List, [], ◌∷◌, ◌++◌, length, take, Bool, true, false, cond, Option, Some, None, Result, Ok, Err, arith}
+use Rattle.std.proofs.Common.{◌≡◌, ◌∙◌, ap, sym, subst, refl, ℕ, List, [], ◌∷◌, ◌++◌, length, take, Option, Some, None, Result, Ok, Err, arith}
 use Rattle.std.specs.Prelude.{OnOk, OnErr, IfErr}
 use Rattle.std.specs.List.{concat}
 use Rattle.std.specs.Io.KnownBytes.{Appends, Keeps}
@@ -8,9 +8,9 @@ use Rattle.std.proofs.lemmas.List.{append-nil, append_assoc, take_all}
 use Rattle.std.proofs.lemmas.List.Folds.{concat-append}
 use Rattle.std.proofs.lemmas.Option.{none-some}
 use Rattle.line_core.specs.declared.machine.LinesFault.{LinesFault}
-use Rattle.line_core.specs.declared.machine.LinesFault.TheVariants.{ReadFault, WriteFault, Memory}
+use Rattle.line_core.specs.declared.machine.LinesFault.TheVariants.{WriteFault, Memory}
 use Rattle.line_core.proofs.Known.{Appends-none, Appends-kept, Appends-then}
-use Rattle.keep_core.specs.Troubles.{first_of, fault_in}
+use Rattle.keep_core.specs.Troubles.{first_of}
 use Rattle.keep_core.specs.Lines.{AreFronts, AreSaid, AreTold, IsOfClosing, IsWritten}
 
 -- nothing was said

@@ -1,5 +1,6 @@
 -- What is kept of an object at the end.
-use Rattle.std.specs.Prelude.{◌≡◌, ℕ, zero, suc, ◌<◌, ◌≤◌, ◌⊎◌, List, [], ◌∷◌, length, Bool, true, false, IsTrue, Option, Some, None, slice_get}
+use Rattle.std.specs.Prelude.{◌≡◌, ℕ, zero, suc, ◌<◌, ◌≤◌, List, [], ◌∷◌, length, Bool, true, false, IsTrue}
+use Rattle.std.specs.Prelude.{Option, Some, None, slice_get}
 use Rattle.std.specs.FinMap.{insert}
 use Rattle.line_core.specs.declared.machine.LinesFault.{LinesFault}
 use Rattle.line_core.specs.declared.machine.LinesFault.TheVariants.{WriteFault, Memory}
@@ -43,21 +44,24 @@ HasStore stores place = (s : Stored) × Among s stores × (s.place ≡ place)
 
 -- Some parts were stored, each with the bytes under its pin, and nothing else; where these are all, each part from the
 -- first place on to the end was.
-pub record AreStored (agrees : Assignment → Type 0) (object : Object) (pins : List (List Stamp)) (first end : ℕ) (all : Bool) (before papers : Papers) : Type 0 where
+pub record AreStored (agrees : Assignment → Type 0) (object : Object) (pins : List (List Stamp)) (first end : ℕ)
+    (all : Bool) (before papers : Papers) : Type 0 where
   pub stores : List Stored
   pub parts : Every (IsOfPart object.parts.items) stores
   pub pinned : (a : Assignment) → agrees a → Every (IsOfPin a pins) stores
   pub after : papers ≡ with_stores before object.name stores
-  pub whole : IsTrue all → (place : ℕ) → first ≤ place → place < end → place < length object.parts.items → HasStore stores place
+  pub whole : IsTrue all → (place : ℕ) → first ≤ place → place < end → place < length object.parts.items →
+      HasStore stores place
 
 -- whether a line said that something is refused or damaged, where one says so of these places too
 abbrev pub refused_by : Bool → List ℕ → Bool
 refused_by refused [] = refused
 refused_by refused (place ∷ places) = true
 
--- What saving the parts from one place on to another comes to: whether all are saved, the places of those that are damaged, the first
--- fault that was met, and what is stored.
-pub record Saves (agrees : Assignment → Type 0) (object : Object) (pins : List (List Stamp)) (first end : ℕ) (were are : Papers → Type 0) (all : Bool) (before after : Trouble) (old new : Option (List ℕ)) : Type 0 where
+-- What saving the parts from one place on to another comes to: whether all are saved, the places of those that are
+-- damaged, the first fault that was met, and what is stored.
+pub record Saves (agrees : Assignment → Type 0) (object : Object) (pins : List (List Stamp)) (first end : ℕ)
+    (were are : Papers → Type 0) (all : Bool) (before after : Trouble) (old new : Option (List ℕ)) : Type 0 where
   pub damaged : List ℕ
   pub why : (a : Assignment) → agrees a → Every (IsDamagedPin a object.parts.items pins) damaged
   pub met : Option LinesFault
@@ -67,7 +71,8 @@ pub record Saves (agrees : Assignment → Type 0) (object : Object) (pins : List
   pub said : AreSaid (damaged_lines object damaged) met old new
   pub quiet : IsTrue all → (met ≡ None) × (damaged ≡ [])
   pub loud : met ≡ None → damaged ≡ [] → IsTrue all
-  pub stored : (papers : Papers) → are papers → (base : Papers) × were base × AreStored agrees object pins first end all base papers
+  pub stored : (papers : Papers) → are papers →
+      (base : Papers) × were base × AreStored agrees object pins first end all base papers
 
 -- the fault of a write to a folder
 abbrev pub fault_by : HandFault → LinesFault
@@ -80,14 +85,16 @@ damaged_by (save.Damaged n) place = place ∷ []
 damaged_by (save.Device n) place = []
 damaged_by save.Memory place = []
 
--- the fault that is met because a part was not saved; that it is damaged is none, but the line that says so may meet one
+-- the fault that is met because a part was not saved; that it is damaged is none, but the line that
+-- says so may meet one
 abbrev pub IsMetBy : SaveFault → Option LinesFault → Type 0
 IsMetBy (save.Damaged n) met = IsOfClosing met
 IsMetBy (save.Device n) met = met ≡ Some WriteFault
 IsMetBy save.Memory met = met ≡ Some Memory
 
 -- what is noted and told of a part that was not saved
-pub record Notes (object : Object) (place : ℕ) (why : SaveFault) (before after : Trouble) (old new : Option (List ℕ)) : Type 0 where
+pub record Notes (object : Object) (place : ℕ) (why : SaveFault) (before after : Trouble)
+    (old new : Option (List ℕ)) : Type 0 where
   pub met : Option LinesFault
   pub by : IsMetBy why met
   pub fault : after.fault ≡ first_of before.fault met
@@ -101,7 +108,9 @@ stored_times (suc n) papers name text = insert (stored_times n papers name text)
 
 -- a text was stored under a name, at least so many times, and nothing else
 abbrev pub StoresText : ℕ → List ℕ → List ℕ → (Papers → Type 0) → (Papers → Type 0) → Type 0
-StoresText least name text were are = (papers : Papers) → are papers → (base : Papers) × were base × (times : ℕ) × (least ≤ times) × (papers ≡ stored_times times base name text)
+StoresText least name text were are =
+    (papers : Papers) → are papers → (base : Papers) × were base × (times : ℕ) × (least ≤ times)
+    × (papers ≡ stored_times times base name text)
 
 -- 1 where it is true
 abbrev pub once : Bool → ℕ
@@ -109,7 +118,8 @@ once true = 1
 once false = 0
 
 -- What writing a trace comes to: whether it is written, the first fault that was met, and what is stored.
-pub record Traces (name text : List ℕ) (were are : Papers → Type 0) (done : Bool) (before after : Trouble) : Type 0 where
+pub record Traces (name text : List ℕ) (were are : Papers → Type 0) (done : Bool)
+    (before after : Trouble) : Type 0 where
   pub met : Option LinesFault
   pub closing : IsOfClosing met
   pub fault : after.fault ≡ first_of before.fault met

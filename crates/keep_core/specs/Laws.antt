@@ -17,22 +17,27 @@ use Rattle.keep_core.specs.Ends.{Ended, IsAtEnd}
 
 -- no two of these parts have one name
 abbrev pub AreApart : List Part → Type 0
-AreApart parts = (i j : ℕ) (p q : Part) → slice_get parts i ≡ Some p → slice_get parts j ≡ Some q → p.name ≡ q.name → i ≡ j
+AreApart parts =
+    (i j : ℕ) (p q : Part) → slice_get parts i ≡ Some p → slice_get parts j ≡ Some q → p.name ≡ q.name → i ≡ j
 
 -- what stands under a part's name spells the value at the part's place
-pub record HoldsPart (papers : Papers) (object : List ℕ) (part : Part) (place : ℕ) (contents : List Contents) : Type 0 where
+pub record HoldsPart (papers : Papers) (object : List ℕ) (part : Part) (place : ℕ)
+    (contents : List Contents) : Type 0 where
   pub bytes : List ℕ
   pub there : get papers (part_key object part.name) ≡ Some bytes
   pub value : Contents
   pub at : slice_get contents place ≡ Some value
   pub spells : Spells bytes part.kind value
 
--- Where an object was closed, each entry of its history has a slip, and each slip is true, the history is legal from what its opening pins
--- show; and where its parts were saved, each part's name holds what the history leads to.
+-- Where an object was closed, each entry of its history has a slip, and each slip is true, the history is legal from
+-- what its opening pins show; and where its parts were saved, each part's name holds what the history leads to.
 abbrev pub KeptIsHistory : Type 0
 KeptIsHistory = (a : Assignment) (e : Ended) (before papers : Papers) (contents : List Contents) →
-    IsAtEnd e → IsTrue e.became.closed → HaveSlips e.board.history e.slips → Every (IsTrueTold a) e.slips → ShowContents a (kinds_of e.board.object) e.board.opening contents →
+    IsAtEnd e → IsTrue e.became.closed → HaveSlips e.board.history e.slips → Every (IsTrueTold a) e.slips →
+    ShowContents a (kinds_of e.board.object) e.board.opening contents →
     IsLegal (history_of e.board.history) contents
     × (AreApart e.board.object.parts.items → IsTrue e.became.saved →
-    AreStored (λ (b : Assignment). b ≡ a) e.board.object e.board.pins 0 (length e.board.object.parts.items) e.became.saved before papers →
-    (place : ℕ) (part : Part) → slice_get e.board.object.parts.items place ≡ Some part → HoldsPart papers e.board.object.name part place (leads_to (history_of e.board.history) contents))
+    AreStored (λ (b : Assignment). b ≡ a) e.board.object e.board.pins 0 (length e.board.object.parts.items)
+    e.became.saved before papers →
+    (place : ℕ) (part : Part) → slice_get e.board.object.parts.items place ≡ Some part →
+    HoldsPart papers e.board.object.name part place (leads_to (history_of e.board.history) contents))

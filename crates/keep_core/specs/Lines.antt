@@ -1,5 +1,6 @@
 -- Lines that are told at the start and at the end.
-use Rattle.std.specs.Prelude.{◌≡◌, ℕ, List, [], ◌∷◌, ◌++◌, take, Bool, cond, Option, Some, None, Result, Ok, Err, codes, decimal, slice_get}
+use Rattle.std.specs.Prelude.{◌≡◌, ℕ, List, [], ◌∷◌, ◌++◌, take, Bool, cond, Option, Some, None, Result, Ok, Err, codes}
+use Rattle.std.specs.Prelude.{decimal, slice_get}
 use Rattle.std.specs.List.{concat}
 use Rattle.std.specs.Io.KnownBytes.{Appends, Keeps}
 use Rattle.std.specs.declared.alloc.AllocError.{AllocError}
@@ -60,11 +61,13 @@ IsOfClosing (Some WriteFault) = Unit {0}
 IsOfClosing (Some Memory) = Unit {0}
 
 -- lines were told, or not all of them, with a fault
-pub record AreTold (lines : List (List ℕ)) (result : Result (Unit {0}) LinesFault) (old new : Option (List ℕ)) : Type 0 where
+pub record AreTold (lines : List (List ℕ)) (result : Result (Unit {0}) LinesFault)
+    (old new : Option (List ℕ)) : Type 0 where
   pub said : AreSaid lines (fault_in result) old new
   pub closing : IsOfClosing (fault_in result)
 
 -- a line was written, where it was made
-abbrev pub IsWritten : Result (Unit {0}) AllocError → List ℕ → Result (Unit {0}) LinesFault → Option (List ℕ) → Option (List ℕ) → Type 0
+abbrev pub IsWritten : Result (Unit {0}) AllocError → List ℕ → Result (Unit {0}) LinesFault → Option (List ℕ) →
+    Option (List ℕ) → Type 0
 IsWritten (Ok made) line result old new = AreTold (line ∷ []) result old new
 IsWritten (Err refused) line result old new = (result ≡ Err Memory) × Keeps old new

@@ -1,6 +1,7 @@
 //! The end of a server: each object is closed, its parts are saved and its trace is written.
 
-ghost use Rattle.std.specs.Prelude.{◌≡◌, ◌++◌, ◌+◌, ◌<◌, ◌≤◌, ℕ, [], ◌∷◌, OnOk, OnErr, IsTrue, length};
+ghost use Rattle.std.specs.Prelude.{◌≡◌, ◌++◌, ◌+◌, ◌<◌, ◌≤◌, ℕ, [], ◌∷◌, length};
+ghost use Rattle.std.specs.Prelude.{IsTrue, OnErr, OnOk};
 ghost use Rattle.std.specs.FinMap.{insert};
 ghost use Rattle.hand_core.specs.Papers.{Papers};
 ghost use Rattle.hand_core.specs.Device.{Assignment};
@@ -47,8 +48,8 @@ pub struct Closing<S: Shelf + Drop, T: Shelf + Drop, H: Hand + Drop> {
     pub trouble: Trouble,
 }
 
-/// An object at the end: its name, its office, the values with which its parts opened, and the seats and receipts that its
-/// sessions left.
+/// An object at the end: its name, its office, the values with which its parts opened, and the seats and receipts that
+/// its sessions left.
 #[derive(Drop)]
 pub struct Ending {
     pub name: Name,
@@ -122,7 +123,8 @@ fn tell_entries<W: Write>(
     entries: usize,
     writer: &mut W,
 ) -> Result<(), LinesFault>
-    ensures { AreTold (entries_lines (kept_in became) name.now entries) result (W.contents writer.old) (W.contents writer.new) }
+    ensures { AreTold (entries_lines (kept_in became) name.now entries) result (W.contents writer.old)
+        (W.contents writer.new) }
 {
     if !is_kept(became) {
         return Ok(());
@@ -146,7 +148,8 @@ fn tell_damaged<W: Write>(
     tell(writer, line.as_slice(), made)
 }
 
-// Says on standard error which files hold the value of a part that is not saved, page by page: `OBJECT.PART not saved: N.val ..`.
+// Says on standard error which files hold the value of a part that is not saved, page by page: `OBJECT.PART
+// not saved: N.val ..`.
 fn tell_unsaved<E: Write>(
     line: &mut Vec<u8>,
     object: &Object,
@@ -225,7 +228,8 @@ fn note_unsaved<W: Write>(
     }
 }
 
-// Saves one part of an object. Where that fails it is noted, and it says which files hold the part's value. It answers whether the part is saved.
+// Saves one part of an object. Where that fails it is noted, and it says which files hold the part's value. It answers
+// whether the part is saved.
 fn save_one<S: Shelf, H: Hand, W: Write, E: Write>(
     alloc: Global,
     object: &Object,
@@ -241,7 +245,8 @@ fn save_one<S: Shelf, H: Hand, W: Write, E: Write>(
 ) -> bool
     requires pinned { length pins.now ≡ length object.now.parts.items }
     requires within { place < length object.now.parts.items }
-    ensures saves { Saves (H.agrees hand.new) object.now pins.now place (place + 1) (S.holds shelf.old) (S.holds shelf.new) result trouble.old trouble.new (W.contents writer.old) (W.contents writer.new) }
+    ensures saves { Saves (H.agrees hand.new) object.now pins.now place (place + 1) (S.holds shelf.old)
+        (S.holds shelf.new) result trouble.old trouble.new (W.contents writer.old) (W.contents writer.new) }
     ensures files { (a : Assignment) → H.agrees hand.new a → H.agrees hand.old a }
 {
     let part = &object.parts[place];
@@ -280,7 +285,9 @@ fn save_from<S: Shelf, H: Hand, W: Write, E: Write>(
     error: &mut E,
 ) -> bool
     requires { length pins.now ≡ length object.now.parts.items }
-    ensures saves { Saves (H.agrees hand.new) object.now pins.now first (length object.now.parts.items) (S.holds shelf.old) (S.holds shelf.new) result trouble.old trouble.new (W.contents writer.old) (W.contents writer.new) }
+    ensures saves { Saves (H.agrees hand.new) object.now pins.now first (length object.now.parts.items)
+        (S.holds shelf.old) (S.holds shelf.new) result trouble.old trouble.new (W.contents writer.old)
+        (W.contents writer.new) }
     ensures files { (a : Assignment) → H.agrees hand.new a → H.agrees hand.old a }
 {
     if first >= object.parts.len() {
@@ -305,8 +312,8 @@ fn save_from<S: Shelf, H: Hand, W: Write, E: Write>(
     both(one, more)
 }
 
-// Saves the parts of an object. Where that fails each part is tried by itself, so what is wrong with one of them keeps no other one from
-// being saved, and neither does memory that was refused once. It answers whether all are saved.
+// Saves the parts of an object. Where that fails each part is tried by itself, so what is wrong with one of them keeps
+// no other one from being saved, and neither does memory that was refused once. It answers whether all are saved.
 fn save_all<S: Shelf, H: Hand, W: Write, E: Write>(
     alloc: Global,
     desk: &Desk,
@@ -317,7 +324,9 @@ fn save_all<S: Shelf, H: Hand, W: Write, E: Write>(
     writer: &mut W,
     error: &mut E,
 ) -> bool
-    ensures saves { Saves (H.agrees hand.new) desk.now.object desk.now.pins 0 (length desk.now.object.parts.items) (S.holds shelf.old) (S.holds shelf.new) result trouble.old trouble.new (W.contents writer.old) (W.contents writer.new) }
+    ensures saves { Saves (H.agrees hand.new) desk.now.object desk.now.pins 0 (length desk.now.object.parts.items)
+        (S.holds shelf.old) (S.holds shelf.new) result trouble.old trouble.new (W.contents writer.old)
+        (W.contents writer.new) }
     ensures files { (a : Assignment) → H.agrees hand.new a → H.agrees hand.old a }
 {
     // The board is sound: each part has a pin.
@@ -347,9 +356,12 @@ fn save_all<S: Shelf, H: Hand, W: Write, E: Write>(
 
 // Writes the trace of an object, in place of the one that is there.
 fn store_trace<T: Shelf>(desk: &Desk, opening: &[Value], traces: &mut T) -> Result<(), HandFault>
-    ensures stored { OnOk result ((papers : Papers) → T.holds traces.new papers → (before : Papers) × T.holds traces.old before
-        × (papers ≡ insert before desk.now.object.name (text_of (object_of desk.now.object) opening.now (lines_told desk.now)))) }
-    ensures left { OnErr result (StoreLeaves (T.holds traces.old) (T.holds traces.new) desk.now.object.name (text_of (object_of desk.now.object) opening.now (lines_told desk.now))) }
+    ensures stored { OnOk result ((papers : Papers) → T.holds traces.new papers →
+        (before : Papers) × T.holds traces.old before
+        × (papers ≡ insert before desk.now.object.name (text_of (object_of desk.now.object) opening.now
+        (lines_told desk.now)))) }
+    ensures left { OnErr result (StoreLeaves (T.holds traces.old) (T.holds traces.new) desk.now.object.name
+        (text_of (object_of desk.now.object) opening.now (lines_told desk.now))) }
 {
     let Ok(text) = desk.trace_text(opening) else {
         return Err(HandFault::Memory);
@@ -362,8 +374,10 @@ fn store_trace<T: Shelf>(desk: &Desk, opening: &[Value], traces: &mut T) -> Resu
 
 // The same, and once more where memory was refused.
 fn store_again<T: Shelf>(desk: &Desk, opening: &[Value], traces: &mut T) -> Result<(), HandFault>
-    ensures stored { OnOk result (StoresText 1 desk.now.object.name (text_of (object_of desk.now.object) opening.now (lines_told desk.now)) (T.holds traces.old) (T.holds traces.new)) }
-    ensures left { OnErr result (StoresText 0 desk.now.object.name (text_of (object_of desk.now.object) opening.now (lines_told desk.now)) (T.holds traces.old) (T.holds traces.new)) }
+    ensures stored { OnOk result (StoresText 1 desk.now.object.name (text_of (object_of desk.now.object) opening.now
+        (lines_told desk.now)) (T.holds traces.old) (T.holds traces.new)) }
+    ensures left { OnErr result (StoresText 0 desk.now.object.name (text_of (object_of desk.now.object) opening.now
+        (lines_told desk.now)) (T.holds traces.old) (T.holds traces.new)) }
 {
     match store_trace(desk, opening, traces) {
         Ok(()) => Ok(()),
@@ -381,7 +395,8 @@ fn keep_trace<T: Shelf, E: Write>(
     trouble: &mut Trouble,
     error: &mut E,
 ) -> bool
-    ensures { Traces desk.now.object.name (text_of (object_of desk.now.object) opening.now (lines_told desk.now)) (T.holds traces.old) (T.holds traces.new) result trouble.old trouble.new }
+    ensures { Traces desk.now.object.name (text_of (object_of desk.now.object) opening.now (lines_told desk.now))
+        (T.holds traces.old) (T.holds traces.new) result trouble.old trouble.new }
 {
     match store_again(desk, opening, traces) {
         Ok(()) => true,
@@ -426,7 +441,9 @@ impl<S: Shelf + Drop, T: Shelf + Drop, H: Hand + Drop> Closing<S, T, H> {
         writer: &mut W,
         error: &mut E,
     ) -> Became
-        ensures kept { KeepsDesk (H.agrees self.new.hand) (S.holds self.old.parts) (S.holds self.new.parts) (T.holds self.old.traces) (T.holds self.new.traces) desk.now opening.now closed result self.old.trouble self.new.trouble self.old.keeps_all self.new.keeps_all (W.contents writer.old) (W.contents writer.new) }
+        ensures kept { KeepsDesk (H.agrees self.new.hand) (S.holds self.old.parts) (S.holds self.new.parts)
+            (T.holds self.old.traces) (T.holds self.new.traces) desk.now opening.now closed result self.old.trouble
+            self.new.trouble self.old.keeps_all self.new.keeps_all (W.contents writer.old) (W.contents writer.new) }
         ensures files { (a : Assignment) → H.agrees self.new.hand a → H.agrees self.old.hand a }
     {
         let saved = save_all(
@@ -456,8 +473,9 @@ impl<S: Shelf + Drop, T: Shelf + Drop, H: Hand + Drop> Closing<S, T, H> {
         }
     }
 
-    /// Closes one object, saves its parts, writes its trace, and says how many entries its history has, where all of this was done. A fault is
-    /// noted, and what does not hang on it is still done: an object that does not close is saved all the same.
+    /// Closes one object, saves its parts, writes its trace, and says how many entries its history has, where all of
+    /// this was done. A fault is noted, and what does not hang on it is still done: an object that does not close
+    /// is saved all the same.
     pub fn close_one<W: Write, E: Write>(
         &mut self,
         alloc: Global,
@@ -466,7 +484,9 @@ impl<S: Shelf + Drop, T: Shelf + Drop, H: Hand + Drop> Closing<S, T, H> {
         error: &mut E,
     )
         ensures ended { (e : Ended) × IsOf ending.name ending.opening.items ending.seats.items ending.receipts.items e
-            × IsEnding (H.agrees self.new.hand) (S.holds self.old.parts) (S.holds self.new.parts) (T.holds self.old.traces) (T.holds self.new.traces) e self.old.trouble self.new.trouble self.old.keeps_all self.new.keeps_all (W.contents writer.old) (W.contents writer.new) }
+            × IsEnding (H.agrees self.new.hand) (S.holds self.old.parts) (S.holds self.new.parts)
+            (T.holds self.old.traces) (T.holds self.new.traces) e self.old.trouble self.new.trouble self.old.keeps_all
+            self.new.keeps_all (W.contents writer.old) (W.contents writer.new) }
         ensures files { (a : Assignment) → H.agrees self.new.hand a → H.agrees self.old.hand a }
     {
         let Ending {

@@ -33,20 +33,24 @@ refused_all refused (e ∷ ends) = refused_all (refused_after refused e) ends
 abbrev pub AreStoredAll : (Assignment → Type 0) → Papers → List Ended → Papers → Type 0
 AreStoredAll agrees before [] papers = papers ≡ before
 AreStoredAll agrees before (e ∷ ends) papers =
-    (mid : Papers) × AreStored agrees e.board.object e.board.pins 0 (length e.board.object.parts.items) e.became.saved before mid × AreStoredAll agrees mid ends papers
+    (mid : Papers) × AreStored agrees e.board.object e.board.pins 0 (length e.board.object.parts.items) e.became.saved
+    before mid × AreStoredAll agrees mid ends papers
 
 -- the trace of each was stored, where it is said to be
 abbrev pub AreTracedAll : Papers → List Ended → Papers → Type 0
 AreTracedAll before [] papers = papers ≡ before
 AreTracedAll before (e ∷ ends) papers =
-    (mid : Papers) × ((times : ℕ) × (once e.became.traced ≤ times) × (mid ≡ stored_times times before e.board.object.name (trace_of e.board e.opening))) × AreTracedAll mid ends papers
+    (mid : Papers) × ((times : ℕ) × (once e.became.traced ≤ times)
+    × (mid ≡ stored_times times before e.board.object.name (trace_of e.board e.opening))) × AreTracedAll mid ends papers
 
 -- closed, saved and traced, and no part is damaged
 abbrev pub IsWhole : Ended → Type 0
 IsWhole e = IsKept e.became × (e.damaged ≡ [])
 
--- What closing objects, one after the other, comes to: the first fault that was met, what was told and noted, and what is stored.
-pub record AreEndings (agrees : Assignment → Type 0) (parts_were parts_are traces_were traces_are : Papers → Type 0) (ends : List Ended) (before after : Trouble) (kept_all keeps_all : Bool) (old new : Option (List ℕ)) : Type 0 where
+-- What closing objects, one after the other, comes to: the first fault that was met, what was told and
+-- noted, and what is stored.
+pub record AreEndings (agrees : Assignment → Type 0) (parts_were parts_are traces_were traces_are : Papers → Type 0)
+    (ends : List Ended) (before after : Trouble) (kept_all keeps_all : Bool) (old new : Option (List ℕ)) : Type 0 where
   pub each : Every IsAtEnd ends
   pub met : Option LinesFault
   pub closing : IsOfClosing met
@@ -54,13 +58,19 @@ pub record AreEndings (agrees : Assignment → Type 0) (parts_were parts_are tra
   pub refused : after.refused ≡ refused_all before.refused ends
   pub said : AreSaid (lines_all ends) met old new
   pub whole : met ≡ None → refused_all false ends ≡ false → Every IsWhole ends
-  pub stored : (papers : Papers) → parts_are papers → (base : Papers) × parts_were base × AreStoredAll agrees base ends papers
-  pub traced : (papers : Papers) → traces_are papers → (base : Papers) × traces_were base × AreTracedAll base ends papers
-  pub keeps : IsTrue keeps_all → IsTrue kept_all × Every (λ (e : Ended). IsTrue e.became.saved × IsTrue e.became.traced) ends
+  pub stored : (papers : Papers) → parts_are papers →
+      (base : Papers) × parts_were base × AreStoredAll agrees base ends papers
+  pub traced : (papers : Papers) → traces_are papers →
+      (base : Papers) × traces_were base × AreTracedAll base ends papers
+  pub keeps : IsTrue keeps_all → IsTrue kept_all
+      × Every (λ (e : Ended). IsTrue e.became.saved × IsTrue e.became.traced) ends
 
 -- Objects of these names were closed.
-pub record Closes (agrees earlier : Assignment → Type 0) (parts_were parts_are traces_were traces_are : Papers → Type 0) (names : List (List ℕ)) (before after : Trouble) (kept_all keeps_all : Bool) (old new : Option (List ℕ)) : Type 0 where
+pub record Closes (agrees earlier : Assignment → Type 0) (parts_were parts_are traces_were traces_are : Papers → Type 0)
+    (names : List (List ℕ)) (before after : Trouble) (kept_all keeps_all : Bool)
+    (old new : Option (List ℕ)) : Type 0 where
   pub ends : List Ended
   pub named : names_of ends ≡ names
-  pub endings : AreEndings agrees parts_were parts_are traces_were traces_are ends before after kept_all keeps_all old new
+  pub endings : AreEndings agrees parts_were parts_are traces_were traces_are ends before after kept_all keeps_all old
+      new
   pub files : (a : Assignment) → agrees a → earlier a

@@ -1,5 +1,6 @@
 -- What a server writes, and how it ends.
-use Rattle.std.specs.Prelude.{◌≡◌, ◌⊎◌, ℕ, Bool, List, [], ◌∷◌, ◌++◌, map, Option, Some, None, Result, Ok, Err, codes, decimal}
+use Rattle.std.specs.Prelude.{◌≡◌, ◌⊎◌, ℕ, Bool, List, [], ◌∷◌, ◌++◌, map, Option, Some, None, Result, Ok, Err, codes}
+use Rattle.std.specs.Prelude.{decimal}
 use Rattle.std.specs.List.{concat}
 use Rattle.std.specs.Io.KnownBytes.{Appends, Keeps}
 use Rattle.line_core.specs.declared.machine.LinesFault.{LinesFault}
@@ -46,22 +47,30 @@ fault_of_end (Ok end) = None
 fault_of_end (Err fault) = Some fault
 
 -- Objects under these names were served, and closed. What the sessions met was noted between.
-pub record Serves (agrees earlier : Assignment → Type 0) (parts_were parts_are traces_were traces_are : Papers → Type 0) (names : List (List ℕ)) (after : Trouble) (kept_all keeps_all : Bool) (old new : Option (List ℕ)) : Type 0 where
+pub record Serves (agrees earlier : Assignment → Type 0) (parts_were parts_are traces_were traces_are : Papers → Type 0)
+    (names : List (List ℕ)) (after : Trouble) (kept_all keeps_all : Bool) (old new : Option (List ℕ)) : Type 0 where
   pub port : ℕ
   pub known : Option (List ℕ)
   pub listens : AreSaid (listening_line port ∷ []) None old known
   pub gathered : Trouble
-  pub closes : Closes agrees earlier parts_were parts_are traces_were traces_are names gathered after kept_all keeps_all known new
+  pub closes : Closes agrees earlier parts_were parts_are traces_were traces_are names gathered after kept_all keeps_all
+      known new
 
 -- so it was, or a fault came before any was served
-abbrev pub ServesOr : (Assignment → Type 0) → (Assignment → Type 0) → (Papers → Type 0) → (Papers → Type 0) → (Papers → Type 0) → (Papers → Type 0) → List (List ℕ) → Trouble → Bool → Bool → Option (List ℕ) → Option (List ℕ) → Result (Unit {0}) LinesFault → Type 0
-ServesOr agrees earlier pw pa tw ta names after kept_all keeps_all old new (Ok done) = Serves agrees earlier pw pa tw ta names after kept_all keeps_all old new
-ServesOr agrees earlier pw pa tw ta names after kept_all keeps_all old new (Err fault) = (port : ℕ) × AreSaid (listening_line port ∷ []) (Some fault) old new
+abbrev pub ServesOr : (Assignment → Type 0) → (Assignment → Type 0) → (Papers → Type 0) → (Papers → Type 0) →
+    (Papers → Type 0) → (Papers → Type 0) → List (List ℕ) → Trouble → Bool → Bool → Option (List ℕ) → Option (List ℕ) →
+    Result (Unit {0}) LinesFault → Type 0
+ServesOr agrees earlier pw pa tw ta names after kept_all keeps_all old new (Ok done) =
+    Serves agrees earlier pw pa tw ta names after kept_all keeps_all old new
+ServesOr agrees earlier pw pa tw ta names after kept_all keeps_all old new (Err fault) =
+    (port : ℕ) × AreSaid (listening_line port ∷ []) (Some fault) old new
 
--- These objects were served: `listening PORT` is written, and then, for each object in order, the lines for how it ended. The end is the
--- first fault, those of sessions before those of the objects' ends; else refused, where a line says that something is; else whole, and then
--- each object was closed, saved and traced, and its line is `NAME entries K`, K the length of its history. Memory may be refused behind that.
-pub record AreServed (objects : List Object) (end : Result ServeEnd LinesFault) (old new : Option (List ℕ)) : Type 0 where
+-- These objects were served: `listening PORT` is written, and then, for each object in order, the lines for how it
+-- ended. The end is the first fault, those of sessions before those of the objects' ends; else refused, where a line
+-- says that something is; else whole, and then each object was closed, saved and traced, and its line is `NAME entries
+-- K`, K the length of its history. Memory may be refused behind that.
+pub record AreServed (objects : List Object) (end : Result ServeEnd LinesFault)
+    (old new : Option (List ℕ)) : Type 0 where
   pub port : ℕ
   pub ends : List Ended
   pub named : names_of ends ≡ object_names objects
@@ -72,14 +81,18 @@ pub record AreServed (objects : List Object) (end : Result ServeEnd LinesFault) 
   pub by : IsEndOf (first_of gathered.fault met) (refused_all gathered.refused ends) end ⊎ (end ≡ Err Memory)
   pub whole : end ≡ Ok Whole → Every IsWhole ends × Appends old new (concat (listening_line port ∷ entries_all ends))
 
--- What is written where no object is served: the line of a part that is damaged, or nothing; where a fault comes a front of one line at most.
+-- What is written where no object is served: the line of a part that is damaged, or nothing; where a fault comes a
+-- front of one line at most.
 abbrev pub IsUnservedBy : List Object → List (List ℕ) → Result ServeEnd LinesFault → Type 0
 IsUnservedBy objects lines (Ok Whole) = ⊥
 IsUnservedBy objects lines (Ok Refused) = (line : List ℕ) × IsDamagedLine objects line × (lines ≡ line ∷ [])
 IsUnservedBy objects lines (Ok Unopened) = lines ≡ []
-IsUnservedBy objects lines (Err fault) = (lines ≡ []) ⊎ ((port : ℕ) × (lines ≡ listening_line port ∷ [])) ⊎ ((line : List ℕ) × IsDamagedLine objects line × (lines ≡ line ∷ []))
+IsUnservedBy objects lines (Err fault) =
+    (lines ≡ []) ⊎ ((port : ℕ) × (lines ≡ listening_line port ∷ []))
+    ⊎ ((line : List ℕ) × IsDamagedLine objects line × (lines ≡ line ∷ []))
 
-pub record AreNotServed (objects : List Object) (end : Result ServeEnd LinesFault) (old new : Option (List ℕ)) : Type 0 where
+pub record AreNotServed (objects : List Object) (end : Result ServeEnd LinesFault)
+    (old new : Option (List ℕ)) : Type 0 where
   pub lines : List (List ℕ)
   pub by : IsUnservedBy objects lines end
   pub said : AreSaid lines (fault_of_end end) old new
@@ -100,8 +113,8 @@ pub record IsRefusedBy (text : List ℕ) (end : Result ServeEnd LinesFault) (old
   pub ends : IsRefusal end
   pub said : AreSaid (text ∷ []) (fault_of_end end) old new
 
--- What a server makes of a source, what it writes and how it ends: the source is not served, and what says why is written; or memory is
--- refused, and nothing is; or each of its objects is accepted, and they are served or not.
+-- What a server makes of a source, what it writes and how it ends: the source is not served, and what says why is
+-- written; or memory is refused, and nothing is; or each of its objects is accepted, and they are served or not.
 abbrev pub IsRun : List ℕ → Result ServeEnd LinesFault → Option (List ℕ) → Option (List ℕ) → Type 0
 IsRun source end old new =
     ((text : List ℕ) × IsUnserved source text × IsRefusedBy text end old new)

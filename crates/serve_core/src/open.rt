@@ -22,7 +22,8 @@ pub struct Served {
 
 // Adds an object that is open.
 fn add(served: &mut Served, opened: Opened) -> Result<(), NotOpened>
-    ensures named { OnOk result (named_in served.new.offices.items ≡ named_in served.old.offices.items ++ opened.name ∷ []) }
+    ensures named { OnOk result (named_in served.new.offices.items
+        ≡ named_in served.old.offices.items ++ opened.name ∷ []) }
     ensures not { IfErr result (λ e. e ≡ NotOpened.Fault LinesFault.Memory) }
 {
     let Opened {

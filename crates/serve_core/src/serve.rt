@@ -85,7 +85,8 @@ fn end_of(trouble: Trouble) -> Result<ServeEnd, LinesFault>
 
 // `listening PORT`.
 fn tell_port<W: Write>(alloc: Global, gate: &Gate, writer: &mut W) -> Result<(), LinesFault>
-    ensures { (port : ℕ) × AreSaid (listening_line port ∷ []) (fault_in result) (W.contents writer.old) (W.contents writer.new) }
+    ensures { (port : ℕ) × AreSaid (listening_line port ∷ []) (fault_in result) (W.contents writer.old)
+        (W.contents writer.new) }
 {
     let port = match gate.port() {
         Ok(port) => port,
@@ -121,7 +122,9 @@ fn close_next<S: Shelf + Drop, T: Shelf + Drop, H: Hand + Drop, W: Write, E: Wri
     error: &mut E,
 )
     ensures ended { (e : Ended) × (e.name ≡ named.name)
-        × IsEnding (H.agrees closing.new.hand) (S.holds closing.old.parts) (S.holds closing.new.parts) (T.holds closing.old.traces) (T.holds closing.new.traces) e closing.old.trouble closing.new.trouble closing.old.keeps_all closing.new.keeps_all (W.contents writer.old) (W.contents writer.new) }
+        × IsEnding (H.agrees closing.new.hand) (S.holds closing.old.parts) (S.holds closing.new.parts)
+        (T.holds closing.old.traces) (T.holds closing.new.traces) e closing.old.trouble closing.new.trouble
+        closing.old.keeps_all closing.new.keeps_all (W.contents writer.old) (W.contents writer.new) }
     ensures files { (a : Assignment) → H.agrees closing.new.hand a → H.agrees closing.old.hand a }
 {
     let Named { name, office } = named;
@@ -145,7 +148,10 @@ fn close_all<S: Shelf + Drop, T: Shelf + Drop, H: Hand + Drop, W: Write, E: Writ
     writer: &mut W,
     error: &mut E,
 )
-    ensures { Closes (H.agrees closing.new.hand) (H.agrees closing.old.hand) (S.holds closing.old.parts) (S.holds closing.new.parts) (T.holds closing.old.traces) (T.holds closing.new.traces) (named_in served.offices.items) closing.old.trouble closing.new.trouble closing.old.keeps_all closing.new.keeps_all (W.contents writer.old) (W.contents writer.new) }
+    ensures { Closes (H.agrees closing.new.hand) (H.agrees closing.old.hand) (S.holds closing.old.parts)
+        (S.holds closing.new.parts) (T.holds closing.old.traces) (T.holds closing.new.traces)
+        (named_in served.offices.items) closing.old.trouble closing.new.trouble closing.old.keeps_all
+        closing.new.keeps_all (W.contents writer.old) (W.contents writer.new) }
 {
     let Served { offices, openings } = served;
     let mut openings = openings.into_iter();
@@ -166,11 +172,7 @@ fn next_opening(alloc: Global, openings: &mut IntoIter<Vec<Value>>) -> Vec<Value
 }
 
 // Serves objects whose parts are open, and gathers what their sessions leave.
-fn serve_gathered<
-    R: Threads + Wait + Clock + Sync,
-    H: Hand + Ends + Drop + Send,
-    E: Write,
->(
+fn serve_gathered<R: Threads + Wait + Clock + Sync, H: Hand + Ends + Drop + Send, E: Write>(
     rt: &R,
     alloc: Global,
     offices: &Vec<Named>,
@@ -207,7 +209,10 @@ fn serve_opened<
     writer: &mut W,
     error: &mut E,
 ) -> Result<(), LinesFault>
-    ensures { ServesOr (K.agrees closing.new.hand) (K.agrees closing.old.hand) (S.holds closing.old.parts) (S.holds closing.new.parts) (T.holds closing.old.traces) (T.holds closing.new.traces) (named_in served.offices.items) closing.new.trouble closing.old.keeps_all closing.new.keeps_all (W.contents writer.old) (W.contents writer.new) result }
+    ensures { ServesOr (K.agrees closing.new.hand) (K.agrees closing.old.hand) (S.holds closing.old.parts)
+        (S.holds closing.new.parts) (T.holds closing.old.traces) (T.holds closing.new.traces)
+        (named_in served.offices.items) closing.new.trouble closing.old.keeps_all closing.new.keeps_all
+        (W.contents writer.old) (W.contents writer.new) result }
 {
     let gathering = match Gathering::new(alloc, served.offices.len(), hands.len()) {
         Ok(gathering) => gathering,
@@ -329,7 +334,8 @@ where
 // Writes why nothing is served.
 fn tell_refused<W: Write>(line: &[u8], writer: &mut W) -> Result<ServeEnd, LinesFault>
     ensures by { IsRefusedBy line.now result (W.contents writer.old) (W.contents writer.new) }
-    ensures ok { IfOk result (λ end. (end ≡ ServeEnd.Refused) × Appends (W.contents writer.old) (W.contents writer.new) line.now) }
+    ensures ok { IfOk result (λ end. (end ≡ ServeEnd.Refused)
+        × Appends (W.contents writer.old) (W.contents writer.new) line.now) }
 {
     match write_whole(writer, line) {
         Ok(()) => Ok(ServeEnd::Refused),
@@ -354,20 +360,24 @@ fn remove_own<R: Files + AllocGlobal + Clone + Drop>(
 }
 
 /// Serves the objects of a source to so many connections at a gate, each on threads of its own, and ends when all have
-/// ended, or the gate is shut and those that were taken have ended. The parts of each object are read from the folder at the start, and saved
-/// there at the end, with its trace.
+/// ended, or the gate is shut and those that were taken have ended. The parts of each object are read from the folder
+/// at the start, and saved there at the end, with its trace.
 ///
-/// It writes `listening PORT` once connections are taken, and at the end `NAME entries K` for each object, in order, that was closed and
-/// saved, and whose trace was written. Where nothing is served it writes why: the fault of the source, or a line for each object that is
-/// refused, as a check does; or `part OBJECT.PART damaged`. At the end that line stands for a part that spells no value, and `close OBJECT
-/// refused` for an object that does not close; it is saved all the same.
+/// It writes `listening PORT` once connections are taken, and at the end `NAME entries K` for each object, in order,
+/// that was closed and saved, and whose trace was written. Where nothing is served it writes why: the fault of the
+/// source, or a line for each object that is refused, as a check does; or `part OBJECT.PART damaged`. At the end that
+/// line stands for a part that spells no value, and `close OBJECT refused` for an object that does not close; it
+/// is saved all the same.
 ///
-/// `error` is told what a user has to know beside that: `moved to left/K: N.val ..` of the value files that an earlier run left, where it
-/// did not save all; `session of NAME mixed`; `OBJECT.PART not saved: N.val ..` with the files that hold the value, page by page; `OBJECT.trace not written`.
-/// The value files of this run are removed at the end where each object was saved and traced, and where nothing was served.
+/// `error` is told what a user has to know beside that: `moved to left/K: N.val ..` of the value files that an earlier
+/// run left, where it did not save all; `session of NAME mixed`; `OBJECT.PART not saved: N.val ..` with the files that
+/// hold the value, page by page; `OBJECT.trace not written`.
+/// The value files of this run are removed at the end where each object was saved and traced, and
+/// where nothing was served.
 ///
-/// The faults: `ReadFault` where a connection could not be taken or served, after which all else is still done; `WriteFault`
-/// where a part or a trace cannot be saved or a line not be written; `Memory`. Of several the first is told.
+/// The faults: `ReadFault` where a connection could not be taken or served, after which all else is still done;
+/// `WriteFault` where a part or a trace cannot be saved or a line not be written; `Memory`. Of
+/// several the first is told.
 pub fn serve_on<
     R: Files + AllocGlobal + Threads + Wait + Clock + Clone + Drop + Sync,
     H: Hand + Ends + Drop + Send,
@@ -384,7 +394,8 @@ pub fn serve_on<
 ) -> Result<ServeEnd, LinesFault>
 where
     R::File: FileExt,
-    // A source that is not served: what says why is written, and nothing else. Of a source that is served each object is accepted.
+    // A source that is not served: what says why is written, and nothing else. Of a source that is served
+    // each object is accepted.
     ensures handled { IfOk result (IsHandled source.now (W.contents writer.old) (W.contents writer.new)) }
     ensures run { IsRun source.now result (W.contents writer.old) (W.contents writer.new) }
 {

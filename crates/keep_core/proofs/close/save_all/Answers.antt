@@ -1,4 +1,4 @@
-use Rattle.std.proofs.Common.{◌≡◌, ◌∙◌, ap, sym, subst, refl, List, ℕ, length, true, Bool}
+use Rattle.std.proofs.Common.{◌≡◌, ◌∙◌, ap, sym, subst, refl, List, length, true}
 use Rattle.decl_core.specs.declared.object.Object.{Object}
 use Rattle.hand_core.specs.declared.hand.Stamp.{Stamp}
 use Rattle.keep_core.specs.Kept.{Saves}

@@ -1,5 +1,5 @@
-use Rattle.std.proofs.Common.{◌∙◌, sym, subst, Bool}
-use Rattle.keep_core.specs.Lines.{AreTold, entries_line, entries_lines}
+use Rattle.std.proofs.Common.{◌∙◌, sym}
+use Rattle.keep_core.specs.Lines.{entries_line}
 use Rattle.keep_core.proofs.Telling.{line_told, none_told}
 use Rattle.keep_core.proofs.close.tell_entries.Goals as goal
 

@@ -14,5 +14,5 @@ pub returns : goal.returns
 returns g c = (
   c.from.result,
   (line_told c.new-line.result.items c.push_count.new.out.items c.deref.result.now (listening_line c.from.result) (Ok tt) c.write_whole.result c.new-line.ensures.items c.in-Ok-push_count.ensures c.deref.ensures.value
-  (write_told c.write_whole.result c.write_whole.ensures.ok c.write_whole.ensures.err c.write_whole.ensures.fault)).said,
+      (write_told c.write_whole.result c.write_whole.ensures.ok c.write_whole.ensures.err c.write_whole.ensures.fault)).said,
 )

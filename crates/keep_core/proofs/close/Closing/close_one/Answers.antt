@@ -1,5 +1,4 @@
 use Rattle.std.proofs.Common.{◌∙◌, ap, sym, subst, length}
-use Rattle.board_core.specs.Board.{Board}
 use Rattle.board_core.specs.Sound.{IsSound}
 use Rattle.office_core.specs.Rooms.{RoomState}
 use Rattle.keep_core.proofs.Ending.{ending_closed, ending_refused}
