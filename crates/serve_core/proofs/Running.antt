@@ -1,6 +1,6 @@
 -- What a server writes, and how it ends.
 use Rattle.std.proofs.Common.{◌≡◌, ◌∙◌, ap, sym, subst, refl, inl, inr, ◌⊎◌, ℕ, List, [], ◌∷◌, ◌++◌, length, map, Bool, true, false, cond, Option, Some, None, Result, Ok, Err, arith}
-use Rattle.std.specs.Prelude.{IsTrue}
+use Rattle.std.specs.Prelude.{IsTrue, IfOk}
 use Rattle.std.specs.List.{concat}
 use Rattle.std.specs.Io.KnownBytes.{Appends, Keeps}
 use Rattle.std.proofs.lemmas.List.{append-nil, append_assoc, map-append}
@@ -12,6 +12,7 @@ use Rattle.hand_core.specs.Papers.{Papers}
 use Rattle.decl_core.specs.declared.object.Object.{Object}
 use Rattle.decl_core.specs.ObjectMap.{object_names}
 use Rattle.board_core.specs.Lists.{Every, Among}
+use Rattle.line_core.proofs.Known.{Appends-none}
 use Rattle.keep_core.specs.declared.trouble.Trouble.{Trouble}
 use Rattle.keep_core.specs.Troubles.{first_of, fault_in}
 use Rattle.keep_core.specs.Lines.{AreSaid, AreTold, damaged_lines, entries_line, entries_lines, refused_line}
@@ -38,18 +39,15 @@ whole_all [] all = refl
 whole_all (e ∷ ends) (one, all) = ap (λ (ls : List (List ℕ)). ls ++ lines_all ends) (whole_lines e one) ∙ ap (λ (ls : List (List ℕ)). entries_line e.name (length e.board.history) ∷ ls) (whole_all ends all)
 
 -- the end of what was noted
+abbrev is_refused : Result ServeEnd LinesFault → Bool
+is_refused (Ok Whole) = false
+is_refused (Ok Refused) = true
+is_refused (Ok Unopened) = false
+is_refused (Err fault) = false
+
 data_whole : (fault : Option LinesFault) (refused : Bool) (end : Result ServeEnd LinesFault) → IsEndOf fault refused end → end ≡ Ok Whole → (fault ≡ None) × (refused ≡ false)
-data_whole (Some f) refused end is whole = absurd (failed (sym is ∙ whole)) where
-  failed : Err f ≡ Ok Whole → ⊥
-  failed same = met_not (ap fault_of_end same)
-data_whole None true end is whole = absurd (other (sym is ∙ whole)) where
-  other : Ok Refused ≡ Ok Whole → ⊥
-  other same = true≢false (ap is_refused same) where
-    is_refused : Result ServeEnd LinesFault → Bool
-    is_refused (Ok Whole) = false
-    is_refused (Ok Refused) = true
-    is_refused (Ok Unopened) = false
-    is_refused (Err f) = false
+data_whole (Some f) refused end is whole = met_not (ap fault_of_end (sym is ∙ whole))
+data_whole None true end is whole = absurd (true≢false (ap is_refused (sym is ∙ whole)))
 data_whole None false end is whole = (refl, refl)
 
 -- no fault is in the end only where none was noted
@@ -97,6 +95,19 @@ run_served {old = old} {new = new} objects names after end s same is =
 pub run_failed : {old new : Option (List ℕ)} (objects : List Object) (fault : LinesFault) → (port : ℕ) × AreSaid (listening_line port ∷ []) (Some fault) old new → IsRunOf objects (Err fault) old new
 run_failed objects fault (port, said) = inr (record { lines = listening_line port ∷ []; by = inr (inl (port, refl)); said = said })
 
+-- a line was not told, with a fault
+pub none_said : (line : List ℕ) (fault : LinesFault) (known : Option (List ℕ)) → AreSaid (line ∷ []) (Some fault) known known
+none_said line fault known = record { text = []; fronts = (0, [], refl, refl); whole = λ quiet. met_not quiet; written = Appends-none known }
+
+-- what stays is kept
+pub keeps_same : (known : Option (List ℕ)) → Keeps known known
+keeps_same None = tt
+keeps_same (Some bytes) = refl
+
+-- a text that says why, of other bytes that are the same
+pub refused_as : {text wanted : List ℕ} {end : Result ServeEnd LinesFault} {old new : Option (List ℕ)} → text ≡ wanted → IsRefusedBy text end old new → IsRefusedBy wanted end old new
+refused_as {end = end} {old = old} {new = new} same by = subst (λ (t : List ℕ). IsRefusedBy t end old new) same by
+
 -- nothing was written
 pub run_none : {old : Option (List ℕ)} (objects : List Object) (fault : LinesFault) → IsRunOf objects (Err fault) old old
 run_none {old = old} objects fault = inr (record { lines = []; by = inl refl; said = nothing_said (Some fault) old })
@@ -135,3 +146,12 @@ run_memory objects end (inr run) = inr (record { lines = run.lines; by = unserve
 pub run_behind : {old new : Option (List ℕ)} (objects : List Object) (before end : Result ServeEnd LinesFault) → IsRunOf objects before old new → IsEndBehind before end → IsRunOf objects end old new
 run_behind {old = old} {new = new} objects before end run (inl same) = subst (λ (e : Result ServeEnd LinesFault). IsRunOf objects e old new) (sym same) run
 run_behind {old = old} {new = new} objects before end run (inr none) = subst (λ (e : Result ServeEnd LinesFault). IsRunOf objects e old new) (sym none) (run_memory objects before run)
+
+-- what a good result says, and what follows from that
+pub if_ok : {X E : Type 0} {P Q : X → Type 0} (result : Result X E) → ((x : X) → P x → Q x) → IfOk result P → IfOk result Q
+if_ok (Ok x) follows is = follows x is
+if_ok (Err why) follows is = tt
+
+pub any_ok : {X E : Type 0} {Q : X → Type 0} (result : Result X E) → ((x : X) → Q x) → IfOk result Q
+any_ok (Ok x) all = all x
+any_ok (Err why) all = tt

@@ -11,16 +11,16 @@ loop-accepted-init g c =
 
 pub loop-accepted-preserved : goal.loop-accepted-preserved
 loop-accepted-preserved g c =
-    let step = step_some _ _ c.in-Some.is c.next.ensures.steps in
+    let step = step_some c.loop-accepted.accepted-iterator c.next.new.self _ _ c.in-Some.is c.next.ensures.steps in
     opened_more c.in-Some.accepted _ _ _ c.in-Ok.opened.name c.loop-accepted.invariant step.0 step.1 c.in-Ok.ensures.name c.in-Ok-add.ensures.named
 
 pub returns-in-Err-clause-not : goal.returns-in-Err-clause-not
 returns-in-Err-clause-not g c =
-    let step = step_some _ _ c.in-Some.is c.next.ensures.steps in
+    let step = step_some c.loop-accepted.accepted-iterator c.next.new.self _ _ c.in-Some.is c.next.ensures.steps in
     opened_not c.in-Some.accepted _ c.in-Err.why c.loop-accepted.invariant step.0 c.in-Err.ensures.not
 
 pub returns-in-Err-add-clause-not : goal.returns-in-Err-add-clause-not
 returns-in-Err-add-clause-not g c = subst (IsNotOpenedOf c.args.ready.items) (sym c.in-Err-add.ensures.not) tt
 
 pub returns-clause-named : goal.returns-clause-named
-returns-clause-named g c = opened_all c.loop-accepted.invariant (step_none _ c.in-None.is c.next.ensures.steps)
+returns-clause-named g c = opened_all c.loop-accepted.invariant (step_none c.loop-accepted.accepted-iterator c.next.new.self _ c.in-None.is c.next.ensures.steps)

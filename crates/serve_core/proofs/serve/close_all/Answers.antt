@@ -13,8 +13,8 @@ loop-named-init g c =
 
 pub loop-named-preserved : goal.loop-named-preserved
 loop-named-preserved g c =
-    let step = step_some _ _ c.in-Some.is c.next.ensures.steps in
+    let step = step_some c.loop-named.named-iterator c.next.new.self _ _ c.in-Some.is c.next.ensures.steps in
     closed_more c.in-Some.named.name _ _ c.loop-named.invariant (ap named_in step.0) step.1 c.close_next.ensures.ended c.close_next.ensures.files
 
 pub returns : goal.returns
-returns g c = closed_all _ _ c.loop-named.invariant (step_none _ c.in-None.is c.next.ensures.steps)
+returns g c = closed_all _ _ c.loop-named.invariant (step_none c.loop-named.named-iterator c.next.new.self _ c.in-None.is c.next.ensures.steps)

@@ -1,5 +1,5 @@
 use Rattle.line_core.specs.declared.machine.LinesFault.TheVariants.{Memory}
-use Rattle.keep_core.proofs.Telling.{none_said}
+use Rattle.serve_core.proofs.Running.{none_said}
 use Rattle.serve_core.specs.Runs.{listening_line}
 use Rattle.serve_core.proofs.serve.serve_opened.Goals as goal
 
