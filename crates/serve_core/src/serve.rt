@@ -1,16 +1,17 @@
 //! A server from its start to its end.
 
-ghost use Rattle.std.specs.Prelude.{◌≡◌, ◌∷◌, ℕ, [], IfOk};
+ghost use Rattle.std.specs.Prelude.{◌≡◌, ◌∷◌, ℕ, List, [], IfOk};
 ghost use Rattle.std.specs.Io.KnownBytes.{Appends};
 ghost use Rattle.hand_core.specs.Device.{Assignment};
-ghost use Rattle.decl_core.specs.ObjectMap.{object_names};
+ghost use Rattle.decl_core.specs.declared.object.Object.{Object};
 ghost use Rattle.keep_core.specs.Troubles.{fault_in};
 ghost use Rattle.keep_core.specs.Lines.{AreSaid};
 ghost use Rattle.keep_core.specs.Ends.{Ended, IsEnding};
 ghost use Rattle.serve_core.specs.Handled.{IsHandled};
 ghost use Rattle.serve_core.specs.Ends.{IsEndOf};
 ghost use Rattle.serve_core.specs.Closes.{Closes};
-ghost use Rattle.serve_core.specs.Runs.{named_in, listening_line, ServesOr, IsRunOf, IsRefusedBy, IsRun, IsEndBehind};
+ghost use Rattle.serve_core.specs.Runs.{named_in, listening_line, ServesOr, IsNotOpenedOf, IsRunOf};
+ghost use Rattle.serve_core.specs.Runs.{IsRefusedBy, IsRun, IsEndBehind};
 
 use crate::gate::Gate;
 use crate::gather::{Gathered, Gathering};
@@ -265,9 +266,24 @@ fn serve_closing<
                 Err(fault) => Err(fault),
             }
         }
-        Err(NotOpened::Damaged(line)) => tell_refused(&line, writer),
-        Err(NotOpened::Fault(LinesFault::ReadFault)) => Ok(ServeEnd::Unopened),
-        Err(NotOpened::Fault(fault)) => Err(fault),
+        Err(why) => tell_not_opened(why, writer),
+    }
+}
+
+// Writes why objects are not opened, where a part of one is damaged.
+fn tell_not_opened<W: Write>(why: NotOpened, writer: &mut W) -> Result<ServeEnd, LinesFault>
+    ensures { (objects : List Object) → IsNotOpenedOf objects why →
+        IsRunOf objects result (W.contents writer.old) (W.contents writer.new) }
+{
+    match why {
+        NotOpened::Damaged(line) => tell_refused(&line, writer),
+        NotOpened::Fault(fault) => {
+            if fault == LinesFault::ReadFault {
+                Ok(ServeEnd::Unopened)
+            } else {
+                Err(fault)
+            }
+        }
     }
 }
 

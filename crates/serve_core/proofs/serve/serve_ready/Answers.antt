@@ -8,8 +8,5 @@ returns-in-Err g c = run_none c.args.ready.items Memory
 pub returns-in-Err-move_left : goal.returns-in-Err-move_left
 returns-in-Err-move_left g c = run_none c.args.ready.items Memory
 
-pub returns-then-keeps_all : goal.returns-then-keeps_all
-returns-then-keeps_all g c = run_behind c.args.ready.items c.serve_closing-ended.result c.remove_own.result c.serve_closing-ended.ensures c.remove_own.ensures
-
-pub returns-else-keeps_all : goal.returns-else-keeps_all
-returns-else-keeps_all g c = c.serve_closing-ended.ensures
+pub returns-then-closing : goal.returns-then-closing
+returns-then-closing g c = run_behind c.args.ready.items c.serve_closing-ended.result c.remove_own.result c.serve_closing-ended.ensures c.remove_own.ensures
