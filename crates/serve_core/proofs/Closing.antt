@@ -1,5 +1,5 @@
 -- Objects that are closed one after the other.
-use Rattle.std.proofs.Common.{◌≡◌, ◌∙◌, ap, sym, subst, refl, arith, ℕ, ◌+◌, ◌≤◌, List, [], ◌∷◌, ◌++◌, length, map, Bool, true, false, cond, Option, Some, None}
+use Rattle.std.proofs.Common.{◌≡◌, ◌∙◌, ap, sym, subst, refl, arith, ℕ, ◌+◌, ◌≤◌, List, [], ◌∷◌, ◌++◌, length, Bool, true, false, cond, Option, None}
 use Rattle.std.specs.Prelude.{IsTrue}
 use Rattle.std.proofs.lemmas.List.{append-nil, append_assoc, map-append}
 use Rattle.std.proofs.lemmas.Bool.{true≢false}
@@ -13,7 +13,7 @@ use Rattle.keep_core.specs.declared.trouble.Trouble.{Trouble}
 use Rattle.keep_core.specs.Troubles.{first_of}
 use Rattle.keep_core.specs.Lines.{AreSaid}
 use Rattle.keep_core.specs.Kept.{AreStored, refused_by, stored_times, once}
-use Rattle.keep_core.specs.Ends.{Ended, IsAtEnd, IsKept, IsEnding, lines_of, refused_after, trace_of}
+use Rattle.keep_core.specs.Ends.{Ended, IsAtEnd, IsEnding, lines_of, refused_after, trace_of}
 use Rattle.keep_core.proofs.Telling.{nothing_said, said_then, first_none, second_none, first_first, closing_first}
 use Rattle.keep_core.proofs.Keeping.{first_nothing}
 use Rattle.keep_core.proofs.Ending.{not_refused}

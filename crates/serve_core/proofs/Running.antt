@@ -1,9 +1,8 @@
 -- What a server writes, and how it ends.
-use Rattle.std.proofs.Common.{◌≡◌, ◌∙◌, ap, sym, subst, refl, inl, inr, ◌⊎◌, ℕ, List, [], ◌∷◌, ◌++◌, length, map, Bool, true, false, cond, Option, Some, None, Result, Ok, Err, arith}
-use Rattle.std.specs.Prelude.{IsTrue, IfOk}
+use Rattle.std.proofs.Common.{◌≡◌, ◌∙◌, ap, sym, subst, refl, inl, inr, ℕ, List, [], ◌∷◌, ◌++◌, length, Bool, true, false, cond, Option, Some, None, Result, Ok, Err}
+use Rattle.std.specs.Prelude.{IfOk}
 use Rattle.std.specs.List.{concat}
 use Rattle.std.specs.Io.KnownBytes.{Appends, Keeps}
-use Rattle.std.proofs.lemmas.List.{append-nil, append_assoc, map-append}
 use Rattle.std.proofs.lemmas.Bool.{true≢false}
 use Rattle.line_core.specs.declared.machine.LinesFault.{LinesFault}
 use Rattle.line_core.specs.declared.machine.LinesFault.TheVariants.{Memory}
@@ -11,19 +10,18 @@ use Rattle.hand_core.specs.Device.{Assignment}
 use Rattle.hand_core.specs.Papers.{Papers}
 use Rattle.decl_core.specs.declared.object.Object.{Object}
 use Rattle.decl_core.specs.ObjectMap.{object_names}
-use Rattle.board_core.specs.Lists.{Every, Among}
+use Rattle.board_core.specs.Lists.{Every}
 use Rattle.line_core.proofs.Known.{Appends-none}
 use Rattle.keep_core.specs.declared.trouble.Trouble.{Trouble}
-use Rattle.keep_core.specs.Troubles.{first_of, fault_in}
-use Rattle.keep_core.specs.Lines.{AreSaid, AreTold, damaged_lines, entries_line, entries_lines, refused_line}
+use Rattle.keep_core.specs.Lines.{AreSaid, damaged_lines, entries_line, entries_lines, refused_line}
 use Rattle.keep_core.specs.Kept.{refused_by}
-use Rattle.keep_core.specs.Ends.{Ended, IsAtEnd, IsKept, kept_in, lines_of}
-use Rattle.keep_core.proofs.Telling.{nothing_kept, nothing_said, said_then, said_as, second_none, met_not}
+use Rattle.keep_core.specs.Ends.{Ended, kept_in, lines_of}
+use Rattle.keep_core.proofs.Telling.{nothing_said, said_then, said_as, second_none, met_not}
 use Rattle.serve_core.specs.declared.serve.ServeEnd.{ServeEnd}
 use Rattle.serve_core.specs.declared.serve.ServeEnd.TheVariants.{Whole, Refused, Unopened}
 use Rattle.serve_core.specs.Ends.{IsEndOf}
-use Rattle.serve_core.specs.Closes.{names_of, lines_all, entries_all, refused_all, IsWhole, AreEndings, Closes}
-use Rattle.serve_core.specs.Runs.{listening_line, fault_of_end, Serves, AreServed, IsDamagedLine, IsUnservedBy, AreNotServed, IsRunOf, IsRefusal, IsRefusedBy, IsEndBehind}
+use Rattle.serve_core.specs.Closes.{lines_all, entries_all, refused_all, IsWhole}
+use Rattle.serve_core.specs.Runs.{listening_line, fault_of_end, Serves, IsDamagedLine, IsUnservedBy, IsRunOf, IsRefusedBy, IsEndBehind}
 
 -- the lines of an object that was closed, saved and traced, and has no damaged part
 whole_lines : (e : Ended) → IsWhole e → lines_of e ≡ entries_line e.name (length e.board.history) ∷ []

@@ -1,4 +1,4 @@
-use Rattle.std.proofs.Common.{◌≡◌, ◌∙◌, ap, sym, subst, refl, inl, inr, List, ℕ}
+use Rattle.std.proofs.Common.{subst, refl, inl, inr}
 use Rattle.std.specs.Io.KnownBytes.{Appends}
 use Rattle.decl_core.specs.ObjectMap.{objects_of}
 use Rattle.source_core.specs.View.{IsJudgedSource}

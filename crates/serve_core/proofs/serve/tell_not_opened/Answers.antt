@@ -1,6 +1,6 @@
 use Rattle.std.proofs.Common.{subst}
 use Rattle.serve_core.specs.Runs.{IsNotOpenedOf}
-use Rattle.serve_core.proofs.Running.{run_damaged, run_unopened, run_none, refused_as}
+use Rattle.serve_core.proofs.Running.{run_damaged, refused_as}
 use Rattle.serve_core.proofs.serve.tell_not_opened.Goals as goal
 
 pub returns-in-Damaged : goal.returns-in-Damaged
