@@ -69,7 +69,7 @@ class Script:
         return time.perf_counter() - began
 
     def call_in_turn(self, count):
-        """The same, each line once the one before it was answered."""
+        """Makes so many calls, each line once the one before it was answered, and gives the seconds that they took."""
         asked = [(a.encode(), b.encode()) for n in range(self.next, self.next + count) for a, b in lines_of(n)]
         began = time.perf_counter()
         for line, answer in asked:
