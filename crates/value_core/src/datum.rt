@@ -23,10 +23,12 @@ impl Datum {
     {
         match self {
             Datum::Integer(n) => {
+                // Read for its type alone: it is an integer of 64 bits.
                 let _number = *n;
                 Elem::Integer
             }
             Datum::Text(text) => {
+                // Called for its contract alone: its bytes are those of a text.
                 let _bytes = text.bytes();
                 Elem::Text
             }

@@ -65,6 +65,7 @@ impl Value {
         requires { IsContentsIn format (contents_of body) }
         ensures { result ≡ contents_of body }
     {
+        // Named for its type alone: contracts see which format it is, and no code looks.
         let _format = format;
         Value::of(body)
     }
@@ -178,6 +179,7 @@ impl Value {
         ensures change { Changes result (with_element self.old index datum) self.old self.new }
         ensures kind { kind_of self.new ≡ kind_of self.old }
     {
+        // Called for its contract alone: this is a datum.
         let _sort = datum.elem();
         let Body::Array(cells) = &mut self.body else {
             unreachable!();
@@ -226,6 +228,7 @@ impl Value {
         ensures change { Grows result (with_newest self.old datum) self.old self.new }
         ensures kind { kind_of self.new ≡ kind_of self.old }
     {
+        // Called for its contract alone: this is a datum.
         let _sort = datum.elem();
         let Body::Queue(line) = &mut self.body else {
             unreachable!();
@@ -268,6 +271,7 @@ impl Value {
         ensures change { Grows result (with_row self.old key datum) self.old self.new }
         ensures kind { kind_of self.new ≡ kind_of self.old }
     {
+        // Called for their contracts alone: this is a datum, and a key is a text.
         let _sort = datum.elem();
         let _bytes = key.bytes();
         let Body::Table(rows) = &mut self.body else {
