@@ -138,24 +138,24 @@ fn decode_queue(
     count: usize,
     bytes: &[u8],
 ) -> Result<Queue, DecodeFault>
-    ensures sort { IfOk result (λ line. queue_sort line ≡ sort) }
-    ensures found { IfOk result (λ line. SpellElements format bytes.now sort count (queue_data line)) }
+    ensures sort { IfOk result (λ queue. queue_sort queue ≡ sort) }
+    ensures found { IfOk result (λ queue. SpellElements format bytes.now sort count (queue_data queue)) }
     ensures damaged { IsErrOf result DecodeFault.Damaged → (xs : List Datum) →
         SpellElements format bytes.now sort count xs → ⊥ }
 {
-    let mut line = Queue::with_capacity(alloc, sort, count)?;
+    let mut queue = Queue::with_capacity(alloc, sort, count)?;
     let mut rest = bytes;
     for place in 0..count {
         let Some((datum, behind)) = read_datum(format, sort, rest) else {
             return Err(DecodeFault::Damaged);
         };
-        line.push(datum)?;
+        queue.push(datum)?;
         rest = behind;
     }
     if !rest.is_empty() {
         return Err(DecodeFault::Damaged);
     }
-    Ok(line)
+    Ok(queue)
 }
 
 // The rows of a table, so many, that the bytes are.
@@ -226,8 +226,8 @@ fn decode_elements(
             Ok(Value::in_format(format, Body::Array(cells)))
         }
         Kind::Queue(sort) => {
-            let line = decode_queue(alloc, format, sort, many, bytes)?;
-            Ok(Value::in_format(format, Body::Queue(line)))
+            let queue = decode_queue(alloc, format, sort, many, bytes)?;
+            Ok(Value::in_format(format, Body::Queue(queue)))
         }
         Kind::Table(sort) => {
             let rows = decode_rows(alloc, format, sort, many, bytes)?;

@@ -26,7 +26,7 @@ pub fn encode(alloc: Global, value: &Value) -> Result<Vec<u8>, AllocError>
     put_header(&mut out, value.kind(), value.count() as u16)?;
     match value.body() {
         Body::Array(cells) => put_cells(&mut out, cells)?,
-        Body::Queue(line) => line.put(&mut out)?,
+        Body::Queue(queue) => queue.put(&mut out)?,
         Body::Table(rows) => rows.put(&mut out)?,
     }
     Ok(out)

@@ -35,8 +35,8 @@ impl Queue {
 
     /// No elements of this sort, with room for so many.
     pub fn with_capacity(alloc: Global, sort: Elem, room: usize) -> Result<Queue, AllocError>
-        ensures sort { IfOk result (λ line. queue_sort line ≡ sort) }
-        ensures data { IfOk result (λ line. queue_data line ≡ []) }
+        ensures sort { IfOk result (λ queue. queue_sort queue ≡ sort) }
+        ensures data { IfOk result (λ queue. queue_data queue ≡ []) }
     {
         match sort {
             Elem::Integer => Ok(Queue::Integers(VecDeque::with_capacity(alloc, room)?)),

@@ -74,7 +74,7 @@ impl Value {
     pub(crate) fn spelled_len(&self) -> usize {
         let elements = match &self.body {
             Body::Array(cells) => cells.spelled_len(),
-            Body::Queue(line) => line.spelled_len(),
+            Body::Queue(queue) => queue.spelled_len(),
             Body::Table(rows) => rows.spelled_len(),
         };
         elements.saturating_add(HEADER_BYTES)
@@ -108,7 +108,7 @@ impl Value {
     {
         let body = match &self.body {
             Body::Array(cells) => Body::Array(cells.copy(alloc)?),
-            Body::Queue(line) => Body::Queue(line.copy(alloc)?),
+            Body::Queue(queue) => Body::Queue(queue.copy(alloc)?),
             Body::Table(rows) => Body::Table(rows.copy()?),
         };
         Ok(Value { body })
@@ -121,7 +121,7 @@ impl Value {
     {
         match &self.body {
             Body::Array(cells) => Kind::Array(cells.len() as u16, cells.sort()),
-            Body::Queue(line) => Kind::Queue(line.sort()),
+            Body::Queue(queue) => Kind::Queue(queue.sort()),
             Body::Table(rows) => Kind::Table(rows.sort()),
         }
     }
@@ -132,7 +132,7 @@ impl Value {
     {
         match &self.body {
             Body::Array(cells) => cells.len() as u32,
-            Body::Queue(line) => line.len() as u32,
+            Body::Queue(queue) => queue.len() as u32,
             Body::Table(rows) => rows.len() as u32,
         }
     }
@@ -143,7 +143,7 @@ impl Value {
     {
         match &self.body {
             Body::Array(cells) => cells.list(alloc),
-            Body::Queue(line) => line.list(alloc),
+            Body::Queue(queue) => queue.list(alloc),
             Body::Table(_) => Ok(Vec::new(alloc)),
         }
     }
@@ -197,10 +197,10 @@ impl Value {
         ensures value { result ≡ oldest_of self.now }
         ensures sort { IfOk result (IsElement (sort_of (kind_of self.now))) }
     {
-        let Body::Queue(line) = &self.body else {
+        let Body::Queue(queue) = &self.body else {
             unreachable!();
         };
-        line.get(0).ok_or(Refusal::Empty)
+        queue.get(0).ok_or(Refusal::Empty)
     }
 
     /// Removes the oldest element of a queue. Refused `empty` where there is none, and then nothing
@@ -210,13 +210,13 @@ impl Value {
         ensures change { Changes result (without_oldest self.old) self.old self.new }
         ensures kind { kind_of self.new ≡ kind_of self.old }
     {
-        let Body::Queue(line) = &mut self.body else {
+        let Body::Queue(queue) = &mut self.body else {
             unreachable!();
         };
-        if line.len() == 0 {
+        if queue.len() == 0 {
             return Err(Refusal::Empty);
         }
-        line.take();
+        queue.take();
         Ok(())
     }
 
@@ -230,13 +230,13 @@ impl Value {
     {
         // Called for its contract alone: this is a datum.
         let _sort = datum.elem();
-        let Body::Queue(line) = &mut self.body else {
+        let Body::Queue(queue) = &mut self.body else {
             unreachable!();
         };
-        if line.len() >= MOST_ELEMENTS as usize {
+        if queue.len() >= MOST_ELEMENTS as usize {
             return Err(GrowFault::Refused(Refusal::Full));
         }
-        line.push(datum)?;
+        queue.push(datum)?;
         Ok(())
     }
 

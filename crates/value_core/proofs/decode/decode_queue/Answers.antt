@@ -8,11 +8,11 @@ use Rattle.value_core.proofs.decode.decode_queue.Goals as goal
 
 pub returns-in_default-clause-damaged : goal.returns-in_default-clause-damaged
 returns-in_default-clause-damaged c = λ _.
-    no_next c.args.format c.args.bytes.now c.loop-place.rest.now c.args.sort c.args.count (queue_data c.loop-place.line) c.loop-place.invariant.each (omega arith) c.loop-place.invariant.parts c.in_default.ensures.none
+    no_next c.args.format c.args.bytes.now c.loop-place.rest.now c.args.sort c.args.count (queue_data c.loop-place.queue) c.loop-place.invariant.each (omega arith) c.loop-place.invariant.parts c.in_default.ensures.none
 
 pub loop-place-preserved : goal.loop-place-preserved
 loop-place-preserved c =
-    let xs = queue_data c.loop-place.line in
+    let xs = queue_data c.loop-place.queue in
     record {
       sort = c.in_ok-push.ensures.sort ∙ c.loop-place.invariant.sort;
       each = subst (All (IsElementIn c.args.format c.args.sort)) (sym c.in_ok-push.ensures.ok) (All-push (IsElementIn c.args.format c.args.sort) xs c.in-Some.datum c.loop-place.invariant.each c.in-Some.ensures.some.0);
@@ -23,4 +23,4 @@ loop-place-preserved c =
 pub returns-then-not-is_empty-clause-damaged : goal.returns-then-not-is_empty-clause-damaged
 returns-then-not-is_empty-clause-damaged c = λ _.
     let some : c.loop-place.rest.now ≢ [] = search rules in
-    no_more c.args.format c.args.bytes.now c.loop-place.rest.now c.args.sort c.args.count (queue_data c.loop-place.line) c.loop-place.invariant.each (omega arith) c.loop-place.invariant.parts some
+    no_more c.args.format c.args.bytes.now c.loop-place.rest.now c.args.sort c.args.count (queue_data c.loop-place.queue) c.loop-place.invariant.each (omega arith) c.loop-place.invariant.parts some

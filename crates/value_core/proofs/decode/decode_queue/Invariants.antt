@@ -8,8 +8,8 @@ use Rattle.value_core.proofs.decode.decode_queue.Given as goal
 
 abbrev pub invariant-loop-place : goal.invariant-loop-place
 invariant-loop-place l = record {
-  sort : queue_sort l.line ≡ l.sort;
-  each : All (IsElementIn l.format l.sort) (queue_data l.line);
-  many : length (queue_data l.line) ≡ l.place;
-  parts : l.bytes ≡ flat_map (spelled_datum_in l.format) (queue_data l.line) ++ l.rest;
+  sort : queue_sort l.queue ≡ l.sort;
+  each : All (IsElementIn l.format l.sort) (queue_data l.queue);
+  many : length (queue_data l.queue) ≡ l.place;
+  parts : l.bytes ≡ flat_map (spelled_datum_in l.format) (queue_data l.queue) ++ l.rest;
 }
