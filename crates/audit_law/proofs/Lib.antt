@@ -1,3 +1,4 @@
 pub mod Running
 pub mod Naming
+pub mod Refusing
 pub mod Telling
