@@ -1,5 +1,5 @@
 -- What a program holds of data.
-use Rattle.std.specs.Prelude.{List, All, Some, None}
+use Rattle.std.specs.Prelude.{All, Some, None}
 use Rattle.value_core.specs.Datum.{IsDatum}
 use Rattle.apply_core.specs.declared.reply.Reply.{Reply}
 use Rattle.apply_core.specs.declared.reply.Reply.TheVariants.{Done, Refused, Failed}
