@@ -13,8 +13,8 @@ use Rattle.audit_core.specs.Verdicts.{IsLegalTrace}
 use Rattle.audit_core.specs.Laws.{AreOpening}
 use Rattle.audit_law.specs.Data.{AreData}
 
--- the text of a desk's trace is a legal trace, where the history of its entries is legal from the opening contents; that
--- its names are names and its data are data is so of each desk that a program holds
+-- the text of a desk's trace is a legal trace, where the history of its entries is legal from the opening contents; its
+-- names are names and its data are data, as of each desk that a program holds
 abbrev pub DeskTextIsLegal : Type 0
 DeskTextIsLegal =
     (b : Board) (opening : List Contents) → IsSound b → HasNames (object_of b.object) →
