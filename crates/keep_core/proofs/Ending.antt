@@ -10,8 +10,8 @@ use Rattle.board_core.specs.Board.{Board}
 use Rattle.board_core.specs.Sound.{IsSound}
 use Rattle.slip_core.specs.Slips.{Told, StandsIn}
 use Rattle.seat_core.specs.declared.seat.Seat.{Seat}
-use Rattle.office_core.specs.declared.room.CloseFault.{CloseFault}
-use Rattle.office_core.specs.Rooms.{RoomState}
+use Rattle.office_core.specs.declared.inside.CloseFault.{CloseFault}
+use Rattle.office_core.specs.Insides.{InsideView}
 use Rattle.office_core.specs.Closing.{IsWhyBy, place_told}
 use Rattle.keep_core.specs.declared.close.Became.{Became}
 use Rattle.keep_core.specs.declared.trouble.Trouble.{Trouble}
@@ -106,9 +106,9 @@ ends_refused {became = became} {told_all = told_all} {old = old} {known = known}
       };
     }
 
--- an object whose board is that of a room, which was closed or not
+-- an object whose board is that of an office, which was closed or not
 pub ending_by : {agrees : Assignment → Type 0} {parts_were parts_are traces_were traces_are : Papers → Type 0} {before after : Trouble} {kept_all keeps_all : Bool} {old new : Option (List ℕ)} {given : List Contents} {called : List ℕ}
-    (name : List ℕ) (opening : List Contents) (seats : List Seat) (slips : List Told) (b : Board) (closes : Bool) (r : RoomState) →
+    (name : List ℕ) (opening : List Contents) (seats : List Seat) (slips : List Told) (b : Board) (closes : Bool) (r : InsideView) →
     called ≡ name → given ≡ opening → r.board ≡ b → IsSound b → IsClosed closes name r seats slips →
     EndsDesk agrees parts_were parts_are traces_were traces_are called given b closes before after kept_all keeps_all old new →
     (e : Ended) × IsOf name opening seats slips e × IsEnding agrees parts_were parts_are traces_were traces_are e before after kept_all keeps_all old new
@@ -117,7 +117,7 @@ ending_by {given = given} {called = called} name opening seats slips b closes r 
   record { named = calls; opened = opens; seated = refl; slipped = refl },
   k.ends seats slips (record {
     sound = sound;
-    room = r;
+    inside = r;
     of = of;
     closed = subst (λ (v : Bool). IsClosed v called r seats slips) (sym k.closed) (subst (λ (n : List ℕ). IsClosed closes n r seats slips) (sym calls) closed);
   }),
@@ -126,11 +126,11 @@ ending_by {given = given} {called = called} name opening seats slips b closes r 
 -- what was closed is of the object that was asked for, and each entry of its history has a slip
 pub closed_has_all : (e : Ended) → IsAtEnd e → IsTrue e.became.closed → HasAll e.name e.board e.slips
 closed_has_all e ended closed =
-    let all = subst (λ (v : Bool). IsClosed v e.name ended.room e.seats e.slips) closed ended.closed in
+    let all = subst (λ (v : Bool). IsClosed v e.name ended.inside e.seats e.slips) closed ended.closed in
     subst (λ (b : Board). HasAll e.name b e.slips) ended.of all.1
 
 -- what sessions left adds up, and nothing is missing
-pub closed_by : {given shown : List Told} (name : List ℕ) (seats : List Seat) (slips : List Told) (b : Board) (r : RoomState) → given ≡ slips → shown ≡ slips → b ≡ r.board →
+pub closed_by : {given shown : List Told} (name : List ℕ) (seats : List Seat) (slips : List Told) (b : Board) (r : InsideView) → given ≡ slips → shown ≡ slips → b ≡ r.board →
     AddsUp r seats given → HasAll name b shown → IsClosed true name r seats slips
 closed_by {shown = shown} name seats slips b r gives shows of adds has = (
   subst (λ (ts : List Told). AddsUp r seats ts) gives adds,
@@ -138,7 +138,7 @@ closed_by {shown = shown} name seats slips b r gives shows of adds has = (
 )
 
 -- that adds up, and something is missing
-pub lacking_by : {given shown : List Told} (name : List ℕ) (seats : List Seat) (slips : List Told) (b : Board) (r : RoomState) → given ≡ slips → shown ≡ slips → b ≡ r.board →
+pub lacking_by : {given shown : List Told} (name : List ℕ) (seats : List Seat) (slips : List Told) (b : Board) (r : InsideView) → given ≡ slips → shown ≡ slips → b ≡ r.board →
     AddsUp r seats given → (HasAll name b shown → ⊥) → IsClosed false name r seats slips
 lacking_by {shown = shown} name seats slips b r gives shows of adds lacks = inr (
   subst (λ (ts : List Told). AddsUp r seats ts) gives adds,
@@ -146,6 +146,6 @@ lacking_by {shown = shown} name seats slips b r gives shows of adds lacks = inr 
 )
 
 -- that does not add up
-pub refused_by_room : {given : List Told} (name : List ℕ) (seats : List Seat) (slips : List Told) (r : RoomState) (why : CloseFault) → given ≡ slips →
+pub refused_by_office : {given : List Told} (name : List ℕ) (seats : List Seat) (slips : List Told) (r : InsideView) (why : CloseFault) → given ≡ slips →
     IsWhyBy Told StandsIn place_told r seats given why → IsClosed false name r seats slips
-refused_by_room name seats slips r why gives is = inl (why, subst (λ (ts : List Told). IsWhyBy Told StandsIn place_told r seats ts why) gives is)
+refused_by_office name seats slips r why gives is = inl (why, subst (λ (ts : List Told). IsWhyBy Told StandsIn place_told r seats ts why) gives is)

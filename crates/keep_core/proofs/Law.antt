@@ -71,10 +71,10 @@ module _ (a : Assignment) (object : List ℕ) (parts : List Part) (pins : List (
   good_all papers (first ∷ more) (s, inr among, same) (of, all_of) (pinned, all_pinned) =
       good_all (insert papers (part_key object first.part.name) first.bytes) more (s, among, same) all_of all_pinned
 
--- the slips of a room that was closed stand in its history
+-- the slips of an office that was closed stand in its history
 slips_stand : (e : Ended) → IsAtEnd e → IsTrue e.became.closed → Every (StandsIn e.board.history) e.slips
 slips_stand e ended closed =
-    let all = subst (λ (v : Bool). IsClosed v e.name ended.room e.seats e.slips) closed ended.closed in
+    let all = subst (λ (v : Bool). IsClosed v e.name ended.inside e.seats e.slips) closed ended.closed in
     subst (λ (c : Board). Every (StandsIn c.history) e.slips) ended.of all.0.2
 
 pub kept_is_history : KeptIsHistory

@@ -12,8 +12,8 @@ use Rattle.board_core.specs.Sound.{IsSound}
 use Rattle.desk_core.specs.Told.{lines_told}
 use Rattle.slip_core.specs.Slips.{Told, StandsIn}
 use Rattle.seat_core.specs.declared.seat.Seat.{Seat}
-use Rattle.office_core.specs.declared.room.CloseFault.{CloseFault}
-use Rattle.office_core.specs.Rooms.{RoomState}
+use Rattle.office_core.specs.declared.inside.CloseFault.{CloseFault}
+use Rattle.office_core.specs.Insides.{InsideView}
 use Rattle.office_core.specs.Closing.{IsIdle, AreSeatsOf, IsWhyBy, place_told}
 use Rattle.office_core.specs.Receipts.{HaveSlips}
 use Rattle.keep_core.specs.declared.close.Became.{Became}
@@ -67,30 +67,30 @@ lines_of e =
 abbrev pub refused_after : Bool → Ended → Bool
 refused_after refused e = cond e.became.closed (refused_by refused e.damaged) true
 
--- What sessions left of a room adds up: no call waits or runs, each session has its seat, the seats count the entries,
+-- What sessions left of an office adds up: no call waits or runs, each session has its seat, the seats count the entries,
 -- and each slip is of the entry at its place.
-abbrev pub AddsUp : RoomState → List Seat → List Told → Type 0
+abbrev pub AddsUp : InsideView → List Seat → List Told → Type 0
 AddsUp r seats slips = IsIdle r.board × AreSeatsOf r seats × Every (StandsIn r.board.history) slips
 
 -- A board is of the object of this name, and each entry of its history has a slip.
 abbrev pub HasAll : List ℕ → Board → List Told → Type 0
 HasAll name b slips = (b.object.name ≡ name) × HaveSlips b.history slips
 
--- The room of the object of this name was closed: what its sessions left adds up, and nothing is missing. Or it was not:
--- for the first cause for which that does not add up; or it adds up, and an entry has no slip or the room is another
+-- The office of the object of this name was closed: what its sessions left adds up, and nothing is missing. Or it was not:
+-- for the first cause for which that does not add up; or it adds up, and an entry has no slip or the office is another
 -- object's.
-abbrev pub IsClosed : Bool → List ℕ → RoomState → List Seat → List Told → Type 0
+abbrev pub IsClosed : Bool → List ℕ → InsideView → List Seat → List Told → Type 0
 IsClosed true name r seats slips = AddsUp r seats slips × HasAll name r.board slips
 IsClosed false name r seats slips =
     ((why : CloseFault) × IsWhyBy Told StandsIn place_told r seats slips why)
     ⊎ (AddsUp r seats slips × (HasAll name r.board slips → ⊥))
 
--- its board is that of a room, which was closed with what its sessions left or not
+-- its board is that of an office, which was closed with what its sessions left or not
 pub record IsAtEnd (e : Ended) : Type 0 where
   pub sound : IsSound e.board
-  pub room : RoomState
-  pub of : room.board ≡ e.board
-  pub closed : IsClosed e.became.closed e.name room e.seats e.slips
+  pub inside : InsideView
+  pub of : inside.board ≡ e.board
+  pub closed : IsClosed e.became.closed e.name inside e.seats e.slips
 
 -- it is the one of this name, with these values, seats and slips
 pub record IsOf (name : List ℕ) (opening : List Contents) (seats : List Seat) (slips : List Told)

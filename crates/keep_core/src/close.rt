@@ -574,7 +574,7 @@ impl<S: Shelf + Drop, T: Shelf + Drop, H: Hand + Drop> Closing<S, T, H> {
                 }
             }
             Err(refused) => {
-                let desk = refused.room.desk();
+                let desk = refused.inside.desk();
                 self.end_refused(alloc, name.as_bytes(), &opening, desk, writer, error);
             }
         }

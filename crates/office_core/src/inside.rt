@@ -7,7 +7,7 @@ ghost use Rattle.ask_core.specs.Answers.{Cancels};
 ghost use Rattle.board_core.specs.Started.{Settles};
 ghost use Rattle.board_core.specs.Board.{released, marked};
 ghost use Rattle.std.specs.Prelude.{◌⊎◌};
-ghost use Rattle.office_core.specs.Rooms.{KeepsSeats, Submits};
+ghost use Rattle.office_core.specs.Insides.{KeepsSeats, Submits};
 ghost use Rattle.office_core.specs.Submissions.{Asks, IsOf, Tells, Tries};
 ghost use Rattle.seat_core.specs.Seats.{IsFresh};
 ghost use Rattle.office_core.specs.Seats.{Receives, ReceivesInPlace, Completes, CompletesInPlace, fault_with};
@@ -30,15 +30,15 @@ use std::marker::Model;
 use turn_core::turns::{Pace, Turns};
 use value_core::datum::Datum;
 
-/// The most sessions that a room gives out.
+/// The most sessions that an inside gives out.
 pub const MOST_SESSIONS: u32 = 1024;
 
 /// A desk, how many sessions were given out, and the names under which some of them were.
 ///
 /// A contract sees it as a board, that number and the names. The board is that of a desk: what holds of each such board
-/// (`IsSound`, `Rests`) holds of it, as [`Room::desk`] says.
+/// (`IsSound`, `Rests`) holds of it, as [`Inside::desk`] says.
 #[derive(Drop)]
-pub struct Room {
+pub struct Inside {
     pub(crate) desk: Desk,
     pub(crate) given: u32,
     pub(crate) clients: Clients,
@@ -46,15 +46,15 @@ pub struct Room {
     turns: Turns,
 }
 
-impl Model for Room {
-    ghost use Rattle.office_core.specs.Rooms.{RoomState};
+impl Model for Inside {
+    ghost use Rattle.office_core.specs.Insides.{InsideView};
     ghost use Rattle.desk_core.specs.contracts.desk.Desk as d;
     ghost use Rattle.seat_core.specs.contracts.clients.Clients as k;
     ghost use Rattle.seat_core.specs.Clients.{AreClients};
     ghost use Rattle.std.specs.Prelude.{◌≤◌};
     ghost use Rattle.std.specs.Coded.{codes};
 
-    ghost Value = { RoomState };
+    ghost Value = { InsideView };
 
     ghost coded = { Prim.hlevel (codes, d.the_row.coded, k.the_row.coded) };
 
@@ -70,7 +70,7 @@ pub struct SeatsFull {
     pub given: u32,
 }
 
-/// Why a room is not closed. The first that applies is told.
+/// Why an inside is not closed. The first that applies is told.
 #[derive(Clone, Copy, Debug, PartialEq, Eq)]
 pub enum CloseFault {
     /// A call waits or runs.
@@ -85,12 +85,12 @@ pub enum CloseFault {
 /// What a refused close hands back, and why it was refused.
 #[derive(Drop)]
 pub struct CloseRefused {
-    pub room: Room,
+    pub inside: Inside,
     pub seats: Vec<Seat>,
     pub why: CloseFault,
 }
 
-/// What is left of a room when all is done.
+/// What is left of an inside when all is done.
 #[derive(Drop)]
 pub struct Closed {
     /// The desk.
@@ -116,16 +116,16 @@ pub(crate) fn with_outcome(why: NotTaken, outcome: Outcome) -> CompleteFault
     }
 }
 
-impl Room {
-    /// A room with the desk that `Desk::open` gives, and no sessions given out. The error is that memory was
+impl Inside {
+    /// An inside with the desk that `Desk::open` gives, and no sessions given out. The error is that memory was
     /// refused.
-    pub fn open(alloc: Global, accepted: Accepted, pins: Pins) -> Result<Room, AllocError>
+    pub fn open(alloc: Global, accepted: Accepted, pins: Pins) -> Result<Inside, AllocError>
         requires { length pins ≡ length accepted.parts.items }
         ensures { IfOk result (λ r. r ≡ record { board = opened accepted pins; given = 0; clients = [] }) }
     {
         let turns = Turns::new(&accepted);
         let desk = Desk::open(alloc, accepted, pins)?;
-        Ok(Room {
+        Ok(Inside {
             desk,
             given: 0,
             clients: Clients::new(alloc),
@@ -190,7 +190,7 @@ impl Room {
     /// submission is a stranger, and nothing is changed. It takes no memory.
     pub fn try_start(&mut self, submitted: Submitted) -> Tried
         ensures tells { Tells submitted result }
-        ensures room { Tries self.old submitted result self.new }
+        ensures inside { Tries self.old submitted result self.new }
     {
         if !is_of(&self.desk, &submitted) {
             return Tried::Stranger(submitted);
@@ -204,7 +204,7 @@ impl Room {
     pub(crate) fn look(&mut self, submitted: Submitted) -> Tried
         requires { IsOf self.old.board submitted }
         ensures tells { Tells submitted result }
-        ensures room { Tries self.old submitted result self.new }
+        ensures inside { Tries self.old submitted result self.new }
     {
         // Called for its contract alone: the board is sound.
         let _history = self.desk.history();
@@ -230,7 +230,7 @@ impl Room {
     /// (`Stranger`).
     pub fn complete(&mut self, seat: &mut Seat, outcome: Outcome) -> Result<Receipt, CompleteFault>
         ensures seat { Receives seat.old outcome result seat.new }
-        ensures room { Completes self.old seat.old outcome result self.new }
+        ensures inside { Completes self.old seat.old outcome result self.new }
     {
         let mut outcome = outcome;
         match self.complete_in_place(seat, &mut outcome) {
@@ -250,7 +250,7 @@ impl Room {
         outcome: &mut Outcome,
     ) -> Result<Finished, NotTaken>
         ensures seat { ReceivesInPlace seat.old outcome.old result outcome.new seat.new }
-        ensures room { CompletesInPlace self.old seat.old outcome.old result outcome.new self.new }
+        ensures inside { CompletesInPlace self.old seat.old outcome.old result outcome.new self.new }
     {
         let found = self.desk.history().len() + 1;
         let seen = seat.seen();
@@ -312,7 +312,7 @@ impl Room {
         self.desk.disconnect(session);
     }
 
-    // What keeps the room open with these seats, whatever receipts there are.
+    // What keeps the inside open with these seats, whatever receipts there are.
     fn missing(&self, seats: &[Seat]) -> Option<CloseFault>
         ensures some { IfSome result (IsOpen self.now seats.now) }
         ensures none { IfNone result (IsIdle self.now.board × AreSeatsOf self.now seats.now) }
@@ -326,11 +326,11 @@ impl Room {
         None
     }
 
-    // What is left of a room that is closed.
+    // What is left of an inside that is closed.
     fn closed(self) -> Closed
         ensures { result.desk ≡ self.board }
     {
-        let Room {
+        let Inside {
             desk,
             given: _,
             clients: _,
@@ -343,20 +343,20 @@ impl Room {
     /// sessions given out, each once, their counts add up to the history's length, and each receipt tells of the entry
     /// at its place. It takes no memory.
     ///
-    /// The errors hand room and seats back, with the first cause of [`CloseFault`] that applies.
+    /// The errors hand inside and seats back, with the first cause of [`CloseFault`] that applies.
     pub fn close(self, seats: Vec<Seat>, receipts: &[Receipt]) -> Result<Closed, CloseRefused>
         ensures { Closes self seats.items receipts.now result }
     {
         if let Some(why) = self.missing(&seats) {
             return Err(CloseRefused {
-                room: self,
+                inside: self,
                 seats,
                 why,
             });
         }
         if let Some((receipt, place)) = first_mismatch(self.desk.history(), receipts) {
             return Err(CloseRefused {
-                room: self,
+                inside: self,
                 seats,
                 why: CloseFault::Mismatch { receipt, place },
             });
@@ -368,20 +368,20 @@ impl Room {
     /// those that are parked here, are those of the sessions given out, each once, their counts add up to the history's
     /// length, and each slip tells of the entry at its place. It takes no memory.
     ///
-    /// The errors hand room and seats back, with the first cause of [`CloseFault`] that applies.
+    /// The errors hand inside and seats back, with the first cause of [`CloseFault`] that applies.
     pub fn close_by_slips(self, seats: Vec<Seat>, slips: &[Slip]) -> Result<Closed, CloseRefused>
         ensures { ClosesBySlips self seats.items slips.now result }
     {
         if let Some(why) = self.missing(&seats) {
             return Err(CloseRefused {
-                room: self,
+                inside: self,
                 seats,
                 why,
             });
         }
         if let Some((receipt, place)) = first_mismatched_slip(self.desk.history(), slips) {
             return Err(CloseRefused {
-                room: self,
+                inside: self,
                 seats,
                 why: CloseFault::Mismatch { receipt, place },
             });

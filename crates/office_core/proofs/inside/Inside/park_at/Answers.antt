@@ -6,12 +6,12 @@ use Rattle.ask_core.specs.Answers.{runs_by}
 use Rattle.seat_core.specs.declared.clients.Client.{Client}
 use Rattle.seat_core.specs.Clients.{AreClients}
 use Rattle.seat_core.proofs.Naming.{clients_put, client_within}
-use Rattle.office_core.specs.Rooms.{RoomState}
-use Rattle.office_core.proofs.room.Room.park_at.Goals as goal
+use Rattle.office_core.specs.Insides.{InsideView}
+use Rattle.office_core.proofs.inside.Inside.park_at.Goals as goal
 
 pub invariant_of-self : goal.invariant_of-self
 invariant_of-self c =
-    let clients : c.self.inside.clients ≡ c.args.self.now.clients = ap (λ (r : RoomState). r.clients) c.self.view_is in
+    let clients : c.self.inside.clients ≡ c.args.self.now.clients = ap (λ (r : InsideView). r.clients) c.self.view_is in
     let client = c.requires.0 in
     let there : slice_get c.self.inside.clients c.args.place ≡ Some client = ap (λ (cs : List Client). slice_get cs c.args.place) clients ∙ c.requires.1 in (
       c.self.invariant.0,
@@ -23,8 +23,8 @@ invariant_of-self c =
 
 pub returns : goal.returns
 returns c =
-    let board : c.self.inside.desk ≡ c.args.self.now.board = ap (λ (r : RoomState). r.board) c.self.view_is in
-    let clients : c.self.inside.clients ≡ c.args.self.now.clients = ap (λ (r : RoomState). r.clients) c.self.view_is in
+    let board : c.self.inside.desk ≡ c.args.self.now.board = ap (λ (r : InsideView). r.board) c.self.view_is in
+    let clients : c.self.inside.clients ≡ c.args.self.now.clients = ap (λ (r : InsideView). r.clients) c.self.view_is in
     let client = c.requires.0 in
     let there : slice_get c.self.inside.clients c.args.place ≡ Some client = ap (λ (cs : List Client). slice_get cs c.args.place) clients ∙ c.requires.1 in
     let within = client_within c.self.inside.given c.self.inside.clients c.args.place client c.self.invariant.1 there in
@@ -38,6 +38,6 @@ returns c =
       out = c.requires.2;
       rests = sym (c.runs_for.ensures ∙ ap (λ (n : ℕ). runs_by c.self.inside.desk n) same ∙ ap (λ (b : Board). runs_by b c.args.seat.session) board) ∙ c.if-runs_for.false;
       board = subst (λ (n : ℕ). Settles (marked (released c.args.self.now.board n) n) c.disconnect.new.self) same (subst (λ (b : Board). Settles (marked (released b s) s) c.disconnect.new.self) board settled);
-      given = ap (λ (r : RoomState). r.given) c.self.view_is;
+      given = ap (λ (r : InsideView). r.given) c.self.view_is;
       clients = c.put_at.ensures client there ∙ ap (λ (cs : List Client). slice_set cs c.args.place (record client { seat = Some c.args.seat })) clients;
     }

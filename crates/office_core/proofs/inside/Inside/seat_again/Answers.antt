@@ -5,12 +5,12 @@ use Rattle.key_core.specs.Keys.{resumed}
 use Rattle.seat_core.specs.declared.clients.Client.{Client}
 use Rattle.seat_core.specs.Clients.{AreClients}
 use Rattle.seat_core.proofs.Naming.{clients_taken, parked_within}
-use Rattle.office_core.specs.Rooms.{RoomState}
-use Rattle.office_core.proofs.room.Room.seat_again.Goals as goal
+use Rattle.office_core.specs.Insides.{InsideView}
+use Rattle.office_core.proofs.inside.Inside.seat_again.Goals as goal
 
 pub invariant_of-self : goal.invariant_of-self
 invariant_of-self c =
-    let clients : c.self.inside.clients ≡ c.args.self.now.clients = ap (λ (r : RoomState). r.clients) c.self.view_is in
+    let clients : c.self.inside.clients ≡ c.args.self.now.clients = ap (λ (r : InsideView). r.clients) c.self.view_is in
     let client = c.requires.0 in
     let there : slice_get c.self.inside.clients c.args.place ≡ Some client = ap (λ (cs : List Client). slice_get cs c.args.place) clients ∙ c.requires.1 in
     let took = c.in-Some.ensures.some client there in
@@ -18,7 +18,7 @@ invariant_of-self c =
 
 pub invariant_of-self-in-None : goal.invariant_of-self-in-None
 invariant_of-self-in-None c =
-    let clients : c.self.inside.clients ≡ c.args.self.now.clients = ap (λ (r : RoomState). r.clients) c.self.view_is in
+    let clients : c.self.inside.clients ≡ c.args.self.now.clients = ap (λ (r : InsideView). r.clients) c.self.view_is in
     let client = c.requires.0 in
     let there : slice_get c.self.inside.clients c.args.place ≡ Some client = ap (λ (cs : List Client). slice_get cs c.args.place) clients ∙ c.requires.1 in
     let left = c.in-None.ensures.none client there in
@@ -26,8 +26,8 @@ invariant_of-self-in-None c =
 
 pub returns-in-Some-clause-gives : goal.returns-in-Some-clause-gives
 returns-in-Some-clause-gives c = λ client is.
-    let board : c.self.inside.desk ≡ c.args.self.now.board = ap (λ (r : RoomState). r.board) c.self.view_is in
-    let clients : c.self.inside.clients ≡ c.args.self.now.clients = ap (λ (r : RoomState). r.clients) c.self.view_is in
+    let board : c.self.inside.desk ≡ c.args.self.now.board = ap (λ (r : InsideView). r.board) c.self.view_is in
+    let clients : c.self.inside.clients ≡ c.args.self.now.clients = ap (λ (r : InsideView). r.clients) c.self.view_is in
     let there : slice_get c.self.inside.clients c.args.place ≡ Some client = ap (λ (cs : List Client). slice_get cs c.args.place) clients ∙ is in
     let took = c.in-Some.ensures.some client there in
     let seat = c.in-Some.seat in
@@ -41,13 +41,13 @@ returns-in-Some-clause-gives c = λ client is.
       at = record { there = is; named = refl };
       parked = took.0;
       board = back.1 ∙ ap (λ (n : ℕ). resumed c.self.inside.desk n) same ∙ ap (λ (b : Board). resumed b seat.session) board;
-      given = ap (λ (r : RoomState). r.given) c.self.view_is;
+      given = ap (λ (r : InsideView). r.given) c.self.view_is;
       clients = took.1 ∙ ap (λ (cs : List Client). slice_set cs c.args.place (record client { seat = None })) clients;
     })
 
 pub returns-in-Some-clause-within : goal.returns-in-Some-clause-within
 returns-in-Some-clause-within c =
-    let clients : c.self.inside.clients ≡ c.args.self.now.clients = ap (λ (r : RoomState). r.clients) c.self.view_is in
+    let clients : c.self.inside.clients ≡ c.args.self.now.clients = ap (λ (r : InsideView). r.clients) c.self.view_is in
     let client = c.requires.0 in
     let there : slice_get c.self.inside.clients c.args.place ≡ Some client = ap (λ (cs : List Client). slice_get cs c.args.place) clients ∙ c.requires.1 in
     let took = c.in-Some.ensures.some client there in

@@ -4,9 +4,9 @@ use Rattle.board_core.specs.Board.{Board, joined}
 use Rattle.board_core.specs.Calls.{AcceptedCall}
 use Rattle.board_core.specs.Started.{Settles}
 use Rattle.ask_core.specs.Answers.{Asked, IsTaken, IsRefused}
-use Rattle.office_core.specs.Rooms.{RoomState}
+use Rattle.office_core.specs.Insides.{InsideView}
 use Rattle.office_core.proofs.Found.{joined_is}
-use Rattle.office_core.proofs.room.Room.submit.Goals as goal
+use Rattle.office_core.proofs.inside.Inside.submit.Goals as goal
 
 pub returns-in-Ok-clause-asks : goal.returns-in-Ok-clause-asks
 returns-in-Ok-clause-asks c = record { named = c.in-Ok.ensures.taken.asked.named.has; arguments = c.in-Ok.ensures.taken.asked.arguments }
@@ -14,7 +14,7 @@ returns-in-Ok-clause-asks c = record { named = c.in-Ok.ensures.taken.asked.named
 pub returns-in-Ok-clause-board : goal.returns-in-Ok-clause-board
 returns-in-Ok-clause-board c =
     let asked : ℕ → Asked = λ n. record { session = n; name = c.args.op.now; arguments = c.args.args.now } in
-    let board : c.self.inside.desk ≡ c.args.self.now.board = ap (λ (r : RoomState). r.board) c.self.view_is in
+    let board : c.self.inside.desk ≡ c.args.self.now.board = ap (λ (r : InsideView). r.board) c.self.view_is in
     subst
     (λ (n : ℕ). (c.in-Ok.number ≡ length c.args.self.now.board.calls + 1)
     × ((call : AcceptedCall) × IsTaken c.args.self.now.board (asked n) call × Settles (joined c.args.self.now.board call) c.submit_and_share.new.self))
@@ -32,6 +32,6 @@ returns-in-Ok-clause-accepted c =
 pub returns-in-Err-clause-refused : goal.returns-in-Err-clause-refused
 returns-in-Err-clause-refused c =
     let asked : ℕ → Asked = λ n. record { session = n; name = c.args.op.now; arguments = c.args.args.now } in
-    let board : c.self.inside.desk ≡ c.args.self.now.board = ap (λ (r : RoomState). r.board) c.self.view_is in
+    let board : c.self.inside.desk ≡ c.args.self.now.board = ap (λ (r : InsideView). r.board) c.self.view_is in
     let refused = subst (λ (b : Board). IsRefused b (asked c.session.result) c.in-Err.fault) board c.in-Err.ensures.refused.0 in
     (subst (λ (n : ℕ). IsRefused c.args.self.now.board (asked n) c.in-Err.fault) c.session.ensures refused, c.in-Err.ensures.refused.1 ∙ board)

@@ -1,6 +1,6 @@
 use Rattle.ask_core.specs.Answers.{Asked}
 use Rattle.office_core.proofs.Keying.{refused_next}
-use Rattle.office_core.proofs.room.Room.submit_next.Goals as goal
+use Rattle.office_core.proofs.inside.Inside.submit_next.Goals as goal
 
 pub returns-in-Err-clause-told : goal.returns-in-Err-clause-told
 returns-in-Err-clause-told c =

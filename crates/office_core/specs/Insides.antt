@@ -8,13 +8,13 @@ use Rattle.ask_core.specs.Answers.{Asked, IsTaken, IsRefused}
 use Rattle.seat_core.specs.declared.clients.Client.{Client}
 
 -- a board, how many sessions were given out, and the names under which some of them were
-pub record RoomState : Type 0 where
+pub record InsideView : Type 0 where
   pub board : Board
   pub given : ℕ
   pub clients : List Client
 
 -- the sessions that were given out, and their names, are as they were
-abbrev pub KeepsSeats : RoomState → RoomState → Type 0
+abbrev pub KeepsSeats : InsideView → InsideView → Type 0
 KeepsSeats old new = (new.given ≡ old.given) × (new.clients ≡ old.clients)
 
 -- what a submission answers and makes of the board: the next number, and the call joins; or the first refusal that
