@@ -67,8 +67,8 @@ lines_of e =
 abbrev pub refused_after : Bool → Ended → Bool
 refused_after refused e = cond e.became.closed (refused_by refused e.damaged) true
 
--- What sessions left of an office adds up: no call waits or runs, each session has its seat, the seats count the entries,
--- and each slip is of the entry at its place.
+-- What sessions left of an office adds up: no call waits or runs, each session has its seat, the seats count the
+-- entries, and each slip is of the entry at its place.
 abbrev pub AddsUp : InsideView → List Seat → List Told → Type 0
 AddsUp r seats slips = IsIdle r.board × AreSeatsOf r seats × Every (StandsIn r.board.history) slips
 
@@ -76,9 +76,9 @@ AddsUp r seats slips = IsIdle r.board × AreSeatsOf r seats × Every (StandsIn r
 abbrev pub HasAll : List ℕ → Board → List Told → Type 0
 HasAll name b slips = (b.object.name ≡ name) × HaveSlips b.history slips
 
--- The office of the object of this name was closed: what its sessions left adds up, and nothing is missing. Or it was not:
--- for the first cause for which that does not add up; or it adds up, and an entry has no slip or the office is another
--- object's.
+-- The office of the object of this name was closed: what its sessions left adds up, and nothing is missing. Or it was
+-- not: for the first cause for which that does not add up; or it adds up, and an entry has no slip or the office is
+-- another object's.
 abbrev pub IsClosed : Bool → List ℕ → InsideView → List Seat → List Told → Type 0
 IsClosed true name r seats slips = AddsUp r seats slips × HasAll name r.board slips
 IsClosed false name r seats slips =
