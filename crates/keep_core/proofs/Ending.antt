@@ -1,17 +1,20 @@
 -- How an object ends.
-use Rattle.std.proofs.Common.{◌≡◌, ◌∙◌, ap, sym, subst, refl, inl, inr, ℕ, List, [], ◌∷◌, ◌++◌, length, Bool, true, false, cond, Option, None, Result}
+use Rattle.std.proofs.Common.{◌≡◌, ◌∙◌, ap, sym, subst, refl, inl, inr, ℕ, List, [], ◌∷◌, ◌++◌, length, ◌↔◌, Bool, true, false, cond, Option, None, Result}
 use Rattle.std.specs.Prelude.{IsTrue}
 use Rattle.std.proofs.lemmas.Bool.{true≢false}
 use Rattle.line_core.specs.declared.machine.LinesFault.{LinesFault}
 use Rattle.value_core.specs.Contents.{Contents}
 use Rattle.hand_core.specs.Device.{Assignment}
 use Rattle.hand_core.specs.Papers.{Papers}
+use Rattle.decl_core.specs.declared.object.Object.{Object}
+use Rattle.board_core.specs.Calls.{Noted}
 use Rattle.board_core.specs.Board.{Board}
 use Rattle.board_core.specs.Sound.{IsSound}
 use Rattle.slip_core.specs.Slips.{Told, StandsIn}
 use Rattle.seat_core.specs.declared.seat.Seat.{Seat}
 use Rattle.office_core.specs.declared.inside.CloseFault.{CloseFault}
 use Rattle.office_core.specs.Insides.{InsideView}
+use Rattle.office_core.specs.Receipts.{HaveSlips}
 use Rattle.office_core.specs.Closing.{IsWhyBy, place_told}
 use Rattle.keep_core.specs.declared.close.Became.{Became}
 use Rattle.keep_core.specs.declared.trouble.Trouble.{Trouble}
@@ -149,3 +152,10 @@ lacking_by {shown = shown} name seats slips b r gives shows of adds lacks = inr 
 pub refused_by_office : {given : List Told} (name : List ℕ) (seats : List Seat) (slips : List Told) (r : InsideView) (why : CloseFault) → given ≡ slips →
     IsWhyBy Told StandsIn place_told r seats given why → IsClosed false name r seats slips
 refused_by_office name seats slips r why gives is = inl (why, subst (λ (ts : List Told). IsWhyBy Told StandsIn place_told r seats ts why) gives is)
+
+-- how the test for the name and the slips is answered
+pub has_all_by : {all : Bool} {history : List Noted} {o : Object} (name : List ℕ) (slips : List Told) (b : Board) → history ≡ b.history → o ≡ b.object → o.name ≡ name → IsTrue all ↔ HaveSlips history slips → IsTrue all ↔ HasAll name b slips
+has_all_by name slips b told is named have = (
+  λ all. (ap (λ (x : Object). x.name) (sym is) ∙ named, subst (λ (h : List Noted). HaveSlips h slips) told (have.0 all)),
+  λ has. have.1 (subst (λ (h : List Noted). HaveSlips h slips) (sym told) has.1),
+)

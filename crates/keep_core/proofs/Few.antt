@@ -25,7 +25,7 @@ each_event (Ended call ∷ past) = omega (arith, each_event past)
 
 -- the ends of what happened, after what was before
 ends_counted : (calls : List AcceptedCall) (trace : List TraceEvent) (past : List Event) → ended_calls (fold (λ (so_far : List Event) (event : TraceEvent). path_event calls event ∷ so_far) past trace) ≡ length (ends_of trace) + ended_calls past
-ends_counted calls [] past = refl
+ends_counted calls [] past = omega arith
 ends_counted calls (Start n ∷ trace) past = ends_counted calls trace (path_event calls (Start n) ∷ past)
 ends_counted calls (End n reply ∷ trace) past = omega (arith, ends_counted calls trace (path_event calls (End n reply) ∷ past))
 

@@ -8,6 +8,7 @@ ghost use Rattle.hand_core.specs.Device.{Assignment};
 ghost use Rattle.decl_core.specs.ObjectMap.{object_of};
 ghost use Rattle.trace_core.specs.Text.{trace_text as text_of};
 ghost use Rattle.store_core.specs.Saved.{MaySave, StoreLeaves};
+ghost use Rattle.board_core.specs.Sound.{IsSound};
 ghost use Rattle.desk_core.specs.Told.{lines_told};
 ghost use Rattle.keep_core.specs.Ends.{kept_in, KeepsDesk, HasAll, EndsDesk, Ended, IsOf, IsEnding};
 ghost use Rattle.keep_core.specs.Kept.{fault_by, Notes, Saves, StoresText, Traces};
@@ -420,12 +421,14 @@ fn is_same_name(one: &Name, other: &Name) -> bool
 
 // Whether a desk is of the object of this name, and each entry of its history has a slip.
 fn has_all(marks: &mut Marks, name: &Name, desk: &Desk, slips: &[Slip]) -> bool
-    ensures { IsTrue result ↔ HasAll name.now desk.now slips.now }
+    ensures all { IsTrue result ↔ HasAll name.now desk.now slips.now }
+    ensures sound { IsSound desk.now }
 {
+    let history = desk.history();
     if !is_same_name(&desk.accepted().object().name, name) {
         return false;
     }
-    marks.have_slips(desk.history(), slips)
+    marks.have_slips(history, slips)
 }
 
 impl<S: Shelf + Drop, T: Shelf + Drop, H: Hand + Drop> Closing<S, T, H> {

@@ -1,4 +1,4 @@
-use Rattle.std.proofs.Common.{◌≡◌, ◌∙◌, ap, sym, arith, length}
+use Rattle.std.proofs.Common.{◌∙◌, ap, arith, length}
 use Rattle.keep_core.proofs.Marking.{marked_length, slips_marked}
 use Rattle.keep_core.proofs.marks.have_slips_by.Goals as goal
 
