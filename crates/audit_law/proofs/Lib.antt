@@ -2,4 +2,4 @@ pub mod Running
 pub mod Naming
 pub mod Refusing
 pub mod Telling
-pub mod Looked
+pub mod Opening

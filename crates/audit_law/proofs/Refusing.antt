@@ -21,7 +21,7 @@ use Rattle.trace_core.specs.Laws.{IsReply}
 use Rattle.board_core.specs.Lists.{Every}
 use Rattle.board_core.specs.Calls.{Noted}
 use Rattle.board_core.specs.Chain.{history_of}
-use Rattle.audit_law.specs.Data.{TellsDatum}
+use Rattle.held_core.specs.Held.{TellsDatum}
 
 -- what is refused is refused by a word
 abbrev ByWord : {A : Type 0} → Answer A → Type 0

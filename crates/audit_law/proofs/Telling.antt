@@ -169,7 +169,7 @@ replies_of (e ∷ entries) every = (every.0, replies_of entries every.1)
 
 pub desk_text_is_legal : DeskTextIsLegal
 unfolding EachStarts
-desk_text_is_legal b opening sound names front known legal =
+desk_text_is_legal b opening sound known front legal =
     let o = object_of b.object in
     let counted = sound.counted in
     let past = past_from b.calls [] b.trace in
@@ -178,6 +178,6 @@ desk_text_is_legal b opening sound names front known legal =
     let ends : history_of o past ≡ chain.history_of b.history = history_is o b.calls [] b.trace ∙ ap (map (end_at o b.calls)) sound.told.ends ∙ entries_are b counted.made b.history sound.told.noted in
     let each = each_starts b [] b.trace counted.made counted.few known.arguments counted.numbered (subst (Every (λ (x : ℕ × Reply). IsReply x.1)) (sym sound.told.ends) (replies_of b.history (replies_told b.history opening legal known.replies))) tt in
     let are = are_calls o b.calls past (of_calls b.calls [] b.trace tt) (subst IsTrace (sym seen_so) counted.trace) each in
-    let is = text_is_legal o opening past names front are (subst (SatisfiesAll o.paths) (sym seen_so) counted.satisfied) (subst (λ h. history.IsLegal h opening) (sym ends) legal) in
+    let is = text_is_legal o opening past known.names front are (subst (SatisfiesAll o.paths) (sym seen_so) counted.satisfied) (subst (λ h. history.IsLegal h opening) (sym ends) legal) in
     let many : length (history_of o past) ≡ length b.history = ap length ends ∙ length-map b.history chain.end_of in
     subst (λ n. IsLegalTrace o (trace_text o opening (lines_told b)) n) many (subst (λ t. IsLegalTrace o (trace_text o opening t) (length (history_of o past))) told_so is)

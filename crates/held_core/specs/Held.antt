@@ -1,8 +1,10 @@
--- What a program holds of data.
+-- What a program holds of a board.
 use Rattle.std.specs.Prelude.{All, Some, None}
 use Rattle.value_core.specs.Datum.{IsDatum}
+use Rattle.decl_core.specs.ObjectMap.{object_of}
 use Rattle.apply_core.specs.declared.reply.Reply.{Reply}
 use Rattle.apply_core.specs.declared.reply.Reply.TheVariants.{Done, Refused, Failed}
+use Rattle.trace_core.specs.Laws.{HasNames}
 use Rattle.board_core.specs.Lists.{Every}
 use Rattle.board_core.specs.Board.{Board}
 
@@ -13,7 +15,9 @@ TellsDatum (Done (Some datum)) = IsDatum datum
 TellsDatum (Refused word) = Unit {0}
 TellsDatum (Failed failure) = Unit {0}
 
--- the arguments of each call are such data, and so is what each function replied
-pub record AreData (b : Board) : Type 0 where
+-- lines can tell of a board: its object has names, the arguments of its calls are such data, and so is what functions
+-- replied
+pub record CanBeTold (b : Board) : Type 0 where
+  pub names : HasNames (object_of b.object)
   pub arguments : Every (λ c. All IsDatum c.arguments) b.calls
   pub replies : Every (λ e. TellsDatum e.reply) b.history

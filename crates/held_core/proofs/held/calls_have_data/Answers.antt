@@ -2,8 +2,8 @@ use Rattle.std.proofs.Common.{◌≤◌, All, length, ap, ◌∙◌, add-one, ar
 use Rattle.value_core.specs.Datum.{IsDatum}
 use Rattle.board_core.specs.Calls.{AcceptedCall}
 use Rattle.board_core.specs.Board.{call_at}
-use Rattle.audit_law.proofs.Looked.{next, are_all}
-use Rattle.audit_law.proofs.held.calls_have_data.Goals as goal
+use Rattle.held_core.proofs.Looked.{next, are_all}
+use Rattle.held_core.proofs.held.calls_have_data.Goals as goal
 
 pub loop-place-preserved : goal.loop-place-preserved
 loop-place-preserved c =

@@ -1,27 +1,21 @@
 //! What a program holds of a desk: names, and data.
 //!
 //! A name in memory is a name, and an integer or a text is one: no value of these types is another. A contract sees
-//! the names as bytes, and the data as such, so it is said here, once, for all that a desk has. The functions call for
-//! contracts alone: they change nothing, and tell nothing.
+//! names as bytes, and data as numbers and bytes, so what they are is said here, once, of all that a desk has. The
+//! functions are called for their contracts alone: they change nothing, and tell nothing.
 
-ghost use Rattle.std.specs.Prelude.{◌≡◌, All, map, length, Some, slice_get};
+ghost use Rattle.std.specs.Prelude.{◌≡◌, All, Some, slice_get};
 ghost use Rattle.path_tree.specs.Identifier.{IsName};
 ghost use Rattle.value_core.specs.declared.datum.Datum.{Datum as ADatum};
 ghost use Rattle.value_core.specs.Datum.{IsDatum};
-ghost use Rattle.value_core.specs.Contents.{IsContents, kind_of};
 ghost use Rattle.decl_core.specs.ObjectMap.{object_of, parts_of, operations_of};
 ghost use Rattle.apply_core.specs.Fits.{ArgumentsFit};
-ghost use Rattle.apply_core.specs.History.{IsLegal};
 ghost use Rattle.trace_core.specs.Laws.{HasNames};
-ghost use Rattle.trace_core.specs.Text.{trace_text};
 ghost use Rattle.board_core.specs.Lists.{Every};
 ghost use Rattle.board_core.specs.Calls.{AcceptedCall};
 ghost use Rattle.board_core.specs.Board.{call_at};
-ghost use Rattle.board_core.specs.Chain.{history_of};
-ghost use Rattle.board_core.specs.Sound.{IsSound, kinds_of};
-ghost use Rattle.desk_core.specs.Told.{lines_told};
-ghost use Rattle.audit_core.specs.Verdicts.{IsLegalTrace};
-ghost use Rattle.audit_law.specs.Data.{TellsDatum, AreData};
+ghost use Rattle.board_core.specs.Sound.{IsSound};
+ghost use Rattle.held_core.specs.Held.{TellsDatum, CanBeTold};
 
 use apply_core::reply::Reply;
 use board_core::call::Call;
@@ -30,7 +24,6 @@ use decl_core::object::{Object, Operation, Part};
 use desk_core::desk::Desk;
 use short_core::slim::Slims;
 use std::sync::Arc;
-use value_core::value::Value;
 
 // Each of these parts has a name.
 fn parts_have_names(parts: &[Part])
@@ -136,36 +129,11 @@ fn calls_have_data(desk: &Desk)
     }
 }
 
-/// The arguments of each call of a desk are data, and so is what each function replied.
-pub fn desk_has_data(desk: &Desk)
-    ensures { AreData desk.now }
+/// Lines can tell of each desk that a program holds.
+pub fn desk_can_be_told(desk: &Desk)
+    ensures { CanBeTold desk.now }
 {
+    object_has_names(desk.accepted().object());
     calls_have_data(desk);
     replies_are_data(desk.history());
-}
-
-// Opening values are contents.
-fn values_are_contents(values: &[Value])
-    ensures { All IsContents values.now }
-{
-    match values {
-        [] => {}
-        [value, values @ ..] => {
-            value.kind();
-            values_are_contents(values);
-        }
-    }
-}
-
-/// The text of the trace of a desk that a program holds is a legal trace with as many ends as there are entries, where
-/// the history of its entries is legal from the opening values, which are of the parts' kinds.
-pub fn text_is_legal(desk: &Desk, opening: &[Value])
-    ensures { map kind_of opening.now ≡ kinds_of desk.now.object → IsLegal (history_of desk.now.history) opening.now →
-        IsLegalTrace (object_of desk.now.object) (trace_text (object_of desk.now.object) opening.now
-        (lines_told desk.now)) (length desk.now.history) }
-{
-    desk.history();
-    object_has_names(desk.accepted().object());
-    desk_has_data(desk);
-    values_are_contents(opening);
 }

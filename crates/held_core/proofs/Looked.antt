@@ -1,21 +1,16 @@
 -- What was looked at, item by item.
-use Rattle.std.proofs.Common.{◌≡◌, ℕ, zero, suc, ◌+◌, ◌≤◌, List, [], ◌∷◌, All, length, take, Some, refl, sym, ap, ◌∙◌, subst, add-one, map, arith}
+use Rattle.std.proofs.Common.{◌≡◌, ℕ, zero, suc, ◌+◌, ◌≤◌, List, [], ◌∷◌, All, length, take, Some, refl, sym, ap, ◌∙◌, subst, add-one, arith}
 use Rattle.std.specs.Prelude.{slice_get, unwrap_or}
 use Rattle.std.proofs.lemmas.List.{length-map}
 use Rattle.std.proofs.lemmas.List.Elements.{All-nil, All-cons}
 use Rattle.value_core.specs.declared.datum.Datum.{Datum}
 use Rattle.value_core.specs.Datum.{elem_of}
-use Rattle.value_core.specs.Contents.{Contents, IsContents, kind_of}
-use Rattle.decl_core.specs.declared.object.Object.{Object}
 use Rattle.decl_core.specs.declared.object.Operation.{Operation}
-use Rattle.decl_core.specs.declared.object.Part.{Part}
-use Rattle.decl_core.specs.ObjectMap.{object_of, parts_of}
 use Rattle.apply_core.specs.Fits.{ArgumentsFit}
 use Rattle.board_core.specs.Lists.{Every}
 use Rattle.board_core.specs.Calls.{AcceptedCall}
 use Rattle.board_core.specs.Board.{Board, call_at}
-use Rattle.board_core.specs.Sound.{IsSound, IsMadeOf, kinds_of}
-use Rattle.audit_core.specs.Laws.{AreOpening}
+use Rattle.board_core.specs.Sound.{IsSound, IsMadeOf}
 
 module _ {X : Type 0} (P : X → Type 0) where
   next_so : (xs : List X) (k : ℕ) → Every P (take k xs) → ((x : X) → slice_get xs k ≡ Some x → P x) → Every P (take (suc k) xs)
@@ -50,11 +45,3 @@ fits_at b (suc k) c sound is = (every_at (IsMadeOf b.object) b.calls k c sound.c
 -- a call that fits has an argument for each parameter
 pub as_many : (o : Operation) (arguments : List Datum) → ArgumentsFit o arguments → length arguments ≡ length o.params.items
 as_many o arguments fits = sym (length-map arguments elem_of) ∙ ap length fits ∙ length-map o.params.items (λ p. p.kind)
-
--- the opening values of an object are its opening, where they are of its parts' kinds
-pub are_opening : (o : Object) (opening : List Contents) → All IsContents opening → map kind_of opening ≡ kinds_of o → AreOpening (object_of o) opening
-are_opening o opening contents kinds = record { kinds = kinds ∙ each_kind o.parts.items; contents = contents }
-  where
-    each_kind : (parts : List Part) → map (λ (p : Part). p.kind) parts ≡ map (λ p. p.1) (parts_of parts)
-    each_kind [] = refl
-    each_kind (p ∷ parts) = ap (λ ks. p.kind ∷ ks) (each_kind parts)

@@ -2,8 +2,8 @@ use Rattle.std.proofs.Common.{◌≤◌, length, ap, ◌∙◌, arith}
 use Rattle.std.specs.Prelude.{slice_get}
 use Rattle.value_core.specs.Datum.{IsDatum}
 use Rattle.decl_core.specs.declared.object.Operation.{Operation}
-use Rattle.audit_law.proofs.Looked.{next, as_many, are_all, all_of}
-use Rattle.audit_law.proofs.held.arguments_are_data.Goals as goal
+use Rattle.held_core.proofs.Looked.{next, as_many, are_all, all_of}
+use Rattle.held_core.proofs.held.arguments_are_data.Goals as goal
 
 pub loop-place-preserved : goal.loop-place-preserved
 loop-place-preserved c =

@@ -1,0 +1,4 @@
+//! What a program holds of a desk can be told by lines.
+#![tactic(auto)]
+
+pub mod held;
