@@ -53,6 +53,7 @@ ends_closed {became = became} {before = before} {old = old} {known = known} {new
       became = became;
       closed = k.closed;
       damaged = damaged;
+      held = k.held;
       ends = λ seats slips ended. record {
         ended = ended;
         met = met;
@@ -93,6 +94,7 @@ ends_refused {became = became} {told_all = told_all} {old = old} {known = known}
       became = became;
       closed = k.closed;
       damaged = damaged;
+      held = k.held;
       ends = λ seats slips ended. record {
         ended = ended;
         met = met;
@@ -120,6 +122,7 @@ ending_by {given = given} {called = called} name opening seats slips b closes r 
   record { named = calls; opened = opens; seated = refl; slipped = refl },
   k.ends seats slips (record {
     sound = sound;
+    held = k.held;
     inside = r;
     of = of;
     closed = subst (λ (v : Bool). IsClosed v called r seats slips) (sym k.closed) (subst (λ (n : List ℕ). IsClosed closes n r seats slips) (sym calls) closed);

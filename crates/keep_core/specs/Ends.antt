@@ -10,6 +10,7 @@ use Rattle.board_core.specs.Lists.{Every}
 use Rattle.board_core.specs.Board.{Board}
 use Rattle.board_core.specs.Sound.{IsSound}
 use Rattle.desk_core.specs.Told.{lines_told}
+use Rattle.held_core.specs.Held.{CanBeTold}
 use Rattle.slip_core.specs.Slips.{Told, StandsIn}
 use Rattle.seat_core.specs.declared.seat.Seat.{Seat}
 use Rattle.office_core.specs.declared.inside.CloseFault.{CloseFault}
@@ -44,6 +45,7 @@ pub record KeepsDesk (agrees : Assignment → Type 0) (parts_were parts_are trac
       between old new
   pub traces : Traces b.object.name (trace_of b opening) traces_were traces_are became.traced between after
   pub keeps : IsTrue keeps_all → IsTrue kept_all × IsTrue became.saved × IsTrue became.traced
+  pub held : CanBeTold b
 
 -- An object at the end: its name, the values with which its parts opened, the seats and slips that its sessions left,
 -- the board of its desk, what became of it, and the places of its parts that are damaged.
@@ -85,9 +87,10 @@ IsClosed false name r seats slips =
     ((why : CloseFault) × IsWhyBy Told StandsIn place_told r seats slips why)
     ⊎ (AddsUp r seats slips × (HasAll name r.board slips → ⊥))
 
--- its board is that of an office, which was closed with what its sessions left or not
+-- its board is that of an office, which was closed with what its sessions left or not; and lines can tell of it
 pub record IsAtEnd (e : Ended) : Type 0 where
   pub sound : IsSound e.board
+  pub held : CanBeTold e.board
   pub inside : InsideView
   pub of : inside.board ≡ e.board
   pub closed : IsClosed e.became.closed e.name inside e.seats e.slips
@@ -137,6 +140,7 @@ pub record EndsDesk (agrees : Assignment → Type 0) (parts_were parts_are trace
   pub became : Became
   pub closed : became.closed ≡ closes
   pub damaged : List ℕ
+  pub held : CanBeTold b
   pub ends : (seats : List Seat) (slips : List Told) → IsAtEnd (ended_of name opening seats slips b became damaged) →
       IsEnding agrees parts_were parts_are traces_were traces_are
       (ended_of name opening seats slips b became damaged) before after kept_all keeps_all old new

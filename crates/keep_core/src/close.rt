@@ -21,6 +21,7 @@ use decl_core::object::Object;
 use desk_core::desk::Desk;
 use hand_core::hand::{Hand, HandFault, Stamp};
 use hand_core::shelf::Shelf;
+use held_core::held::desk_can_be_told;
 use line_core::reply::{push_count, push_number, push_reply};
 use line_core::{LinesFault, write_whole};
 use office_core::office::Office;
@@ -471,6 +472,8 @@ impl<S: Shelf + Drop, T: Shelf + Drop, H: Hand + Drop> Closing<S, T, H> {
             self.new.trouble self.old.keeps_all self.new.keeps_all (W.contents writer.old) (W.contents writer.new) }
         ensures files { (a : Assignment) → H.agrees self.new.hand a → H.agrees self.old.hand a }
     {
+        // Called for its contract alone: lines can tell of the board.
+        desk_can_be_told(desk);
         let saved = save_all(
             alloc,
             desk,

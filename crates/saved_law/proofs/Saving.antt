@@ -6,6 +6,6 @@ use Rattle.saved_law.specs.Laws.{SavedTraceIsLegal}
 use Rattle.saved_law.proofs.Showing.{shown_opening}
 
 pub saved_trace_is_legal : SavedTraceIsLegal
-saved_trace_is_legal a e ended closed hold shows names known =
+saved_trace_is_legal a e ended closed hold shows =
     let legal = (kept_is_history a e empty empty e.opening ended closed hold shows).0 in
-    desk_text_is_legal e.board e.opening ended.sound names (shown_opening a e.board.object e.board.opening e.opening shows) known legal
+    desk_text_is_legal e.board e.opening ended.sound ended.held (shown_opening a e.board.object e.board.opening e.opening shows) legal

@@ -11,7 +11,7 @@ use Rattle.hand_core.specs.Device.{Assignment}
 use Rattle.board_core.specs.Chain.{ShowContents}
 use Rattle.board_core.specs.Sound.{kinds_of}
 use Rattle.audit_core.specs.Laws.{AreOpening}
-use Rattle.audit_law.proofs.Looked.{are_opening}
+use Rattle.audit_law.proofs.Opening.{are_opening}
 
 -- at this place there is a value of this kind
 abbrev Holds : List Contents → ℕ → Kind → Type 0

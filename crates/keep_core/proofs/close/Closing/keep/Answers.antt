@@ -12,6 +12,7 @@ returns-clause-kept g c =
           let one = c.both-self.ensures.all all in
           let kept = c.both-kept.ensures.all one.1 in
           (one.0, kept.0, kept.1);
+      held = c.desk_can_be_told.ensures;
     }
 
 pub returns-clause-files : goal.returns-clause-files
