@@ -3,7 +3,7 @@ use Rattle.decl_core.specs.declared.object.Object.{Object}
 use Rattle.hand_core.specs.declared.hand.Stamp.{Stamp}
 use Rattle.keep_core.specs.Kept.{Saves}
 use Rattle.keep_core.proofs.Keeping.{saves_all, saves_front, saves_then}
-use Rattle.keep_core.proofs.close.save_all.Goals as goal
+use Rattle.keep_core.proofs.close.Closing.save_all.Goals as goal
 
 pub save_parts-requires : goal.save_parts-requires
 save_parts-requires g c =
@@ -17,9 +17,9 @@ pub returns-in-Ok-clause-saves : goal.returns-in-Ok-clause-saves
 returns-in-Ok-clause-saves g c =
     let o : c.object-object.result.now ≡ c.args.desk.now.object = c.object-object.ensures.same ∙ c.accepted.ensures in
     let agrees = g.H.Hand.agrees c.save_parts.new.hand in
-    let were = g.S.Shelf.holds c.args.shelf.now in
+    let were = g.S.Shelf.holds c.args.self.now.parts in
     let are = g.S.Shelf.holds c.save_parts.new.shelf in
-    let t = c.args.trouble.now in
+    let t = c.args.self.now.trouble in
     let known = g.W.Write.contents c.args.writer.now in
     subst (λ (x : Object). Saves agrees x c.args.desk.now.pins 0 (length x.parts.items) were are true t t known known) o
     (subst (λ (ps : List (List Stamp)). Saves agrees c.object-object.result.now ps 0 (length c.object-object.result.now.parts.items) were are true t t known known) c.pins-pins.ensures (saves_all t known c.in-Ok.ensures.ok))
@@ -27,16 +27,16 @@ returns-in-Ok-clause-saves g c =
 pub returns-in-Err-clause-saves : goal.returns-in-Err-clause-saves
 returns-in-Err-clause-saves g c =
     let o : c.object-object.result.now ≡ c.args.desk.now.object = c.object-object.ensures.same ∙ c.accepted.ensures in
-    let agrees = g.H.Hand.agrees c.save_from.new.hand in
-    let were = g.S.Shelf.holds c.args.shelf.now in
-    let are = g.S.Shelf.holds c.save_from.new.shelf in
-    let t = c.args.trouble.now in
-    let after = c.save_from.new.trouble in
+    let agrees = g.H.Hand.agrees c.save_from.new.self.hand in
+    let were = g.S.Shelf.holds c.args.self.now.parts in
+    let are = g.S.Shelf.holds c.save_from.new.self.parts in
+    let t = c.args.self.now.trouble in
+    let after = c.save_from.new.self.trouble in
     let known = g.W.Write.contents c.args.writer.now in
     let new = g.W.Write.contents c.save_from.new.writer in
     subst (λ (x : Object). Saves agrees x c.args.desk.now.pins 0 (length x.parts.items) were are c.save_from.result t after known new) o
     (subst (λ (ps : List (List Stamp)). Saves agrees c.object-object.result.now ps 0 (length c.object-object.result.now.parts.items) were are c.save_from.result t after known new) c.pins-pins.ensures
-    (saves_then c.save_from.result (saves_front t known c.in-Err.fault c.first_unsaved.result c.in-Err.ensures.left c.first_unsaved.ensures) c.save_from.ensures.saves c.save_from.ensures.files (λ all. (refl, all)) (λ one two. two)))
+    (saves_then c.save_from.result (saves_front t known c.in-Err.fault c.first_unsaved-first.result c.in-Err.ensures.left c.first_unsaved-first.ensures) c.save_from.ensures.saves c.save_from.ensures.files (λ all. (refl, all)) (λ one two. two)))
 
 pub returns-in-Err-clause-files : goal.returns-in-Err-clause-files
 returns-in-Err-clause-files g c = λ a is. c.save_parts.ensures.files a (c.save_from.ensures.files a is)
