@@ -366,10 +366,26 @@ impl<S: Shelf + Drop, T: Shelf + Drop, H: Hand + Drop> Closing<S, T, H> {
         let pin = &lists[place];
         let shelf = &mut self.parts;
         let hand = &mut self.hand;
-        match save_part(alloc, &object.name, part, place, pin, shelf, hand, &mut self.key) {
+        match save_part(
+            alloc,
+            &object.name,
+            part,
+            place,
+            pin,
+            shelf,
+            hand,
+            &mut self.key,
+        ) {
             Ok(()) => true,
             Err(fault) => {
-                note_unsaved(&mut self.line, object, place, fault, &mut self.trouble, writer);
+                note_unsaved(
+                    &mut self.line,
+                    object,
+                    place,
+                    fault,
+                    &mut self.trouble,
+                    writer,
+                );
                 tell_unsaved(&mut self.line, object, place, pin.stamps(), error);
                 false
             }
