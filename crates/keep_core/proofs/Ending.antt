@@ -1,24 +1,27 @@
 -- How an object ends.
-use Rattle.std.proofs.Common.{◌≡◌, ◌∙◌, ap, sym, subst, refl, ℕ, List, [], ◌∷◌, ◌++◌, length, Bool, true, false, cond, Option, None, Result}
+use Rattle.std.proofs.Common.{◌≡◌, ◌∙◌, ap, sym, subst, refl, inl, inr, ℕ, List, [], ◌∷◌, ◌++◌, length, ◌↔◌, Bool, true, false, cond, Option, None, Result}
+use Rattle.std.specs.Prelude.{IsTrue}
 use Rattle.std.proofs.lemmas.Bool.{true≢false}
 use Rattle.line_core.specs.declared.machine.LinesFault.{LinesFault}
 use Rattle.value_core.specs.Contents.{Contents}
 use Rattle.hand_core.specs.Device.{Assignment}
 use Rattle.hand_core.specs.Papers.{Papers}
-use Rattle.board_core.specs.Lists.{Every}
+use Rattle.decl_core.specs.declared.object.Object.{Object}
+use Rattle.board_core.specs.Calls.{Noted}
 use Rattle.board_core.specs.Board.{Board}
 use Rattle.board_core.specs.Sound.{IsSound}
 use Rattle.slip_core.specs.Slips.{Told, StandsIn}
 use Rattle.seat_core.specs.declared.seat.Seat.{Seat}
 use Rattle.office_core.specs.declared.inside.CloseFault.{CloseFault}
 use Rattle.office_core.specs.Insides.{InsideView}
-use Rattle.office_core.specs.Closing.{IsIdle, AreSeatsOf, IsWhyBy, place_told}
+use Rattle.office_core.specs.Receipts.{HaveSlips}
+use Rattle.office_core.specs.Closing.{IsWhyBy, place_told}
 use Rattle.keep_core.specs.declared.close.Became.{Became}
 use Rattle.keep_core.specs.declared.trouble.Trouble.{Trouble}
 use Rattle.keep_core.specs.Troubles.{first_of, fault_in}
 use Rattle.keep_core.specs.Lines.{AreSaid, AreTold, damaged_lines, entries_lines, refused_line}
 use Rattle.keep_core.specs.Kept.{refused_by}
-use Rattle.keep_core.specs.Ends.{kept_in, KeepsDesk, Ended, IsClosed, IsOf, IsEnding}
+use Rattle.keep_core.specs.Ends.{kept_in, KeepsDesk, AddsUp, HasAll, Ended, IsAtEnd, IsClosed, IsOf, IsEnding, EndsDesk, ended_of}
 use Rattle.keep_core.proofs.Telling.{nothing_said, said_then, first_none, second_none, first_first, closing_first}
 
 -- where no line says so, no part is damaged
@@ -30,17 +33,14 @@ stays_refused : (places : List ℕ) → refused_by true places ≡ true
 stays_refused [] = refl
 stays_refused (place ∷ places) = refl
 
--- an object that closes
-pub ending_closed : {agrees : Assignment → Type 0} {parts_were parts_are traces_were traces_are : Papers → Type 0} {became : Became} {before kept : Trouble} {kept_all keeps_all : Bool} {old known new : Option (List ℕ)} {given : List Contents} {stood : List Told} {called : List ℕ} {count : ℕ}
-    (name : List ℕ) (opening : List Contents) (seats : List Seat) (slips : List Told) (b : Board) (after : Trouble) (result : Result (Unit {0}) LinesFault) →
-    given ≡ opening → stood ≡ slips → called ≡ name → count ≡ length b.history →
-    (r : InsideView) × IsIdle r.board × AreSeatsOf r seats × Every (StandsIn r.board.history) stood × (b ≡ r.board) →
-    IsSound b → KeepsDesk agrees parts_were parts_are traces_were traces_are b given true became before kept kept_all keeps_all old known →
-    AreTold (entries_lines (kept_in became) called count) result known new → after.fault ≡ first_of kept.fault (fault_in result) → after.refused ≡ kept.refused →
-    (e : Ended) × IsOf name opening seats slips e × IsEnding agrees parts_were parts_are traces_were traces_are e before after kept_all keeps_all old new
-ending_closed {became = became} {before = before} {old = old} {known = known} {new = new} {given = given} {stood = stood} {called = called} name opening seats slips b after result opens slipped calls counts (r, idle, all_seats, stand, is) sound k wrote fault refused =
-    let told : AreTold (entries_lines (kept_in became) name (length b.history)) result known new =
-    subst (λ (n : List ℕ). AreTold (entries_lines (kept_in became) n (length b.history)) result known new) calls (subst (λ (n : ℕ). AreTold (entries_lines (kept_in became) called n) result known new) counts wrote) in
+-- an object that is closed
+pub ends_closed : {agrees : Assignment → Type 0} {parts_were parts_are traces_were traces_are : Papers → Type 0} {became : Became} {before kept : Trouble} {kept_all keeps_all : Bool} {old known new : Option (List ℕ)} {count : ℕ}
+    (name : List ℕ) (opening : List Contents) (b : Board) (after : Trouble) (result : Result (Unit {0}) LinesFault) → count ≡ length b.history →
+    KeepsDesk agrees parts_were parts_are traces_were traces_are b opening true became before kept kept_all keeps_all old known →
+    AreTold (entries_lines (kept_in became) name count) result known new → after.fault ≡ first_of kept.fault (fault_in result) → after.refused ≡ kept.refused →
+    EndsDesk agrees parts_were parts_are traces_were traces_are name opening b true before after kept_all keeps_all old new
+ends_closed {became = became} {before = before} {old = old} {known = known} {new = new} name opening b after result counts k wrote fault refused =
+    let told : AreTold (entries_lines (kept_in became) name (length b.history)) result known new = subst (λ (n : ℕ). AreTold (entries_lines (kept_in became) name n) result known new) counts wrote in
     let one : Option LinesFault = k.saves.met in
     let two : Option LinesFault = k.traces.met in
     let last : Option LinesFault = fault_in result in
@@ -49,11 +49,12 @@ ending_closed {became = became} {before = before} {old = old} {known = known} {n
     let of_one : met ≡ None → one ≡ None = λ none. first_none one two (first_none (first_of one two) last none) in
     let rest : List (List ℕ) = damaged_lines b.object damaged ++ entries_lines (kept_in became) name (length b.history) in
     let said : AreSaid rest met old new = said_then k.saves.said told.said of_one (second_none (first_of one two) last) in
-    let e : Ended = record { name = name; opening = given; seats = seats; slips = stood; board = b; became = became; damaged = damaged } in (
-      e,
-      record { named = refl; opened = opens; seated = refl; slipped = slipped },
-      record {
-        ended = record { sound = sound; inside = r; of = sym is; closed = subst (λ (v : Bool). IsClosed v r seats stood) (sym k.closed) (idle, all_seats, stand) };
+    record {
+      became = became;
+      closed = k.closed;
+      damaged = damaged;
+      ends = λ seats slips ended. record {
+        ended = ended;
         met = met;
         closing = closing_first (first_of one two) last (closing_first one two k.saves.closing k.traces.closing) told.closing;
         fault = fault ∙ ap (λ (f : Option LinesFault). first_of f last) (k.traces.fault ∙ ap (λ (f : Option LinesFault). first_of f two) k.saves.fault ∙ first_first before.fault one two) ∙ first_first before.fault (first_of one two) last;
@@ -67,19 +68,16 @@ ending_closed {became = became} {before = before} {old = old} {known = known} {n
         stored = k.saves.stored;
         traced = k.traces.stored;
         keeps = k.keeps;
-      },
-    )
+      };
+    }
 
--- an object that does not close
-pub ending_refused : {agrees : Assignment → Type 0} {parts_were parts_are traces_were traces_are : Papers → Type 0} {became : Became} {told_all after : Trouble} {kept_all keeps_all : Bool} {old known new : Option (List ℕ)} {given : List Contents} {stood : List Told} {called : List ℕ}
-    (name : List ℕ) (opening : List Contents) (seats : List Seat) (slips : List Told) (b : Board) (before refused : Trouble) (result : Result (Unit {0}) LinesFault) (why : CloseFault) →
-    given ≡ opening → stood ≡ slips → called ≡ name →
-    (r : InsideView) × IsWhyBy Told StandsIn place_told r seats stood why × (b ≡ r.board) →
-    IsSound b → refused.fault ≡ before.fault → refused.refused ≡ true → told_all.fault ≡ first_of refused.fault (fault_in result) → told_all.refused ≡ refused.refused →
-    AreTold (refused_line called ∷ []) result old known → KeepsDesk agrees parts_were parts_are traces_were traces_are b given false became told_all after kept_all keeps_all known new →
-    (e : Ended) × IsOf name opening seats slips e × IsEnding agrees parts_were parts_are traces_were traces_are e before after kept_all keeps_all old new
-ending_refused {became = became} {told_all = told_all} {old = old} {known = known} {new = new} {given = given} {stood = stood} name opening seats slips b before refused result why opens slipped calls (r, is_why, is) sound same marked fault kept wrote k =
-    let told : AreTold (refused_line name ∷ []) result old known = subst (λ (n : List ℕ). AreTold (refused_line n ∷ []) result old known) calls wrote in
+-- an object that is not closed
+pub ends_refused : {agrees : Assignment → Type 0} {parts_were parts_are traces_were traces_are : Papers → Type 0} {became : Became} {told_all after : Trouble} {kept_all keeps_all : Bool} {old known new : Option (List ℕ)}
+    (name : List ℕ) (opening : List Contents) (b : Board) (before refused : Trouble) (result : Result (Unit {0}) LinesFault) →
+    refused.fault ≡ before.fault → refused.refused ≡ true → told_all.fault ≡ first_of refused.fault (fault_in result) → told_all.refused ≡ refused.refused →
+    AreTold (refused_line name ∷ []) result old known → KeepsDesk agrees parts_were parts_are traces_were traces_are b opening false became told_all after kept_all keeps_all known new →
+    EndsDesk agrees parts_were parts_are traces_were traces_are name opening b false before after kept_all keeps_all old new
+ends_refused {became = became} {told_all = told_all} {old = old} {known = known} {new = new} name opening b before refused result same marked fault kept told k =
     let early : Option LinesFault = fault_in result in
     let one : Option LinesFault = k.saves.met in
     let two : Option LinesFault = k.traces.met in
@@ -91,11 +89,12 @@ ending_refused {became = became} {told_all = told_all} {old = old} {known = know
     let rest : AreSaid (lines ++ []) met known new = said_then k.saves.said (nothing_said None new) of_one (λ none. refl) in
     let all : AreSaid ((refused_line name ∷ []) ++ (lines ++ [])) met old new = said_then told.said rest (first_none early (first_of one two)) (λ none. none) in
     let marked_still : told_all.refused ≡ true = kept ∙ marked in
-    let e : Ended = record { name = name; opening = given; seats = seats; slips = stood; board = b; became = became; damaged = damaged } in (
-      e,
-      record { named = refl; opened = opens; seated = refl; slipped = slipped },
-      record {
-        ended = record { sound = sound; inside = r; of = sym is; closed = subst (λ (v : Bool). IsClosed v r seats stood) (sym k.closed) (why, is_why) };
+    record {
+      became = became;
+      closed = k.closed;
+      damaged = damaged;
+      ends = λ seats slips ended. record {
+        ended = ended;
         met = met;
         closing = closing_first early (first_of one two) told.closing (closing_first one two k.saves.closing k.traces.closing);
         fault = k.traces.fault ∙ ap (λ (f : Option LinesFault). first_of f two) k.saves.fault ∙ first_first told_all.fault one two
@@ -107,5 +106,56 @@ ending_refused {became = became} {told_all = told_all} {old = old} {known = know
         stored = k.saves.stored;
         traced = k.traces.stored;
         keeps = k.keeps;
-      },
-    )
+      };
+    }
+
+-- an object whose board is that of an office, which was closed or not
+pub ending_by : {agrees : Assignment → Type 0} {parts_were parts_are traces_were traces_are : Papers → Type 0} {before after : Trouble} {kept_all keeps_all : Bool} {old new : Option (List ℕ)} {given : List Contents} {called : List ℕ}
+    (name : List ℕ) (opening : List Contents) (seats : List Seat) (slips : List Told) (b : Board) (closes : Bool) (r : InsideView) →
+    called ≡ name → given ≡ opening → r.board ≡ b → IsSound b → IsClosed closes name r seats slips →
+    EndsDesk agrees parts_were parts_are traces_were traces_are called given b closes before after kept_all keeps_all old new →
+    (e : Ended) × IsOf name opening seats slips e × IsEnding agrees parts_were parts_are traces_were traces_are e before after kept_all keeps_all old new
+ending_by {given = given} {called = called} name opening seats slips b closes r calls opens of sound closed k = (
+  ended_of called given seats slips b k.became k.damaged,
+  record { named = calls; opened = opens; seated = refl; slipped = refl },
+  k.ends seats slips (record {
+    sound = sound;
+    inside = r;
+    of = of;
+    closed = subst (λ (v : Bool). IsClosed v called r seats slips) (sym k.closed) (subst (λ (n : List ℕ). IsClosed closes n r seats slips) (sym calls) closed);
+  }),
+)
+
+-- what was closed is of the object that was asked for, and each entry of its history has a slip
+pub closed_has_all : (e : Ended) → IsAtEnd e → IsTrue e.became.closed → HasAll e.name e.board e.slips
+closed_has_all e ended closed =
+    let all = subst (λ (v : Bool). IsClosed v e.name ended.inside e.seats e.slips) closed ended.closed in
+    subst (λ (b : Board). HasAll e.name b e.slips) ended.of all.1
+
+-- what sessions left adds up, and nothing is missing
+pub closed_by : {given shown : List Told} (name : List ℕ) (seats : List Seat) (slips : List Told) (b : Board) (r : InsideView) → given ≡ slips → shown ≡ slips → b ≡ r.board →
+    AddsUp r seats given → HasAll name b shown → IsClosed true name r seats slips
+closed_by {shown = shown} name seats slips b r gives shows of adds has = (
+  subst (λ (ts : List Told). AddsUp r seats ts) gives adds,
+  subst (λ (ts : List Told). HasAll name r.board ts) shows (subst (λ (c : Board). HasAll name c shown) of has),
+)
+
+-- that adds up, and something is missing
+pub lacking_by : {given shown : List Told} (name : List ℕ) (seats : List Seat) (slips : List Told) (b : Board) (r : InsideView) → given ≡ slips → shown ≡ slips → b ≡ r.board →
+    AddsUp r seats given → (HasAll name b shown → ⊥) → IsClosed false name r seats slips
+lacking_by {shown = shown} name seats slips b r gives shows of adds lacks = inr (
+  subst (λ (ts : List Told). AddsUp r seats ts) gives adds,
+  λ has. lacks (subst (λ (c : Board). HasAll name c shown) (sym of) (subst (λ (ts : List Told). HasAll name r.board ts) (sym shows) has)),
+)
+
+-- that does not add up
+pub refused_by_office : {given : List Told} (name : List ℕ) (seats : List Seat) (slips : List Told) (r : InsideView) (why : CloseFault) → given ≡ slips →
+    IsWhyBy Told StandsIn place_told r seats given why → IsClosed false name r seats slips
+refused_by_office name seats slips r why gives is = inl (why, subst (λ (ts : List Told). IsWhyBy Told StandsIn place_told r seats ts why) gives is)
+
+-- how the test for the name and the slips is answered
+pub has_all_by : {all : Bool} {history : List Noted} {o : Object} (name : List ℕ) (slips : List Told) (b : Board) → history ≡ b.history → o ≡ b.object → o.name ≡ name → IsTrue all ↔ HaveSlips history slips → IsTrue all ↔ HasAll name b slips
+has_all_by name slips b told is named have = (
+  λ all. (ap (λ (x : Object). x.name) (sym is) ∙ named, subst (λ (h : List Noted). HaveSlips h slips) told (have.0 all)),
+  λ has. have.1 (subst (λ (h : List Noted). HaveSlips h slips) (sym told) has.1),
+)

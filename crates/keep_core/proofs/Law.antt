@@ -1,6 +1,6 @@
 -- What is saved of an object is what its history leads to.
 use Rattle.std.proofs.Common.{◌≡◌, ◌∙◌, ap, sym, subst, refl, inl, inr, ℕ, List, [], ◌∷◌, ◌++◌, Bool, true, false, cond, Some, arith}
-use Rattle.std.specs.Prelude.{slice_get, codes}
+use Rattle.std.specs.Prelude.{slice_get, codes, IsTrue}
 use Rattle.std.specs.FinMap.{get, insert, get-insert}
 use Rattle.std.specs.Ordering.{nat_cmp, eq_by_cmp}
 use Rattle.std.specs.Cmp.Lexicographic.{slice_cmp, nat_list_cmp_total}
@@ -19,13 +19,12 @@ use Rattle.page_core.specs.Bytes.{list_bytes}
 use Rattle.board_core.specs.Lists.{Every}
 use Rattle.board_core.specs.Board.{Board}
 use Rattle.board_core.specs.Sound.{kinds_of}
-use Rattle.slip_core.specs.Slips.{Told, StandsIn}
-use Rattle.office_core.specs.Insides.{InsideView}
+use Rattle.slip_core.specs.Slips.{StandsIn}
 use Rattle.office_core.proofs.Law.{slips_are_legal}
-use Rattle.seat_core.specs.declared.seat.Seat.{Seat}
 use Rattle.keep_core.specs.Kept.{Stored, with_stores, IsOfPart, IsOfPin, HasStore}
-use Rattle.keep_core.specs.Ends.{IsClosed}
+use Rattle.keep_core.specs.Ends.{Ended, IsAtEnd, IsClosed}
 use Rattle.keep_core.specs.Laws.{AreApart, KeptIsHistory}
+use Rattle.keep_core.proofs.Ending.{closed_has_all}
 
 -- under this name stand the bytes of these pages
 abbrev IsGood : Assignment → List ℕ → List Stamp → Papers → Type 0
@@ -73,16 +72,15 @@ module _ (a : Assignment) (object : List ℕ) (parts : List Part) (pins : List (
       good_all (insert papers (part_key object first.part.name) first.bytes) more (s, among, same) all_of all_pinned
 
 -- the slips of an office that was closed stand in its history
-slips_stand : (closed : Bool) (r : InsideView) (b : Board) (seats : List Seat) (slips : List Told) → IsClosed closed r seats slips → closed ≡ true → r.board ≡ b → Every (StandsIn b.history) slips
-slips_stand closed r b seats slips how is same =
-    let all = subst (λ (v : Bool). IsClosed v r seats slips) is how in
-    subst (λ (c : Board). Every (StandsIn c.history) slips) same all.2
+slips_stand : (e : Ended) → IsAtEnd e → IsTrue e.became.closed → Every (StandsIn e.board.history) e.slips
+slips_stand e ended closed =
+    let all = subst (λ (v : Bool). IsClosed v e.name ended.inside e.seats e.slips) closed ended.closed in
+    subst (λ (c : Board). Every (StandsIn c.history) e.slips) ended.of all.0.2
 
 pub kept_is_history : KeptIsHistory
-kept_is_history a e before papers contents ended closed have hold shows =
+kept_is_history a e before papers contents ended closed hold shows =
     let o = e.board.object in
-    let stand : Every (StandsIn e.board.history) e.slips = slips_stand e.became.closed ended.inside e.board e.seats e.slips ended.closed closed ended.of in
-    let law = slips_are_legal a e.board e.slips contents ended.sound stand have hold shows in (
+    let law = slips_are_legal a e.board e.slips contents ended.sound (slips_stand e ended closed) (closed_has_all e ended closed).1 hold shows in (
       law.0,
       λ apart saved stored place part there.
           let kind : slice_get (kinds_of o) place ≡ Some part.kind = slice_get-map (λ (p : Part). p.kind) o.parts.items place ∙ ap (option_map (λ (p : Part). p.kind)) there in

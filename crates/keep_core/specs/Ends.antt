@@ -1,5 +1,5 @@
 -- What becomes of an object at the end.
-use Rattle.std.specs.Prelude.{◌≡◌, ℕ, List, [], ◌∷◌, ◌++◌, length, Bool, true, false, cond, IsTrue, Option, None}
+use Rattle.std.specs.Prelude.{◌≡◌, ◌⊎◌, ℕ, List, [], ◌∷◌, ◌++◌, length, Bool, true, false, cond, IsTrue, Option, None}
 use Rattle.line_core.specs.declared.machine.LinesFault.{LinesFault}
 use Rattle.value_core.specs.Contents.{Contents}
 use Rattle.decl_core.specs.ObjectMap.{object_of}
@@ -15,6 +15,7 @@ use Rattle.seat_core.specs.declared.seat.Seat.{Seat}
 use Rattle.office_core.specs.declared.inside.CloseFault.{CloseFault}
 use Rattle.office_core.specs.Insides.{InsideView}
 use Rattle.office_core.specs.Closing.{IsIdle, AreSeatsOf, IsWhyBy, place_told}
+use Rattle.office_core.specs.Receipts.{HaveSlips}
 use Rattle.keep_core.specs.declared.close.Became.{Became}
 use Rattle.keep_core.specs.declared.trouble.Trouble.{Trouble}
 use Rattle.keep_core.specs.Troubles.{first_of}
@@ -66,18 +67,30 @@ lines_of e =
 abbrev pub refused_after : Bool → Ended → Bool
 refused_after refused e = cond e.became.closed (refused_by refused e.damaged) true
 
--- An office was closed: no call waits or runs, each session has its seat, the seats count the entries, and each slip is of
--- the entry at its place. Or it was not, for the first of these that is not so.
-abbrev pub IsClosed : Bool → InsideView → List Seat → List Told → Type 0
-IsClosed true r seats slips = IsIdle r.board × AreSeatsOf r seats × Every (StandsIn r.board.history) slips
-IsClosed false r seats slips = (why : CloseFault) × IsWhyBy Told StandsIn place_told r seats slips why
+-- What sessions left of an office adds up: no call waits or runs, each session has its seat, the seats count the
+-- entries, and each slip is of the entry at its place.
+abbrev pub AddsUp : InsideView → List Seat → List Told → Type 0
+AddsUp r seats slips = IsIdle r.board × AreSeatsOf r seats × Every (StandsIn r.board.history) slips
+
+-- A board is of the object of this name, and each entry of its history has a slip.
+abbrev pub HasAll : List ℕ → Board → List Told → Type 0
+HasAll name b slips = (b.object.name ≡ name) × HaveSlips b.history slips
+
+-- The office of the object of this name was closed: what its sessions left adds up, and nothing is missing. Or it was
+-- not: for the first cause for which that does not add up; or it adds up, and an entry has no slip or the office is
+-- another object's.
+abbrev pub IsClosed : Bool → List ℕ → InsideView → List Seat → List Told → Type 0
+IsClosed true name r seats slips = AddsUp r seats slips × HasAll name r.board slips
+IsClosed false name r seats slips =
+    ((why : CloseFault) × IsWhyBy Told StandsIn place_told r seats slips why)
+    ⊎ (AddsUp r seats slips × (HasAll name r.board slips → ⊥))
 
 -- its board is that of an office, which was closed with what its sessions left or not
 pub record IsAtEnd (e : Ended) : Type 0 where
   pub sound : IsSound e.board
   pub inside : InsideView
   pub of : inside.board ≡ e.board
-  pub closed : IsClosed e.became.closed inside e.seats e.slips
+  pub closed : IsClosed e.became.closed e.name inside e.seats e.slips
 
 -- it is the one of this name, with these values, seats and slips
 pub record IsOf (name : List ℕ) (opening : List Contents) (seats : List Seat) (slips : List Told)
@@ -103,3 +116,27 @@ pub record IsEnding (agrees : Assignment → Type 0) (parts_were parts_are trace
       (length e.board.object.parts.items) e.became.saved base papers
   pub traced : StoresText (once e.became.traced) e.board.object.name (trace_of e.board e.opening) traces_were traces_are
   pub keeps : IsTrue keeps_all → IsTrue kept_all × IsTrue e.became.saved × IsTrue e.became.traced
+
+-- an object at its end, by what is known of it where its board was ended
+abbrev pub ended_of : List ℕ → List Contents → List Seat → List Told → Board → Became → List ℕ → Ended
+ended_of name opening seats slips b became damaged = record {
+  name = name;
+  opening = opening;
+  seats = seats;
+  slips = slips;
+  board = b;
+  became = became;
+  damaged = damaged;
+}
+
+-- Ending the board of an object comes to this: it is told as closed or not, and the rest is done, whatever its sessions
+-- left.
+pub record EndsDesk (agrees : Assignment → Type 0) (parts_were parts_are traces_were traces_are : Papers → Type 0)
+    (name : List ℕ) (opening : List Contents) (b : Board) (closes : Bool) (before after : Trouble)
+    (kept_all keeps_all : Bool) (old new : Option (List ℕ)) : Type 0 where
+  pub became : Became
+  pub closed : became.closed ≡ closes
+  pub damaged : List ℕ
+  pub ends : (seats : List Seat) (slips : List Told) → IsAtEnd (ended_of name opening seats slips b became damaged) →
+      IsEnding agrees parts_were parts_are traces_were traces_are
+      (ended_of name opening seats slips b became damaged) before after kept_all keeps_all old new

@@ -11,7 +11,6 @@ use Rattle.board_core.specs.Lists.{Every}
 use Rattle.board_core.specs.Chain.{ShowContents, history_of}
 use Rattle.board_core.specs.Sound.{kinds_of}
 use Rattle.slip_core.specs.Slips.{IsTrueTold}
-use Rattle.office_core.specs.Receipts.{HaveSlips}
 use Rattle.keep_core.specs.Kept.{AreStored}
 use Rattle.keep_core.specs.Ends.{Ended, IsAtEnd}
 
@@ -29,11 +28,11 @@ pub record HoldsPart (papers : Papers) (object : List ℕ) (part : Part) (place 
   pub at : slice_get contents place ≡ Some value
   pub spells : Spells bytes part.kind value
 
--- Where an object was closed, each entry of its history has a slip, and each slip is true, the history is legal from
--- what its opening pins show; and where its parts were saved, each part's name holds what the history leads to.
+-- Where an object was closed, and each slip that its sessions left is true, its history is legal from what its opening
+-- pins show; and where its parts were saved, each part's name holds what the history leads to.
 abbrev pub KeptIsHistory : Type 0
 KeptIsHistory = (a : Assignment) (e : Ended) (before papers : Papers) (contents : List Contents) →
-    IsAtEnd e → IsTrue e.became.closed → HaveSlips e.board.history e.slips → Every (IsTrueTold a) e.slips →
+    IsAtEnd e → IsTrue e.became.closed → Every (IsTrueTold a) e.slips →
     ShowContents a (kinds_of e.board.object) e.board.opening contents →
     IsLegal (history_of e.board.history) contents
     × (AreApart e.board.object.parts.items → IsTrue e.became.saved →

@@ -1,18 +1,20 @@
 //! The end of a server: each object is closed, its parts are saved and its trace is written.
 
 ghost use Rattle.std.specs.Prelude.{◌≡◌, ◌++◌, ◌+◌, ◌<◌, ◌≤◌, ℕ, [], ◌∷◌, length};
-ghost use Rattle.std.specs.Prelude.{IsTrue, OnErr, OnOk};
+ghost use Rattle.std.specs.Prelude.{◌↔◌, IsTrue, OnErr, OnOk, true, false};
 ghost use Rattle.std.specs.FinMap.{insert};
 ghost use Rattle.hand_core.specs.Papers.{Papers};
 ghost use Rattle.hand_core.specs.Device.{Assignment};
 ghost use Rattle.decl_core.specs.ObjectMap.{object_of};
 ghost use Rattle.trace_core.specs.Text.{trace_text as text_of};
 ghost use Rattle.store_core.specs.Saved.{MaySave, StoreLeaves};
+ghost use Rattle.board_core.specs.Sound.{IsSound};
 ghost use Rattle.desk_core.specs.Told.{lines_told};
-ghost use Rattle.keep_core.specs.Ends.{kept_in, KeepsDesk, Ended, IsOf, IsEnding};
+ghost use Rattle.keep_core.specs.Ends.{kept_in, KeepsDesk, HasAll, EndsDesk, Ended, IsOf, IsEnding};
 ghost use Rattle.keep_core.specs.Kept.{fault_by, Notes, Saves, StoresText, Traces};
 ghost use Rattle.keep_core.specs.Lines.{IsWritten, AreTold, entries_line, entries_lines, refused_line, damaged_line};
 
+use crate::marks::Marks;
 use crate::open::{push_damaged, push_part};
 use crate::trouble::Trouble;
 use decl_core::object::Object;
@@ -42,6 +44,8 @@ pub struct Closing<S: Shelf + Drop, T: Shelf + Drop, H: Hand + Drop> {
     hand: H,
     // Room for a line.
     line: Vec<u8>,
+    // Room for a mark at each place of a history.
+    marks: Marks,
     /// Whether each object so far was saved, and its trace written.
     pub keeps_all: bool,
     /// What was met.
@@ -62,7 +66,7 @@ pub struct Ending {
 /// What became of an object at the end.
 #[derive(Clone, Copy, Debug, PartialEq, Eq)]
 pub struct Became {
-    /// What its sessions left adds up.
+    /// What its sessions left adds up, and tells of each entry of its history.
     pub closed: bool,
     /// Each of its parts is saved.
     pub saved: bool,
@@ -408,8 +412,28 @@ fn keep_trace<T: Shelf, E: Write>(
     }
 }
 
+// Whether two names are the same.
+fn is_same_name(one: &Name, other: &Name) -> bool
+    ensures { IsTrue result ↔ (one.now ≡ other.now) }
+{
+    one.as_bytes() == other.as_bytes()
+}
+
+// Whether a desk is of the object of this name, and each entry of its history has a slip.
+fn has_all(marks: &mut Marks, name: &Name, desk: &Desk, slips: &[Slip]) -> bool
+    ensures all { IsTrue result ↔ HasAll name.now desk.now slips.now }
+    ensures sound { IsSound desk.now }
+{
+    let history = desk.history();
+    if !is_same_name(&desk.accepted().object().name, name) {
+        return false;
+    }
+    marks.have_slips(history, slips)
+}
+
 impl<S: Shelf + Drop, T: Shelf + Drop, H: Hand + Drop> Closing<S, T, H> {
-    /// Nothing is closed yet. The error is that memory was refused for the lines at the end.
+    /// Nothing is closed yet. The error is that memory was refused: for the lines at the end, or for the marks of the
+    /// entries that have a slip.
     pub fn new(
         alloc: Global,
         parts: S,
@@ -421,6 +445,7 @@ impl<S: Shelf + Drop, T: Shelf + Drop, H: Hand + Drop> Closing<S, T, H> {
             traces,
             hand,
             line: Vec::with_capacity(alloc, LINE_BYTES)?,
+            marks: Marks::new(alloc)?,
             keeps_all: true,
             trouble: Trouble::none(),
         })
@@ -473,9 +498,53 @@ impl<S: Shelf + Drop, T: Shelf + Drop, H: Hand + Drop> Closing<S, T, H> {
         }
     }
 
+    // Saves the parts of an object that is closed, writes its trace, and says how many entries its history has, where
+    // all of this was done.
+    fn end_closed<W: Write, E: Write>(
+        &mut self,
+        alloc: Global,
+        name: &[u8],
+        opening: &[Value],
+        desk: &Desk,
+        writer: &mut W,
+        error: &mut E,
+    )
+        ensures ends { EndsDesk (H.agrees self.new.hand) (S.holds self.old.parts) (S.holds self.new.parts)
+            (T.holds self.old.traces) (T.holds self.new.traces) name.now opening.now desk.now true self.old.trouble
+            self.new.trouble self.old.keeps_all self.new.keeps_all (W.contents writer.old) (W.contents writer.new) }
+        ensures files { (a : Assignment) → H.agrees self.new.hand a → H.agrees self.old.hand a }
+    {
+        let became = self.keep(alloc, desk, opening, true, writer, error);
+        let entries = desk.history().len();
+        let told = tell_entries(&mut self.line, name, became, entries, writer);
+        self.trouble.heed(told);
+    }
+
+    // Says that an object is not closed, and saves its parts and writes its trace all the same.
+    fn end_refused<W: Write, E: Write>(
+        &mut self,
+        alloc: Global,
+        name: &[u8],
+        opening: &[Value],
+        desk: &Desk,
+        writer: &mut W,
+        error: &mut E,
+    )
+        ensures ends { EndsDesk (H.agrees self.new.hand) (S.holds self.old.parts) (S.holds self.new.parts)
+            (T.holds self.old.traces) (T.holds self.new.traces) name.now opening.now desk.now false self.old.trouble
+            self.new.trouble self.old.keeps_all self.new.keeps_all (W.contents writer.old) (W.contents writer.new) }
+        ensures files { (a : Assignment) → H.agrees self.new.hand a → H.agrees self.old.hand a }
+    {
+        self.trouble.refuse();
+        let told = tell_refused(&mut self.line, name, writer);
+        self.trouble.heed(told);
+        self.keep(alloc, desk, opening, false, writer, error);
+    }
+
     /// Closes one object, saves its parts, writes its trace, and says how many entries its history has, where all of
-    /// this was done. A fault is noted, and what does not hang on it is still done: an object that does not close
-    /// is saved all the same.
+    /// this was done. It is not closed where what its sessions left does not add up, where an entry of its history has
+    /// no slip, or where the office is that of an object of another name; this is told as refused. A fault is noted,
+    /// and what does not hang on it is still done: an object that is not closed is saved all the same.
     pub fn close_one<W: Write, E: Write>(
         &mut self,
         alloc: Global,
@@ -498,18 +567,18 @@ impl<S: Shelf + Drop, T: Shelf + Drop, H: Hand + Drop> Closing<S, T, H> {
         } = ending;
         match office.close_by_slips(seats, &receipts) {
             Ok(closed) => {
-                drop(receipts);
                 let desk = closed.desk;
-                let became = self.keep(alloc, &desk, &opening, true, writer, error);
-                let entries = desk.history().len();
-                let told = tell_entries(&mut self.line, name.as_bytes(), became, entries, writer);
-                self.trouble.heed(told);
+                let whole = has_all(&mut self.marks, &name, &desk, &receipts);
+                drop(receipts);
+                if whole {
+                    self.end_closed(alloc, name.as_bytes(), &opening, &desk, writer, error);
+                } else {
+                    self.end_refused(alloc, name.as_bytes(), &opening, &desk, writer, error);
+                }
             }
             Err(refused) => {
-                self.trouble.refuse();
-                let told = tell_refused(&mut self.line, name.as_bytes(), writer);
-                self.trouble.heed(told);
-                self.keep(alloc, refused.inside.desk(), &opening, false, writer, error);
+                let desk = refused.inside.desk();
+                self.end_refused(alloc, name.as_bytes(), &opening, desk, writer, error);
             }
         }
     }

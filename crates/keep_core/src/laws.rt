@@ -2,8 +2,7 @@
 
 ghost use Rattle.keep_core.specs.Laws.{KeptIsHistory};
 
-/// What is saved of an object that is closed is what its history leads to, where each entry has a slip and each slip is
-/// true.
+/// What is saved of an object that is closed is what its history leads to, where each slip is true.
 pub fn kept_is_history()
     ensures { KeptIsHistory }
 {}

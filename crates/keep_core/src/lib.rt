@@ -7,5 +7,6 @@
 
 pub mod close;
 pub mod laws;
+pub mod marks;
 pub mod open;
 pub mod trouble;

@@ -22,7 +22,7 @@ end;
 ";
 
 // The object, accepted, where there is memory for it.
-fn cell(alloc: Global) -> Option<Accepted> {
+pub(crate) fn cell(alloc: Global) -> Option<Accepted> {
     for (_, object) in read_objects(alloc, CELL).ok()? {
         return analyse(alloc, object).ok();
     }
@@ -30,7 +30,7 @@ fn cell(alloc: Global) -> Option<Accepted> {
 }
 
 // The name that these bytes spell.
-fn name(rt: &impl Abort, alloc: Global, bytes: &[u8]) -> Name {
+pub(crate) fn name(rt: &impl Abort, alloc: Global, bytes: &[u8]) -> Name {
     let read = Name::read(alloc, bytes).expect(rt, "memory");
     read.expect(rt, "a name")
 }

@@ -5,3 +5,5 @@
 mod closed;
 #[cfg(test)]
 mod gathered;
+#[cfg(test)]
+mod lacking;

@@ -1,20 +1,31 @@
-use Rattle.std.proofs.Common.{◌∙◌, ap, sym, subst, length}
+use Rattle.std.proofs.Common.{◌∙◌, ap, sym, subst, true, false}
 use Rattle.board_core.specs.Sound.{IsSound}
 use Rattle.office_core.specs.Insides.{InsideView}
-use Rattle.keep_core.proofs.Ending.{ending_closed, ending_refused}
+use Rattle.std.proofs.lemmas.Bool.{false≢true}
+use Rattle.keep_core.proofs.Ending.{ending_by, closed_by, lacking_by, refused_by_office}
 use Rattle.keep_core.proofs.close.Closing.close_one.Goals as goal
+
+pub returns-then-whole-clause-ended : goal.returns-then-whole-clause-ended
+returns-then-whole-clause-ended g c =
+    let e = c.args.ending in
+    let closes = c.in-Ok.ensures in
+    let b = c.in-Ok.closed.desk in
+    ending_by e.name e.opening.items e.seats.items e.receipts.items b true closes.0 c.as_bytes.ensures.bytes c.deref-then-whole.ensures.value (sym closes.1.3) c.has_all-whole.ensures.sound
+    (closed_by e.name e.seats.items e.receipts.items b closes.0 c.deref.ensures.value c.deref-in-Ok.ensures.value closes.1.3 (closes.1.0, closes.1.1, closes.1.2) (c.has_all-whole.ensures.all.0 c.if-whole.true)) c.end_closed.ensures.ends
 
 pub returns-in-Ok-clause-ended : goal.returns-in-Ok-clause-ended
 returns-in-Ok-clause-ended g c =
+    let e = c.args.ending in
     let closes = c.in-Ok.ensures in
-    ending_closed c.args.ending.name c.args.ending.opening.items c.args.ending.seats.items c.args.ending.receipts.items c.in-Ok.closed.desk c.heed.new.self c.tell_entries-told.result
-    c.deref-in-Ok.ensures.value c.deref.ensures.value c.as_bytes.ensures.bytes (ap length c.history-entries.ensures.history)
-    (closes.0, closes.1.0, closes.1.1, closes.1.2, closes.1.3) c.history-entries.ensures.sound c.keep-became.ensures.kept c.tell_entries-told.ensures c.heed.ensures.fault c.heed.ensures.refused
+    let b = c.in-Ok.closed.desk in
+    ending_by e.name e.opening.items e.seats.items e.receipts.items b false closes.0 c.as_bytes-else-whole.ensures.bytes c.deref-else-whole.ensures.value (sym closes.1.3) c.has_all-whole.ensures.sound
+    (lacking_by e.name e.seats.items e.receipts.items b closes.0 c.deref.ensures.value c.deref-in-Ok.ensures.value closes.1.3 (closes.1.0, closes.1.1, closes.1.2) (λ has. false≢true (sym c.if-whole.false ∙ c.has_all-whole.ensures.all.1 has))) c.end_refused.ensures.ends
 
 pub returns-clause-ended : goal.returns-clause-ended
 returns-clause-ended g c =
-    let closes = c.in-Err.ensures in
-    ending_refused c.args.ending.name c.args.ending.opening.items c.args.ending.seats.items c.args.ending.receipts.items c.desk-in-Err.result.now c.args.self.now.trouble c.refuse.new.self c.tell_refused-told.result c.in-Err.refused.why
-    c.deref-in-Err.ensures.value c.deref.ensures.value c.as_bytes-in-Err.ensures.bytes
-    (closes.0, closes.1.0, c.desk-in-Err.ensures.desk ∙ ap (λ (r : InsideView). r.board) closes.1.1) (subst IsSound (sym c.desk-in-Err.ensures.desk) c.desk-in-Err.ensures.sound)
-    c.refuse.ensures.fault c.refuse.ensures.refused c.heed-in-Err.ensures.fault c.heed-in-Err.ensures.refused c.tell_refused-told.ensures c.keep.ensures.kept
+    let e = c.args.ending in
+    let refused = c.in-Err.ensures in
+    let b = c.desk-desk.result.now in
+    ending_by e.name e.opening.items e.seats.items e.receipts.items b false refused.0 c.as_bytes-in-Err.ensures.bytes c.deref-in-Err.ensures.value
+    (sym (c.desk-desk.ensures.desk ∙ ap (λ (r : InsideView). r.board) refused.1.1)) (subst IsSound (sym c.desk-desk.ensures.desk) c.desk-desk.ensures.sound)
+    (refused_by_office e.name e.seats.items e.receipts.items refused.0 c.in-Err.refused.why c.deref.ensures.value refused.1.0) c.end_refused-in-Err.ensures.ends
