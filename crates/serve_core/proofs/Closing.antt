@@ -140,7 +140,7 @@ one_more {X = X} of ends e later all rest x so is same =
 pub closed_more : {H : Type 0} {backs : H → Assignment → Type 0} {then agrees earlier : Assignment → Type 0} {pw pm pa tw tm ta : Papers → Type 0} {all rest : List (List ℕ)} {left : ℕ} {openings values : List (List Contents)} {slips others : List (List Told)} {before middle after : Trouble} {first mid last : Bool} {old known new : Option (List ℕ)} {seats : List Seat}
     (name : List ℕ) (later : List (List ℕ)) (fewer : ℕ) (opening : List Contents) (fewer_values : List (List Contents)) (told : List Told) (fewer_slips : List (List Told)) (n : List ℕ) (o : List Contents) (t : List Told) →
     ClosedSoFar backs then earlier pw pm tw tm all rest left openings values slips others before middle first mid old known →
-    rest ≡ name ∷ later → fewer + 1 ≡ left → values ≡ opening ∷ fewer_values → others ≡ told ∷ fewer_slips → n ≡ name → o ≡ opening → t ≡ told → AreBacked backs told →
+    rest ≡ name ∷ later → fewer + 1 ≡ left → values ≡ opening ∷ fewer_values → others ≡ told ∷ fewer_slips → n ≡ name → o ≡ opening → t ≡ told → AreBacked backs t →
     (e : Ended) × IsOf n o seats t e × IsEnding agrees pm pa tm ta e middle after mid last known new → ((a : Assignment) → agrees a → then a) →
     ClosedSoFar backs agrees earlier pw pa tw ta all later fewer openings fewer_values slips fewer_slips before after first last old new
 closed_more {backs = backs} name later fewer opening fewer_values told fewer_slips n o t so is fewer_is values_are slips_are named opened slipped back (e, of, one) files = record {
@@ -149,7 +149,7 @@ closed_more {backs = backs} name later fewer opening fewer_values told fewer_sli
   counted = omega (arith, fewer_is, so.counted, ap length is);
   opened = one_more (λ (x : Ended). x.opening) so.ends e fewer_values _ _ opening so.opened values_are (of.opened ∙ opened);
   slipped = one_more (λ (x : Ended). x.slips) so.ends e fewer_slips _ _ told so.slipped slips_are (of.slipped ∙ slipped);
-  backed = every_one (λ (x : Ended). AreBacked backs x.slips) so.ends e so.backed (subst (AreBacked backs) (sym (of.slipped ∙ slipped)) back);
+  backed = every_one (λ (x : Ended). AreBacked backs x.slips) so.ends e so.backed (subst (AreBacked backs) (sym of.slipped) back);
   endings = endings_more so.ends e so.endings one files;
   files = λ a at. so.files a (files a at);
 }

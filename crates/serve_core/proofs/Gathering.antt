@@ -1,5 +1,5 @@
 -- What is gathered, one after the other.
-use Rattle.std.proofs.Common.{◌≡◌, ◌∙◌, ap, sym, subst, refl, arith, inl, inr, ℕ, zero, suc, ◌+◌, List, [], ◌∷◌, ◌++◌, length, Bool, true, false, cond, Option, Some, None, Result, Ok, Err}
+use Rattle.std.proofs.Common.{◌≡◌, ◌∙◌, ap, sym, subst, refl, arith, inl, inr, ℕ, zero, suc, ◌+◌, ◌<◌, slice_index_or, slice_set, List, [], ◌∷◌, ◌++◌, length, Bool, true, false, cond, Option, Some, None, Result, Ok, Err}
 use Rattle.std.specs.Prelude.{OnOk, OnErr}
 use Rattle.std.specs.declared.alloc.AllocError.{AllocError}
 use Rattle.std.proofs.lemmas.List.{map-append, length-map}
@@ -9,15 +9,15 @@ use Rattle.slip_core.specs.Slips.{Told}
 use Rattle.keep_core.specs.declared.trouble.Trouble.{Trouble}
 use Rattle.keep_core.specs.Troubles.{first_of, memory_in}
 use Rattle.keep_core.proofs.Telling.{first_first}
-use Rattle.keep_core.proofs.Keeping.{first_nothing}
+use Rattle.serve_core.specs.declared.listen.Left.{Left}
 use Rattle.serve_core.specs.declared.listen.Came.{Came}
 use Rattle.serve_core.specs.declared.listen.Came.TheVariants.{Session, Fault}
 use Rattle.serve_core.specs.declared.gather.Gathered.{Gathered}
-use Rattle.serve_core.specs.Gathers.{slips_in, none_of, put_in, put_to, noted_of, mixed_of, with_those_of, want_of, Gathers, GathersAll, IsGathered}
+use Rattle.serve_core.specs.Gathers.{slips_in, none_of, put_in, put_to, noted_by, mixed_by, with_those_of, Gathers, GathersAll, IsGathered}
 
 -- no receipts of one object more
 pub none_more : (n : ℕ) → none_of n ++ [] ∷ [] ≡ none_of (n + 1)
-none_more n = ends n ∙ ap none_of (omega arith) where
+none_more n = let next : suc n ≡ n + 1 = omega arith in ends n ∙ ap none_of next where
   ends : (k : ℕ) → none_of k ++ [] ∷ [] ≡ none_of (suc k)
   ends zero = refl
   ends (suc k) = ap (λ (xs : List (List Told)). [] ∷ xs) (ends k)
@@ -46,30 +46,45 @@ pub gathered_all : {H : Type 0} {all : List (Came H)} {before now : Trouble} {we
 gathered_all {H = H} {now = now} {are = are} [] left so none = so.goes now are (refl, refl)
 gathered_all (came ∷ rest) left so none = absurd (omega (arith, so.counted, none))
 
--- what one thread left, where nothing was put: it opened no object, or it is a fault
-pub gathers_none : {H : Type 0} {came : Came H} {before after : Trouble} {were are : List (List Told)} → after.fault ≡ first_of before.fault (noted_of came) → after.refused ≡ mixed_of before.refused came → are ≡ with_those_of came were → Gathers came before after were are
-gathers_none {came = came} {before = before} fault refused put = record {
+-- what a session left of an object was put, or memory was refused for it
+pub gathers_session : {H : Type 0} (left : Left H) (at : ℕ) (before mid after : Trouble) (were are : List (List Told)) (result : Result (Unit {0}) AllocError) → left.object ≡ Some at → mid.fault ≡ first_of before.fault (noted_by left.fault) → mid.refused ≡ mixed_by before.refused left.fault →
+    after.fault ≡ first_of mid.fault (memory_in result) → after.refused ≡ mid.refused → OnOk result (are ≡ put_in at left.backed were) → OnErr result (are ≡ were) → Gathers (Session left) before after were are
+gathers_session left at before mid after were are (Ok done) there fault refused more same ok err = record {
   wanted = false;
-  fault = fault ∙ ap (λ (f : Option LinesFault). first_of before.fault f) (first_nothing (noted_of came));
-  refused = refused;
-  put = put;
-}
-
--- and where it was, or memory was refused for it
-pub gathers_put : {H : Type 0} {came : Came H} {before mid after : Trouble} {were are : List (List Told)} (result : Result (Unit {0}) AllocError) → mid.fault ≡ first_of before.fault (noted_of came) → mid.refused ≡ mixed_of before.refused came →
-    after.fault ≡ first_of mid.fault (memory_in result) → after.refused ≡ mid.refused → OnOk result (are ≡ with_those_of came were) → OnErr result (are ≡ were) → Gathers came before after were are
-gathers_put {came = came} {before = before} (Ok done) fault refused more same ok err = record {
-  wanted = false;
-  fault = more ∙ ap (λ (f : Option LinesFault). first_of f None) fault ∙ first_first before.fault (noted_of came) None;
+  fault = more ∙ ap (λ (f : Option LinesFault). first_of f None) fault ∙ first_first before.fault (noted_by left.fault) None;
   refused = same ∙ refused;
-  put = ok;
+  put = ok ∙ ap (λ (o : Option ℕ). put_to o left.backed were) (sym there);
 }
-gathers_put {came = came} {before = before} (Err why) fault refused more same ok err = record {
+gathers_session left at before mid after were are (Err why) there fault refused more same ok err = record {
   wanted = true;
-  fault = more ∙ ap (λ (f : Option LinesFault). first_of f (Some Memory)) fault ∙ first_first before.fault (noted_of came) (Some Memory);
+  fault = more ∙ ap (λ (f : Option LinesFault). first_of f (Some Memory)) fault ∙ first_first before.fault (noted_by left.fault) (Some Memory);
   refused = same ∙ refused;
   put = err;
 }
+
+-- there is no object at a place beyond them
+pub put_past : {H : Type 0} (place : ℕ) (more : List Told) (items : List (Gathered H)) (n : ℕ) → (place < n → ⊥) → n ≡ length items → put_in place more (slips_in items) ≡ slips_in items
+put_past place more [] n none same = refl
+put_past zero more (x ∷ items) n none same = absurd (none (omega (arith, same)))
+put_past (suc place) more (x ∷ items) n none same = ap (λ (xs : List (List Told)). x.backed ∷ xs) (put_past place more items (length items) (λ less. none (omega (arith, less, same))) refl)
+
+-- an object has more receipts, or the same
+pub put_set : {H : Type 0} (items : List (Gathered H)) (place : ℕ) (g new : Gathered H) (more : List Told) → g ≡ slice_index_or items place g → new.backed ≡ g.backed ++ more → slips_in (slice_set items place new) ≡ put_in place more (slips_in items)
+put_set [] place g new more is grown = refl
+put_set {H = H} (x ∷ items) zero g new more is grown = ap (λ (s : List Told). s ∷ slips_in items) (grown ∙ ap (λ (h : Gathered H). h.backed ++ more) is)
+put_set (x ∷ items) (suc place) g new more is grown = ap (λ (xs : List (List Told)). x.backed ∷ xs) (put_set items place g new more is grown)
+
+pub keep_set : {H : Type 0} (items : List (Gathered H)) (place : ℕ) (g new : Gathered H) → g ≡ slice_index_or items place g → new.backed ≡ g.backed → slips_in (slice_set items place new) ≡ slips_in items
+keep_set [] place g new is same = refl
+keep_set {H = H} (x ∷ items) zero g new is same = ap (λ (s : List Told). s ∷ slips_in items) (same ∙ ap (λ (h : Gathered H). h.backed) is)
+keep_set (x ∷ items) (suc place) g new is same = ap (λ (xs : List (List Told)). x.backed ∷ xs) (keep_set items place g new is same)
+
+-- what threads left, or nothing where memory was refused before
+pub gathered_ok : {H : Type 0} (before after : Trouble) (were are last : List (List Told)) (cames : List (Came H)) → last ≡ are → GathersAll cames before after were are → IsGathered H were before after last
+gathered_ok {H = H} before after were are last cames same all = inl (cames, subst (GathersAll cames before after were) (sym same) all)
+
+pub gathered_err : (H : Type 0) (before after : Trouble) (were last : List (List Told)) → last ≡ were → after.fault ≡ first_of before.fault (Some Memory) → after.refused ≡ before.refused → IsGathered H were before after last
+gathered_err H before after were last same fault refused = inr (fault, refused, same)
 
 -- putting keeps the number of objects
 put_many : (place : ℕ) (more : List Told) (all : List (List Told)) → length (put_in place more all) ≡ length all

@@ -1,4 +1,3 @@
-
 no_rest : {X : Type 0} (xs : List X) → length xs ≡ 0 → xs ≡ []
 no_rest [] none = refl
 no_rest (x ∷ xs) none = absurd (omega (arith, none))

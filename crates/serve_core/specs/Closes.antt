@@ -39,8 +39,8 @@ abbrev pub AreBackedAll : {H : Type 0} → (H → Assignment → Type 0) → Lis
 AreBackedAll {H} backs ends = Every (λ (e : Ended). AreBacked backs e.slips) ends
 
 -- There are hands, those of the sessions of an object, by which its receipts are true: each assignment that agrees with
--- all of them makes each true. Where the object was closed, each entry of its history has a receipt, and its opening pins
--- show contents by such an assignment, the history is legal from these.
+-- all of them makes each true. Where the object was closed, each entry of its history has a receipt, and its opening
+-- pins show contents by such an assignment, the history is legal from these.
 pub record IsLegalBy {H : Type 0} (backs : H → Assignment → Type 0) (e : Ended) : Type 0 where
   pub hands : List H
   pub backed : AreBackedBy backs hands e.slips

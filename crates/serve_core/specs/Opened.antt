@@ -18,6 +18,7 @@ AreLoadedAll papers (o ∷ objects) [] = ⊥
 -- object by object: pages were sealed with these values
 abbrev pub ArePinnedAll : (Assignment → Type 0) → List Object → List (List Contents) → Type 0
 ArePinnedAll agrees [] [] = Unit {0}
-ArePinnedAll agrees (o ∷ objects) (opening ∷ openings) = HavePins agrees o opening × ArePinnedAll agrees objects openings
+ArePinnedAll agrees (o ∷ objects) (opening ∷ openings) =
+    HavePins agrees o opening × ArePinnedAll agrees objects openings
 ArePinnedAll agrees [] (opening ∷ openings) = ⊥
 ArePinnedAll agrees (o ∷ objects) [] = ⊥

@@ -26,8 +26,8 @@ use Rattle.serve_core.specs.declared.serve.ServeEnd.TheVariants.{Whole, Refused,
 use Rattle.serve_core.specs.Ends.{IsEndOf}
 use Rattle.serve_core.specs.Gathers.{none_of, IsGathered}
 use Rattle.serve_core.specs.Opened.{AreLoadedAll, ArePinnedAll}
-use Rattle.serve_core.specs.Closes.{names_of, openings_of, slips_of, lines_all, entries_all, refused_all, IsWhole, Closes}
-use Rattle.serve_core.specs.Closes.{AreStoredAll, AreTracedAll, IsLegalBy}
+use Rattle.serve_core.specs.Closes.{names_of, openings_of, slips_of, lines_all, entries_all, refused_all, IsWhole}
+use Rattle.serve_core.specs.Closes.{AreStoredAll, AreTracedAll, IsLegalBy, Closes}
 
 -- the names under which offices are opened
 abbrev pub named_in : List Named → List (List ℕ)

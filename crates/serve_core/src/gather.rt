@@ -1,6 +1,6 @@
 //! What sessions left, by objects.
 
-ghost use Rattle.std.specs.Prelude.{◌≡◌, ◌++◌, OnOk, OnErr, IfOk};
+ghost use Rattle.std.specs.Prelude.{◌≡◌, ◌++◌, [], OnOk, OnErr, IfOk};
 ghost use Rattle.keep_core.specs.Troubles.{first_of};
 ghost use Rattle.serve_core.specs.Gathers.{noted_by, mixed_by, slips_in, put_in, none_of, Gathers, GathersAll};
 
@@ -76,11 +76,18 @@ fn heed(fault: Option<SessionFault>, trouble: &mut Trouble) -> bool
     }
 }
 
-// Says on standard error that a session was told of a call of which it keeps no receipt: `session of NAME mixed`.
-fn tell_mixed<E: Write>(line: &mut Vec<u8>, name: &[u8], error: &mut E) {
+// Says on standard error, where it is so, that a session was told of a call of which it keeps no receipt: `session of
+// NAME mixed`.
+fn tell_mixed<E: Write>(line: &mut Vec<u8>, mixed: bool, named: Option<&Named>, error: &mut E) {
+    if !mixed {
+        return;
+    }
+    let Some(named) = named else {
+        return;
+    };
     line.clear();
     let made = line.extend_from_slice(b"session of ");
-    if made.is_ok() && push_reply(line, name, b" mixed").is_ok() {
+    if made.is_ok() && push_reply(line, named.name.as_bytes(), b" mixed").is_ok() {
         let _ = write_whole(error, line.as_slice());
     }
 }
@@ -88,11 +95,7 @@ fn tell_mixed<E: Write>(line: &mut Vec<u8>, name: &[u8], error: &mut E) {
 impl<H: Hand + Drop> Gathering<H> {
     /// Room for the seats and the hands of so many objects and sessions, none of which is there yet, and for a line.
     /// The error is that memory was refused.
-    pub fn new(
-        alloc: Global,
-        objects: usize,
-        sessions: usize,
-    ) -> Result<Gathering<H>, AllocError>
+    pub fn new(alloc: Global, objects: usize, sessions: usize) -> Result<Gathering<H>, AllocError>
         ensures { IfOk result (λ gathering. slips_in gathering.all.items ≡ none_of objects) }
     {
         let mut all = Vec::new(alloc);
@@ -118,13 +121,38 @@ impl<H: Hand + Drop> Gathering<H> {
         ensures ok { OnOk result (slips_in self.new.all.items ≡ put_in object backed (slips_in self.old.all.items)) }
         ensures err { OnErr result (slips_in self.new.all.items ≡ slips_in self.old.all.items) }
     {
-        let Some(gathered) = self.all.get_mut(object) else {
-            return Ok(());
-        };
-        gathered.add(seat, backed)
+        match self.all.get_mut(object) {
+            Some(gathered) => gathered.add(seat, backed),
+            None => Ok(()),
+        }
     }
 
-    // Puts what one thread left to its object. What went wrong, and was not for its client, is noted and told.
+    // Puts what a session left to its object. What went wrong in it, and was not for its client, is noted and told.
+    fn gather_left<E: Write>(
+        &mut self,
+        left: Left<H>,
+        offices: &[Named],
+        error: &mut E,
+        trouble: &mut Trouble,
+    )
+        ensures { Gathers (Came.Session left) trouble.old trouble.new (slips_in self.old.all.items)
+            (slips_in self.new.all.items) }
+    {
+        let Left {
+            object,
+            seat,
+            backed,
+            fault,
+        } = left;
+        let mixed = heed(fault, trouble);
+        let Some(at) = object else {
+            return;
+        };
+        tell_mixed(&mut self.line, mixed, offices.get(at), error);
+        trouble.heed_memory(self.put(at, seat, backed));
+    }
+
+    // Gathers what one thread left.
     fn gather_one<E: Write>(
         &mut self,
         came: Came<H>,
@@ -136,32 +164,14 @@ impl<H: Hand + Drop> Gathering<H> {
     {
         match came {
             Came::Fault(fault) => trouble.note(fault),
-            Came::Session(
-                Left {
-                    object,
-                    seat,
-                    backed,
-                    fault,
-                },
-            ) => {
-                let mixed = heed(fault, trouble);
-                let Some(at) = object else {
-                    return;
-                };
-                if mixed {
-                    if let Some(named) = offices.get(at) {
-                        tell_mixed(&mut self.line, named.name.as_bytes(), error);
-                    }
-                }
-                trouble.heed_memory(self.put(at, seat, backed));
-            }
+            Came::Session(left) => self.gather_left(left, offices, error, trouble),
         }
     }
 
     /// Puts what the sessions left to their objects. What went wrong in a session, and was not for its client, is noted
     /// and told: that it was mixed, and that memory was refused. A fault of a connection is noted too. The first fault
-    /// stays. Where memory is refused for receipts that is noted, and they are let go: a close looks at those that it is
-    /// handed.
+    /// stays. Where memory is refused for receipts that is noted, and they are let go: a close looks at those that it
+    /// is handed.
     pub fn gather<E: Write>(
         &mut self,
         all: Vec<Came<H>>,
@@ -179,7 +189,7 @@ impl<H: Hand + Drop> Gathering<H> {
 
     /// What was gathered, an item for each object.
     pub fn into_all(self) -> Vec<Gathered<H>>
-        ensures { result ≡ self.all }
+        ensures { slips_in result.items ≡ slips_in self.all.items }
     {
         self.all
     }

@@ -127,12 +127,13 @@ fn serve_stream<R: Threads + Wait + Clock + Sync, H: Ends + Send, O: Offices + S
 }
 
 // Takes a connection and serves it with the next hand. `None`: no more are taken.
-fn serve_next<
-    R: Threads + Wait + Clock + Sync,
-    H: Ends + Send,
-    O: Offices + Sync,
-    D: Door,
->(rt: &R, alloc: Global, door: &D, hands: &Receiver<H>, offices: &O) -> Option<Came<H>> {
+fn serve_next<R: Threads + Wait + Clock + Sync, H: Ends + Send, O: Offices + Sync, D: Door>(
+    rt: &R,
+    alloc: Global,
+    door: &D,
+    hands: &Receiver<H>,
+    offices: &O,
+) -> Option<Came<H>> {
     let Ok(hand) = hands.recv(rt) else {
         return None;
     };

@@ -49,8 +49,8 @@ fn add(served: &mut Served, opened: Opened) -> Result<(), NotOpened>
     Ok(())
 }
 
-/// Opens each object, in order: its parts begin with what the shelf has under their names, and pages of these values are
-/// sealed by the hand.
+/// Opens each object, in order: its parts begin with what the shelf has under their names, and pages of these values
+/// are sealed by the hand.
 ///
 /// The first fault ends it: files that were sealed before it are left.
 pub fn open_all<S: Shelf + Drop, T: Shelf + Drop, K: Hand + Drop>(

@@ -114,15 +114,11 @@ fn next_of<X>(items: &mut IntoIter<X>) -> X
 }
 
 // An object at the end, with what its sessions left.
-fn ending_of<H: Hand + Drop>(
-    named: Named,
-    opening: Vec<Value>,
-    gathered: Gathered<H>,
-) -> Ending
+fn ending_of<H: Hand + Drop>(named: Named, opening: Vec<Value>, gathered: Gathered<H>) -> Ending
     ensures name { result.name ≡ named.name }
     ensures opening { result.opening.items ≡ opening.items }
     ensures slips { result.receipts.items ≡ gathered.backed }
-    ensures backed { AreBacked H.agrees gathered.backed }
+    ensures backed { AreBacked H.agrees result.receipts.items }
 {
     let Named { name, office } = named;
     let Gathered { seats, backed } = gathered;
@@ -136,14 +132,7 @@ fn ending_of<H: Hand + Drop>(
 }
 
 // Closes each object, with the values with which its parts opened and what its sessions left.
-fn close_all<
-    S: Shelf + Drop,
-    T: Shelf + Drop,
-    K: Hand + Drop,
-    H: Hand + Drop,
-    W: Write,
-    E: Write,
->(
+fn close_all<S: Shelf + Drop, T: Shelf + Drop, K: Hand + Drop, H: Hand + Drop, W: Write, E: Write>(
     alloc: Global,
     served: Served,
     gathered: Vec<Gathered<H>>,
@@ -192,10 +181,15 @@ fn serve_gathered<R: Threads + Wait + Clock + Sync, H: Ends + Send, E: Write>(
     let Guests { gate, hands } = guests;
     let mut gathering = gathering;
     match serve_all(rt, alloc, gate, hands, offices) {
-        Ok(all) => gathering.gather(all, offices, error, trouble),
-        Err(_) => trouble.note(LinesFault::Memory),
+        Ok(all) => {
+            gathering.gather(all, offices, error, trouble);
+            gathering.into_all()
+        }
+        Err(_) => {
+            trouble.note(LinesFault::Memory);
+            gathering.into_all()
+        }
     }
-    gathering.into_all()
 }
 
 // Serves objects whose parts are open, and closes them.
