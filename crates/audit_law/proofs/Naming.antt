@@ -1,6 +1,6 @@
 -- The operation of a call is found by its name.
-use Rattle.std.proofs.Common.{◌≡◌, ℕ, zero, suc, Bool, true, false, cond, Some, List, [], ◌∷◌, refl, sym, ap, ◌∙◌, map}
-use Rattle.std.specs.Prelude.{Decides, bytes_eq, slice_get, slice_index_or, unwrap_or, take}
+use Rattle.std.proofs.Common.{◌≡◌, ℕ, zero, suc, Bool, true, false, cond, Some, List, [], ◌∷◌, refl, ap, ◌∙◌, map}
+use Rattle.std.specs.Prelude.{Decides, slice_get, slice_index_or, unwrap_or, take}
 use Rattle.std.proofs.lemmas.Slice.Eq.{bytes_eq-Decides}
 use Rattle.std.specs.declared.sync.Arc.{Arc}
 use Rattle.std.specs.Arc.{arc_value}

@@ -32,6 +32,7 @@ use Rattle.audit_core.proofs.Written.{text_is_legal}
 use Rattle.audit_law.specs.Laws.{DeskTextIsLegal}
 use Rattle.audit_law.proofs.Running.{OfCalls, runs}
 use Rattle.audit_law.proofs.Naming.{name_there, found_there}
+use Rattle.audit_law.proofs.Refusing.{replies_told}
 
 -- an event, as what happened
 abbrev happened_at : List AcceptedCall → TraceEvent → Happened
@@ -175,7 +176,7 @@ desk_text_is_legal b opening sound names front known legal =
     let seen_so : trace_of past ≡ path_trace b.calls b.trace = trace_is b.calls [] b.trace in
     let told_so : told_of past ≡ lines_told b = told_is b.calls [] b.trace in
     let ends : history_of o past ≡ chain.history_of b.history = history_is o b.calls [] b.trace ∙ ap (map (end_at o b.calls)) sound.told.ends ∙ entries_are b counted.made b.history sound.told.noted in
-    let each = each_starts b [] b.trace counted.made counted.few known.arguments counted.numbered (subst (Every (λ (x : ℕ × Reply). IsReply x.1)) (sym sound.told.ends) (replies_of b.history known.replies)) tt in
+    let each = each_starts b [] b.trace counted.made counted.few known.arguments counted.numbered (subst (Every (λ (x : ℕ × Reply). IsReply x.1)) (sym sound.told.ends) (replies_of b.history (replies_told b.history opening legal known.replies))) tt in
     let are = are_calls o b.calls past (of_calls b.calls [] b.trace tt) (subst IsTrace (sym seen_so) counted.trace) each in
     let is = text_is_legal o opening past names front are (subst (SatisfiesAll o.paths) (sym seen_so) counted.satisfied) (subst (λ h. history.IsLegal h opening) (sym ends) legal) in
     let many : length (history_of o past) ≡ length b.history = ap length ends ∙ length-map b.history chain.end_of in

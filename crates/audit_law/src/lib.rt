@@ -1,4 +1,5 @@
 //! The trace of a desk is legal, where its history is.
 #![tactic(auto)]
 
+pub mod held;
 pub mod laws;

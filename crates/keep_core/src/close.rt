@@ -39,9 +39,9 @@ const LINE_BYTES: usize = 512;
 /// What closes objects: the shelves of their parts and of their traces, a hand on their values, and what was met.
 #[derive(Drop)]
 pub struct Closing<S: Shelf + Drop, T: Shelf + Drop, H: Hand + Drop> {
-    parts: S,
+    pub(crate) parts: S,
     traces: T,
-    hand: H,
+    pub(crate) hand: H,
     // Room for a line.
     line: Vec<u8>,
     // Room for the name of a part.
