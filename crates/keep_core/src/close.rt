@@ -336,11 +336,6 @@ impl<S: Shelf + Drop, T: Shelf + Drop, H: Hand + Drop> Closing<S, T, H> {
         })
     }
 
-    /// The shelf of the parts, and the hand.
-    pub fn devices(&mut self) -> (&mut S, &mut H) {
-        (&mut self.parts, &mut self.hand)
-    }
-
     // Saves one part of an object. Where that fails it is noted, and it says which files hold the part's value. It
     // answers whether the part is saved.
     fn save_one<W: Write, E: Write>(
