@@ -1,4 +1,5 @@
-//! What a server makes of what its sessions left, over the public calls of `serve_core` and `keep_core`.
+//! What a server makes of what its sessions left, its gate, and a whole server, over the public calls of `serve_core`
+//! and `keep_core`.
 #![tactic(auto)]
 
 #[cfg(test)]
@@ -6,4 +7,8 @@ mod closed;
 #[cfg(test)]
 mod gathered;
 #[cfg(test)]
+mod gates;
+#[cfg(test)]
 mod lacking;
+#[cfg(test)]
+mod served;
