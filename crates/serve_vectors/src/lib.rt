@@ -5,9 +5,9 @@
 #[cfg(test)]
 mod closed;
 #[cfg(test)]
-mod gathered;
-#[cfg(test)]
 mod gates;
+#[cfg(test)]
+mod gathered;
 #[cfg(test)]
 mod lacking;
 #[cfg(test)]

@@ -71,10 +71,7 @@ fn gate_for<R: Net<Listener = TcpListener, Stream = TcpStream>>(
     rt: &R,
     most: usize,
 ) -> io::Result<Gate> {
-    Gate::open(
-        TcpListener::bind(rt, (Ipv4Addr::LOCALHOST, 0))?,
-        most,
-    )
+    Gate::open(TcpListener::bind(rt, (Ipv4Addr::LOCALHOST, 0))?, most)
 }
 
 // A client that has said these lines.
