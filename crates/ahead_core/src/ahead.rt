@@ -18,9 +18,12 @@ use std::sync::Arc;
 const NAME_BYTES: usize = 25;
 
 /// What is done once, after the last call of a hand.
-pub trait Ends: Drop {
-    /// Ends the work.
-    fn end(&mut self);
+pub trait Ends: Hand + Drop {
+    ghost use Rattle.hand_core.specs.Device.{Assignment};
+
+    /// Ends the work. An assignment that agrees with the hand then agreed with it before.
+    fn end(&mut self)
+        ensures kept { (a : Assignment) → Self.agrees self.new a → Self.agrees self.old a };
 }
 
 /// A hand over a `DirHand` that makes its next file ahead, and keeps what it read last.

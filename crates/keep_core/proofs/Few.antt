@@ -1,10 +1,9 @@
 -- A history has no more entries than an object has calls.
-use Rattle.std.proofs.Common.{◌≡◌, ◌∙◌, ap, sym, refl, arith, ℕ, ◌+◌, ◌≤◌, List, [], ◌∷◌, length}
+use Rattle.std.proofs.Common.{◌≡◌, ◌∙◌, ap, refl, arith, ℕ, ◌+◌, ◌≤◌, List, [], ◌∷◌, length}
 use Rattle.std.proofs.lemmas.List.{length-map}
 use Rattle.path_tree.specs.Trace.{Event, Start as Began, End as Ended}
 use Rattle.path_count.specs.Stands.{started_calls}
 use Rattle.path_count.proofs.Running.{few_events}
-use Rattle.apply_core.specs.declared.reply.Reply.{Reply}
 use Rattle.board_core.specs.declared.event.TraceEvent.{TraceEvent}
 use Rattle.board_core.specs.declared.event.TraceEvent.TheVariants.{Start, End}
 use Rattle.board_core.specs.Calls.{AcceptedCall, Noted}

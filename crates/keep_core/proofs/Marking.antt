@@ -1,6 +1,6 @@
 -- Marks, and the slips that set them.
-use Rattle.std.proofs.Common.{◌≡◌, ◌∙◌, ap, sym, subst, refl, arith, ℕ, zero, suc, ◌+◌, ◌<◌, ◌≤◌, ◌⊎◌, inl, inr, ◌↔◌, List, [], ◌∷◌, length, Bool, true, false, Some, None}
-use Rattle.std.specs.Prelude.{slice_get, slice_set, IsTrue}
+use Rattle.std.proofs.Common.{◌≡◌, ◌∙◌, ap, sym, subst, refl, arith, ℕ, zero, suc, ◌+◌, ◌<◌, ◌≤◌, ◌⊎◌, inl, inr, ◌↔◌, List, [], ◌∷◌, length, Bool, true, false, Some}
+use Rattle.std.specs.Prelude.{slice_get, slice_set}
 use Rattle.std.proofs.lemmas.List.{length-set}
 use Rattle.std.proofs.lemmas.Option.{same_Some, slice_get_within}
 use Rattle.std.proofs.lemmas.Bool.{false≢true, cases_lt}
@@ -103,8 +103,8 @@ pub slips_marked : (row after : List Bool) (history : List Noted) (slips : List 
 slips_marked row after history slips is room none = (
   λ all k e there. (let within = slice_get_within history k e there in found k within (marked_or row slips k (ap (λ (ms : List Bool). slice_get ms k) (sym is) ∙ all k within))),
   λ have k within. (
-    let there = get_within history k within in
-    ap (λ (ms : List Bool). slice_get ms k) is ∙ marked_by row slips k (omega (arith, within, room)) (have k there.0 there.1)),
+      let there = get_within history k within in
+      ap (λ (ms : List Bool). slice_get ms k) is ∙ marked_by row slips k (omega (arith, within, room)) (have k there.0 there.1)),
 ) where
   found : (k : ℕ) → k < length history → HasSlip slips k ⊎ (slice_get row k ≡ Some true) → HasSlip slips k
   found k within (inl has) = has

@@ -40,11 +40,13 @@ const LINE_BYTES: usize = 512;
 /// What closes objects: the shelves of their parts and of their traces, a hand on their values, and what was met.
 #[derive(Drop)]
 pub struct Closing<S: Shelf + Drop, T: Shelf + Drop, H: Hand + Drop> {
-    parts: S,
+    pub(crate) parts: S,
     traces: T,
-    hand: H,
+    pub(crate) hand: H,
     // Room for a line.
     line: Vec<u8>,
+    // Room for the name of a part.
+    key: Vec<u8>,
     // Room for a mark at each place of a history.
     marks: Marks,
     /// Whether each object so far was saved, and its trace written.
@@ -233,130 +235,12 @@ fn note_unsaved<W: Write>(
     }
 }
 
-// Saves one part of an object. Where that fails it is noted, and it says which files hold the part's value. It answers
-// whether the part is saved.
-fn save_one<S: Shelf, H: Hand, W: Write, E: Write>(
-    alloc: Global,
-    object: &Object,
-    pins: &Pins,
-    place: usize,
-    shelf: &mut S,
-    hand: &mut H,
-    key: &mut Vec<u8>,
-    line: &mut Vec<u8>,
-    trouble: &mut Trouble,
-    writer: &mut W,
-    error: &mut E,
-) -> bool
-    requires pinned { length pins.now ≡ length object.now.parts.items }
-    requires within { place < length object.now.parts.items }
-    ensures saves { Saves (H.agrees hand.new) object.now pins.now place (place + 1) (S.holds shelf.old)
-        (S.holds shelf.new) result trouble.old trouble.new (W.contents writer.old) (W.contents writer.new) }
-    ensures files { (a : Assignment) → H.agrees hand.new a → H.agrees hand.old a }
-{
-    let part = &object.parts[place];
-    let lists = pins.as_slice();
-    let pin = &lists[place];
-    match save_part(alloc, &object.name, part, place, pin, shelf, hand, key) {
-        Ok(()) => true,
-        Err(fault) => {
-            note_unsaved(line, object, place, fault, trouble, writer);
-            tell_unsaved(line, object, place, pin.stamps(), error);
-            false
-        }
-    }
-}
-
 // Whether the one and the other is so.
 fn both(one: bool, more: bool) -> bool
     ensures all { IsTrue result → IsTrue one × IsTrue more }
     ensures back { IsTrue one → IsTrue more → IsTrue result }
 {
     one && more
-}
-
-// Saves each part from this one on that can be saved by itself. It answers whether all of them are saved.
-fn save_from<S: Shelf, H: Hand, W: Write, E: Write>(
-    alloc: Global,
-    object: &Object,
-    pins: &Pins,
-    first: usize,
-    shelf: &mut S,
-    hand: &mut H,
-    key: &mut Vec<u8>,
-    line: &mut Vec<u8>,
-    trouble: &mut Trouble,
-    writer: &mut W,
-    error: &mut E,
-) -> bool
-    requires { length pins.now ≡ length object.now.parts.items }
-    ensures saves { Saves (H.agrees hand.new) object.now pins.now first (length object.now.parts.items)
-        (S.holds shelf.old) (S.holds shelf.new) result trouble.old trouble.new (W.contents writer.old)
-        (W.contents writer.new) }
-    ensures files { (a : Assignment) → H.agrees hand.new a → H.agrees hand.old a }
-{
-    if first >= object.parts.len() {
-        return true;
-    }
-    let one = save_one(
-        alloc, object, pins, first, shelf, hand, key, line, trouble, writer, error,
-    );
-    let more = save_from(
-        alloc,
-        object,
-        pins,
-        first + 1,
-        shelf,
-        hand,
-        key,
-        line,
-        trouble,
-        writer,
-        error,
-    );
-    both(one, more)
-}
-
-// Saves the parts of an object. Where that fails each part is tried by itself, so what is wrong with one of them keeps
-// no other one from being saved, and neither does memory that was refused once. It answers whether all are saved.
-fn save_all<S: Shelf, H: Hand, W: Write, E: Write>(
-    alloc: Global,
-    desk: &Desk,
-    shelf: &mut S,
-    hand: &mut H,
-    line: &mut Vec<u8>,
-    trouble: &mut Trouble,
-    writer: &mut W,
-    error: &mut E,
-) -> bool
-    ensures saves { Saves (H.agrees hand.new) desk.now.object desk.now.pins 0 (length desk.now.object.parts.items)
-        (S.holds shelf.old) (S.holds shelf.new) result trouble.old trouble.new (W.contents writer.old)
-        (W.contents writer.new) }
-    ensures files { (a : Assignment) → H.agrees hand.new a → H.agrees hand.old a }
-{
-    // The board is sound: each part has a pin.
-    desk.history();
-    let object = desk.accepted().object();
-    let pins = desk.pins();
-    match save_parts(alloc, object, &pins, shelf, hand) {
-        Ok(()) => true,
-        Err(fault) => {
-            let mut key = Vec::new(alloc);
-            save_from(
-                alloc,
-                object,
-                &pins,
-                first_unsaved(fault),
-                shelf,
-                hand,
-                &mut key,
-                line,
-                trouble,
-                writer,
-                error,
-            )
-        }
-    }
 }
 
 // Writes the trace of an object, in place of the one that is there.
@@ -445,6 +329,7 @@ impl<S: Shelf + Drop, T: Shelf + Drop, H: Hand + Drop> Closing<S, T, H> {
             parts,
             traces,
             hand,
+            key: Vec::new(alloc),
             line: Vec::with_capacity(alloc, LINE_BYTES)?,
             marks: Marks::new(alloc)?,
             keeps_all: true,
@@ -452,9 +337,111 @@ impl<S: Shelf + Drop, T: Shelf + Drop, H: Hand + Drop> Closing<S, T, H> {
         })
     }
 
-    /// The shelf of the parts, and the hand.
-    pub fn devices(&mut self) -> (&mut S, &mut H) {
-        (&mut self.parts, &mut self.hand)
+    // Saves one part of an object. Where that fails it is noted, and it says which files hold the part's value. It
+    // answers whether the part is saved.
+    fn save_one<W: Write, E: Write>(
+        &mut self,
+        alloc: Global,
+        object: &Object,
+        pins: &Pins,
+        place: usize,
+        writer: &mut W,
+        error: &mut E,
+    ) -> bool
+        requires pinned { length pins.now ≡ length object.now.parts.items }
+        requires within { place < length object.now.parts.items }
+        ensures saves { Saves (H.agrees self.new.hand) object.now pins.now place (place + 1) (S.holds self.old.parts)
+            (S.holds self.new.parts) result self.old.trouble self.new.trouble (W.contents writer.old)
+            (W.contents writer.new) }
+        ensures files { (a : Assignment) → H.agrees self.new.hand a → H.agrees self.old.hand a }
+        ensures traces { self.new.traces ≡ self.old.traces }
+        ensures kept { self.new.keeps_all ≡ self.old.keeps_all }
+    {
+        let part = &object.parts[place];
+        let lists = pins.as_slice();
+        let pin = &lists[place];
+        let shelf = &mut self.parts;
+        let hand = &mut self.hand;
+        match save_part(
+            alloc,
+            &object.name,
+            part,
+            place,
+            pin,
+            shelf,
+            hand,
+            &mut self.key,
+        ) {
+            Ok(()) => true,
+            Err(fault) => {
+                note_unsaved(
+                    &mut self.line,
+                    object,
+                    place,
+                    fault,
+                    &mut self.trouble,
+                    writer,
+                );
+                tell_unsaved(&mut self.line, object, place, pin.stamps(), error);
+                false
+            }
+        }
+    }
+
+    // Saves each part from this one on that can be saved by itself. It answers whether all of them are saved.
+    fn save_from<W: Write, E: Write>(
+        &mut self,
+        alloc: Global,
+        object: &Object,
+        pins: &Pins,
+        first: usize,
+        writer: &mut W,
+        error: &mut E,
+    ) -> bool
+        requires { length pins.now ≡ length object.now.parts.items }
+        ensures saves { Saves (H.agrees self.new.hand) object.now pins.now first (length object.now.parts.items)
+            (S.holds self.old.parts) (S.holds self.new.parts) result self.old.trouble self.new.trouble
+            (W.contents writer.old) (W.contents writer.new) }
+        ensures files { (a : Assignment) → H.agrees self.new.hand a → H.agrees self.old.hand a }
+        ensures traces { self.new.traces ≡ self.old.traces }
+        ensures kept { self.new.keeps_all ≡ self.old.keeps_all }
+    {
+        if first >= object.parts.len() {
+            return true;
+        }
+        let one = self.save_one(alloc, object, pins, first, writer, error);
+        let more = self.save_from(alloc, object, pins, first + 1, writer, error);
+        both(one, more)
+    }
+
+    // Saves the parts of an object. Where that fails each part is tried by itself, so what is wrong with one of them
+    // keeps no other one from being saved, and neither does memory that was refused once. It answers whether all are
+    // saved.
+    fn save_all<W: Write, E: Write>(
+        &mut self,
+        alloc: Global,
+        desk: &Desk,
+        writer: &mut W,
+        error: &mut E,
+    ) -> bool
+        ensures saves { Saves (H.agrees self.new.hand) desk.now.object desk.now.pins 0
+            (length desk.now.object.parts.items) (S.holds self.old.parts) (S.holds self.new.parts) result
+            self.old.trouble self.new.trouble (W.contents writer.old) (W.contents writer.new) }
+        ensures files { (a : Assignment) → H.agrees self.new.hand a → H.agrees self.old.hand a }
+        ensures traces { self.new.traces ≡ self.old.traces }
+        ensures kept { self.new.keeps_all ≡ self.old.keeps_all }
+    {
+        // The board is sound: each part has a pin.
+        desk.history();
+        let object = desk.accepted().object();
+        let pins = desk.pins();
+        match save_parts(alloc, object, &pins, &mut self.parts, &mut self.hand) {
+            Ok(()) => true,
+            Err(fault) => {
+                let first = first_unsaved(fault);
+                self.save_from(alloc, object, &pins, first, writer, error)
+            }
+        }
     }
 
     // Saves the parts of an object and writes its trace.
@@ -474,16 +461,7 @@ impl<S: Shelf + Drop, T: Shelf + Drop, H: Hand + Drop> Closing<S, T, H> {
     {
         // Called for its contract alone: lines can tell of the board.
         desk_can_be_told(desk);
-        let saved = save_all(
-            alloc,
-            desk,
-            &mut self.parts,
-            &mut self.hand,
-            &mut self.line,
-            &mut self.trouble,
-            writer,
-            error,
-        );
+        let saved = self.save_all(alloc, desk, writer, error);
         let traced = keep_trace(
             desk,
             opening,

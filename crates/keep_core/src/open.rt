@@ -1,9 +1,13 @@
 //! The office of an accepted object, whose parts are read from a folder.
 
 ghost use Rattle.std.specs.Prelude.{◌≡◌, ◌++◌, length, IfOk, IfErr, OnOk};
+ghost use Rattle.hand_core.specs.Device.{Assignment};
+ghost use Rattle.hand_core.specs.Papers.{Papers};
+ghost use Rattle.store_core.specs.Opened.{AreLoaded, ArePinned};
 ghost use Rattle.keep_core.specs.Lines.{part_text, damaged_line};
-ghost use Rattle.keep_core.specs.Opening.{IsNotOpened};
+ghost use Rattle.keep_core.specs.Opening.{IsNotOpened, HavePins};
 
+use crate::close::Closing;
 use decl_core::object::Object;
 use exclude_core::analyse::Accepted;
 use hand_core::hand::Hand;
@@ -75,6 +79,12 @@ fn parts_of<S: Shelf, H: Hand>(
     hand: &mut H,
 ) -> Result<(Pins, Vec<Value>), NotOpened>
     ensures each { IfOk result (λ opened. length opened.0 ≡ length accepted.now.parts.items) }
+    ensures loaded { IfOk result (λ opened. (papers : Papers) → S.holds shelf.new papers →
+        AreLoaded papers accepted.now.name accepted.now.parts.items opened.1.items) }
+    ensures pinned { IfOk result (λ opened. (a : Assignment) → H.agrees hand.new a →
+        ArePinned a accepted.now.parts.items opened.0 opened.1.items) }
+    ensures papers { (papers : Papers) → S.holds shelf.new papers → S.holds shelf.old papers }
+    ensures files { (a : Assignment) → H.agrees hand.new a → H.agrees hand.old a }
     ensures not { IfErr result (IsNotOpened accepted.now) }
 {
     match open_parts(alloc, accepted.object(), shelf, hand) {
@@ -89,7 +99,9 @@ fn parts_of<S: Shelf, H: Hand>(
     }
 }
 
-/// Opens an object. Where a fault ends it, files that were sealed before it are left.
+/// Opens an object: its opening values are what the shelf has under the names of its parts, or those of their kinds
+/// where nothing is there, and they are sealed as the pages of the pins with which its office begins. Where a fault ends
+/// it, files that were sealed before it are left.
 pub fn open_one<S: Shelf, H: Hand>(
     alloc: Global,
     accepted: Accepted,
@@ -97,6 +109,11 @@ pub fn open_one<S: Shelf, H: Hand>(
     hand: &mut H,
 ) -> Result<Opened, NotOpened>
     ensures name { IfOk result (λ opened. opened.name ≡ accepted.name) }
+    ensures loaded { IfOk result (λ opened. (papers : Papers) → S.holds shelf.new papers →
+        AreLoaded papers accepted.name accepted.parts.items opened.opening.items) }
+    ensures pinned { IfOk result (λ opened. HavePins (H.agrees hand.new) accepted opened.opening.items) }
+    ensures papers { (papers : Papers) → S.holds shelf.new papers → S.holds shelf.old papers }
+    ensures files { (a : Assignment) → H.agrees hand.new a → H.agrees hand.old a }
     ensures not { IfErr result (IsNotOpened accepted) }
 {
     let name = accepted.object().name.copy(alloc)?;
@@ -108,4 +125,21 @@ pub fn open_one<S: Shelf, H: Hand>(
         office,
         opening,
     })
+}
+
+impl<S: Shelf + Drop, T: Shelf + Drop, H: Hand + Drop> Closing<S, T, H> {
+    /// Opens an object from the shelf and with the hand that it will be closed with, as [`open_one`].
+    pub fn open(&mut self, alloc: Global, accepted: Accepted) -> Result<Opened, NotOpened>
+        ensures name { IfOk result (λ opened. opened.name ≡ accepted.name) }
+        ensures loaded { IfOk result (λ opened. (papers : Papers) → S.holds self.new.parts papers →
+            AreLoaded papers accepted.name accepted.parts.items opened.opening.items) }
+        ensures pinned { IfOk result (λ opened. HavePins (H.agrees self.new.hand) accepted opened.opening.items) }
+        ensures papers { (papers : Papers) → S.holds self.new.parts papers → S.holds self.old.parts papers }
+        ensures files { (a : Assignment) → H.agrees self.new.hand a → H.agrees self.old.hand a }
+        ensures traces { self.new.traces ≡ self.old.traces }
+        ensures trouble { self.new.trouble ≡ self.old.trouble }
+        ensures not { IfErr result (IsNotOpened accepted) }
+    {
+        open_one(alloc, accepted, &mut self.parts, &mut self.hand)
+    }
 }

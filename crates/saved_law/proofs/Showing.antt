@@ -30,6 +30,6 @@ each_kind (k ∷ kinds) (x ∷ contents) many holds =
 pub shown_opening : (a : Assignment) (o : Object) (pins : List (List Stamp)) (contents : List Contents) → ShowContents a (kinds_of o) pins contents → AreOpening (object_of o) contents
 shown_opening a o pins contents shows =
     let of = each_kind (kinds_of o) contents shows.contents_each (λ p kind is.
-        let at = shows.each p kind is in
-        (at.1, at.3, at.4.spells.kind, at.4.spells.contents)) in
+    let at = shows.each p kind is in
+    (at.1, at.3, at.4.spells.kind, at.4.spells.contents)) in
     are_opening o contents of.1 of.0

@@ -1,23 +1,27 @@
 -- Objects that are closed one after the other.
-use Rattle.std.proofs.Common.{◌≡◌, ◌∙◌, ap, sym, subst, refl, arith, ℕ, ◌+◌, ◌≤◌, List, [], ◌∷◌, ◌++◌, length, Bool, true, false, cond, Option, None}
+use Rattle.std.proofs.Common.{◌≡◌, ◌∙◌, ap, sym, subst, refl, arith, ℕ, ◌+◌, ◌≤◌, List, [], ◌∷◌, ◌++◌, length, map, Bool, true, false, cond, Option, None}
 use Rattle.std.specs.Prelude.{IsTrue}
 use Rattle.std.proofs.lemmas.List.{append-nil, append_assoc, map-append}
 use Rattle.std.proofs.lemmas.Bool.{true≢false}
 use Rattle.line_core.specs.declared.machine.LinesFault.{LinesFault}
+use Rattle.value_core.specs.Contents.{Contents}
 use Rattle.hand_core.specs.Device.{Assignment}
 use Rattle.hand_core.specs.Papers.{Papers}
 use Rattle.decl_core.specs.declared.object.Object.{Object}
 use Rattle.hand_core.specs.declared.hand.Stamp.{Stamp}
 use Rattle.board_core.specs.Lists.{Every}
+use Rattle.slip_core.specs.Slips.{Told}
+use Rattle.seat_core.specs.declared.seat.Seat.{Seat}
 use Rattle.keep_core.specs.declared.trouble.Trouble.{Trouble}
 use Rattle.keep_core.specs.Troubles.{first_of}
 use Rattle.keep_core.specs.Lines.{AreSaid}
 use Rattle.keep_core.specs.Kept.{AreStored, refused_by, stored_times, once}
-use Rattle.keep_core.specs.Ends.{Ended, IsAtEnd, IsEnding, lines_of, refused_after, trace_of}
+use Rattle.keep_core.specs.Ends.{Ended, IsAtEnd, IsOf, IsEnding, lines_of, refused_after, trace_of}
 use Rattle.keep_core.proofs.Telling.{nothing_said, said_then, first_none, second_none, first_first, closing_first}
 use Rattle.keep_core.proofs.Keeping.{first_nothing}
 use Rattle.keep_core.proofs.Ending.{not_refused}
-use Rattle.serve_core.specs.Closes.{names_of, lines_all, refused_all, AreStoredAll, AreTracedAll, IsWhole, AreEndings, Closes}
+use Rattle.serve_core.specs.Backed.{AreBacked}
+use Rattle.serve_core.specs.Closes.{names_of, openings_of, slips_of, AreBackedAll, lines_all, refused_all, AreStoredAll, AreTracedAll, IsWhole, AreEndings, Closes}
 
 every_one : {X : Type 0} (P : X → Type 0) (xs : List X) (y : X) → Every P xs → P y → Every P (xs ++ y ∷ [])
 every_one P [] y all one = (one, tt)
@@ -103,45 +107,69 @@ endings_more {before = before} {old = old} {new = new} ends e so one files =
           (early.0, every_one (λ (x : Ended). IsTrue x.became.saved × IsTrue x.became.traced) ends e early.1 (last_one.1, last_one.2));
     }
 
--- Of objects of all these names those before the rest are closed.
-pub record ClosedSoFar (agrees earlier : Assignment → Type 0) (pw pa tw ta : Papers → Type 0) (all rest : List (List ℕ)) (left : ℕ) (before after : Trouble) (kept_all keeps_all : Bool) (old new : Option (List ℕ)) : Type 0 where
+-- Of objects of all these names, with these opening values and receipts, those before the rest are closed.
+pub record ClosedSoFar {H : Type 0} (backs : H → Assignment → Type 0) (agrees earlier : Assignment → Type 0) (pw pa tw ta : Papers → Type 0) (all rest : List (List ℕ)) (left : ℕ) (openings values : List (List Contents)) (slips others : List (List Told)) (before after : Trouble) (kept_all keeps_all : Bool) (old new : Option (List ℕ)) : Type 0 where
   pub ends : List Ended
   pub named : names_of ends ++ rest ≡ all
   pub counted : left ≡ length rest
+  pub opened : openings_of ends ++ values ≡ openings
+  pub slipped : slips_of ends ++ others ≡ slips
+  pub backed : AreBackedAll backs ends
   pub endings : AreEndings agrees pw pa tw ta ends before after kept_all keeps_all old new
   pub files : (a : Assignment) → agrees a → earlier a
 
-pub closed_none : (agrees : Assignment → Type 0) (parts traces : Papers → Type 0) (all rest : List (List ℕ)) (left : ℕ) (t : Trouble) (kept_all : Bool) (known : Option (List ℕ)) → rest ≡ all → left ≡ length rest →
-    ClosedSoFar agrees agrees parts parts traces traces all rest left t t kept_all kept_all known known
-closed_none agrees parts traces all rest left t kept_all known same counted =
-    record { ends = []; named = same; counted = counted; endings = endings_none agrees parts traces t kept_all known; files = λ a is. is }
+pub closed_none : {H : Type 0} (backs : H → Assignment → Type 0) (agrees : Assignment → Type 0) (parts traces : Papers → Type 0) (all rest : List (List ℕ)) (left : ℕ) (openings values : List (List Contents)) (slips others : List (List Told)) (t : Trouble) (kept_all : Bool) (known : Option (List ℕ)) →
+    rest ≡ all → left ≡ length rest → values ≡ openings → others ≡ slips → ClosedSoFar backs agrees agrees parts parts traces traces all rest left openings values slips others t t kept_all kept_all known known
+closed_none backs agrees parts traces all rest left openings values slips others t kept_all known same counted opened slipped = record {
+  ends = [];
+  named = same;
+  counted = counted;
+  opened = opened;
+  slipped = slipped;
+  backed = tt;
+  endings = endings_none agrees parts traces t kept_all known;
+  files = λ a is. is;
+}
 
-pub closed_more : {then agrees earlier : Assignment → Type 0} {pw pm pa tw tm ta : Papers → Type 0} {all rest : List (List ℕ)} {left : ℕ} {before middle after : Trouble} {first mid last : Bool} {old known new : Option (List ℕ)} (name : List ℕ) (later : List (List ℕ)) (fewer : ℕ) →
-    ClosedSoFar then earlier pw pm tw tm all rest left before middle first mid old known → rest ≡ name ∷ later → fewer + 1 ≡ left →
-    (e : Ended) × (e.name ≡ name) × IsEnding agrees pm pa tm ta e middle after mid last known new → ((a : Assignment) → agrees a → then a) →
-    ClosedSoFar agrees earlier pw pa tw ta all later fewer before after first last old new
-closed_more name later fewer so is fewer_is (e, same, one) files =
-    let names : names_of (so.ends ++ e ∷ []) ++ later ≡ names_of so.ends ++ (e.name ∷ later) =
-    ap (λ (ns : List (List ℕ)). ns ++ later) (map-append (λ (x : Ended). x.name) so.ends (e ∷ [])) ∙ append_assoc (names_of so.ends) (e.name ∷ []) later in
-    record {
-      ends = so.ends ++ e ∷ [];
-      named = names ∙ ap (λ (n : List ℕ). names_of so.ends ++ (n ∷ later)) same ∙ ap (λ (ns : List (List ℕ)). names_of so.ends ++ ns) (sym is) ∙ so.named;
-      counted = omega (arith, fewer_is, so.counted, ap length is);
-      endings = endings_more so.ends e so.endings one files;
-      files = λ a at. so.files a (files a at);
-    }
+-- what was gathered of one object more
+one_more : {X : Type 0} (of : Ended → X) (ends : List Ended) (e : Ended) (later all rest : List X) (x : X) → map of ends ++ rest ≡ all → rest ≡ x ∷ later → of e ≡ x → map of (ends ++ e ∷ []) ++ later ≡ all
+one_more {X = X} of ends e later all rest x so is same =
+    ap (λ (xs : List X). xs ++ later) (map-append of ends (e ∷ [])) ∙ append_assoc (map of ends) (of e ∷ []) later
+    ∙ ap (λ (y : X). map of ends ++ (y ∷ later)) same ∙ ap (λ (xs : List X). map of ends ++ xs) (sym is) ∙ so
 
-no_rest : {X : Type 0} (xs : List X) → length xs ≡ 0 → xs ≡ []
+pub closed_more : {H : Type 0} {backs : H → Assignment → Type 0} {then agrees earlier : Assignment → Type 0} {pw pm pa tw tm ta : Papers → Type 0} {all rest : List (List ℕ)} {left : ℕ} {openings values : List (List Contents)} {slips others : List (List Told)} {before middle after : Trouble} {first mid last : Bool} {old known new : Option (List ℕ)} {seats : List Seat}
+    (name : List ℕ) (later : List (List ℕ)) (fewer : ℕ) (opening : List Contents) (fewer_values : List (List Contents)) (told : List Told) (fewer_slips : List (List Told)) (n : List ℕ) (o : List Contents) (t : List Told) →
+    ClosedSoFar backs then earlier pw pm tw tm all rest left openings values slips others before middle first mid old known →
+    rest ≡ name ∷ later → fewer + 1 ≡ left → values ≡ opening ∷ fewer_values → others ≡ told ∷ fewer_slips → n ≡ name → o ≡ opening → t ≡ told → AreBacked backs t →
+    (e : Ended) × IsOf n o seats t e × IsEnding agrees pm pa tm ta e middle after mid last known new → ((a : Assignment) → agrees a → then a) →
+    ClosedSoFar backs agrees earlier pw pa tw ta all later fewer openings fewer_values slips fewer_slips before after first last old new
+closed_more {backs = backs} name later fewer opening fewer_values told fewer_slips n o t so is fewer_is values_are slips_are named opened slipped back (e, of, one) files = record {
+  ends = so.ends ++ e ∷ [];
+  named = one_more (λ (x : Ended). x.name) so.ends e later _ _ name so.named is (of.named ∙ named);
+  counted = omega (arith, fewer_is, so.counted, ap length is);
+  opened = one_more (λ (x : Ended). x.opening) so.ends e fewer_values _ _ opening so.opened values_are (of.opened ∙ opened);
+  slipped = one_more (λ (x : Ended). x.slips) so.ends e fewer_slips _ _ told so.slipped slips_are (of.slipped ∙ slipped);
+  backed = every_one (λ (x : Ended). AreBacked backs x.slips) so.ends e so.backed (subst (AreBacked backs) (sym of.slipped) back);
+  endings = endings_more so.ends e so.endings one files;
+  files = λ a at. so.files a (files a at);
+}
+
+pub no_rest : {X : Type 0} (xs : List X) → length xs ≡ 0 → xs ≡ []
 no_rest [] none = refl
 no_rest (x ∷ xs) none = absurd (omega (arith, none))
 
-pub closed_all : {agrees earlier : Assignment → Type 0} {pw pa tw ta : Papers → Type 0} {all : List (List ℕ)} {before after : Trouble} {kept_all keeps_all : Bool} {old new : Option (List ℕ)} (rest : List (List ℕ)) (left : ℕ) →
-    ClosedSoFar agrees earlier pw pa tw ta all rest left before after kept_all keeps_all old new → left ≡ 0 → Closes agrees earlier pw pa tw ta all before after kept_all keeps_all old new
-closed_all rest left so none =
-    let empty : rest ≡ [] = no_rest rest (omega (arith, so.counted, none)) in
-    record {
-      ends = so.ends;
-      named = sym (append-nil (names_of so.ends)) ∙ ap (λ (ns : List (List ℕ)). names_of so.ends ++ ns) (sym empty) ∙ so.named;
-      endings = so.endings;
-      files = so.files;
-    }
+-- none is left
+none_left : {X : Type 0} (xs rest all : List X) → xs ++ rest ≡ all → rest ≡ [] → xs ≡ all
+none_left {X = X} xs rest all so empty = sym (append-nil xs) ∙ ap (λ (r : List X). xs ++ r) (sym empty) ∙ so
+
+pub closed_all : {H : Type 0} {backs : H → Assignment → Type 0} {agrees earlier : Assignment → Type 0} {pw pa tw ta : Papers → Type 0} {all : List (List ℕ)} {openings : List (List Contents)} {slips : List (List Told)} {before after : Trouble} {kept_all keeps_all : Bool} {old new : Option (List ℕ)} (rest : List (List ℕ)) (left : ℕ) (values : List (List Contents)) (others : List (List Told)) →
+    ClosedSoFar backs agrees earlier pw pa tw ta all rest left openings values slips others before after kept_all keeps_all old new → left ≡ 0 → values ≡ [] → others ≡ [] → Closes backs agrees earlier pw pa tw ta all openings slips before after kept_all keeps_all old new
+closed_all rest left values others so none no_values no_others = record {
+  ends = so.ends;
+  named = none_left (names_of so.ends) rest _ so.named (no_rest rest (omega (arith, so.counted, none)));
+  opened = none_left (openings_of so.ends) values _ so.opened no_values;
+  slipped = none_left (slips_of so.ends) others _ so.slipped no_others;
+  backed = so.backed;
+  endings = so.endings;
+  files = so.files;
+}

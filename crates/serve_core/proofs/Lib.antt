@@ -1,4 +1,6 @@
 pub mod Sending
+pub mod Backing
+pub mod Gathering
 pub mod Closing
 pub mod Opening
 pub mod Running

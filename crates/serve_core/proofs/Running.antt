@@ -1,9 +1,12 @@
 -- What a server writes, and how it ends.
-use Rattle.std.proofs.Common.{◌≡◌, ◌∙◌, ap, sym, subst, refl, inl, inr, ℕ, List, [], ◌∷◌, ◌++◌, length, Bool, true, false, cond, Option, Some, None, Result, Ok, Err}
+use Rattle.std.proofs.Common.{◌≡◌, ◌∙◌, ap, sym, subst, refl, arith, inl, inr, ℕ, List, [], ◌∷◌, ◌++◌, length, Bool, true, false, cond, Option, Some, None, Result, Ok, Err}
 use Rattle.std.specs.Prelude.{IfOk}
+use Rattle.std.specs.FinMap.{empty}
 use Rattle.std.specs.List.{concat}
 use Rattle.std.specs.Io.KnownBytes.{Appends, Keeps}
 use Rattle.std.proofs.lemmas.Bool.{true≢false}
+use Rattle.std.proofs.lemmas.List.{length-map}
+use Rattle.value_core.specs.Contents.{Contents}
 use Rattle.line_core.specs.declared.machine.LinesFault.{LinesFault}
 use Rattle.line_core.specs.declared.machine.LinesFault.TheVariants.{Memory}
 use Rattle.hand_core.specs.Device.{Assignment}
@@ -15,13 +18,18 @@ use Rattle.line_core.proofs.Known.{Appends-none}
 use Rattle.keep_core.specs.declared.trouble.Trouble.{Trouble}
 use Rattle.keep_core.specs.Lines.{AreSaid, damaged_lines, entries_line, entries_lines, refused_line}
 use Rattle.keep_core.specs.Kept.{refused_by}
-use Rattle.keep_core.specs.Ends.{Ended, kept_in, lines_of}
+use Rattle.keep_core.specs.Ends.{Ended, IsAtEnd, kept_in, lines_of}
+use Rattle.keep_core.proofs.Law.{kept_is_history}
 use Rattle.keep_core.proofs.Telling.{nothing_said, said_then, said_as, second_none, met_not}
 use Rattle.serve_core.specs.declared.serve.ServeEnd.{ServeEnd}
 use Rattle.serve_core.specs.declared.serve.ServeEnd.TheVariants.{Whole, Refused, Unopened}
 use Rattle.serve_core.specs.Ends.{IsEndOf}
-use Rattle.serve_core.specs.Closes.{lines_all, entries_all, refused_all, IsWhole}
-use Rattle.serve_core.specs.Runs.{listening_line, fault_of_end, Serves, IsDamagedLine, IsUnservedBy, IsRunOf, IsRefusedBy, IsEndBehind}
+use Rattle.serve_core.specs.Backed.{AreBacked}
+use Rattle.serve_core.specs.Gathers.{none_of, IsGathered}
+use Rattle.serve_core.specs.Opened.{AreLoadedAll, ArePinnedAll}
+use Rattle.serve_core.specs.Closes.{openings_of, slips_of, AreBackedAll, IsLegalBy, lines_all, entries_all, refused_all, IsWhole}
+use Rattle.serve_core.specs.Runs.{listening_line, fault_of_end, Serves, AreNotServed, IsDamagedLine, IsUnservedBy, IsRunOf, IsRunIn, IsRefusedBy, IsEndBehind}
+use Rattle.serve_core.proofs.Opening.{pinned_as}
 
 -- the lines of an object that was closed, saved and traced, and has no damaged part
 whole_lines : (e : Ended) → IsWhole e → lines_of e ≡ entries_line e.name (length e.board.history) ∷ []
@@ -64,10 +72,23 @@ apart_all true ends is = absurd (true≢false (sym (stays ends) ∙ is)) where
     still true (place ∷ damaged) = refl
     still false damaged = refl
 
+-- by the hands of its sessions the history of an object is legal
+legal_one : {H : Type 0} {backs : H → Assignment → Type 0} (e : Ended) → IsAtEnd e → AreBacked backs e.slips → IsLegalBy backs e
+legal_one e ended (hands, backed) = record {
+  hands = hands;
+  backed = backed;
+  legal = λ closed have a all contents shows. (kept_is_history a e empty empty contents ended closed have (backed a all) shows).0;
+}
+
+legal_all : {H : Type 0} {backs : H → Assignment → Type 0} (ends : List Ended) → Every IsAtEnd ends → AreBackedAll backs ends → Every (IsLegalBy backs) ends
+legal_all [] each backed = tt
+legal_all (e ∷ ends) (one, each) (back, backed) = (legal_one e one back, legal_all ends each backed)
+
 -- objects that were served and closed
-pub run_served : {agrees earlier : Assignment → Type 0} {pw pa tw ta : Papers → Type 0} {kept_all keeps_all : Bool} {old new : Option (List ℕ)} (objects : List Object) (names : List (List ℕ)) (after : Trouble) (end : Result ServeEnd LinesFault) →
-    Serves agrees earlier pw pa tw ta names after kept_all keeps_all old new → names ≡ object_names objects → IsEndOf after.fault after.refused end → IsRunOf objects end old new
-run_served {old = old} {new = new} objects names after end s same is =
+pub run_served : {H : Type 0} {backs : H → Assignment → Type 0} {agrees mid : Assignment → Type 0} {pw pm pa tw tm ta : Papers → Type 0} {begun : Trouble} {kept_all keeps_all : Bool} {openings : List (List Contents)} {old new : Option (List ℕ)} (objects : List Object) (names : List (List ℕ)) (after : Trouble) (end : Result ServeEnd LinesFault) →
+    Serves backs agrees mid pm pa tm ta names openings begun after kept_all keeps_all old new → names ≡ object_names objects → ArePinnedAll mid objects openings → ((papers : Papers) → pm papers → AreLoadedAll papers objects openings) → ((papers : Papers) → pm papers → pw papers) →
+    ((papers : Papers) → tm papers → tw papers) → IsEndOf after.fault after.refused end → IsRunIn backs agrees pw pa tw ta objects end old new
+run_served {H = H} {backs = backs} {agrees = agrees} {begun = begun} {openings = openings} {old = old} {new = new} objects names after end s same pinned loaded papers traces is =
     let ends : List Ended = s.closes.ends in
     let all = s.closes.endings in
     let met_none : fault_of_end end ≡ None → all.met ≡ None = λ none. second_none s.gathered.fault all.met (sym all.fault ∙ end_quiet after.fault after.refused end is none) in
@@ -77,21 +98,39 @@ run_served {old = old} {new = new} objects names after end s same is =
     let each : Every IsWhole ends = all.whole (second_none s.gathered.fault all.met (sym all.fault ∙ quiet.0)) (apart_all s.gathered.refused ends (sym all.refused ∙ quiet.1)) in
     let text : said.text ≡ concat (listening_line s.port ∷ entries_all ends) = said.whole (ap fault_of_end done) ∙ ap (λ (ls : List (List ℕ)). concat (listening_line s.port ∷ ls)) (whole_all ends each) in
     (each, subst (Appends old new) text said.written) in
-    inl (record {
-      port = s.port;
-      ends = ends;
-      named = s.closes.named ∙ same;
-      each = all.each;
-      said = said;
-      gathered = s.gathered;
-      met = all.met;
-      by = inl (subst (λ (f : Option LinesFault). IsEndOf f (refused_all s.gathered.refused ends) end) all.fault (subst (λ (r : Bool). IsEndOf after.fault r end) all.refused is));
-      whole = whole;
-    })
+    let many : length names ≡ length objects = omega (arith, ap length same, length-map objects (λ (o : Object). o.name)) in
+    let gathers : IsGathered H (none_of (length objects)) begun s.gathered (slips_of ends) =
+    subst (λ (n : ℕ). IsGathered H (none_of n) begun s.gathered (slips_of ends)) many (subst (IsGathered H (none_of (length names)) begun s.gathered) (sym s.closes.slipped) s.gathers) in
+    let opened : openings ≡ openings_of ends = sym s.closes.opened in
+    inl (
+      record {
+        port = s.port;
+        ends = ends;
+        named = s.closes.named ∙ same;
+        each = all.each;
+        said = said;
+        begun = begun;
+        gathered = s.gathered;
+        gathers = gathers;
+        legal = legal_all ends all.each s.closes.backed;
+        met = all.met;
+        by = inl (subst (λ (f : Option LinesFault). IsEndOf f (refused_all s.gathered.refused ends) end) all.fault (subst (λ (r : Bool). IsEndOf after.fault r end) all.refused is));
+        whole = whole;
+      },
+      record {
+        pinned = subst (ArePinnedAll agrees objects) opened (pinned_as objects openings s.closes.files pinned);
+        stored = λ ps at.
+            let so = all.stored ps at in
+            (so.0, papers so.0 so.1, subst (AreLoadedAll so.0 objects) opened (loaded so.0 so.1), so.2);
+        traced = λ ps at.
+            let so = all.traced ps at in
+            (so.0, traces so.0 so.1, so.2);
+      },
+    )
 
 -- a fault came before any was served
-pub run_failed : {old new : Option (List ℕ)} (objects : List Object) (fault : LinesFault) → (port : ℕ) × AreSaid (listening_line port ∷ []) (Some fault) old new → IsRunOf objects (Err fault) old new
-run_failed objects fault (port, said) = inr (record { lines = listening_line port ∷ []; by = inr (inl (port, refl)); said = said })
+pub run_failed : {old new : Option (List ℕ)} (objects : List Object) (fault : LinesFault) → (port : ℕ) × AreSaid (listening_line port ∷ []) (Some fault) old new → AreNotServed objects (Err fault) old new
+run_failed objects fault (port, said) = record { lines = listening_line port ∷ []; by = inr (inl (port, refl)); said = said }
 
 -- a line was not told, with a fault
 pub none_said : (line : List ℕ) (fault : LinesFault) (known : Option (List ℕ)) → AreSaid (line ∷ []) (Some fault) known known
@@ -107,18 +146,23 @@ pub refused_as : {text wanted : List ℕ} {end : Result ServeEnd LinesFault} {ol
 refused_as {end = end} {old = old} {new = new} same by = subst (λ (t : List ℕ). IsRefusedBy t end old new) same by
 
 -- nothing was written
-pub run_none : {old : Option (List ℕ)} (objects : List Object) (fault : LinesFault) → IsRunOf objects (Err fault) old old
-run_none {old = old} objects fault = inr (record { lines = []; by = inl refl; said = nothing_said (Some fault) old })
+pub run_none : {old : Option (List ℕ)} (objects : List Object) (fault : LinesFault) → AreNotServed objects (Err fault) old old
+run_none {old = old} objects fault = record { lines = []; by = inl refl; said = nothing_said (Some fault) old }
 
-pub run_unopened : {old : Option (List ℕ)} (objects : List Object) → IsRunOf objects (Ok Unopened) old old
-run_unopened {old = old} objects = inr (record { lines = []; by = refl; said = nothing_said None old })
+pub run_unopened : {old : Option (List ℕ)} (objects : List Object) → AreNotServed objects (Ok Unopened) old old
+run_unopened {old = old} objects = record { lines = []; by = refl; said = nothing_said None old }
 
 -- a part is damaged
-pub run_damaged : {old new : Option (List ℕ)} (objects : List Object) (line : List ℕ) (end : Result ServeEnd LinesFault) → IsDamagedLine objects line → IsRefusedBy line end old new → IsRunOf objects end old new
+pub run_damaged : {old new : Option (List ℕ)} (objects : List Object) (line : List ℕ) (end : Result ServeEnd LinesFault) → IsDamagedLine objects line → IsRefusedBy line end old new → AreNotServed objects end old new
 run_damaged objects line (Ok Whole) is by = absurd by.ends
-run_damaged objects line (Ok Refused) is by = inr (record { lines = line ∷ []; by = (line, is, refl); said = by.said })
+run_damaged objects line (Ok Refused) is by = record { lines = line ∷ []; by = (line, is, refl); said = by.said }
 run_damaged objects line (Ok Unopened) is by = absurd by.ends
-run_damaged objects line (Err fault) is by = inr (record { lines = line ∷ []; by = inr (inr (line, is, refl)); said = by.said })
+run_damaged objects line (Err fault) is by = record { lines = line ∷ []; by = inr (inr (line, is, refl)); said = by.said }
+
+-- what a server comes to, without what is stored
+pub run_of : {H : Type 0} {backs : H → Assignment → Type 0} {agrees : Assignment → Type 0} {pw pa tw ta : Papers → Type 0} {objects : List Object} {end : Result ServeEnd LinesFault} {old new : Option (List ℕ)} → IsRunIn backs agrees pw pa tw ta objects end old new → IsRunOf backs objects end old new
+run_of (inl run) = inl run.0
+run_of (inr run) = inr run
 
 -- memory was refused behind the end
 unserved_failed : (objects : List Object) (lines : List (List ℕ)) (end : Result ServeEnd LinesFault) → IsUnservedBy objects lines end → IsUnservedBy objects lines (Err Memory)
@@ -127,23 +171,26 @@ unserved_failed objects lines (Ok Refused) by = inr (inr by)
 unserved_failed objects lines (Ok Unopened) by = inl by
 unserved_failed objects lines (Err fault) by = by
 
-run_memory : {old new : Option (List ℕ)} (objects : List Object) (end : Result ServeEnd LinesFault) → IsRunOf objects end old new → IsRunOf objects (Err Memory) old new
+run_memory : {H : Type 0} {backs : H → Assignment → Type 0} {old new : Option (List ℕ)} (objects : List Object) (end : Result ServeEnd LinesFault) → IsRunOf backs objects end old new → IsRunOf backs objects (Err Memory) old new
 run_memory objects end (inl run) = inl (record {
   port = run.port;
   ends = run.ends;
   named = run.named;
   each = run.each;
   said = said_as run.said (λ none. met_not none);
+  begun = run.begun;
   gathered = run.gathered;
+  gathers = run.gathers;
+  legal = run.legal;
   met = run.met;
   by = inr refl;
   whole = λ done. met_not (ap fault_of_end done);
 })
 run_memory objects end (inr run) = inr (record { lines = run.lines; by = unserved_failed objects run.lines end run.by; said = said_as run.said (λ none. met_not none) })
 
-pub run_behind : {old new : Option (List ℕ)} (objects : List Object) (before end : Result ServeEnd LinesFault) → IsRunOf objects before old new → IsEndBehind before end → IsRunOf objects end old new
-run_behind {old = old} {new = new} objects before end run (inl same) = subst (λ (e : Result ServeEnd LinesFault). IsRunOf objects e old new) (sym same) run
-run_behind {old = old} {new = new} objects before end run (inr none) = subst (λ (e : Result ServeEnd LinesFault). IsRunOf objects e old new) (sym none) (run_memory objects before run)
+pub run_behind : {H : Type 0} {backs : H → Assignment → Type 0} {old new : Option (List ℕ)} (objects : List Object) (before end : Result ServeEnd LinesFault) → IsRunOf backs objects before old new → IsEndBehind before end → IsRunOf backs objects end old new
+run_behind {backs = backs} {old = old} {new = new} objects before end run (inl same) = subst (λ (e : Result ServeEnd LinesFault). IsRunOf backs objects e old new) (sym same) run
+run_behind {backs = backs} {old = old} {new = new} objects before end run (inr none) = subst (λ (e : Result ServeEnd LinesFault). IsRunOf backs objects e old new) (sym none) (run_memory objects before run)
 
 -- what a good result says, and what follows from that
 pub if_ok : {X E : Type 0} {P Q : X → Type 0} (result : Result X E) → ((x : X) → P x → Q x) → IfOk result P → IfOk result Q

@@ -1,18 +1,52 @@
 -- What closing all objects comes to.
 use Rattle.std.specs.Prelude.{◌≡◌, ◌≤◌, ℕ, List, [], ◌∷◌, ◌++◌, length, map, Bool, false, IsTrue, Option, None}
 use Rattle.line_core.specs.declared.machine.LinesFault.{LinesFault}
+use Rattle.std.specs.Global.{Vec}
+use Rattle.value_core.specs.Contents.{Contents}
 use Rattle.hand_core.specs.Device.{Assignment}
 use Rattle.hand_core.specs.Papers.{Papers}
+use Rattle.apply_core.specs.History.{IsLegal}
 use Rattle.board_core.specs.Lists.{Every}
+use Rattle.board_core.specs.Chain.{ShowContents, history_of}
+use Rattle.board_core.specs.Sound.{kinds_of}
+use Rattle.slip_core.specs.Slips.{Told}
+use Rattle.office_core.specs.Receipts.{HaveSlips}
 use Rattle.keep_core.specs.declared.trouble.Trouble.{Trouble}
 use Rattle.keep_core.specs.Troubles.{first_of}
 use Rattle.keep_core.specs.Lines.{AreSaid, IsOfClosing, entries_line}
 use Rattle.keep_core.specs.Kept.{AreStored, stored_times, once}
 use Rattle.keep_core.specs.Ends.{Ended, IsAtEnd, IsKept, lines_of, refused_after, trace_of}
+use Rattle.serve_core.specs.Backed.{AreBacked, AreBackedBy}
+
+-- values with which the parts of each object opened
+abbrev pub openings_in : List (Vec Contents) → List (List Contents)
+openings_in openings = map (λ (o : Vec Contents). o.items) openings
 
 -- the names of objects that have ended
 abbrev pub names_of : List Ended → List (List ℕ)
 names_of ends = map (λ (e : Ended). e.name) ends
+
+-- the values with which their parts opened
+abbrev pub openings_of : List Ended → List (List Contents)
+openings_of ends = map (λ (e : Ended). e.opening) ends
+
+-- the receipts that their sessions left
+abbrev pub slips_of : List Ended → List (List Told)
+slips_of ends = map (λ (e : Ended). e.slips) ends
+
+-- hands show that the receipts of each are true
+abbrev pub AreBackedAll : {H : Type 0} → (H → Assignment → Type 0) → List Ended → Type 0
+AreBackedAll {H} backs ends = Every (λ (e : Ended). AreBacked backs e.slips) ends
+
+-- There are hands, those of the sessions of an object, by which its receipts are true: each assignment that agrees with
+-- all of them makes each true. Where the object was closed, each entry of its history has a receipt, and its opening
+-- pins show contents by such an assignment, the history is legal from these.
+pub record IsLegalBy {H : Type 0} (backs : H → Assignment → Type 0) (e : Ended) : Type 0 where
+  pub hands : List H
+  pub backed : AreBackedBy backs hands e.slips
+  pub legal : IsTrue e.became.closed → HaveSlips e.board.history e.slips → (a : Assignment) →
+      Every (λ (hand : H). backs hand a) hands → (contents : List Contents) →
+      ShowContents a (kinds_of e.board.object) e.board.opening contents → IsLegal (history_of e.board.history) contents
 
 -- the lines that are told of them, in order
 abbrev pub lines_all : List Ended → List (List ℕ)
@@ -65,12 +99,17 @@ pub record AreEndings (agrees : Assignment → Type 0) (parts_were parts_are tra
   pub keeps : IsTrue keeps_all → IsTrue kept_all
       × Every (λ (e : Ended). IsTrue e.became.saved × IsTrue e.became.traced) ends
 
--- Objects of these names were closed.
-pub record Closes (agrees earlier : Assignment → Type 0) (parts_were parts_are traces_were traces_are : Papers → Type 0)
-    (names : List (List ℕ)) (before after : Trouble) (kept_all keeps_all : Bool)
+-- Objects of these names were closed, each with the values with which its parts opened and the receipts that its
+-- sessions left, and hands show that these are true.
+pub record Closes {H : Type 0} (backs : H → Assignment → Type 0) (agrees earlier : Assignment → Type 0)
+    (parts_were parts_are traces_were traces_are : Papers → Type 0) (names : List (List ℕ))
+    (openings : List (List Contents)) (slips : List (List Told)) (before after : Trouble) (kept_all keeps_all : Bool)
     (old new : Option (List ℕ)) : Type 0 where
   pub ends : List Ended
   pub named : names_of ends ≡ names
+  pub opened : openings_of ends ≡ openings
+  pub slipped : slips_of ends ≡ slips
+  pub backed : AreBackedAll backs ends
   pub endings : AreEndings agrees parts_were parts_are traces_were traces_are ends before after kept_all keeps_all old
       new
   pub files : (a : Assignment) → agrees a → earlier a

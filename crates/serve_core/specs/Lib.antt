@@ -1,4 +1,7 @@
+pub mod Backed
 pub mod Handled
 pub mod Ends
+pub mod Opened
 pub mod Closes
+pub mod Gathers
 pub mod Runs

@@ -1,16 +1,18 @@
 -- What a server writes, and how it ends.
 use Rattle.std.specs.Prelude.{◌≡◌, ◌⊎◌, ℕ, Bool, List, [], ◌∷◌, map, Option, Some, None, Result, Ok, Err, codes}
-use Rattle.std.specs.Prelude.{decimal}
+use Rattle.std.specs.Prelude.{decimal, length}
 use Rattle.std.specs.List.{concat}
 use Rattle.std.specs.Io.KnownBytes.{Appends, Keeps}
 use Rattle.line_core.specs.declared.machine.LinesFault.{LinesFault}
 use Rattle.line_core.specs.declared.machine.LinesFault.TheVariants.{Memory}
 use Rattle.line_core.specs.Reply.{reply}
+use Rattle.value_core.specs.Contents.{Contents}
 use Rattle.hand_core.specs.Device.{Assignment}
 use Rattle.hand_core.specs.Papers.{Papers}
 use Rattle.decl_core.specs.declared.object.Object.{Object}
 use Rattle.decl_core.specs.ObjectMap.{objects_of, object_names}
 use Rattle.board_core.specs.Lists.{Every, Among}
+use Rattle.slip_core.specs.Slips.{Told}
 use Rattle.session_core.specs.declared.order.Named.{Named}
 use Rattle.source_core.specs.Judging.{IsServed, IsUnserved}
 use Rattle.keep_core.specs.declared.open.NotOpened.{NotOpened}
@@ -22,7 +24,10 @@ use Rattle.keep_core.specs.Ends.{Ended, IsAtEnd}
 use Rattle.serve_core.specs.declared.serve.ServeEnd.{ServeEnd}
 use Rattle.serve_core.specs.declared.serve.ServeEnd.TheVariants.{Whole, Refused, Unopened}
 use Rattle.serve_core.specs.Ends.{IsEndOf}
-use Rattle.serve_core.specs.Closes.{names_of, lines_all, entries_all, refused_all, IsWhole, Closes}
+use Rattle.serve_core.specs.Gathers.{none_of, IsGathered}
+use Rattle.serve_core.specs.Opened.{AreLoadedAll, ArePinnedAll}
+use Rattle.serve_core.specs.Closes.{names_of, openings_of, slips_of, lines_all, entries_all, refused_all, IsWhole}
+use Rattle.serve_core.specs.Closes.{AreStoredAll, AreTracedAll, IsLegalBy, Closes}
 
 -- the names under which offices are opened
 abbrev pub named_in : List Named → List (List ℕ)
@@ -46,40 +51,62 @@ abbrev pub fault_of_end : Result ServeEnd LinesFault → Option LinesFault
 fault_of_end (Ok end) = None
 fault_of_end (Err fault) = Some fault
 
--- Objects under these names were served, and closed. What the sessions met was noted between.
-pub record Serves (agrees earlier : Assignment → Type 0) (parts_were parts_are traces_were traces_are : Papers → Type 0)
-    (names : List (List ℕ)) (after : Trouble) (kept_all keeps_all : Bool) (old new : Option (List ℕ)) : Type 0 where
+-- Objects under these names were served, and closed. What the sessions left was gathered between.
+pub record Serves {H : Type 0} (backs : H → Assignment → Type 0) (agrees earlier : Assignment → Type 0)
+    (parts_were parts_are traces_were traces_are : Papers → Type 0) (names : List (List ℕ))
+    (openings : List (List Contents)) (before after : Trouble) (kept_all keeps_all : Bool)
+    (old new : Option (List ℕ)) : Type 0 where
   pub port : ℕ
   pub known : Option (List ℕ)
   pub listens : AreSaid (listening_line port ∷ []) None old known
   pub gathered : Trouble
-  pub closes : Closes agrees earlier parts_were parts_are traces_were traces_are names gathered after kept_all keeps_all
-      known new
+  pub slips : List (List Told)
+  pub gathers : IsGathered H (none_of (length names)) before gathered slips
+  pub closes : Closes backs agrees earlier parts_were parts_are traces_were traces_are names openings slips gathered
+      after kept_all keeps_all known new
 
 -- so it was, or a fault came before any was served
-abbrev pub ServesOr : (Assignment → Type 0) → (Assignment → Type 0) → (Papers → Type 0) → (Papers → Type 0) →
-    (Papers → Type 0) → (Papers → Type 0) → List (List ℕ) → Trouble → Bool → Bool → Option (List ℕ) → Option (List ℕ) →
+abbrev pub ServesOr : {H : Type 0} → (H → Assignment → Type 0) → (Assignment → Type 0) → (Assignment → Type 0) →
+    (Papers → Type 0) → (Papers → Type 0) → (Papers → Type 0) → (Papers → Type 0) → List (List ℕ) →
+    List (List Contents) → Trouble → Trouble → Bool → Bool → Option (List ℕ) → Option (List ℕ) →
     Result (Unit {0}) LinesFault → Type 0
-ServesOr agrees earlier pw pa tw ta names after kept_all keeps_all old new (Ok done) =
-    Serves agrees earlier pw pa tw ta names after kept_all keeps_all old new
-ServesOr agrees earlier pw pa tw ta names after kept_all keeps_all old new (Err fault) =
+ServesOr backs agrees earlier pw pa tw ta names openings before after kept_all keeps_all old new (Ok done) =
+    Serves backs agrees earlier pw pa tw ta names openings before after kept_all keeps_all old new
+ServesOr backs agrees earlier pw pa tw ta names openings before after kept_all keeps_all old new (Err fault) =
     (port : ℕ) × AreSaid (listening_line port ∷ []) (Some fault) old new
 
 -- These objects were served: `listening PORT` is written, and then, for each object in order, the lines for how it
 -- ended. The end is the first fault, those of sessions before those of the objects' ends; else refused, where a line
 -- says that something is; else whole, and then each object was closed, saved and traced, and its line is `NAME entries
 -- K`, K the length of its history. Memory may be refused behind that.
-pub record AreServed (objects : List Object) (end : Result ServeEnd LinesFault)
-    (old new : Option (List ℕ)) : Type 0 where
+--
+-- The receipts of each object are those that were gathered of its sessions. By the hands of these they are true, and
+-- where the object was closed its history is legal.
+pub record AreServed {H : Type 0} (backs : H → Assignment → Type 0) (objects : List Object)
+    (end : Result ServeEnd LinesFault) (old new : Option (List ℕ)) : Type 0 where
   pub port : ℕ
   pub ends : List Ended
   pub named : names_of ends ≡ object_names objects
   pub each : Every IsAtEnd ends
   pub said : AreSaid (listening_line port ∷ lines_all ends) (fault_of_end end) old new
+  pub begun : Trouble
   pub gathered : Trouble
+  pub gathers : IsGathered H (none_of (length objects)) begun gathered (slips_of ends)
+  pub legal : Every (IsLegalBy backs) ends
   pub met : Option LinesFault
   pub by : IsEndOf (first_of gathered.fault met) (refused_all gathered.refused ends) end ⊎ (end ≡ Err Memory)
   pub whole : end ≡ Ok Whole → Every IsWhole ends × Appends old new (concat (listening_line port ∷ entries_all ends))
+
+-- What is stored of objects that have ended. The parts of each opened with what the shelf had before, pages were sealed
+-- with that, and it stands at the head of the trace. What is stored then are the bytes under the pins at the end.
+pub record AreKept (agrees : Assignment → Type 0) (parts_were parts_are traces_were traces_are : Papers → Type 0)
+    (objects : List Object) (ends : List Ended) : Type 0 where
+  pub pinned : ArePinnedAll agrees objects (openings_of ends)
+  pub stored : (papers : Papers) → parts_are papers →
+      (base : Papers) × parts_were base × AreLoadedAll base objects (openings_of ends)
+      × AreStoredAll agrees base ends papers
+  pub traced : (papers : Papers) → traces_are papers →
+      (base : Papers) × traces_were base × AreTracedAll base ends papers
 
 -- What is written where no object is served: the line of a part that is damaged, or nothing; where a fault comes a
 -- front of one line at most.
@@ -98,8 +125,17 @@ pub record AreNotServed (objects : List Object) (end : Result ServeEnd LinesFaul
   pub said : AreSaid lines (fault_of_end end) old new
 
 -- objects are served or not
-abbrev pub IsRunOf : List Object → Result ServeEnd LinesFault → Option (List ℕ) → Option (List ℕ) → Type 0
-IsRunOf objects end old new = AreServed objects end old new ⊎ AreNotServed objects end old new
+abbrev pub IsRunOf : {H : Type 0} → (H → Assignment → Type 0) → List Object → Result ServeEnd LinesFault →
+    Option (List ℕ) → Option (List ℕ) → Type 0
+IsRunOf backs objects end old new = AreServed backs objects end old new ⊎ AreNotServed objects end old new
+
+-- the same, with what is stored
+abbrev pub IsRunIn : {H : Type 0} → (H → Assignment → Type 0) → (Assignment → Type 0) → (Papers → Type 0) →
+    (Papers → Type 0) → (Papers → Type 0) → (Papers → Type 0) → List Object → Result ServeEnd LinesFault →
+    Option (List ℕ) → Option (List ℕ) → Type 0
+IsRunIn backs agrees pw pa tw ta objects end old new =
+    ((run : AreServed backs objects end old new) × AreKept agrees pw pa tw ta objects run.ends)
+    ⊎ AreNotServed objects end old new
 
 -- an end that says that something is refused, or that writing so failed
 abbrev pub IsRefusal : Result ServeEnd LinesFault → Type 0
@@ -115,11 +151,12 @@ pub record IsRefusedBy (text : List ℕ) (end : Result ServeEnd LinesFault) (old
 
 -- What a server makes of a source, what it writes and how it ends: the source is not served, and what says why is
 -- written; or memory is refused, and nothing is; or each of its objects is accepted, and they are served or not.
-abbrev pub IsRun : List ℕ → Result ServeEnd LinesFault → Option (List ℕ) → Option (List ℕ) → Type 0
-IsRun source end old new =
+abbrev pub IsRun : {H : Type 0} → (H → Assignment → Type 0) → List ℕ → Result ServeEnd LinesFault →
+    Option (List ℕ) → Option (List ℕ) → Type 0
+IsRun backs source end old new =
     ((text : List ℕ) × IsUnserved source text × IsRefusedBy text end old new)
     ⊎ ((end ≡ Err Memory) × Keeps old new)
-    ⊎ ((objects : List Object) × IsServed source (objects_of objects) × IsRunOf objects end old new)
+    ⊎ ((objects : List Object) × IsServed source (objects_of objects) × IsRunOf backs objects end old new)
 
 -- the end, or that memory was refused behind it
 abbrev pub IsEndBehind : Result ServeEnd LinesFault → Result ServeEnd LinesFault → Type 0

@@ -1,143 +1,196 @@
 //! What sessions left, by objects.
 
+ghost use Rattle.std.specs.Prelude.{◌≡◌, ◌++◌, [], OnOk, OnErr, IfOk};
+ghost use Rattle.keep_core.specs.Troubles.{first_of};
+ghost use Rattle.serve_core.specs.Gathers.{noted_by, mixed_by, slips_in, put_in, none_of, Gathers, GathersAll};
+
+use crate::backed::{AllBacked, Backed};
 use crate::listen::{Came, Left};
+use hand_core::hand::Hand;
 use keep_core::trouble::Trouble;
 use line_core::reply::push_reply;
 use line_core::{LinesFault, write_whole};
 use office_core::seat::Seat;
 use session_core::order::Named;
-use slip_core::slip::Slip;
 use std::alloc::{AllocError, Global};
 use std::io::Write;
 use talk_core::fault::SessionFault;
-use value_core::datum::Datum;
 
 // The most bytes of a line: a name and words.
 const LINE_BYTES: usize = 128;
 
 /// What the sessions of one object left.
 #[derive(Drop)]
-pub struct Gathered {
+pub struct Gathered<H: Hand + Drop> {
     pub(crate) seats: Vec<Seat>,
-    pub(crate) receipts: Vec<Slip>,
+    pub(crate) backed: AllBacked<H>,
 }
 
-/// What the sessions of each object left, and room for what is said of them.
+impl<H: Hand + Drop> Gathered<H> {
+    // Nothing yet, and room for the seats and the hands of so many sessions.
+    fn with_room(alloc: Global, sessions: usize) -> Result<Gathered<H>, AllocError>
+        ensures { IfOk result (λ gathered. gathered.backed ≡ []) }
+    {
+        Ok(Gathered {
+            seats: Vec::with_capacity(alloc, sessions)?,
+            backed: AllBacked::with_room(alloc, sessions)?,
+        })
+    }
+
+    // Adds what one session left.
+    fn add(&mut self, seat: Option<Seat>, backed: Backed<H>) -> Result<(), AllocError>
+        ensures ok { OnOk result (self.new.backed ≡ self.old.backed ++ backed) }
+        ensures err { OnErr result (self.new.backed ≡ self.old.backed) }
+    {
+        if let Some(seat) = seat {
+            let Ok(()) = self.seats.push(seat) else {
+                return Err(AllocError);
+            };
+        }
+        self.backed.add(backed)
+    }
+}
+
+/// What the sessions of each object left, and memory for what is said of them.
 #[derive(Drop)]
-pub struct Gathering {
-    rooms: Vec<Gathered>,
+pub struct Gathering<H: Hand + Drop> {
+    pub(crate) all: Vec<Gathered<H>>,
     line: Vec<u8>,
 }
 
-impl Gathering {
-    /// Room for the seats of so many objects and sessions, none of which is there yet, and for a line.
-    pub fn new(alloc: Global, objects: usize, sessions: usize) -> Result<Gathering, AllocError> {
-        let mut rooms = Vec::new(alloc);
+// Notes why a session ended, where it was for the server. It answers whether it was mixed.
+fn heed(fault: Option<SessionFault>, trouble: &mut Trouble) -> bool
+    ensures fault { trouble.new.fault ≡ first_of trouble.old.fault (noted_by fault) }
+    ensures refused { trouble.new.refused ≡ mixed_by trouble.old.refused fault }
+{
+    match fault {
+        Some(SessionFault::LogMixed) => {
+            trouble.refuse();
+            true
+        }
+        Some(SessionFault::Memory) => {
+            trouble.note(LinesFault::Memory);
+            false
+        }
+        _ => false,
+    }
+}
+
+// Says on standard error, where it is so, that a session was told of a call of which it keeps no receipt: `session of
+// NAME mixed`.
+fn tell_mixed<E: Write>(line: &mut Vec<u8>, mixed: bool, named: Option<&Named>, error: &mut E) {
+    if !mixed {
+        return;
+    }
+    let Some(named) = named else {
+        return;
+    };
+    line.clear();
+    let made = line.extend_from_slice(b"session of ");
+    if made.is_ok() && push_reply(line, named.name.as_bytes(), b" mixed").is_ok() {
+        let _ = write_whole(error, line.as_slice());
+    }
+}
+
+impl<H: Hand + Drop> Gathering<H> {
+    /// Room for the seats and the hands of so many objects and sessions, none of which is there yet, and for a line.
+    /// The error is that memory was refused.
+    pub fn new(alloc: Global, objects: usize, sessions: usize) -> Result<Gathering<H>, AllocError>
+        ensures { IfOk result (λ gathering. slips_in gathering.all.items ≡ none_of objects) }
+    {
+        let mut all = Vec::new(alloc);
         for _ in 0..objects {
-            let room = Gathered {
-                seats: Vec::with_capacity(alloc, sessions)?,
-                receipts: Vec::new(alloc),
-            };
-            let Ok(()) = rooms.push(room) else {
+            let gathered = Gathered::with_room(alloc, sessions)?;
+            let Ok(()) = all.push(gathered) else {
                 return Err(AllocError);
             };
         }
         Ok(Gathering {
-            rooms,
+            all,
             line: Vec::with_capacity(alloc, LINE_BYTES)?,
         })
     }
 
-    // Puts what a session left to its object. Receipts for which there is no memory are let go: a close looks at those
-    // that it is handed.
+    // Puts what a session left to its object, where there is that one. Where memory is refused no receipt is put.
     fn put(
         &mut self,
         object: usize,
         seat: Option<Seat>,
-        receipts: Vec<Slip>,
-    ) -> Result<(), AllocError> {
-        let _of: Option<Datum> = None;
-        let Some(room) = self.rooms.get_mut(object) else {
-            return Ok(());
-        };
-        if let Some(seat) = seat {
-            let Ok(()) = room.seats.push(seat) else {
-                return Err(AllocError);
-            };
-        }
-        let mut receipts = receipts;
-        if room.receipts.is_empty() {
-            room.receipts = receipts;
-            return Ok(());
-        }
-        room.receipts.reserve_exact(receipts.len())?;
-        room.receipts.append(&mut receipts)
-    }
-
-    // Says on standard error that a session was told of a call of which it keeps no receipt: `session of NAME mixed`.
-    fn tell_mixed<E: Write>(&mut self, name: &[u8], error: &mut E) {
-        self.line.clear();
-        let made = self.line.extend_from_slice(b"session of ");
-        if made.is_ok() && push_reply(&mut self.line, name, b" mixed").is_ok() {
-            let _ = write_whole(error, self.line.as_slice());
+        backed: Backed<H>,
+    ) -> Result<(), AllocError>
+        ensures ok { OnOk result (slips_in self.new.all.items ≡ put_in object backed (slips_in self.old.all.items)) }
+        ensures err { OnErr result (slips_in self.new.all.items ≡ slips_in self.old.all.items) }
+    {
+        match self.all.get_mut(object) {
+            Some(gathered) => gathered.add(seat, backed),
+            None => Ok(()),
         }
     }
 
-    // Notes why a session of an object ended, where it was for the server.
-    fn heed<E: Write>(
+    // Puts what a session left to its object. What went wrong in it, and was not for its client, is noted and told.
+    fn gather_left<E: Write>(
         &mut self,
-        fault: Option<SessionFault>,
-        named: Option<&Named>,
-        error: &mut E,
-        trouble: &mut Trouble,
-    ) {
-        match fault {
-            Some(SessionFault::LogMixed) => {
-                trouble.refuse();
-                if let Some(named) = named {
-                    self.tell_mixed(named.name.as_bytes(), error);
-                }
-            }
-            Some(SessionFault::Memory) => trouble.note(LinesFault::Memory),
-            _ => {}
-        }
-    }
-
-    /// Puts what the sessions left to their objects. What went wrong in a session, and was not for its
-    /// client, is noted and told.
-    pub fn gather<E: Write>(
-        &mut self,
-        all: Vec<Came>,
+        left: Left<H>,
         offices: &[Named],
         error: &mut E,
         trouble: &mut Trouble,
-    ) {
+    )
+        ensures { Gathers (Came.Session left) trouble.old trouble.new (slips_in self.old.all.items)
+            (slips_in self.new.all.items) }
+    {
+        let Left {
+            object,
+            seat,
+            backed,
+            fault,
+        } = left;
+        let mixed = heed(fault, trouble);
+        let Some(at) = object else {
+            return;
+        };
+        tell_mixed(&mut self.line, mixed, offices.get(at), error);
+        trouble.heed_memory(self.put(at, seat, backed));
+    }
+
+    // Gathers what one thread left.
+    fn gather_one<E: Write>(
+        &mut self,
+        came: Came<H>,
+        offices: &[Named],
+        error: &mut E,
+        trouble: &mut Trouble,
+    )
+        ensures { Gathers came trouble.old trouble.new (slips_in self.old.all.items) (slips_in self.new.all.items) }
+    {
+        match came {
+            Came::Fault(fault) => trouble.note(fault),
+            Came::Session(left) => self.gather_left(left, offices, error, trouble),
+        }
+    }
+
+    /// Puts what the sessions left to their objects. What went wrong in a session, and was not for its client, is noted
+    /// and told: that it was mixed, and that memory was refused. A fault of a connection is noted too. The first fault
+    /// stays. Where memory is refused for receipts that is noted, and they are let go: a close looks at those that it
+    /// is handed.
+    pub fn gather<E: Write>(
+        &mut self,
+        all: Vec<Came<H>>,
+        offices: &[Named],
+        error: &mut E,
+        trouble: &mut Trouble,
+    )
+        ensures { GathersAll all.items trouble.old trouble.new (slips_in self.old.all.items)
+            (slips_in self.new.all.items) }
+    {
         for came in all {
-            match came {
-                Came::Fault(fault) => trouble.note(fault),
-                Came::Session(
-                    Left {
-                        object,
-                        seat,
-                        receipts,
-                        fault,
-                    },
-                ) => {
-                    let named = match object {
-                        Some(at) => offices.get(at),
-                        None => None,
-                    };
-                    self.heed(fault, named, error, trouble);
-                    if let Some(at) = object {
-                        trouble.heed_memory(self.put(at, seat, receipts));
-                    }
-                }
-            }
+            self.gather_one(came, offices, error, trouble);
         }
     }
 
     /// What was gathered, an item for each object.
-    pub fn into_rooms(self) -> Vec<Gathered> {
-        self.rooms
+    pub fn into_all(self) -> Vec<Gathered<H>>
+        ensures { slips_in result.items ≡ slips_in self.all.items }
+    {
+        self.all
     }
 }

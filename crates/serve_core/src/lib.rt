@@ -5,6 +5,7 @@
 //! `session_core`'s, what is done for one object at its start and its end is `keep_core`'s.
 #![tactic(auto)]
 
+pub mod backed;
 pub mod gate;
 pub mod gather;
 pub mod listen;

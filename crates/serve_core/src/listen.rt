@@ -1,5 +1,6 @@
 //! Connections, each of them served on threads of its own.
 
+use crate::backed::Backed;
 use crate::gate::Door;
 use ahead_core::ahead::Ends;
 use crossbeam_channel::Receiver;
@@ -11,7 +12,6 @@ use office_core::seat::Seat;
 use session_core::end::SessionEnd;
 use session_core::order::Offices;
 use session_core::serve::serve_session;
-use slip_core::slip::Slip;
 use std::alloc::{AllocError, Global};
 use std::net::TcpStream;
 use std::sync::{Mutex, Wait};
@@ -26,39 +26,41 @@ const PAUSE: u64 = 250;
 
 /// What a session leaves to its object.
 #[derive(Drop)]
-pub struct Left {
+pub struct Left<H: Hand + Drop> {
     /// The object that it opened, by its place.
     pub object: Option<usize>,
+    /// Its seat there, but that of a client that has a name.
     pub seat: Option<Seat>,
-    pub receipts: Vec<Slip>,
+    /// What the receipts of its calls tell, in order, and the hand by which they are true.
+    pub backed: Backed<H>,
     /// Why it ended, where that was not by `quit` or the end of its input.
     pub fault: Option<SessionFault>,
 }
 
 /// What a thread that was to serve a connection leaves.
 #[derive(Drop)]
-pub enum Came {
+pub enum Came<H: Hand + Drop> {
     /// A session.
-    Session(Left),
+    Session(Left<H>),
     /// No connection could be taken, or not be served.
     Fault(LinesFault),
 }
 
 /// Where threads put what they leave.
-pub trait Basket {
+pub trait Basket<C> {
     /// Adds what one thread leaves.
-    fn put<R: Wait>(&self, rt: &R, came: Came);
+    fn put<R: Wait>(&self, rt: &R, came: C);
 }
 
 /// What threads leave, in room that is taken before they begin.
 #[derive(Drop)]
-pub struct Leavings {
-    all: Mutex<Vec<Came>>,
+pub struct Leavings<C: Drop> {
+    all: Mutex<Vec<C>>,
 }
 
-impl Leavings {
+impl<C: Drop> Leavings<C> {
     // Room for so many, none of which is there yet.
-    fn with_room(alloc: Global, count: usize) -> Result<Leavings, AllocError> {
+    fn with_room(alloc: Global, count: usize) -> Result<Leavings<C>, AllocError> {
         let room = Vec::with_capacity(alloc, count)?;
         Ok(Leavings {
             all: Mutex::new(room),
@@ -66,13 +68,13 @@ impl Leavings {
     }
 
     // All that was left.
-    fn into_all(self) -> Vec<Came> {
+    fn into_all(self) -> Vec<C> {
         self.all.into_inner()
     }
 }
 
-impl Basket for Leavings {
-    fn put<R: Wait>(&self, rt: &R, came: Came) {
+impl<C: Drop> Basket<C> for Leavings<C> {
+    fn put<R: Wait>(&self, rt: &R, came: C) {
         let _put = self.all.lock(rt).push(came);
     }
 }
@@ -86,14 +88,14 @@ fn prepare(stream: &TcpStream) {
 }
 
 // Serves a session over a connection, and has the hand end.
-fn serve_stream<R: Threads + Wait + Clock + Sync, H: Hand + Ends + Drop + Send, O: Offices + Sync>(
+fn serve_stream<R: Threads + Wait + Clock + Sync, H: Ends + Send, O: Offices + Sync>(
     rt: &R,
     alloc: Global,
     stream: TcpStream,
     bell: &Bell,
     hand: H,
     offices: &O,
-) -> Came {
+) -> Came<H> {
     prepare(&stream);
     let writer = match stream.try_clone() {
         Ok(writer) => writer,
@@ -119,18 +121,19 @@ fn serve_stream<R: Threads + Wait + Clock + Sync, H: Hand + Ends + Drop + Send, 
     Came::Session(Left {
         object,
         seat,
-        receipts,
+        backed: Backed::new(receipts, hand),
         fault,
     })
 }
 
 // Takes a connection and serves it with the next hand. `None`: no more are taken.
-fn serve_next<
-    R: Threads + Wait + Clock + Sync,
-    H: Hand + Ends + Drop + Send,
-    O: Offices + Sync,
-    D: Door,
->(rt: &R, alloc: Global, door: &D, hands: &Receiver<H>, offices: &O) -> Option<Came> {
+fn serve_next<R: Threads + Wait + Clock + Sync, H: Ends + Send, O: Offices + Sync, D: Door>(
+    rt: &R,
+    alloc: Global,
+    door: &D,
+    hands: &Receiver<H>,
+    offices: &O,
+) -> Option<Came<H>> {
     let Ok(hand) = hands.recv(rt) else {
         return None;
     };
@@ -145,10 +148,10 @@ fn serve_next<
 // does nothing.
 fn serve_into<
     R: Threads + Wait + Clock + Sync,
-    H: Hand + Ends + Drop + Send,
+    H: Ends + Send,
     O: Offices + Sync,
     D: Door,
-    B: Basket,
+    B: Basket<Came<H>>,
 >(rt: &R, alloc: Global, door: &D, hands: &Receiver<H>, offices: &O, basket: &B) {
     if let Some(came) = serve_next(rt, alloc, door, hands, offices) {
         basket.put(rt, came);
@@ -159,10 +162,10 @@ fn serve_into<
 // another, and returns when all have ended.
 fn serve_each<
     R: Threads + Wait + Clock + Sync,
-    H: Hand + Ends + Drop + Send,
+    H: Ends + Send,
     O: Offices + Sync,
     D: Door + Sync,
-    B: Basket + Sync,
+    B: Basket<Came<H>> + Sync,
 >(rt: &R, alloc: Global, count: usize, door: &D, hands: &Receiver<H>, offices: &O, basket: &B) {
     // A refusal of memory comes only once all have ended, and takes nothing from what they left.
     let _ended = thread::map_indices(
@@ -179,10 +182,10 @@ fn serve_each<
 /// The error is that memory was refused; nobody was served then. The room for what comes is taken before.
 pub fn serve_all<
     R: Threads + Wait + Clock + Sync,
-    H: Hand + Ends + Drop + Send,
+    H: Ends + Send,
     O: Offices + Sync,
     D: Door + Sync,
->(rt: &R, alloc: Global, door: &D, hands: Vec<H>, offices: &O) -> Result<Vec<Came>, AllocError> {
+>(rt: &R, alloc: Global, door: &D, hands: Vec<H>, offices: &O) -> Result<Vec<Came<H>>, AllocError> {
     let sessions = hands.len();
     let leavings = Leavings::with_room(alloc, sessions)?;
     let (to, free) = crossbeam_channel::unbounded(alloc)?;

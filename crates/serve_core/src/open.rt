@@ -1,13 +1,18 @@
 //! The offices of accepted objects, whose parts are read from a folder.
 
-ghost use Rattle.std.specs.Prelude.{◌≡◌, ◌++◌, ◌∷◌, [], IfOk, IfErr, OnOk};
+ghost use Rattle.std.specs.Prelude.{◌≡◌, ◌++◌, ◌∷◌, [], IfOk, IfErr, OnOk, length};
+ghost use Rattle.hand_core.specs.Device.{Assignment};
+ghost use Rattle.hand_core.specs.Papers.{Papers};
 ghost use Rattle.decl_core.specs.ObjectMap.{object_names};
+ghost use Rattle.serve_core.specs.Closes.{openings_in};
+ghost use Rattle.serve_core.specs.Opened.{AreLoadedAll, ArePinnedAll};
 ghost use Rattle.serve_core.specs.Runs.{named_in, IsNotOpenedOf};
 
 use exclude_core::analyse::Accepted;
 use hand_core::hand::Hand;
 use hand_core::shelf::Shelf;
-use keep_core::open::{NotOpened, Opened, open_one};
+use keep_core::close::Closing;
+use keep_core::open::{NotOpened, Opened};
 use line_core::LinesFault;
 use session_core::order::Named;
 use std::alloc::Global;
@@ -24,6 +29,10 @@ pub struct Served {
 fn add(served: &mut Served, opened: Opened) -> Result<(), NotOpened>
     ensures named { OnOk result (named_in served.new.offices.items
         ≡ named_in served.old.offices.items ++ opened.name ∷ []) }
+    ensures opening { OnOk result (openings_in served.new.openings.items
+        ≡ openings_in served.old.openings.items ++ opened.opening.items ∷ []) }
+    ensures many { OnOk result (length served.old.openings.items ≡ length served.old.offices.items →
+        length served.new.openings.items ≡ length served.new.offices.items) }
     ensures not { IfErr result (λ e. e ≡ NotOpened.Fault LinesFault.Memory) }
 {
     let Opened {
@@ -40,16 +49,26 @@ fn add(served: &mut Served, opened: Opened) -> Result<(), NotOpened>
     Ok(())
 }
 
-/// Opens each object, in order.
+/// Opens each object, in order: its parts begin with what the shelf has under their names, and pages of these values
+/// are sealed by the hand.
 ///
 /// The first fault ends it: files that were sealed before it are left.
-pub fn open_all<S: Shelf, H: Hand>(
+pub fn open_all<S: Shelf + Drop, T: Shelf + Drop, K: Hand + Drop>(
     alloc: Global,
     ready: Vec<Accepted>,
-    shelf: &mut S,
-    hand: &mut H,
+    closing: &mut Closing<S, T, K>,
 ) -> Result<Served, NotOpened>
     ensures named { IfOk result (λ s. named_in s.offices.items ≡ object_names ready.items) }
+    // As many openings as offices, each with what its object's parts began with.
+    ensures many { IfOk result (λ s. length s.openings.items ≡ length s.offices.items) }
+    ensures loaded { IfOk result (λ s. (papers : Papers) → S.holds closing.new.parts papers →
+        AreLoadedAll papers ready.items (openings_in s.openings.items)) }
+    ensures pinned { IfOk result (λ s. ArePinnedAll (K.agrees closing.new.hand) ready.items
+        (openings_in s.openings.items)) }
+    ensures papers { (papers : Papers) → S.holds closing.new.parts papers → S.holds closing.old.parts papers }
+    ensures files { (a : Assignment) → K.agrees closing.new.hand a → K.agrees closing.old.hand a }
+    ensures traces { closing.new.traces ≡ closing.old.traces }
+    ensures trouble { closing.new.trouble ≡ closing.old.trouble }
     ensures not { IfErr result (IsNotOpenedOf ready.items) }
 {
     let mut served = Served {
@@ -57,7 +76,7 @@ pub fn open_all<S: Shelf, H: Hand>(
         openings: Vec::new(alloc),
     };
     for accepted in ready {
-        let opened = match open_one(alloc, accepted, shelf, hand) {
+        let opened = match closing.open(alloc, accepted) {
             Ok(opened) => opened,
             Err(why) => return Err(why),
         };

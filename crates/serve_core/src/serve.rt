@@ -1,17 +1,18 @@
 //! A server from its start to its end.
 
-ghost use Rattle.std.specs.Prelude.{◌≡◌, ◌∷◌, ℕ, List, [], IfOk};
+ghost use Rattle.std.specs.Prelude.{◌≡◌, ◌<◌, ◌∷◌, ℕ, List, [], IfOk, Some, length};
 ghost use Rattle.std.specs.Io.KnownBytes.{Appends};
-ghost use Rattle.hand_core.specs.Device.{Assignment};
+ghost use Rattle.std.specs.Vec.Iter.{into_iter_len, into_iter_steps};
 ghost use Rattle.decl_core.specs.declared.object.Object.{Object};
 ghost use Rattle.keep_core.specs.Troubles.{fault_in};
 ghost use Rattle.keep_core.specs.Lines.{AreSaid};
-ghost use Rattle.keep_core.specs.Ends.{Ended, IsEnding};
+ghost use Rattle.serve_core.specs.Backed.{AreBacked};
+ghost use Rattle.serve_core.specs.Gathers.{slips_in, none_of, IsGathered};
 ghost use Rattle.serve_core.specs.Handled.{IsHandled};
 ghost use Rattle.serve_core.specs.Ends.{IsEndOf};
-ghost use Rattle.serve_core.specs.Closes.{Closes};
-ghost use Rattle.serve_core.specs.Runs.{named_in, listening_line, ServesOr, IsNotOpenedOf, IsRunOf};
-ghost use Rattle.serve_core.specs.Runs.{IsRefusedBy, IsRun, IsEndBehind};
+ghost use Rattle.serve_core.specs.Closes.{Closes, openings_in};
+ghost use Rattle.serve_core.specs.Runs.{named_in, listening_line, ServesOr, IsNotOpenedOf, IsRunOf, IsRunIn};
+ghost use Rattle.serve_core.specs.Runs.{IsRefusedBy, IsRun, IsEndBehind, AreNotServed};
 
 use crate::gate::Gate;
 use crate::gather::{Gathered, Gathering};
@@ -101,94 +102,94 @@ fn tell_port<W: Write>(alloc: Global, gate: &Gate, writer: &mut W) -> Result<(),
     write_whole(writer, &line)
 }
 
-// What the sessions of the next object left; where that is not there, nothing.
-fn next_room(alloc: Global, rooms: &mut IntoIter<Gathered>) -> Gathered {
-    match rooms.next() {
-        Some(gathered) => gathered,
-        None => Gathered {
-            seats: Vec::new(alloc),
-            receipts: Vec::new(alloc),
-        },
+// The next one of items of which there is one more.
+fn next_of<X>(items: &mut IntoIter<X>) -> X
+    requires { 0 < into_iter_len items.old }
+    ensures { into_iter_steps items.old (Some result) items.new }
+{
+    match items.next() {
+        Some(item) => item,
+        None => unreachable!(),
     }
 }
 
-// Closes one object, with what its sessions left.
-fn close_next<S: Shelf + Drop, T: Shelf + Drop, H: Hand + Drop, W: Write, E: Write>(
-    alloc: Global,
-    named: Named,
-    opening: Vec<Value>,
-    gathered: Gathered,
-    closing: &mut Closing<S, T, H>,
-    writer: &mut W,
-    error: &mut E,
-)
-    ensures ended { (e : Ended) × (e.name ≡ named.name)
-        × IsEnding (H.agrees closing.new.hand) (S.holds closing.old.parts) (S.holds closing.new.parts)
-        (T.holds closing.old.traces) (T.holds closing.new.traces) e closing.old.trouble closing.new.trouble
-        closing.old.keeps_all closing.new.keeps_all (W.contents writer.old) (W.contents writer.new) }
-    ensures files { (a : Assignment) → H.agrees closing.new.hand a → H.agrees closing.old.hand a }
+// An object at the end, with what its sessions left.
+fn ending_of<H: Hand + Drop>(named: Named, opening: Vec<Value>, gathered: Gathered<H>) -> Ending
+    ensures name { result.name ≡ named.name }
+    ensures opening { result.opening.items ≡ opening.items }
+    ensures slips { result.receipts.items ≡ gathered.backed }
+    ensures backed { AreBacked H.agrees result.receipts.items }
 {
     let Named { name, office } = named;
-    let Gathered { seats, receipts } = gathered;
-    let ending = Ending {
+    let Gathered { seats, backed } = gathered;
+    Ending {
         name,
         office,
         opening,
         seats,
-        receipts,
-    };
-    closing.close_one(alloc, ending, writer, error);
+        receipts: backed.into_receipts(),
+    }
 }
 
-// Closes each object.
-fn close_all<S: Shelf + Drop, T: Shelf + Drop, H: Hand + Drop, W: Write, E: Write>(
+// Closes each object, with the values with which its parts opened and what its sessions left.
+fn close_all<S: Shelf + Drop, T: Shelf + Drop, K: Hand + Drop, H: Hand + Drop, W: Write, E: Write>(
     alloc: Global,
     served: Served,
-    rooms: Vec<Gathered>,
-    closing: &mut Closing<S, T, H>,
+    gathered: Vec<Gathered<H>>,
+    closing: &mut Closing<S, T, K>,
     writer: &mut W,
     error: &mut E,
 )
-    ensures { Closes (H.agrees closing.new.hand) (H.agrees closing.old.hand) (S.holds closing.old.parts)
+    requires openings { length served.openings.items ≡ length served.offices.items }
+    requires gathered { length gathered.items ≡ length served.offices.items }
+    ensures { Closes H.agrees (K.agrees closing.new.hand) (K.agrees closing.old.hand) (S.holds closing.old.parts)
         (S.holds closing.new.parts) (T.holds closing.old.traces) (T.holds closing.new.traces)
-        (named_in served.offices.items) closing.old.trouble closing.new.trouble closing.old.keeps_all
-        closing.new.keeps_all (W.contents writer.old) (W.contents writer.new) }
+        (named_in served.offices.items) (openings_in served.openings.items) (slips_in gathered.items)
+        closing.old.trouble closing.new.trouble closing.old.keeps_all closing.new.keeps_all
+        (W.contents writer.old) (W.contents writer.new) }
 {
     let Served { offices, openings } = served;
-    let mut openings = openings.into_iter();
-    let mut rooms = rooms.into_iter();
+    let mut values = openings.into_iter();
+    let mut left = gathered.into_iter();
     for named in offices {
-        let opening = next_opening(alloc, &mut openings);
-        let gathered = next_room(alloc, &mut rooms);
-        close_next(alloc, named, opening, gathered, closing, writer, error);
+        let opening = next_of(&mut values);
+        let by_sessions = next_of(&mut left);
+        let ending = ending_of(named, opening, by_sessions);
+        closing.close_one(alloc, ending, writer, error);
     }
 }
 
-// The values with which the parts of the next object opened.
-fn next_opening(alloc: Global, openings: &mut IntoIter<Vec<Value>>) -> Vec<Value> {
-    match openings.next() {
-        Some(opening) => opening,
-        None => Vec::new(alloc),
-    }
+// Where sessions come from, and the hands that they take.
+#[derive(Drop)]
+struct Guests<'a, H: Hand + Drop> {
+    gate: &'a Gate,
+    hands: Vec<H>,
 }
 
 // Serves objects whose parts are open, and gathers what their sessions leave.
-fn serve_gathered<R: Threads + Wait + Clock + Sync, H: Hand + Ends + Drop + Send, E: Write>(
+fn serve_gathered<R: Threads + Wait + Clock + Sync, H: Ends + Send, E: Write>(
     rt: &R,
     alloc: Global,
     offices: &Vec<Named>,
-    hands: Vec<H>,
-    gate: &Gate,
-    gathering: Gathering,
+    guests: Guests<'_, H>,
+    gathering: Gathering<H>,
     trouble: &mut Trouble,
     error: &mut E,
-) -> Vec<Gathered> {
+) -> Vec<Gathered<H>>
+    ensures { IsGathered H (slips_in gathering.all.items) trouble.old trouble.new (slips_in result.items) }
+{
+    let Guests { gate, hands } = guests;
     let mut gathering = gathering;
     match serve_all(rt, alloc, gate, hands, offices) {
-        Ok(all) => gathering.gather(all, offices, error, trouble),
-        Err(_) => trouble.note(LinesFault::Memory),
+        Ok(all) => {
+            gathering.gather(all, offices, error, trouble);
+            gathering.into_all()
+        }
+        Err(_) => {
+            trouble.note(LinesFault::Memory);
+            gathering.into_all()
+        }
     }
-    gathering.into_rooms()
 }
 
 // Serves objects whose parts are open, and closes them.
@@ -197,43 +198,42 @@ fn serve_opened<
     S: Shelf + Drop,
     T: Shelf + Drop,
     K: Hand + Drop,
-    H: Hand + Ends + Drop + Send,
+    H: Ends + Send,
     W: Write,
     E: Write,
 >(
     rt: &R,
     alloc: Global,
     served: Served,
-    hands: Vec<H>,
-    gate: &Gate,
+    guests: Guests<'_, H>,
     closing: &mut Closing<S, T, K>,
     writer: &mut W,
     error: &mut E,
 ) -> Result<(), LinesFault>
-    ensures { ServesOr (K.agrees closing.new.hand) (K.agrees closing.old.hand) (S.holds closing.old.parts)
+    requires { length served.openings.items ≡ length served.offices.items }
+    ensures { ServesOr H.agrees (K.agrees closing.new.hand) (K.agrees closing.old.hand) (S.holds closing.old.parts)
         (S.holds closing.new.parts) (T.holds closing.old.traces) (T.holds closing.new.traces)
-        (named_in served.offices.items) closing.new.trouble closing.old.keeps_all closing.new.keeps_all
-        (W.contents writer.old) (W.contents writer.new) result }
+        (named_in served.offices.items) (openings_in served.openings.items) closing.old.trouble closing.new.trouble
+        closing.old.keeps_all closing.new.keeps_all (W.contents writer.old) (W.contents writer.new) result }
 {
-    let gathering = match Gathering::new(alloc, served.offices.len(), hands.len()) {
+    let gathering = match Gathering::new(alloc, served.offices.len(), guests.hands.len()) {
         Ok(gathering) => gathering,
         Err(_) => return Err(LinesFault::Memory),
     };
-    match tell_port(alloc, gate, writer) {
+    match tell_port(alloc, guests.gate, writer) {
         Ok(()) => {}
         Err(fault) => return Err(fault),
     }
-    let rooms = serve_gathered(
+    let gathered = serve_gathered(
         rt,
         alloc,
         &served.offices,
-        hands,
-        gate,
+        guests,
         gathering,
         &mut closing.trouble,
         error,
     );
-    close_all(alloc, served, rooms, closing, writer, error);
+    close_all(alloc, served, gathered, closing, writer, error);
     Ok(())
 }
 
@@ -243,25 +243,25 @@ fn serve_closing<
     S: Shelf + Drop,
     T: Shelf + Drop,
     K: Hand + Drop,
-    H: Hand + Ends + Drop + Send,
+    H: Ends + Send,
     W: Write,
     E: Write,
 >(
     rt: &R,
     alloc: Global,
     ready: Vec<Accepted>,
-    hands: Vec<H>,
-    gate: &Gate,
+    guests: Guests<'_, H>,
     closing: &mut Closing<S, T, K>,
     writer: &mut W,
     error: &mut E,
 ) -> Result<ServeEnd, LinesFault>
-    ensures { IsRunOf ready.items result (W.contents writer.old) (W.contents writer.new) }
+    ensures { IsRunIn H.agrees (K.agrees closing.new.hand) (S.holds closing.old.parts) (S.holds closing.new.parts)
+        (T.holds closing.old.traces) (T.holds closing.new.traces) ready.items result (W.contents writer.old)
+        (W.contents writer.new) }
 {
-    let (shelf, hand) = closing.devices();
-    match open_all(alloc, ready, shelf, hand) {
+    match open_all(alloc, ready, closing) {
         Ok(served) => {
-            match serve_opened(rt, alloc, served, hands, gate, closing, writer, error) {
+            match serve_opened(rt, alloc, served, guests, closing, writer, error) {
                 Ok(()) => end_of(closing.trouble),
                 Err(fault) => Err(fault),
             }
@@ -273,7 +273,7 @@ fn serve_closing<
 // Writes why objects are not opened, where a part of one is damaged.
 fn tell_not_opened<W: Write>(why: NotOpened, writer: &mut W) -> Result<ServeEnd, LinesFault>
     ensures { (objects : List Object) → IsNotOpenedOf objects why →
-        IsRunOf objects result (W.contents writer.old) (W.contents writer.new) }
+        AreNotServed objects result (W.contents writer.old) (W.contents writer.new) }
 {
     match why {
         NotOpened::Damaged(line) => tell_refused(&line, writer),
@@ -306,7 +306,7 @@ where
 // Serves objects that are accepted, and removes the value files of this run where nothing hangs on them any more.
 fn serve_ready<
     R: Files + AllocGlobal + Threads + Wait + Clock + Clone + Drop + Sync,
-    H: Hand + Ends + Drop + Send,
+    H: Ends + Send,
     W: Write,
     E: Write,
 >(
@@ -320,7 +320,7 @@ fn serve_ready<
 ) -> Result<ServeEnd, LinesFault>
 where
     R::File: FileExt,
-    ensures { IsRunOf ready.items result (W.contents writer.old) (W.contents writer.new) }
+    ensures { IsRunOf H.agrees ready.items result (W.contents writer.old) (W.contents writer.new) }
 {
     let Place {
         folder,
@@ -338,7 +338,8 @@ where
         Ok(()) => {}
         Err(_) => return Err(LinesFault::Memory),
     }
-    let ended = serve_closing(rt, alloc, ready, hands, gate, &mut closing, writer, error);
+    let guests = Guests { gate, hands };
+    let ended = serve_closing(rt, alloc, ready, guests, &mut closing, writer, error);
     if closing.keeps_all {
         // All numbers of this run are below the next one.
         remove_own(rt, folder, first, numbers.draw(), ended)
@@ -396,7 +397,7 @@ fn remove_own<R: Files + AllocGlobal + Clone + Drop>(
 /// several the first is told.
 pub fn serve_on<
     R: Files + AllocGlobal + Threads + Wait + Clock + Clone + Drop + Sync,
-    H: Hand + Ends + Drop + Send,
+    H: Ends + Send,
     W: Write,
     E: Write,
 >(
@@ -413,7 +414,7 @@ where
     // A source that is not served: what says why is written, and nothing else. Of a source that is served
     // each object is accepted.
     ensures handled { IfOk result (IsHandled source.now (W.contents writer.old) (W.contents writer.new)) }
-    ensures run { IsRun source.now result (W.contents writer.old) (W.contents writer.new) }
+    ensures run { IsRun H.agrees source.now result (W.contents writer.old) (W.contents writer.new) }
 {
     match judge(alloc, source) {
         Ok(Judged::Told(text)) => tell_refused(&text, writer),

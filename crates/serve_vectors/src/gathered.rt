@@ -10,6 +10,7 @@ use office_core::inside::Inside;
 use office_core::office::Office;
 use page_core::page_list::PageList;
 use page_core::pins::Pins;
+use serve_core::backed::Backed;
 use serve_core::gather::Gathering;
 use serve_core::listen::{Came, Left};
 use session_core::order::Named;
@@ -46,17 +47,17 @@ fn named(alloc: Global, text: &[u8], part: &[u8]) -> Option<Vec<Named>> {
 }
 
 // A session of the first object, or of none, that ended so.
-fn ended(alloc: Global, object: Option<usize>, fault: Option<SessionFault>) -> Came {
+fn ended(alloc: Global, object: Option<usize>, fault: Option<SessionFault>) -> Came<MemHand> {
     Came::Session(Left {
         object,
         seat: None,
-        receipts: Vec::new(alloc),
+        backed: Backed::new(Vec::new(alloc), MemHand::new(alloc)),
         fault,
     })
 }
 
 // Gathers what one thread left, and returns what was told of it and what was noted.
-fn told(rt: &impl Abort, alloc: Global, came: Came) -> (Vec<u8>, Trouble) {
+fn told(rt: &impl Abort, alloc: Global, came: Came<MemHand>) -> (Vec<u8>, Trouble) {
     let offices = named(alloc, CELL, ZERO).expect(rt, "memory");
     let mut gathering = Gathering::new(alloc, offices.len(), 1).expect(rt, "memory");
     let mut all = Vec::new(alloc);
@@ -71,7 +72,7 @@ fn told(rt: &impl Abort, alloc: Global, came: Came) -> (Vec<u8>, Trouble) {
 fn tells<R: Abort>(
     rt: &R,
     alloc: Global,
-    came: Came,
+    came: Came<MemHand>,
     line: &[u8],
     refused: bool,
     fault: Option<LinesFault>,
@@ -116,6 +117,6 @@ fn a_fault_of_a_client_is_not_one_of_the_server(rt: HostRuntime) {
 #[test]
 fn a_connection_that_was_not_taken_is_noted(rt: HostRuntime) {
     let alloc = rt.alloc();
-    let came = Came::Fault(LinesFault::ReadFault);
+    let came: Came<MemHand> = Came::Fault(LinesFault::ReadFault);
     assert!(rt; tells(&rt, alloc, came, b"", false, Some(LinesFault::ReadFault)));
 }

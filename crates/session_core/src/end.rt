@@ -1,8 +1,8 @@
 //! How a session ended.
 
 ghost use Rattle.std.specs.Prelude.{◌≡◌, ◌↔◌, IsTrue, List, ℕ, Option};
-ghost use Rattle.talk_core.specs.Written.{IsNoteOf, AreNoted, IsWritten, HasWritten, heard_fault as heard_in};
-ghost use Rattle.talk_core.specs.Written.{or_memory as or_memory_in, told_fault};
+ghost use Rattle.talk_core.specs.Written.{IsNoteOf, AreFirst, AreAll, IsAccounted, IsSaid, HasWritten};
+ghost use Rattle.talk_core.specs.Written.{heard_fault as heard_in, told_fault};
 
 use hear_core::fault::HearFault;
 use office_core::seat::Seat;
@@ -24,8 +24,8 @@ pub struct SessionEnd<W: Drop, H: Drop> {
     pub writer: W,
     /// The hand on which its calls were performed.
     pub hand: H,
-    /// Why it ended: `LogMixed`, or else `WriteFault`, or else the first of the others that was met, in the order in
-    /// which they are declared.
+    /// Why it ended: `LogMixed`, or else `WriteFault`, or else `Memory` where there was none for a line, or else what was
+    /// met in reading.
     pub fault: Option<SessionFault>,
 }
 
@@ -36,23 +36,42 @@ fn is_note_of(receipt: &Slip, note: &Note) -> bool
     receipt.number() == note.number && receipt.is_reply(&note.reply)
 }
 
-// Whether each note is of a receipt. Both are in the order of the calls, so each note is looked for behind the receipt
-// of the one before it, and each receipt is looked at once.
-fn are_noted(receipts: &[Slip], notes: &[Note]) -> bool
-    ensures { IsTrue result → AreNoted receipts.now notes.now }
+// Whether the notes are those of the first receipts, one by one.
+fn are_first(receipts: &[Slip], notes: &[Note]) -> bool
+    ensures { IsTrue result → AreFirst receipts.now notes.now }
 {
     let mut receipts = receipts;
     let mut notes = notes;
-    while let Some((receipt, later)) = receipts.split_first() {
-        let Some((note, rest)) = notes.split_first() else {
-            return true;
+    while let Some((note, rest)) = notes.split_first() {
+        let Some((receipt, later)) = receipts.split_first() else {
+            return false;
         };
-        if is_note_of(receipt, note) {
-            notes = rest;
+        if !is_note_of(receipt, note) {
+            return false;
         }
         receipts = later;
+        notes = rest;
     }
-    notes.is_empty()
+    true
+}
+
+// Whether the notes are those of the receipts, one by one.
+fn are_all(receipts: &[Slip], notes: &[Note]) -> bool
+    ensures { IsTrue result → AreAll receipts.now notes.now }
+{
+    receipts.len() == notes.len() && are_first(receipts, notes)
+}
+
+// Whether the notes are those of the receipts: of all, where all was written, and else of the first.
+fn is_accounted(health: Health, receipts: &[Slip], notes: &[Note]) -> bool
+    ensures { IsTrue result → IsAccounted health receipts.now notes.now }
+{
+    match health {
+        Health::Fine => are_all(receipts, notes),
+        Health::NoMemory => are_first(receipts, notes),
+        Health::Mixed => are_first(receipts, notes),
+        Health::Broken => are_first(receipts, notes),
+    }
 }
 
 // The fault that was met in reading.
@@ -67,16 +86,6 @@ fn heard_fault(heard: Option<HearFault>) -> Option<SessionFault>
     }
 }
 
-// That fault, or else a want of memory.
-fn or_memory(fault: Option<SessionFault>) -> Option<SessionFault>
-    ensures { result ≡ or_memory_in fault }
-{
-    match fault {
-        Some(fault) => Some(fault),
-        None => Some(SessionFault::Memory),
-    }
-}
-
 // The fault that is told.
 fn fault_of(accounted: bool, health: Health, heard: Option<HearFault>) -> Option<SessionFault>
     ensures { result ≡ told_fault accounted health heard }
@@ -85,22 +94,24 @@ fn fault_of(accounted: bool, health: Health, heard: Option<HearFault>) -> Option
         return Some(SessionFault::LogMixed);
     }
     match health {
+        Health::Mixed => Some(SessionFault::LogMixed),
         Health::Broken => Some(SessionFault::WriteFault),
-        Health::NoMemory => or_memory(heard_fault(heard)),
+        Health::NoMemory => Some(SessionFault::Memory),
         Health::Fine => heard_fault(heard),
     }
 }
 
-/// The fault that is told, by the notes of what was written and the receipts.
-pub(crate) fn conclude(
+/// The fault that is told, by the notes of what was written and the receipts: `LogMixed` where a line was said where it
+/// may not stand, or the notes are not those of the receipts, one by one; where not all was written, of the first.
+pub fn conclude(
     receipts: &[Slip],
     notes: &[Note],
     health: Health,
     heard: Option<HearFault>,
 ) -> Option<SessionFault>
-    ensures { (start now : Option (List ℕ)) (held : List ℕ) → IsWritten start now held health notes.now →
+    ensures { (start now : Option (List ℕ)) → IsSaid start now health notes.now →
         HasWritten start now receipts.now result }
 {
-    let accounted = are_noted(receipts, notes);
+    let accounted = is_accounted(health, receipts, notes);
     fault_of(accounted, health, heard)
 }

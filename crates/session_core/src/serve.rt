@@ -2,7 +2,7 @@
 
 ghost use Rattle.std.specs.Prelude.{◌≡◌, ℕ, List, Option};
 ghost use Rattle.talk_core.specs.Truth.{Keeps, AreTrue};
-ghost use Rattle.talk_core.specs.Written.{IsWritten, HasWritten};
+ghost use Rattle.talk_core.specs.Written.{IsSaid, HasWritten};
 
 use crate::end::{SessionEnd, conclude};
 use crate::entered::parked;
@@ -48,7 +48,7 @@ fn ended<R: Wait, W: Drop, H: Drop, O: Offices>(
     ensures hand { result.hand ≡ worked.hand }
     ensures receipts { result.receipts.items ≡ worked.receipts.items }
     ensures writer { result.writer ≡ writer }
-    ensures written { (start now : Option (List ℕ)) (held : List ℕ) → IsWritten start now held health notes.now →
+    ensures written { (start now : Option (List ℕ)) → IsSaid start now health notes.now →
         HasWritten start now worked.receipts.items result.fault }
 {
     let Worked {
@@ -171,8 +171,11 @@ fn serve_from<
 /// writes never do. What stands behind the last line end is done only where it harms nobody: a call is answered `no
 /// Gone`, a cancel `no BadLine`. Where no second thread can be made, nothing is read while a call waits, and where no
 /// third one can be made, nothing is sent meanwhile. The receipts are true of each assignment that agrees with the hand
-/// given back, and what was written are whole lines of the table or of receipts; with `WriteFault` such lines, and a
-/// front of one more. Files whose retire failed are tried again later, and left at the end.
+/// given back. What was written are whole lines of the table or of receipts, each where it may stand: behind `accepted N`
+/// comes the last line of that call before any other is accepted, and only answers of cancels and `no LineTooLong` in
+/// between; nothing comes behind `bye`. Each call that was accepted has its last line, and those of calls with a receipt
+/// are those of the receipts, one by one. With `Memory` lines may be missing at the end; with `WriteFault` too, and a
+/// front of one more may stand there. Files whose retire failed are tried again later, and left at the end.
 pub fn serve_session<
     R: Threads + Wait + Clock + Sync,
     I: Read + Drop + Send,

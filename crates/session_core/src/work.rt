@@ -13,6 +13,7 @@ ghost use Rattle.slip_core.specs.Slips.{told_by};
 ghost use Rattle.office_core.specs.declared.seat.Submitted.{Submitted as Ask};
 ghost use Rattle.office_core.specs.Submissions.{Asks, Tells, IsTicketOf};
 ghost use Rattle.talk_core.specs.Truth.{Keeps, AreTrue, OutcomeIsTrue};
+ghost use Rattle.session_core.specs.Leaving.{RetiresLeft, PutsOff};
 
 use crate::entered::{Entered, NotEntered, seat_at};
 use crate::listen::leave;
@@ -222,7 +223,8 @@ fn completed<R: Wait>(rt: &R, office: &Office, seat: &mut Seat, outcome: &mut Ou
 
 // Retires the files that are left, and keeps those whose retire fails.
 fn retire_left<H: Hand>(alloc: Global, hand: &mut H, left: &mut Vec<Stamp>)
-    ensures { Keeps H.agrees hand.old hand.new }
+    ensures kept { Keeps H.agrees hand.old hand.new }
+    ensures retired { RetiresLeft H.makes hand.old left.old.items left.new.items hand.new }
 {
     if left.is_empty() {
         return;
@@ -233,7 +235,8 @@ fn retire_left<H: Hand>(alloc: Global, hand: &mut H, left: &mut Vec<Stamp>)
 
 // Keeps the files of a receipt until the next call, or until its line was sent. Without memory they are retired now.
 fn put_off<H: Hand>(hand: &mut H, free: Vec<Stamp>, left: &mut Vec<Stamp>)
-    ensures { Keeps H.agrees hand.old hand.new }
+    ensures kept { Keeps H.agrees hand.old hand.new }
+    ensures left { PutsOff H.makes hand.old free.items left.old.items left.new.items hand.new }
 {
     if left.extend_from_slice(&free).is_err() {
         let _left = retire_all(hand, free);

@@ -12,6 +12,7 @@ use office_core::office::Office;
 use office_core::seat::{Seat, Started, Submitted, Tried};
 use path_tree::name::Name;
 use run_core::at_once::run_at_once;
+use session_core::end::SessionEnd;
 use session_core::order::Named;
 use session_core::serve::serve_session;
 use std::alloc::Global;
@@ -22,6 +23,7 @@ use std::sync::{Arc, Wait};
 use std::thread;
 use std::thread::Threads;
 use std::time::Clock;
+use talk_core::fault::SessionFault;
 
 // What a session writes over these lines, and its hand.
 fn visit<R: Threads + Wait + Clock + Sync + Abort>(
@@ -305,4 +307,51 @@ fn a_call_under_a_key_stands_behind_a_running_one(rt: HostRuntime) {
         || runs(shared, alloc, &named.office, seat, &written),
     );
     assert!(rt; followed && ended);
+}
+
+// An object whose calls come one after another, since each writes what the next one reads.
+const STEPS: &[u8] = b"object steps;
+  path 1:(a) end;
+  var v : array [1] of integer;
+  entry procedure a; begin v[0] := v[0] + 1 end;
+end;
+";
+
+// Where a call of another session runs, what stands ready is sent before the next call is submitted. Here that cannot
+// be sent, so the session has left, and the call gets no number.
+#[test]
+fn lines_are_sent_before_a_call_that_is_held_back(rt: HostRuntime) {
+    let alloc = rt.alloc();
+    let (all, hand) = offices(&rt, alloc, STEPS, ZERO);
+    let named = all.first().expect(&rt, "an office");
+    let mut seat = named.office.seat(&rt).expect(&rt, "a seat");
+    let reader = Pieces {
+        bytes: b"open steps\ncall a\n".to_vec(alloc).expect(&rt, "memory"),
+        at: 0,
+        step: 4096,
+        fails: false,
+    };
+    let writer = Short {
+        bytes: Vec::new(alloc),
+        left: 0,
+        fails: true,
+    };
+    let ticket = begun(&rt, &named.office, &mut seat);
+    let end = serve_session(&rt, alloc, reader, writer, &Bell::new(), &all, hand);
+    let SessionEnd {
+        object: _,
+        seat: _,
+        receipts,
+        writer: _,
+        hand,
+        fault,
+    } = end;
+    let mut hand = hand;
+    let mut outcome = run_at_once(alloc, ticket, &mut hand);
+    let taken = named.office.complete_in_place(&rt, &mut seat, &mut outcome);
+    assert!(rt; taken.is_ok());
+    assert!(rt; fault == Some(SessionFault::WriteFault) && receipts.is_empty());
+    let ticket = begun(&rt, &named.office, &mut seat);
+    let outcome = run_at_once(alloc, ticket, &mut hand);
+    assert!(rt; outcome.number() == 2);
 }

@@ -18,4 +18,6 @@ mod patience;
 #[cfg(test)]
 mod refused;
 #[cfg(test)]
+mod turns;
+#[cfg(test)]
 mod waiting;

@@ -30,6 +30,24 @@ pub fn await_lines(written: &AtomicU64, count: u64) {
     }
 }
 
+// So often all turns are taken before a session counts as stuck.
+const ROUNDS: u32 = 5;
+
+/// Whether so many lines were written in time. Where they were not, session 1 of each object leaves, so that a session
+/// that is stuck ends.
+pub fn goes_on<R: Wait>(rt: &R, all: &Vec<Named>, written: &AtomicU64, count: u64) -> bool {
+    for _ in 0..ROUNDS {
+        await_lines(written, count);
+    }
+    let is_told = written.load(Ordering::SeqCst) >= count;
+    if !is_told {
+        for named in all.iter() {
+            named.office.leave(rt, 1);
+        }
+    }
+    is_told
+}
+
 // A reader that gives each line only once so many lines were written.
 #[derive(Drop)]
 pub struct Gate {
@@ -119,11 +137,16 @@ fn cancel_meets_waiter(rt: HostRuntime) {
     let alloc = rt.alloc();
     let (all, hand) = offices(&rt, alloc, BUFFER, EMPTY);
     let count = Arc::new(alloc, AtomicU64::new(0)).expect(&rt, "memory");
-    let bytes = written(&rt, alloc, &all, hand, CANCELS, &count);
+    let shared = &rt;
+    let (bytes, goes) = thread::join(
+        shared,
+        || written(shared, alloc, &all, hand, CANCELS, &count),
+        || goes_on(shared, &all, &count, 5),
+    );
     let told = bytes.as_slice();
     let early: &[u8] = b"opened buffer\naccepted 1\ncancelled 1\ncancel 1 Cancelled\nbye\n";
     let late: &[u8] = b"opened buffer\naccepted 1\ncancel 1 Cancelled\ncancelled 1\nbye\n";
-    assert!(rt; told == early || told == late);
+    assert!(rt; goes && (told == early || told == late));
 }
 
 // Cancels call 1 once it was accepted.
@@ -152,17 +175,55 @@ fn quit_waits_for_the_call_before_it(rt: HostRuntime) {
     assert!(rt; bytes.as_slice() == told);
 }
 
-// A session on an empty buffer writes this, and ends by itself.
+// `quit` in pieces, each of which comes only once three lines were written, or no more come.
+const IN_PIECES: &[(u64, &[u8])] = &[
+    (0, b"open buffer\ncall remove\n"),
+    (3, b"q"),
+    (3, b"u"),
+    (3, b"i"),
+    (3, b"t"),
+    (3, b"\n"),
+];
+
+// Cancels call 1 once it was accepted, or nothing more comes. It answers whether that was told.
+fn cancels_told<R: Wait>(rt: &R, all: &Vec<Named>, count: &AtomicU64) -> bool {
+    await_lines(count, 2);
+    let is_told = count.load(Ordering::SeqCst) >= 2;
+    cancels(rt, all, count);
+    is_told
+}
+
+#[test]
+fn a_call_that_waits_is_told_meanwhile(rt: HostRuntime) {
+    let alloc = rt.alloc();
+    let (all, hand) = offices(&rt, alloc, BUFFER, EMPTY);
+    let count = Arc::new(alloc, AtomicU64::new(0)).expect(&rt, "memory");
+    let shared = &rt;
+    let (bytes, is_told) = thread::join(
+        shared,
+        || written(shared, alloc, &all, hand, IN_PIECES, &count),
+        || cancels_told(shared, &all, &count),
+    );
+    let told: &[u8] = b"opened buffer\naccepted 1\ncancelled 1\nbye\n";
+    assert!(rt; is_told && bytes.as_slice() == told);
+}
+
+// A session on an empty buffer writes this, so many lines, and ends by itself.
 fn tells<R: Abort + Threads + Wait + Clock + Sync>(
     rt: &R,
     alloc: Global,
     lines: &'static [(u64, &'static [u8])],
+    count: u64,
     told: &[u8],
 ) {
     let (all, hand) = offices(rt, alloc, BUFFER, EMPTY);
-    let count = Arc::new(alloc, AtomicU64::new(0)).expect(rt, "memory");
-    let bytes = written(rt, alloc, &all, hand, lines, &count);
-    assert!(rt; bytes.as_slice() == told);
+    let counter = Arc::new(alloc, AtomicU64::new(0)).expect(rt, "memory");
+    let (bytes, goes) = thread::join(
+        rt,
+        || written(rt, alloc, &all, hand, lines, &counter),
+        || goes_on(rt, &all, &counter, count),
+    );
+    assert!(rt; goes && bytes.as_slice() == told);
 }
 
 const ENDS: &[(u64, &[u8])] = &[(0, b"open buffer\ncall remove\ncall remove\n")];
@@ -176,8 +237,9 @@ fn the_input_ends_while_a_call_waits(rt: HostRuntime) {
         &rt,
         alloc,
         ENDS,
+        4,
         b"opened buffer\naccepted 1\ncancelled 1\nno Gone\n",
     );
     let bye = b"opened buffer\naccepted 1\ncancelled 1\nbye\n";
-    tells(&rt, alloc, HANGS_UP, bye);
+    tells(&rt, alloc, HANGS_UP, 4, bye);
 }

@@ -1,2 +1,4 @@
+pub mod Dialogues
 pub mod Saying
 pub mod Truths
+pub mod Turns

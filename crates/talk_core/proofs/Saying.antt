@@ -1,6 +1,6 @@
 -- What was written, line by line.
 use Rattle.std.proofs.Common.{◌≡◌, ℕ, zero, suc, ◌+◌, ◌-◌, ◌≤◌, List, [], ◌∷◌, ◌++◌, length, take, refl, sym, ap, subst, ◌∙◌, append-nil, append_assoc, arith, Option, Some, None, Bool, true, false, inl, inr}
-use Rattle.std.specs.Prelude.{IsTrue, ◌⊎◌}
+use Rattle.std.specs.Prelude.{IsTrue, ◌⊎◌, codes, decimal}
 use Rattle.std.specs.Io.KnownBytes.{Appends}
 use Rattle.std.specs.List.{flat_map}
 use Rattle.std.proofs.lemmas.Bool.{cases_lt}
@@ -8,7 +8,13 @@ use Rattle.std.proofs.lemmas.List.{take-append-le}
 use Rattle.std.proofs.Math.Seq.{take-append-add}
 use Rattle.std.proofs.lemmas.List.Concat.{flat_map-append}
 use Rattle.apply_core.specs.declared.reply.Reply.{Reply}
+use Rattle.board_core.specs.Lists.{Every}
 use Rattle.slip_core.specs.Slips.{Told}
+use Rattle.word_core.specs.Words.{Word, bare, words_text, line_of}
+use Rattle.word_core.specs.Ending.{finish_words}
+use Rattle.trace_core.specs.Text.{reply_ending}
+use Rattle.script_text.specs.Answers.{finished_line}
+use Rattle.session_text.specs.Lines.{refusal_name, fault_name, keyed_name, unended_name, cancel_name}
 use Rattle.session_text.specs.declared.line.Line.TheVariants as lines
 use Rattle.session_text.specs.declared.line.Refusal.{Refusal}
 use Rattle.session_text.specs.declared.line.Refusal.TheVariants as refusals
@@ -16,19 +22,24 @@ use Rattle.session_text.specs.Requests.{Request, opens, calls, cancels, quits}
 use Rattle.session_text.specs.Answers.{Said, opened, ended, repeated, told, said_text, MayAnswer}
 use Rattle.talk_core.specs.declared.note.Note.{Note}
 use Rattle.talk_core.specs.declared.output.Health.{Health}
-use Rattle.talk_core.specs.declared.output.Health.TheVariants.{Fine, NoMemory, Broken}
+use Rattle.talk_core.specs.declared.output.Health.TheVariants.{Fine, NoMemory, Mixed, Broken}
+use Rattle.talk_core.specs.declared.stage.Stage.{Stage}
+use Rattle.talk_core.specs.declared.stage.Stage.TheVariants.{Free}
 use Rattle.hear_core.specs.declared.fault.HearFault.{HearFault}
 use Rattle.hear_core.specs.declared.fault.HearFault.TheVariants as hears
 use Rattle.talk_core.specs.Notes.{note_at}
-use Rattle.talk_core.specs.Written.{note_of, notes_of, lines_text, IsWhole, IsCut, IsHeld, IsWritten, Adds, HandsOver, Sends, IsNoted, AreNoted, IsTold, IsOfSession, AreOfSession, WroteLines, WroteFront, HasWritten, heard_fault, or_memory, told_fault}
+use Rattle.talk_core.specs.Dialogue.{Moves, IsDialogue, IsDialogueSoFar, IsWholeDialogue, IsShut}
+use Rattle.talk_core.specs.Written.{note_of, notes_of, lines_text, IsWhole, IsCut, IsFront, IsHeld, IsWritten, IsSaid, IsStopped, Adds, HandsOver, Sends, IsNoteOf, AreFirst, AreAll, IsAccounted, IsTold, IsOfSession, AreOfSession}
+use Rattle.talk_core.specs.Written.{WroteAll, WroteLines, WroteFront, HasWritten, heard_fault, told_fault}
+use Rattle.talk_core.proofs.Dialogues.{joined, one_more, so_far, with_last}
 
 -- nothing was sent
 nothing_sent : (start : Option (List ℕ)) → Appends start start []
 nothing_sent None = tt
 nothing_sent (Some xs) = sym (append-nil xs)
 
-pub fresh : (start now : Option (List ℕ)) (held : List ℕ) (notes : List Note) → now ≡ start → held ≡ [] → notes ≡ [] → IsWhole start now held notes
-fresh start now held notes at none unnoted = ([], [], sym unnoted, subst (λ k. Appends start k []) (sym at) (nothing_sent start), none)
+pub fresh : (start now : Option (List ℕ)) (held : List ℕ) (notes : List Note) → now ≡ start → held ≡ [] → notes ≡ [] → IsWhole start now held notes Free
+fresh start now held notes at none unnoted = ([], [], sym unnoted, refl, subst (λ k. Appends start k []) (sym at) (nothing_sent start), none)
 
 more_bytes : (start old new : Option (List ℕ)) (front back : List ℕ) → Appends start old front → Appends old new back → Appends start new (front ++ back)
 more_bytes None old new front back a b = tt
@@ -39,85 +50,91 @@ more_bytes (Some xs) (Some ys) (Some zs) front back a b = b ∙ ap (λ w. w ++ b
 at_end : {A : Type 0} (f : Said → List A) (said : List Said) (line : Said) → flat_map f (said ++ line ∷ []) ≡ flat_map f said ++ f line
 at_end f said line = flat_map-append f said (line ∷ []) ∙ ap (λ w. flat_map f said ++ w) (append-nil (f line))
 
--- no line is held back
-pub none_held : IsHeld [] []
-none_held = ([], refl, refl)
-
--- a line is held back, or not
-pub held_so : (held text : List ℕ) (notes more : List Note) (line : Said) (added : Bool) → IsHeld held notes → Adds held text notes more line added → IsHeld text more
-held_so held text notes more line true (kept, noted, are) (grown, marked) = (
+-- a line is held back that may stand there
+pub held_more : (held text : List ℕ) (notes more : List Note) (first at to : Stage) (line : Said) (added : Bool) → IsHeld held notes first at → Moves at line to → added ≡ true → Adds held text notes more line added → IsHeld text more first to
+held_more held text notes more first at to line false is goes so adds = cc
+held_more held text notes more first at to line true (kept, noted, leads, are) goes so (grown, marked) = (
   kept ++ line ∷ [],
   at_end note_of kept line ∙ ap (λ w. w ++ note_of line) noted ∙ sym marked,
+  one_more first at to kept line leads goes,
   grown ∙ ap (λ w. w ++ said_text line) are ∙ sym (at_end said_text kept line),
 )
-held_so held text notes more line false (kept, noted, are) (same, unmarked) = (kept, noted ∙ sym unmarked, same ∙ are)
+
+-- or not
+pub held_still : (held text : List ℕ) (notes more : List Note) (first at : Stage) (line : Said) (added : Bool) → IsHeld held notes first at → added ≡ false → Adds held text notes more line added → IsHeld text more first at
+held_still held text notes more first at line true is so adds = cc
+held_still held text notes more first at line false (kept, noted, leads, are) so (same, unmarked) = (kept, noted ∙ sym unmarked, leads, same ∙ are)
 
 -- what is left behind where lines were handed over
-pub left_behind : (held left to : List ℕ) (notes fewer noted more : List Note) (went : Bool) → IsHeld held notes → HandsOver held left notes fewer to noted more went → IsHeld left fewer
-left_behind held left to notes fewer noted more true is (moved, gone, grown, spent) = ([], sym spent, gone)
-left_behind held left to notes fewer noted more false (kept, marked, are) (none, stays, same, still) = (kept, marked ∙ sym still, stays ∙ are)
+pub all_gone : (held left to : List ℕ) (notes fewer noted more : List Note) (at : Stage) (went : Bool) → went ≡ true → HandsOver held left notes fewer to noted more went → IsHeld left fewer at at
+all_gone held left to notes fewer noted more at false so hands = cc
+all_gone held left to notes fewer noted more at true so (moved, gone, grown, spent) = ([], sym spent, refl, gone)
+
+-- or were not
+pub none_gone : (held left to : List ℕ) (notes fewer noted more : List Note) (first at : Stage) (went : Bool) → IsHeld held notes first at → went ≡ false → HandsOver held left notes fewer to noted more went → IsHeld left fewer first at
+none_gone held left to notes fewer noted more first at true is so hands = cc
+none_gone held left to notes fewer noted more first at false (kept, marked, leads, are) so (none, stays, same, still) = (kept, marked ∙ sym still, leads, stays ∙ are)
 
 -- lines that were held back elsewhere are to be sent
-pub more_held : (start now : Option (List ℕ)) (none held : List ℕ) (notes marks more : List Note) → none ≡ [] → IsWhole start now none notes → IsHeld held marks → more ≡ notes ++ marks → IsWhole start now held more
-more_held start now none held notes marks more empty (sent, before, noted, bytes, are) (kept, marked, stand) grown = (
+pub more_held : (start now : Option (List ℕ)) (none held : List ℕ) (notes marks more : List Note) (first at to : Stage) → none ≡ [] → IsWhole start now none notes at → IsHeld held marks first to → first ≡ at → more ≡ notes ++ marks
+    → IsWhole start now held more to
+more_held start now none held notes marks more first at to empty (sent, before, noted, leads, bytes, are) (kept, marked, on, stand) here grown = (
   sent,
   before ++ kept,
   ap (λ w. notes_of sent ++ w) (flat_map-append note_of before kept) ∙ sym (append_assoc (notes_of sent) (notes_of before) (notes_of kept)) ∙ ap (λ w. w ++ notes_of kept) noted ∙ ap (λ w. notes ++ w) marked ∙ sym grown,
+  subst (λ w. IsDialogue Free w to) (append_assoc sent before kept) (joined Free at to (sent ++ before) kept leads (subst (λ s. IsDialogue s kept to) here on)),
   bytes,
   stand ∙ sym (ap (λ w. w ++ lines_text kept) (sym are ∙ empty)) ∙ sym (flat_map-append said_text before kept),
 )
 
 -- all lines that were held back are sent
-pub all_sent : (start old new : Option (List ℕ)) (held left : List ℕ) (notes : List Note) → IsWhole start old held notes → Sends old new held left true → IsWhole start new left notes
-all_sent start old new held left notes (sent, kept, noted, bytes, are) (gone, none) = (
+pub all_sent : (start old new : Option (List ℕ)) (held left : List ℕ) (notes : List Note) (at : Stage) → IsWhole start old held notes at → Sends old new held left true → IsWhole start new left notes at
+all_sent start old new held left notes at (sent, kept, noted, leads, bytes, are) (gone, none) = (
   sent ++ kept,
   [],
   append-nil (notes_of (sent ++ kept)) ∙ flat_map-append note_of sent kept ∙ noted,
+  subst (λ w. IsDialogue Free w at) (sym (append-nil (sent ++ kept))) leads,
   subst (Appends start new) (sym (flat_map-append said_text sent kept)) (more_bytes start old new (lines_text sent) (lines_text kept) bytes (subst (Appends old new) are gone)),
   none,
 )
 
--- a front of some lines is whole lines, and a front of one more
-pub record IsFront (said : List Said) (count : ℕ) : Type 0 where
+-- a front of the text of some lines is whole lines, and a front of one more
+pub record IsCutAt (said : List Said) (count : ℕ) : Type 0 where
   pub sent : List Said
   pub last : Said
   pub lost : List Said
   pub part : ℕ
-  pub notes : notes_of said ≡ notes_of sent ++ notes_of (last ∷ lost)
+  pub lines : said ≡ sent ++ last ∷ lost
   pub bytes : take count (lines_text said) ≡ lines_text sent ++ take part (said_text last)
 
-one_more_sent : (line : Said) (said : List Said) (count : ℕ) → IsFront said count → IsFront (line ∷ said) (length (said_text line) + count)
+one_more_sent : (line : Said) (said : List Said) (count : ℕ) → IsCutAt said count → IsCutAt (line ∷ said) (length (said_text line) + count)
 one_more_sent line said count front = record {
   sent = line ∷ front.sent;
   last = front.last;
   lost = front.lost;
   part = front.part;
-  notes = ap (λ w. note_of line ++ w) front.notes ∙ sym (append_assoc (note_of line) (notes_of front.sent) (notes_of (front.last ∷ front.lost)));
+  lines = ap (λ w. line ∷ w) front.lines;
   bytes = take-append-add (said_text line) (lines_text said) count ∙ ap (λ w. said_text line ++ w) front.bytes ∙ sym (append_assoc (said_text line) (lines_text front.sent) (take front.part (said_text front.last)));
 }
 
-within_first : (line : Said) (said : List Said) (count : ℕ) → count ≤ length (said_text line) → IsFront (line ∷ said) count
+within_first : (line : Said) (said : List Said) (count : ℕ) → count ≤ length (said_text line) → IsCutAt (line ∷ said) count
 within_first line said count short = record {
   sent = [];
   last = line;
   lost = said;
   part = count;
-  notes = refl;
+  lines = refl;
   bytes = take-append-le count (said_text line) (lines_text said) short;
 }
 
-take_none : (count : ℕ) → take count (lines_text []) ≡ []
-take_none zero = refl
-take_none (suc count) = refl
-
-no_lines : (count : ℕ) → IsFront [] count
-no_lines count = record {
+within_last : (line : Said) (count : ℕ) → IsCutAt (line ∷ []) count
+within_last line count = record {
   sent = [];
-  last = told lines.Bye;
+  last = line;
   lost = [];
-  part = 0;
-  notes = refl;
-  bytes = take_none count;
+  part = count;
+  lines = refl;
+  bytes = ap (take count) (append-nil (said_text line));
 }
 
 short_or_long : (count size : ℕ) → (count ≤ size) ⊎ ((rest : ℕ) × (count ≡ size + rest))
@@ -126,28 +143,120 @@ short_or_long count size = elim (cases_lt size count) [
   | inr short ↦ inl (omega (arith, short))
 ]
 
-front_of : (said : List Said) (count : ℕ) → IsFront said count
-front_of [] count = no_lines count
-front_of (line ∷ said) count = elim (short_or_long count (length (said_text line))) [
-  | inl short ↦ within_first line said count short
-  | inr long ↦ subst (IsFront (line ∷ said)) (sym long.1) (one_more_sent line said long.0 (front_of said long.0))
+front_of : (line : Said) (said : List Said) (count : ℕ) → IsCutAt (line ∷ said) count
+front_of line [] count = within_last line count
+front_of line (next ∷ said) count = elim (short_or_long count (length (said_text line))) [
+  | inl short ↦ within_first line (next ∷ said) count short
+  | inr long ↦ subst (IsCutAt (line ∷ next ∷ said)) (sym long.1) (one_more_sent line (next ∷ said) long.0 (front_of next said long.0))
 ]
 
+-- where bytes are held back, lines are
+some_front : (held : List ℕ) (kept : List Said) (count : ℕ) → (held ≡ [] → ⊥) → held ≡ lines_text kept → IsCutAt kept count
+some_front held [] count some are = absurd (some are)
+some_front held (line ∷ said) count some are = front_of line said count
+
 -- a front of the lines that were held back is sent
-pub some_sent : (start old new : Option (List ℕ)) (held left : List ℕ) (notes : List Note) → IsWhole start old held notes → Sends old new held left false → IsCut start new notes
-some_sent start old new held left notes (sent, kept, noted, bytes, are) (count, gone) =
-    let front = front_of kept count in (
-      sent ++ front.sent,
-      front.last,
-      front.lost,
-      front.part,
-      ap (λ w. w ++ notes_of (front.last ∷ front.lost)) (flat_map-append note_of sent front.sent) ∙ append_assoc (notes_of sent) (notes_of front.sent) (notes_of (front.last ∷ front.lost))
-          ∙ ap (λ w. notes_of sent ++ w) (sym front.notes) ∙ noted,
-      subst (Appends start new)
-          (ap (λ w. lines_text sent ++ w) (ap (take count) are ∙ front.bytes) ∙ sym (append_assoc (lines_text sent) (lines_text front.sent) (take front.part (said_text front.last)))
-          ∙ ap (λ w. w ++ take front.part (said_text front.last)) (sym (flat_map-append said_text sent front.sent)))
-          (more_bytes start old new (lines_text sent) (take count held) bytes gone),
+cut_within : (start old new : Option (List ℕ)) (notes : List Note) (at : Stage) (sent kept : List Said) (count : ℕ) → notes_of sent ++ notes_of kept ≡ notes → IsDialogue Free (sent ++ kept) at → Appends start old (lines_text sent)
+    → Appends old new (take count (lines_text kept)) → IsCutAt kept count → IsCut start new notes
+cut_within start old new notes at sent kept count noted leads bytes gone front = (
+  sent ++ front.sent,
+  front.last,
+  front.lost,
+  front.part,
+  ap (λ w. w ++ notes_of (front.last ∷ front.lost)) (flat_map-append note_of sent front.sent) ∙ append_assoc (notes_of sent) (notes_of front.sent) (notes_of (front.last ∷ front.lost))
+      ∙ ap (λ w. notes_of sent ++ w) (sym (ap notes_of front.lines ∙ flat_map-append note_of front.sent (front.last ∷ front.lost))) ∙ noted,
+  (at, subst (λ w. IsDialogue Free w at) (ap (λ w. sent ++ w) front.lines ∙ sym (append_assoc sent front.sent (front.last ∷ front.lost))) leads),
+  subst (Appends start new)
+      (ap (λ w. lines_text sent ++ w) front.bytes ∙ sym (append_assoc (lines_text sent) (lines_text front.sent) (take front.part (said_text front.last)))
+      ∙ ap (λ w. w ++ take front.part (said_text front.last)) (sym (flat_map-append said_text sent front.sent)))
+      (more_bytes start old new (lines_text sent) (take count (lines_text kept)) bytes gone),
+)
+
+pub some_sent : (start old new : Option (List ℕ)) (held left : List ℕ) (notes : List Note) (at : Stage) → (held ≡ [] → ⊥) → IsWhole start old held notes at → Sends old new held left false → IsCut start new notes
+some_sent start old new held left notes at some (sent, kept, noted, leads, bytes, are) (count, gone) =
+    cut_within start old new notes at sent kept count noted leads bytes (subst (λ w. Appends old new (take count w)) are gone) (some_front held kept count some are)
+
+nothing_more : (start now : Option (List ℕ)) (bytes : List ℕ) → Appends start now bytes → Appends now now []
+nothing_more start now bytes is = nothing_sent now
+
+-- lines that were held back are lost
+none_sent : (start now : Option (List ℕ)) (held : List ℕ) (notes : List Note) (at : Stage) → (held ≡ [] → ⊥) → IsWhole start now held notes at → IsCut start now notes
+none_sent start now held notes at some (sent, kept, noted, leads, bytes, are) =
+    cut_within start now now notes at sent kept 0 noted leads bytes (nothing_sent now) (some_front held kept 0 some are)
+
+-- no line is without text
+not_nil : (xs : List ℕ) → xs ++ 10 ∷ [] ≡ [] → ⊥
+not_nil [] h = cc
+not_nil (x ∷ xs) h = cc
+
+not_line : (words : List Word) → line_of words ≡ [] → ⊥
+not_line words h = not_nil (words_text words) h
+
+back_nil : (xs ys : List ℕ) → xs ++ ys ≡ [] → ys ≡ []
+back_nil [] ys h = h
+back_nil (x ∷ xs) ys h = cc
+
+no_text : (line : Said) → said_text line ≡ [] → ⊥
+no_text (opened name None) h = not_line (bare (codes "opened") ∷ bare name ∷ []) h
+no_text (opened name (Some key)) h = not_line (bare (codes "opened") ∷ bare name ∷ bare (codes "next") ∷ bare (decimal key) ∷ []) h
+no_text (ended n reply) h = not_line (finish_words n (reply_ending reply)) h
+no_text (repeated n reply) h = not_line (finish_words n (reply_ending reply)) (back_nil (codes "repeat ") (finished_line n reply) h)
+no_text (told (lines.Refused refusal)) h = not_line (bare (codes "no") ∷ bare (refusal_name refusal) ∷ []) h
+no_text (told (lines.Unsubmitted fault)) h = not_line (bare (codes "no") ∷ bare (fault_name fault) ∷ []) h
+no_text (told (lines.Unkeyed fault)) h = not_line (bare (codes "no") ∷ bare (keyed_name fault) ∷ []) h
+no_text (told (lines.Accepted n)) h = not_line (bare (codes "accepted") ∷ bare (decimal n) ∷ []) h
+no_text (told (lines.Kept n state)) h = not_line (bare (codes "repeat") ∷ bare (unended_name state) ∷ bare (decimal n) ∷ []) h
+no_text (told (lines.Withdrawn n)) h = not_line (bare (codes "cancelled") ∷ bare (decimal n) ∷ []) h
+no_text (told (lines.Cancel n answer)) h = not_line (bare (codes "cancel") ∷ bare (decimal n) ∷ bare (cancel_name answer) ∷ []) h
+no_text (told lines.Bye) h = not_line (bare (codes "bye") ∷ []) h
+
+front_nil : (xs ys : List ℕ) → xs ++ ys ≡ [] → xs ≡ []
+front_nil [] ys h = refl
+front_nil (x ∷ xs) ys h = cc
+
+no_lines : (kept : List Said) → lines_text kept ≡ [] → kept ≡ []
+no_lines [] h = refl
+no_lines (line ∷ kept) h = absurd (no_text line (front_nil (said_text line) (lines_text kept) h))
+
+-- where nothing is held back, and no call is open, all was said
+all_said : (start now : Option (List ℕ)) (held : List ℕ) (notes : List Note) (at : Stage) → held ≡ [] → IsShut at → IsWhole start now held notes at → IsSaid start now Fine notes
+all_said start now held notes at empty shut (sent, kept, noted, leads, bytes, are) =
+    let none = no_lines kept (sym are ∙ empty) in (
+      sent,
+      sym (append-nil (notes_of sent)) ∙ ap (λ w. notes_of sent ++ notes_of w) (sym none) ∙ noted,
+      (at, subst (λ w. IsDialogue Free w at) (ap (λ w. sent ++ w) none ∙ append-nil sent) leads, shut),
+      bytes,
     )
+
+-- what is written is a front of a dialogue, in any case
+take_all : {A : Type 0} (xs : List A) → take (length xs) xs ≡ xs
+take_all [] = refl
+take_all (x ∷ xs) = ap (λ w. x ∷ w) (take_all xs)
+
+pub whole_front : (start now : Option (List ℕ)) (held : List ℕ) (notes : List Note) (at : Stage) → IsWhole start now held notes at → IsFront start now
+whole_front start now held notes at (sent, kept, noted, leads, bytes, are) =
+    (sent, length (lines_text sent), so_far sent kept (at, leads), subst (Appends start now) (sym (take_all (lines_text sent))) bytes)
+
+cut_front : (start now : Option (List ℕ)) (notes : List Note) → IsCut start now notes → IsFront start now
+cut_front start now notes (sent, last, lost, count, noted, leads, bytes) = (
+  sent ++ last ∷ [],
+  length (lines_text sent) + count,
+  with_last sent last lost leads,
+  subst (Appends start now)
+      (sym (take-append-add (lines_text sent) (said_text last) count) ∙ ap (take (length (lines_text sent) + count)) (sym (at_end said_text sent last)))
+      bytes,
+)
+
+pub said_front : (start now : Option (List ℕ)) (health : Health) (notes : List Note) → IsSaid start now health notes → IsFront start now
+said_front start now Fine notes (sent, noted, (at, leads, shut), bytes) = (sent, length (lines_text sent), (at, leads), subst (Appends start now) (sym (take_all (lines_text sent))) bytes)
+said_front start now NoMemory notes (held, at, is) = whole_front start now held notes at is
+said_front start now Mixed notes is = is
+said_front start now Broken notes is = cut_front start now notes is
+
+-- where all was said, nothing is missing
+pub said_whole : (start now : Option (List ℕ)) (notes : List Note) → IsSaid start now Fine notes → IsSaid start now NoMemory notes
+said_whole start now notes (sent, noted, (at, leads, shut), bytes) =
+    ([], at, (sent, [], append-nil (notes_of sent) ∙ noted, subst (λ w. IsDialogue Free w at) (sym (append-nil sent)) leads, bytes, refl))
 
 refused_line : (refusal : Refusal) → (q : Option Request) × MayAnswer q (told (lines.Refused refusal))
 refused_line refusals.BadLine = (None, tt)
@@ -158,6 +267,37 @@ refused_line refusals.NoObject = (Some (opens [] None), tt)
 refused_line refusals.InUse = (Some (opens [] (Some [])), tt)
 refused_line refusals.Full = (Some (opens [] None), tt)
 refused_line refusals.Gone = (Some (calls None [] []), tt)
+
+-- a note is of one of these receipts
+abbrev IsNoted : List Told → Note → Type 0
+IsNoted [] note = ⊥
+IsNoted (r ∷ receipts) note = IsNoteOf r note ⊎ IsNoted receipts note
+
+abbrev AreNoted : List Told → List Note → Type 0
+AreNoted receipts notes = Every (IsNoted receipts) notes
+
+wider : (r : Told) (receipts : List Told) (notes : List Note) → AreNoted receipts notes → AreNoted (r ∷ receipts) notes
+wider r receipts [] h = tt
+wider r receipts (note ∷ notes) h = (inr h.0, wider r receipts notes h.1)
+
+first_noted : (receipts : List Told) (notes : List Note) → AreFirst receipts notes → AreNoted receipts notes
+first_noted [] [] h = tt
+first_noted (r ∷ receipts) [] h = tt
+first_noted [] (note ∷ notes) h = absurd h
+first_noted (r ∷ receipts) (note ∷ notes) h = (inl h.0, wider r receipts notes (first_noted receipts notes h.1))
+
+all_first : (receipts : List Told) (notes : List Note) → AreAll receipts notes → AreFirst receipts notes
+all_first [] [] h = tt
+all_first (r ∷ receipts) [] h = absurd h
+all_first [] (note ∷ notes) h = absurd h
+all_first (r ∷ receipts) (note ∷ notes) h = (h.0, all_first receipts notes h.1)
+
+-- the first ones of the first ones
+fewer_first : (receipts : List Told) (notes more : List Note) → AreFirst receipts (notes ++ more) → AreFirst receipts notes
+fewer_first [] [] more h = tt
+fewer_first (r ∷ receipts) [] more h = tt
+fewer_first [] (note ∷ notes) more h = absurd h
+fewer_first (r ∷ receipts) (note ∷ notes) more h = (h.0, fewer_first receipts notes more h.1)
 
 told_by : (receipts : List Told) (n : ℕ) (r : Reply) → IsNoted receipts (note_at n r) → IsTold receipts n r
 told_by [] n r h = h
@@ -189,76 +329,119 @@ lines_of_session receipts (line ∷ said) h =
     let r = noted_parts receipts (note_of line) (notes_of said) h in
     (line_of_session receipts line r.0, lines_of_session receipts said r.1)
 
-wrote_lines : (start now : Option (List ℕ)) (held : List ℕ) (notes : List Note) (receipts : List Told) → IsWhole start now held notes → AreNoted receipts notes → WroteLines start now receipts
-wrote_lines start now held notes receipts (sent, kept, noted, bytes, are) h =
-    (sent, lines_of_session receipts sent (noted_parts receipts (notes_of sent) (notes_of kept) (subst (AreNoted receipts) (sym noted) h)).0, bytes)
+first_of_session : (receipts : List Told) (said : List Said) → AreFirst receipts (notes_of said) → AreOfSession receipts said
+first_of_session receipts said h = lines_of_session receipts said (first_noted receipts (notes_of said) h)
 
-wrote_front : (start now : Option (List ℕ)) (notes : List Note) (receipts : List Told) → IsCut start now notes → AreNoted receipts notes → WroteFront start now receipts
-wrote_front start now notes receipts (sent, last, lost, count, noted, bytes) h =
-    let parts = noted_parts receipts (notes_of sent) (notes_of (last ∷ lost)) (subst (AreNoted receipts) (sym noted) h) in
-    (sent, last, count, lines_of_session receipts sent parts.0, line_of_session receipts last (noted_parts receipts (note_of last) (notes_of lost) parts.1).0, bytes)
+wrote_all : (start now : Option (List ℕ)) (notes : List Note) (receipts : List Told) → IsSaid start now Fine notes → AreAll receipts notes → WroteAll start now receipts
+wrote_all start now notes receipts (sent, noted, whole, bytes) h =
+    let all = subst (AreAll receipts) (sym noted) h in
+    (sent, whole, all, first_of_session receipts sent (all_first receipts (notes_of sent) all), bytes)
 
--- a fault that leaves whole lines
-whole_fault : (heard : Option HearFault) (start now : Option (List ℕ)) (receipts : List Told) → WroteLines start now receipts → HasWritten start now receipts (heard_fault heard)
+wrote_lines : (start now : Option (List ℕ)) (held : List ℕ) (notes : List Note) (at : Stage) (receipts : List Told) → IsWhole start now held notes at → AreFirst receipts notes → WroteLines start now receipts
+wrote_lines start now held notes at receipts (sent, kept, noted, leads, bytes, are) h =
+    let first = fewer_first receipts (notes_of sent) (notes_of kept) (subst (AreFirst receipts) (sym noted) h) in
+    (sent, so_far sent kept (at, leads), first, first_of_session receipts sent first, bytes)
+
+wrote_front : (start now : Option (List ℕ)) (notes : List Note) (receipts : List Told) → IsCut start now notes → AreFirst receipts notes → WroteFront start now receipts
+wrote_front start now notes receipts (sent, last, lost, count, noted, leads, bytes) h =
+    let all = subst (AreFirst receipts) (sym noted ∙ sym (append_assoc (notes_of sent) (note_of last) (notes_of lost))) h in
+    let first = fewer_first receipts (notes_of sent ++ note_of last) (notes_of lost) all in
+    let parts = noted_parts receipts (notes_of sent) (note_of last) (first_noted receipts (notes_of sent ++ note_of last) first) in (
+      sent,
+      last,
+      count,
+      with_last sent last lost leads,
+      subst (AreFirst receipts) (sym (at_end note_of sent last)) first,
+      lines_of_session receipts sent parts.0,
+      line_of_session receipts last parts.1,
+      bytes,
+    )
+
+-- all lines were written, and more than is asked for
+wrote_more : (start now : Option (List ℕ)) (receipts : List Told) → WroteAll start now receipts → WroteLines start now receipts
+wrote_more start now receipts (said, (to, leads, shut), all, of, bytes) = (said, (to, leads), all_first receipts (notes_of said) all, of, bytes)
+
+-- a fault that leaves all lines
+whole_fault : (heard : Option HearFault) (start now : Option (List ℕ)) (receipts : List Told) → WroteAll start now receipts → HasWritten start now receipts (heard_fault heard)
 whole_fault None start now receipts is = is
 whole_fault (Some hears.LineTooLong) start now receipts is = is
 whole_fault (Some hears.ReadFault) start now receipts is = is
-whole_fault (Some hears.Memory) start now receipts is = is
-
-memory_fault : (heard : Option HearFault) (start now : Option (List ℕ)) (receipts : List Told) → WroteLines start now receipts → HasWritten start now receipts (or_memory (heard_fault heard))
-memory_fault None start now receipts is = is
-memory_fault (Some hears.LineTooLong) start now receipts is = is
-memory_fault (Some hears.ReadFault) start now receipts is = is
-memory_fault (Some hears.Memory) start now receipts is = is
+whole_fault (Some hears.Memory) start now receipts is = wrote_more start now receipts is
 
 -- what was written, by the fault that is told
-pub wrote : (accounted : Bool) (health : Health) (heard : Option HearFault) (start now : Option (List ℕ)) (held : List ℕ) (notes : List Note) (receipts : List Told)
-    → (IsTrue accounted → AreNoted receipts notes) → IsWritten start now held health notes → HasWritten start now receipts (told_fault accounted health heard)
-wrote false health heard start now held notes receipts h is = tt
-wrote true Broken heard start now held notes receipts h is = wrote_front start now notes receipts is (h refl)
-wrote true NoMemory heard start now held notes receipts h is = memory_fault heard start now receipts (wrote_lines start now held notes receipts is (h refl))
-wrote true Fine heard start now held notes receipts h is = whole_fault heard start now receipts (wrote_lines start now held notes receipts is (h refl))
+pub wrote : (accounted : Bool) (health : Health) (heard : Option HearFault) (start now : Option (List ℕ)) (notes : List Note) (receipts : List Told)
+    → (IsTrue accounted → IsAccounted health receipts notes) → IsSaid start now health notes → HasWritten start now receipts (told_fault accounted health heard)
+wrote false health heard start now notes receipts h is = said_front start now health notes is
+wrote true Mixed heard start now notes receipts h is = is
+wrote true Broken heard start now notes receipts h is = wrote_front start now notes receipts is (h refl)
+wrote true NoMemory heard start now notes receipts h is = wrote_lines start now is.0 notes is.1 receipts is.2 (h refl)
+wrote true Fine heard start now notes receipts h is = whole_fault heard start now receipts (wrote_all start now notes receipts is (h refl))
 
 -- where all is fine, all is whole
-whole_at : (start now : Option (List ℕ)) (held : List ℕ) (health : Health) (notes : List Note) → health ≡ Fine → IsWritten start now held health notes → IsWhole start now held notes
-whole_at start now held health notes fine is = subst (λ h. IsWritten start now held h notes) fine is
+whole_at : (start now : Option (List ℕ)) (held : List ℕ) (health : Health) (notes : List Note) (at : Stage) → health ≡ Fine → IsWritten start now held health notes at → IsWhole start now held notes at
+whole_at start now held health notes at fine is = subst (λ h. IsWritten start now held h notes at) fine is
 
--- lines were taken from those held back elsewhere, or not
-pub was_taken : (start now : Option (List ℕ)) (none held left to : List ℕ) (notes marks fewer more : List Note) (health : Health) (went : Bool) → none ≡ [] → health ≡ Fine
-    → IsWritten start now none health notes → IsHeld held marks → HandsOver held left marks fewer to notes more went → IsWhole start now to more
-was_taken start now none held left to notes marks fewer more health true empty fine is are (moved, gone, grown, spent) =
-    subst (λ w. IsWhole start now w more) (sym moved) (more_held start now none held notes marks more empty (whole_at start now none health notes fine is) are grown)
-was_taken start now none held left to notes marks fewer more health false empty fine is are (moved, stays, same, kept) =
-    subst (λ w. IsWhole start now w more) (empty ∙ sym moved) (subst (λ w. IsWhole start now none w) (sym same) (whole_at start now none health notes fine is))
+-- and where all is whole, all may be fine
+still_fine : (start now : Option (List ℕ)) (held : List ℕ) (health : Health) (notes : List Note) (at : Stage) → health ≡ Fine → IsWhole start now held notes at → IsWritten start now held health notes at
+still_fine start now held health notes at fine is = subst (λ h. IsWritten start now held h notes at) (sym fine) is
 
--- and where all was fine, all is
-pub still_fine : (start now : Option (List ℕ)) (held : List ℕ) (notes : List Note) (health : Health) → health ≡ Fine → IsWhole start now held notes → IsWritten start now held health notes
-still_fine start now held notes health fine is = subst (λ h. IsWritten start now held h notes) (sym fine) is
+-- lines were taken from those held back elsewhere
+pub was_taken : (start now : Option (List ℕ)) (none held left to : List ℕ) (notes marks fewer more : List Note) (first at here : Stage) (health : Health) (went : Bool) → none ≡ [] → health ≡ Fine → first ≡ at → went ≡ true
+    → IsWritten start now none health notes at → IsHeld held marks first here → HandsOver held left marks fewer to notes more went → IsWritten start now to health more here
+was_taken start now none held left to notes marks fewer more first at here health false empty fine same so is are hands = cc
+was_taken start now none held left to notes marks fewer more first at here health true empty fine same so is are (moved, gone, grown, spent) =
+    still_fine start now to health more here fine
+    (subst (λ w. IsWhole start now w more here) (sym moved) (more_held start now none held notes marks more first at here empty (whole_at start now none health notes at fine is) are same grown))
 
--- where nothing is broken, all is whole
-unbroken : (start now : Option (List ℕ)) (held : List ℕ) (health : Health) (notes : List Note) → (health ≡ Broken → ⊥) → IsWritten start now held health notes → IsWhole start now held notes
-unbroken start now held Fine notes never is = is
-unbroken start now held NoMemory notes never is = is
-unbroken start now held Broken notes never is = absurd (never refl)
+-- or could not be
+pub was_left : (start now : Option (List ℕ)) (none held left to : List ℕ) (notes marks fewer more : List Note) (at : Stage) (health : Health) (went : Bool) → none ≡ [] → health ≡ Fine → went ≡ false
+    → IsWritten start now none health notes at → HandsOver held left marks fewer to notes more went → IsWhole start now to more at
+was_left start now none held left to notes marks fewer more at health true empty fine so is hands = cc
+was_left start now none held left to notes marks fewer more at health false empty fine so is (moved, stays, same, kept) =
+    subst (λ w. IsWhole start now w more at) (empty ∙ sym moved) (subst (λ w. IsWhole start now none w at) (sym same) (whole_at start now none health notes at fine is))
 
--- and where all is whole, nothing is broken
-still_unbroken : (start now : Option (List ℕ)) (held : List ℕ) (health : Health) (notes : List Note) → (health ≡ Broken → ⊥) → IsWhole start now held notes → IsWritten start now held health notes
-still_unbroken start now held Fine notes never is = is
-still_unbroken start now held NoMemory notes never is = is
-still_unbroken start now held Broken notes never is = absurd (never refl)
+-- or do not go on there
+pub was_mixed : (start now : Option (List ℕ)) (held : List ℕ) (health : Health) (notes : List Note) (at : Stage) → health ≡ Fine → IsWritten start now held health notes at → IsFront start now
+was_mixed start now held health notes at fine is = whole_front start now held notes at (whole_at start now held health notes at fine is)
 
-not_so : {A : Type 0} (b : Bool) → b ≡ false → (A → b ≡ true) → A → ⊥
+-- where nothing has stopped, all is whole
+unstopped : (start now : Option (List ℕ)) (held : List ℕ) (health : Health) (notes : List Note) (at : Stage) → (IsStopped health → ⊥) → IsWritten start now held health notes at → IsWhole start now held notes at
+unstopped start now held Fine notes at never is = is
+unstopped start now held NoMemory notes at never is = is
+unstopped start now held Mixed notes at never is = absurd (never tt)
+unstopped start now held Broken notes at never is = absurd (never tt)
+
+-- and where all is whole, nothing has stopped
+still_unstopped : (start now : Option (List ℕ)) (held : List ℕ) (health : Health) (notes : List Note) (at : Stage) → (IsStopped health → ⊥) → IsWhole start now held notes at → IsWritten start now held health notes at
+still_unstopped start now held Fine notes at never is = is
+still_unstopped start now held NoMemory notes at never is = is
+still_unstopped start now held Mixed notes at never is = absurd (never tt)
+still_unstopped start now held Broken notes at never is = absurd (never tt)
+
+pub not_so : {A : Type 0} (b : Bool) → b ≡ false → (A → b ≡ true) → A → ⊥
 not_so b no_it_is so a = let h = so a in cc
 
--- what is held back is sent, where nothing was broken
-pub was_sent : (start old new : Option (List ℕ)) (held left : List ℕ) (notes : List Note) (health : Health) (broken gone : Bool) → (health ≡ Broken → broken ≡ true) → broken ≡ false → gone ≡ true
-    → IsWritten start old held health notes → Sends old new held left gone → IsWritten start new left health notes
-was_sent start old new held left notes health broken gone tells unbroken_now is_gone is sends =
-    let never = not_so broken unbroken_now tells in
-    still_unbroken start new left health notes never (all_sent start old new held left notes (unbroken start old held health notes never is) (subst (Sends old new held left) is_gone sends))
+-- what is held back is sent, where nothing has stopped
+pub was_sent : (start old new : Option (List ℕ)) (held left : List ℕ) (notes : List Note) (at : Stage) (health : Health) (stopped gone : Bool) → (IsStopped health → stopped ≡ true) → stopped ≡ false → gone ≡ true
+    → IsWritten start old held health notes at → Sends old new held left gone → IsWritten start new left health notes at
+was_sent start old new held left notes at health stopped gone tells goes is_gone is sends =
+    let never = not_so stopped goes tells in
+    still_unstopped start new left health notes at never (all_sent start old new held left notes at (unstopped start old held health notes at never is) (subst (Sends old new held left) is_gone sends))
 
 -- and where that fails, a front of it is
-pub was_cut : (start old new : Option (List ℕ)) (held left : List ℕ) (notes : List Note) (health : Health) (broken gone : Bool) → (health ≡ Broken → broken ≡ true) → broken ≡ false → gone ≡ false
-    → IsWritten start old held health notes → Sends old new held left gone → IsCut start new notes
-was_cut start old new held left notes health broken gone tells unbroken_now not_gone is sends =
-    some_sent start old new held left notes (unbroken start old held health notes (not_so broken unbroken_now tells) is) (subst (Sends old new held left) not_gone sends)
+pub was_cut : (start old new : Option (List ℕ)) (held left : List ℕ) (notes : List Note) (at : Stage) (health : Health) (stopped gone : Bool) → (held ≡ [] → ⊥) → (IsStopped health → stopped ≡ true) → stopped ≡ false
+    → gone ≡ false → IsWritten start old held health notes at → Sends old new held left gone → IsCut start new notes
+was_cut start old new held left notes at health stopped gone some tells goes not_gone is sends =
+    some_sent start old new held left notes at some (unstopped start old held health notes at (not_so stopped goes tells) is) (subst (Sends old new held left) not_gone sends)
+
+-- how all went when no more is said: lines were not sent
+pub last_lost : (start now : Option (List ℕ)) (held : List ℕ) (health : Health) (notes : List Note) (at : Stage) → health ≡ Fine → (held ≡ [] → ⊥) → IsWritten start now held health notes at → IsSaid start now Broken notes
+last_lost start now held health notes at fine some is = none_sent start now held notes at some (whole_at start now held health notes at fine is)
+
+-- or all were
+pub last_fine : (start now : Option (List ℕ)) (held : List ℕ) (health : Health) (notes : List Note) (at : Stage) → health ≡ Fine → held ≡ [] → IsShut at → IsWritten start now held health notes at → IsSaid start now Fine notes
+last_fine start now held health notes at fine none shut is = all_said start now held notes at none shut (whole_at start now held health notes at fine is)
+
+-- or there was no memory for some
+pub last_short : (start now : Option (List ℕ)) (held : List ℕ) (health : Health) (notes : List Note) (at : Stage) → health ≡ NoMemory → IsWritten start now held health notes at → IsSaid start now NoMemory notes
+last_short start now held health notes at short is = (held, at, subst (λ h. IsWritten start now held h notes at) short is)

@@ -1,3 +1,5 @@
+pub mod Dialogue
+pub mod Laws
 pub mod Notes
 pub mod Repeats
 pub mod Written

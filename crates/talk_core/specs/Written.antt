@@ -9,11 +9,14 @@ use Rattle.session_text.specs.Requests.{Request}
 use Rattle.session_text.specs.Answers.{Said, opened, ended, repeated, told, said_text, MayAnswer}
 use Rattle.talk_core.specs.declared.note.Note.{Note}
 use Rattle.talk_core.specs.declared.output.Health.{Health}
-use Rattle.talk_core.specs.declared.output.Health.TheVariants.{Fine, NoMemory, Broken}
+use Rattle.talk_core.specs.declared.output.Health.TheVariants.{Fine, NoMemory, Mixed, Broken}
+use Rattle.talk_core.specs.declared.stage.Stage.{Stage}
+use Rattle.talk_core.specs.declared.stage.Stage.TheVariants.{Free}
 use Rattle.talk_core.specs.declared.fault.SessionFault.{SessionFault}
 use Rattle.talk_core.specs.declared.fault.SessionFault.TheVariants as faults
 use Rattle.hear_core.specs.declared.fault.HearFault.{HearFault}
 use Rattle.hear_core.specs.declared.fault.HearFault.TheVariants as hears
+use Rattle.talk_core.specs.Dialogue.{IsDialogue, IsDialogueSoFar, IsWholeDialogue}
 use Rattle.talk_core.specs.Notes.{note_at}
 
 -- the note of a line: its number and reply, where it is the last line of a receipt
@@ -30,28 +33,50 @@ notes_of said = flat_map note_of said
 abbrev pub lines_text : List Said → List ℕ
 lines_text said = flat_map said_text said
 
--- whole lines were sent, and others are held back; these are their notes
-abbrev pub IsWhole : Option (List ℕ) → Option (List ℕ) → List ℕ → List Note → Type 0
-IsWhole start now held notes =
+-- whole lines were sent, and others are held back: a dialogue that has come to here; these are their notes
+abbrev pub IsWhole : Option (List ℕ) → Option (List ℕ) → List ℕ → List Note → Stage → Type 0
+IsWhole start now held notes at =
     (sent : List Said) × (kept : List Said) × (notes_of sent ++ notes_of kept ≡ notes)
-    × Appends start now (lines_text sent) × (held ≡ lines_text kept)
+    × IsDialogue Free (sent ++ kept) at × Appends start now (lines_text sent) × (held ≡ lines_text kept)
 
--- whole lines were sent, then a front of one more, and others were lost; these are their notes
+-- whole lines of a dialogue were sent, then a front of one more, and others were lost; these are their notes
 abbrev pub IsCut : Option (List ℕ) → Option (List ℕ) → List Note → Type 0
 IsCut start now notes =
     (sent : List Said) × (last : Said) × (lost : List Said) × (count : ℕ)
-    × (notes_of sent ++ notes_of (last ∷ lost) ≡ notes)
+    × (notes_of sent ++ notes_of (last ∷ lost) ≡ notes) × IsDialogueSoFar (sent ++ last ∷ lost)
     × Appends start now (lines_text sent ++ take count (said_text last))
 
--- what was sent since the start, with the lines held back and these notes
-abbrev pub IsWritten : Option (List ℕ) → Option (List ℕ) → List ℕ → Health → List Note → Type 0
-IsWritten start now held Fine notes = IsWhole start now held notes
-IsWritten start now held NoMemory notes = IsWhole start now held notes
-IsWritten start now held Broken notes = IsCut start now notes
+-- a front of the text of a dialogue was sent
+abbrev pub IsFront : Option (List ℕ) → Option (List ℕ) → Type 0
+IsFront start now =
+    (said : List Said) × (count : ℕ) × IsDialogueSoFar said × Appends start now (take count (lines_text said))
 
--- these are whole lines, with these notes
-abbrev pub IsHeld : List ℕ → List Note → Type 0
-IsHeld held notes = (kept : List Said) × (notes_of kept ≡ notes) × (held ≡ lines_text kept)
+-- what was sent since the start, with the lines held back and these notes, and where they have come to
+abbrev pub IsWritten : Option (List ℕ) → Option (List ℕ) → List ℕ → Health → List Note → Stage → Type 0
+IsWritten start now held Fine notes at = IsWhole start now held notes at
+IsWritten start now held NoMemory notes at = IsWhole start now held notes at
+IsWritten start now held Mixed notes at = IsFront start now
+IsWritten start now held Broken notes at = IsCut start now notes
+
+-- what was sent when no more is said: where all is fine each line was, and no call is open
+abbrev pub IsSaid : Option (List ℕ) → Option (List ℕ) → Health → List Note → Type 0
+IsSaid start now Fine notes =
+    (sent : List Said) × (notes_of sent ≡ notes) × IsWholeDialogue sent × Appends start now (lines_text sent)
+IsSaid start now NoMemory notes = (held : List ℕ) × (at : Stage) × IsWhole start now held notes at
+IsSaid start now Mixed notes = IsFront start now
+IsSaid start now Broken notes = IsCut start now notes
+
+-- nothing more is sent
+abbrev pub IsStopped : Health → Type 0
+IsStopped Fine = ⊥
+IsStopped NoMemory = ⊥
+IsStopped Mixed = ⊤
+IsStopped Broken = ⊤
+
+-- these are whole lines that lead from here to there, with these notes
+abbrev pub IsHeld : List ℕ → List Note → Stage → Stage → Type 0
+IsHeld held notes first at =
+    (kept : List Said) × (notes_of kept ≡ notes) × IsDialogue first kept at × (held ≡ lines_text kept)
 
 -- what adding a line to those held back does
 abbrev pub Adds : List ℕ → List ℕ → List Note → List Note → Said → Bool → Type 0
@@ -73,13 +98,22 @@ Sends old new held left false = (count : ℕ) × Appends old new (take count hel
 abbrev pub IsNoteOf : Told → Note → Type 0
 IsNoteOf r note = (r.call.number ≡ note.number) × (r.reply ≡ note.reply)
 
--- a note is of one of these receipts
-abbrev pub IsNoted : List Told → Note → Type 0
-IsNoted [] note = ⊥
-IsNoted (r ∷ receipts) note = IsNoteOf r note ⊎ IsNoted receipts note
+-- the notes are those of the first receipts, one by one
+abbrev pub AreFirst : List Told → List Note → Type 0
+AreFirst receipts [] = ⊤
+AreFirst [] (note ∷ notes) = ⊥
+AreFirst (r ∷ receipts) (note ∷ notes) = IsNoteOf r note × AreFirst receipts notes
 
-abbrev pub AreNoted : List Told → List Note → Type 0
-AreNoted receipts notes = Every (IsNoted receipts) notes
+-- the notes are those of the receipts, one by one
+abbrev pub AreAll : List Told → List Note → Type 0
+AreAll [] [] = ⊤
+AreAll (r ∷ receipts) (note ∷ notes) = IsNoteOf r note × AreAll receipts notes
+AreAll receipts notes = ⊥
+
+-- the notes are those of the receipts, where all was written, and else those of the first
+abbrev pub IsAccounted : Health → List Told → List Note → Type 0
+IsAccounted Fine receipts notes = AreAll receipts notes
+IsAccounted health receipts notes = AreFirst receipts notes
 
 -- one of these receipts has this number and this reply
 abbrev pub IsTold : List Told → ℕ → Reply → Type 0
@@ -95,24 +129,34 @@ IsOfSession receipts line =
 abbrev pub AreOfSession : List Told → List Said → Type 0
 AreOfSession receipts said = Every (IsOfSession receipts) said
 
--- whole lines of the session were written
+-- Whole lines of the session were written: each call that it accepted has its last line, and the last lines of those
+-- with a receipt are those of the receipts, one by one.
+abbrev pub WroteAll : Option (List ℕ) → Option (List ℕ) → List Told → Type 0
+WroteAll start now receipts =
+    (said : List Said) × IsWholeDialogue said × AreAll receipts (notes_of said) × AreOfSession receipts said
+    × Appends start now (lines_text said)
+
+-- the same, but that lines may be left out at the end
 abbrev pub WroteLines : Option (List ℕ) → Option (List ℕ) → List Told → Type 0
-WroteLines start now receipts = (said : List Said) × AreOfSession receipts said × Appends start now (lines_text said)
+WroteLines start now receipts =
+    (said : List Said) × IsDialogueSoFar said × AreFirst receipts (notes_of said) × AreOfSession receipts said
+    × Appends start now (lines_text said)
 
 -- and then a front of one more
 abbrev pub WroteFront : Option (List ℕ) → Option (List ℕ) → List Told → Type 0
 WroteFront start now receipts =
-    (said : List Said) × (last : Said) × (count : ℕ) × AreOfSession receipts said × IsOfSession receipts last
+    (said : List Said) × (last : Said) × (count : ℕ) × IsDialogueSoFar (said ++ last ∷ [])
+    × AreFirst receipts (notes_of (said ++ last ∷ [])) × AreOfSession receipts said × IsOfSession receipts last
     × Appends start now (lines_text said ++ take count (said_text last))
 
 -- what a session wrote, by its fault
 abbrev pub HasWritten : Option (List ℕ) → Option (List ℕ) → List Told → Option SessionFault → Type 0
-HasWritten start now receipts None = WroteLines start now receipts
-HasWritten start now receipts (Some faults.LineTooLong) = WroteLines start now receipts
-HasWritten start now receipts (Some faults.ReadFault) = WroteLines start now receipts
+HasWritten start now receipts None = WroteAll start now receipts
+HasWritten start now receipts (Some faults.LineTooLong) = WroteAll start now receipts
+HasWritten start now receipts (Some faults.ReadFault) = WroteAll start now receipts
 HasWritten start now receipts (Some faults.WriteFault) = WroteFront start now receipts
 HasWritten start now receipts (Some faults.Memory) = WroteLines start now receipts
-HasWritten start now receipts (Some faults.LogMixed) = ⊤
+HasWritten start now receipts (Some faults.LogMixed) = IsFront start now
 
 -- the fault that was met in reading, if any
 abbrev pub heard_fault : Option HearFault → Option SessionFault
@@ -121,14 +165,10 @@ heard_fault (Some hears.LineTooLong) = Some faults.LineTooLong
 heard_fault (Some hears.ReadFault) = Some faults.ReadFault
 heard_fault (Some hears.Memory) = Some faults.Memory
 
--- that, or else a want of memory
-abbrev pub or_memory : Option SessionFault → Option SessionFault
-or_memory None = Some faults.Memory
-or_memory (Some fault) = Some fault
-
 -- the fault that is told
 abbrev pub told_fault : Bool → Health → Option HearFault → Option SessionFault
 told_fault false health heard = Some faults.LogMixed
+told_fault true Mixed heard = Some faults.LogMixed
 told_fault true Broken heard = Some faults.WriteFault
-told_fault true NoMemory heard = or_memory (heard_fault heard)
+told_fault true NoMemory heard = Some faults.Memory
 told_fault true Fine heard = heard_fault heard

@@ -7,6 +7,7 @@ ghost use Rattle.talk_core.specs.Written.{IsHeld, Adds, HandsOver};
 
 use crate::note::{Note, add_note};
 use crate::room::make_room_for;
+use crate::stage::{Stage, behind, behind_free, behind_last};
 use apply_core::reply::Reply;
 use path_tree::name::Name;
 use session_text::line::{Line, push_ended, push_line, push_opened, push_repeated};
@@ -18,7 +19,7 @@ use text_core::limits::MOST_TEXT_BYTES;
 /// Room for the longest line that is written of a call, in bytes, twice over.
 const LINE_ROOM: usize = 4096;
 
-/// Lines that are held back, whole, and the notes of the last lines of calls among them.
+/// Lines that are held back, whole and each in its turn, and the notes of the last lines of calls among them.
 #[derive(Drop)]
 pub struct Held {
     text: Vec<u8>,
@@ -27,20 +28,26 @@ pub struct Held {
     // memory for the reply of a note
     spare: Vec<u8>,
     alloc: Global,
+    // where the lines before them had come to, and where these have
+    first: Stage,
+    at: Stage,
     // Whether a line was lost, for which there was no memory. No more are begun then.
     lost: bool,
+    // Whether a line was not taken, since it may not stand where it was said. No more are begun then.
+    mixed: bool,
 }
 
 impl Model for Held {
     ghost use Rattle.std.specs.Prelude.{ℕ, List};
     ghost use Rattle.talk_core.specs.declared.note.Note.{Note};
+    ghost use Rattle.talk_core.specs.declared.stage.Stage.{Stage};
     ghost use Rattle.talk_core.specs.Written.{IsHeld};
 
-    ghost Value = { List ℕ × List Note };
+    ghost Value = { List ℕ × List Note × Stage × Stage };
 
-    ghost view = { λ h. (h.text.items, h.notes.items) };
+    ghost view = { λ h. (h.text.items, h.notes.items, h.first, h.at) };
 
-    ghost invariant = { λ h. IsHeld h.text.items h.notes.items };
+    ghost invariant = { λ h. IsHeld h.text.items h.notes.items h.first h.at };
 }
 
 // Holds a line back.
@@ -130,7 +137,7 @@ fn hand_over(
 impl Held {
     /// Nothing is held back yet.
     pub fn new(alloc: Global) -> Held
-        ensures { result ≡ ([], []) }
+        ensures { result ≡ ([], [], Stage.Free, Stage.Free) }
     {
         Held {
             text: Vec::new(alloc),
@@ -138,7 +145,10 @@ impl Held {
             line: Vec::new(alloc),
             spare: Vec::new(alloc),
             alloc,
+            first: Stage::Free,
+            at: Stage::Free,
             lost: false,
+            mixed: false,
         }
     }
 
@@ -163,29 +173,63 @@ impl Held {
         self.notes.len()
     }
 
-    /// Whether no line was lost.
-    pub fn is_whole(&self) -> bool {
-        !self.lost
+    /// Whether a line was lost, for which there was no memory.
+    pub fn is_lost(&self) -> bool {
+        self.lost
     }
 
-    /// Holds a line back, unless a line before it was lost. It answers whether it did.
+    /// Whether a line was not taken, since it may not stand where it was said.
+    pub fn is_mixed(&self) -> bool {
+        self.mixed
+    }
+
+    /// Whether each line that was said was held back.
+    pub fn is_whole(&self) -> bool {
+        !self.lost && !self.mixed
+    }
+
+    /// Where the lines before those that are held back had come to.
+    pub fn first(&self) -> Stage
+        ensures { result ≡ self.now.2 }
+    {
+        self.first
+    }
+
+    /// Where the lines that are held back have come to.
+    pub fn at(&self) -> Stage
+        ensures { result ≡ self.now.3 }
+    {
+        self.at
+    }
+
+    /// Holds a line back, unless it may not stand here, or a line before it was not held back. It answers whether it
+    /// did.
     pub fn say(&mut self, line: Line) -> bool {
-        if self.lost {
+        if !self.is_whole() {
             return false;
         }
+        let Some(to) = behind(self.at, line) else {
+            self.mixed = true;
+            return false;
+        };
         if !add_line(&mut self.text, &mut self.line, line) {
             self.lost = true;
             return false;
         }
+        self.at = to;
         true
     }
 
-    /// Holds back the last line of a call that has a receipt, and notes it, unless a line before it was lost. It
-    /// answers whether it did.
+    /// Holds back the last line of a call that has a receipt, and notes it, unless that call is not open, or a line
+    /// before it was not held back. It answers whether it did.
     pub fn say_ended(&mut self, number: u32, reply: &Reply) -> bool {
-        if self.lost {
+        if !self.is_whole() {
             return false;
         }
+        let Some(to) = behind_last(self.at, number) else {
+            self.mixed = true;
+            return false;
+        };
         if !add_ended(
             self.alloc,
             &mut self.text,
@@ -198,32 +242,43 @@ impl Held {
             self.lost = true;
             return false;
         }
+        self.at = to;
         true
     }
 
-    /// Holds back the last line of a call that was made before, unless a line before it was lost. It answers whether it
-    /// did. It is not noted.
+    /// Holds back the last line of a call that was made before, unless a call is open, or a line before it was not held
+    /// back. It answers whether it did. It is not noted.
     pub fn say_repeated(&mut self, number: u32, reply: &Reply) -> bool {
-        if self.lost {
+        if !self.is_whole() {
             return false;
         }
+        let Some(to) = behind_free(self.at) else {
+            self.mixed = true;
+            return false;
+        };
         if !add_repeated(&mut self.text, &mut self.line, number, reply) {
             self.lost = true;
             return false;
         }
+        self.at = to;
         true
     }
 
-    /// Holds back `opened NAME`, with the next key where one is told, unless a line before it was lost. It answers
-    /// whether it did.
+    /// Holds back `opened NAME`, with the next key where one is told, unless a call is open, or a line before it was not
+    /// held back. It answers whether it did.
     pub fn say_opened(&mut self, name: &Name, next: Option<u32>) -> bool {
-        if self.lost {
+        if !self.is_whole() {
             return false;
         }
+        let Some(to) = behind_free(self.at) else {
+            self.mixed = true;
+            return false;
+        };
         if !add_opened(&mut self.text, &mut self.line, name, next) {
             self.lost = true;
             return false;
         }
+        self.at = to;
         true
     }
 
@@ -233,9 +288,13 @@ impl Held {
         requires { to.old.items ≡ [] }
         ensures over { HandsOver self.old.0 self.new.0 self.old.1 self.new.1 to.new.items noted.old.items
             noted.new.items result }
-        ensures held { IsHeld self.old.0 self.old.1 }
+        ensures held { IsHeld self.old.0 self.old.1 self.old.2 self.old.3 }
         ensures empty { to.old.items ≡ [] }
     {
-        hand_over(&mut self.text, &mut self.notes, to, noted)
+        if !hand_over(&mut self.text, &mut self.notes, to, noted) {
+            return false;
+        }
+        self.first = self.at;
+        true
     }
 }

@@ -8,8 +8,10 @@
 
 pub mod fault;
 pub mod held;
+pub mod laws;
 pub mod mouth;
 pub mod note;
 pub mod output;
 pub mod patient;
 pub mod room;
+pub mod stage;

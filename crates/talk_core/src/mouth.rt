@@ -6,7 +6,7 @@
 ghost use Rattle.std.specs.Prelude.{◌≡◌, ℕ, List, Option};
 ghost use Rattle.talk_core.specs.declared.note.Note.{Note};
 ghost use Rattle.talk_core.specs.Repeats.{WasNoted};
-ghost use Rattle.talk_core.specs.Written.{IsWritten};
+ghost use Rattle.talk_core.specs.Written.{IsSaid};
 
 use crate::held::Held;
 use crate::note::Note;
@@ -39,18 +39,22 @@ pub struct Mouth<W: Write + Drop, J: Start> {
     came: Condvar,
 }
 
-// How all went, where a line was lost or not.
-fn with_loss(health: Health, is_whole: bool) -> Health
-    ensures { (start now : Option (List ℕ)) (held : List ℕ) (notes : List Note) →
-        IsWritten start now held health notes → IsWritten start now held result notes }
+// How all went, by the writer and by the lines that were held back.
+fn with_held(health: Health, held: &Held) -> Health
+    ensures { (start now : Option (List ℕ)) (notes : List Note) → IsSaid start now health notes →
+        IsSaid start now result notes }
 {
+    if held.is_mixed() {
+        return Health::Mixed;
+    }
     match health {
-        Health::Fine => if is_whole {
-            Health::Fine
-        } else {
+        Health::Fine => if held.is_lost() {
             Health::NoMemory
+        } else {
+            Health::Fine
         },
         Health::NoMemory => Health::NoMemory,
+        Health::Mixed => Health::Mixed,
         Health::Broken => Health::Broken,
     }
 }
@@ -75,27 +79,29 @@ impl<W: Write + Drop, J: Start> Mouth<W, J> {
         held.make_room() && output.make_room(held.count().saturating_add(1))
     }
 
-    /// Holds a line back, unless a line before it was lost. It answers whether it did. It waits for nobody who sends.
+    /// Holds a line back, unless it may not stand here, or a line before it was not held back. It answers whether it
+    /// did. It waits for nobody who sends.
     pub fn say<R: Wait>(&self, rt: &R, line: Line) -> bool {
         self.held.lock(rt).say(line)
     }
 
-    /// Holds back the last line of a call that has a receipt, and notes it, unless a line before it was lost. It
-    /// answers whether it did. It waits for nobody who sends.
+    /// Holds back the last line of a call that has a receipt, and notes it, unless that call is not open, or a line
+    /// before it was not held back. It answers whether it did. It waits for nobody who sends.
     pub fn say_ended<R: Wait>(&self, rt: &R, number: u32, reply: &Reply) -> bool {
         self.held.lock(rt).say_ended(number, reply)
     }
 
-    /// Holds back the last line of a call that was made before, unless a line before it was lost. It answers whether it
-    /// did. It is not noted: its receipt is of another session, or was told before. It waits for nobody who sends.
+    /// Holds back the last line of a call that was made before, unless a call is open, or a line before it was not held
+    /// back. It answers whether it did. It is not noted: its receipt is of another session, or was told before. It
+    /// waits for nobody who sends.
     pub fn say_repeated<R: Wait>(&self, rt: &R, number: u32, reply: &Reply) -> bool
         requires { WasNoted number reply.now }
     {
         self.held.lock(rt).say_repeated(number, reply)
     }
 
-    /// Holds back `opened NAME`, with the next key where one is told, unless a line before it was lost. It answers
-    /// whether it did. It waits for nobody who sends.
+    /// Holds back `opened NAME`, with the next key where one is told, unless a call is open, or a line before it was not
+    /// held back. It answers whether it did. It waits for nobody who sends.
     pub fn say_opened<R: Wait>(&self, rt: &R, name: &Name, next: Option<u32>) -> bool {
         self.held.lock(rt).say_opened(name, next)
     }
@@ -140,9 +146,10 @@ impl<W: Write + Drop, J: Start> Mouth<W, J> {
         }
     }
 
-    /// The writer, the notes, and whether all lines were written. Lines that are held back are lost.
+    /// The writer, the notes, and how all went. Lines that are held back are lost, and `Broken` is told for them;
+    /// `Mixed` is told where a line was said where it may not stand, or the last line of a call is missing.
     pub fn into_parts(self) -> (W, Vec<Note>, Health)
-        ensures { (held : List ℕ) × IsWritten J.start (W.contents result.0) held result.2 result.1.items }
+        ensures { IsSaid J.start (W.contents result.0) result.2 result.1.items }
     {
         let Mouth {
             held,
@@ -150,8 +157,11 @@ impl<W: Write + Drop, J: Start> Mouth<W, J> {
             wish: _,
             came: _,
         } = self;
-        let is_whole = held.into_inner().is_whole();
-        let (writer, notes, health) = output.into_inner().into_parts();
-        (writer, notes, with_loss(health, is_whole))
+        let mut held = held.into_inner();
+        let mut output = output.into_inner();
+        output.take(&mut held);
+        let (writer, notes, health) = output.into_parts();
+        let health = with_held(health, &held);
+        (writer, notes, health)
     }
 }

@@ -2,13 +2,14 @@
 //!
 //! Lines come to it whole, from those that are held back ([`Held`]), and are sent together by [`Output::flush`].
 
-ghost use Rattle.std.specs.Prelude.{◌≡◌, ◌↔◌, IsTrue, ℕ, List};
+ghost use Rattle.std.specs.Prelude.{◌≡◌, ◌↔◌, [], IsTrue, ℕ, List, Option};
 ghost use Rattle.talk_core.specs.declared.note.Note.{Note};
-ghost use Rattle.talk_core.specs.Written.{IsWritten, Sends};
+ghost use Rattle.talk_core.specs.Written.{IsWritten, IsSaid, IsStopped, Sends};
 
 use crate::held::Held;
 use crate::note::Note;
 use crate::room::make_room_for;
+use crate::stage::{Stage, is_same, is_shut};
 use line_core::write_whole;
 use std::alloc::Global;
 use std::io::Write;
@@ -34,7 +35,9 @@ pub enum Health {
     Fine,
     /// There was no memory for a line. It was not begun, and no more are.
     NoMemory,
-    /// A write failed. What was not sent is lost, and no more lines are begun.
+    /// A line was said where it may not stand. It was not begun, and no more are.
+    Mixed,
+    /// A write failed, or lines were not sent. What was not sent is lost, and no more lines are begun.
     Broken,
 }
 
@@ -44,6 +47,8 @@ pub struct Output<W: Write + Drop, J: Start> {
     writer: W,
     held: Vec<u8>,
     notes: Vec<Note>,
+    // where the lines have come to that were sent and are to be
+    at: Stage,
     health: Health,
     of: PhantomData<J>,
 }
@@ -58,7 +63,7 @@ impl<W: Write + Drop, J: Start> Model for Output<W, J> {
 
     ghost view = { λ o. (o.notes.items, o.health) };
 
-    ghost invariant = { λ o. IsWritten J.start (W.contents o.writer) o.held.items o.health o.notes.items };
+    ghost invariant = { λ o. IsWritten J.start (W.contents o.writer) o.held.items o.health o.notes.items o.at };
 }
 
 // Sends the lines that are held back.
@@ -72,23 +77,51 @@ fn send<W: Write>(writer: &mut W, held: &mut Vec<u8>) -> bool
     true
 }
 
+fn is_none(held: &[u8]) -> bool
+    ensures { IsTrue result ↔ (held.now ≡ []) }
+{
+    held.is_empty()
+}
+
 fn is_fine(health: Health) -> bool
     ensures { IsTrue result ↔ (health ≡ Health.Fine) }
 {
     match health {
         Health::Fine => true,
         Health::NoMemory => false,
+        Health::Mixed => false,
         Health::Broken => false,
     }
 }
 
-fn is_broken(health: Health) -> bool
-    ensures { IsTrue result ↔ (health ≡ Health.Broken) }
+// Whether nothing more is sent.
+fn is_stopped(health: Health) -> bool
+    ensures { IsTrue result ↔ IsStopped health }
 {
     match health {
         Health::Fine => false,
         Health::NoMemory => false,
+        Health::Mixed => true,
         Health::Broken => true,
+    }
+}
+
+// How all went, when no more is said: lines that were not sent are lost.
+fn last_health(health: Health, held: &[u8], at: Stage) -> Health
+    ensures { (start now : Option (List ℕ)) (notes : List Note) → IsWritten start now held.now health notes at →
+        IsSaid start now result notes }
+{
+    match health {
+        Health::Fine => if !is_none(held) {
+            Health::Broken
+        } else if is_shut(at) {
+            Health::Fine
+        } else {
+            Health::Mixed
+        },
+        Health::NoMemory => Health::NoMemory,
+        Health::Mixed => Health::Mixed,
+        Health::Broken => Health::Broken,
     }
 }
 
@@ -101,6 +134,7 @@ impl<W: Write + Drop, J: Start> Output<W, J> {
             writer,
             held: Vec::new(alloc),
             notes: Vec::new(alloc),
+            at: Stage::Free,
             health: Health::Fine,
             of: PhantomData,
         }
@@ -112,7 +146,7 @@ impl<W: Write + Drop, J: Start> Output<W, J> {
     }
 
     /// Takes the lines that are held back, unless some were taken that could not be sent. Where there is no memory for
-    /// their notes, none are taken, now and later.
+    /// their notes, or they do not go on where those taken before had come to, none are taken, now and later.
     pub fn take(&mut self, more: &mut Held) {
         if !is_fine(self.health) {
             return;
@@ -120,19 +154,25 @@ impl<W: Write + Drop, J: Start> Output<W, J> {
         if !self.held.is_empty() {
             return;
         }
+        if !is_same(more.first(), self.at) {
+            self.health = Health::Mixed;
+            return;
+        }
+        let at = more.at();
         if !more.hand_over(&mut self.held, &mut self.notes) {
             self.health = Health::NoMemory;
             return;
         }
+        self.at = at;
     }
 
     /// Sends the lines that were taken, in one write where the writer takes them so. It answers whether all
     /// lines so far were sent.
     pub fn flush(&mut self) -> bool {
-        if is_broken(self.health) {
+        if is_stopped(self.health) {
             return false;
         }
-        if self.held.is_empty() {
+        if is_none(&self.held) {
             return is_fine(self.health);
         }
         if !send(&mut self.writer, &mut self.held) {
@@ -142,17 +182,20 @@ impl<W: Write + Drop, J: Start> Output<W, J> {
         is_fine(self.health)
     }
 
-    /// The writer, the notes, and whether all lines were written. Lines that were not sent are lost.
+    /// The writer, the notes, and how all went. Lines that were taken and not sent are lost, and `Broken` is told for
+    /// them; `Mixed` is told where the last line of a call is missing.
     pub fn into_parts(self) -> (W, Vec<Note>, Health)
-        ensures { (held : List ℕ) × IsWritten J.start (W.contents result.0) held result.2 result.1.items }
+        ensures { IsSaid J.start (W.contents result.0) result.2 result.1.items }
     {
         let Output {
             writer,
-            held: _,
+            held,
             notes,
+            at,
             health,
             of: _,
         } = self;
+        let health = last_health(health, &held, at);
         (writer, notes, health)
     }
 }

@@ -4,5 +4,5 @@ use Rattle.talk_core.proofs.Saying.{wrote}
 use Rattle.session_core.proofs.end.conclude.Goals as goal
 
 pub returns : goal.returns
-returns c = λ start now held is. subst (HasWritten start now c.args.receipts.now) (sym c.fault_of.ensures)
-    (wrote c.are_noted-accounted.result c.args.health c.args.heard start now held c.args.notes.now c.args.receipts.now c.are_noted-accounted.ensures is)
+returns c = λ start now is. subst (HasWritten start now c.args.receipts.now) (sym c.fault_of.ensures)
+    (wrote c.is_accounted-accounted.result c.args.health c.args.heard start now c.args.notes.now c.args.receipts.now c.is_accounted-accounted.ensures is)

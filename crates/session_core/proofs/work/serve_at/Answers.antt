@@ -8,5 +8,5 @@ returns-clause-told g c =
     let f = c.completed-finished.result in
     let o = c.completed-finished.new.outcome in
     more_true g.H.Hand.agrees c.args.worked.now.hand c.performed-outcome.new.hand c.put_off.new.hand c.args.worked.now.receipts.items c.make_room.new.receipts.items c.keep.new.receipts.items (told_by f.place f.session o)
-    c.make_room.ensures.same c.keep.ensures (λ a later. c.retire_left.ensures a (c.performed-outcome.ensures.kept a later)) c.put_off.ensures
+    c.make_room.ensures.same c.keep.ensures (λ a later. c.retire_left.ensures.kept a (c.performed-outcome.ensures.kept a later)) c.put_off.ensures.kept
     (λ a later. as_true a c.performed-outcome.result o c.completed-finished.ensures (c.performed-outcome.ensures.told a later))

@@ -1,0 +1,6 @@
+use Rattle.std.proofs.Common.{◌≡◌}
+use Rattle.serve_core.specs.Gathers.{slips_in, none_of}
+use Rattle.serve_core.proofs.gather.Gathering.new.Given as goal
+
+abbrev pub invariant-loop : goal.invariant-loop
+invariant-loop g l = slips_in l.all.items ≡ none_of l.counter

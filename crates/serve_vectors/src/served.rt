@@ -1,0 +1,193 @@
+//! A server on a folder of a test's own, over connections.
+
+use ahead_core::ahead::AheadHand;
+use ahead_core::sealed::Sealed;
+use device_core::dir::DirHand;
+use device_core::numbers::Numbers;
+use serve_core::gate::Gate;
+use serve_core::serve::{Place, ServeEnd, serve_on};
+use std::io::{self, Read, Write};
+use std::net::{Ipv4Addr, Net, TcpListener, TcpStream};
+use std::os::unix::fs::FileExt;
+use std::process::Abort;
+use std::rt::Files;
+use std::sync::{Arc, Wait};
+use std::thread::Threads;
+use std::time::{Clock, Duration};
+use std::{fs, process, thread};
+
+// Two objects, each with one part, of one number.
+const SOURCE: &[u8] = b"object cell;
+  path 1:([get], put) end;
+  var v : array [1] of integer;
+  entry function get : integer; begin get := v[0] end;
+  entry procedure put(x : integer); begin v[0] := x end;
+end;
+object other;
+  path 1:(add) end;
+  var v : array [1] of integer;
+  entry procedure add(x : integer); begin v[0] := v[0] + x end;
+end;
+";
+
+// How long a client waits for an answer, in milliseconds.
+const WAITS: u64 = 5_000;
+
+// A new folder that no other test has.
+fn new_folder<R: Files + AllocGlobal>(rt: &R, process: u32, name: &str) -> io::Result<String> {
+    let folder = format!(in rt.alloc(); "/tmp/pathserve-{name}-{process}")?;
+    let _ = fs::remove_dir_all(rt, folder.as_str());
+    fs::create_dir(rt, folder.as_str())?;
+    Ok(folder)
+}
+
+// A folder and hands on it for so many sessions.
+fn place_of<R: Files + AllocGlobal + Copy + Drop>(
+    rt: &R,
+    folder: &str,
+    sessions: usize,
+) -> io::Result<Place<AheadHand<R>>> {
+    let numbers = Arc::new(rt.alloc(), Numbers::new(1))?;
+    let sealed = Arc::new(rt.alloc(), Sealed::new(rt.alloc())?)?;
+    let mut hands = Vec::new(rt.alloc());
+    for _ in 0..sessions {
+        let hand = DirHand::new(*rt, folder, Arc::try_clone(&numbers)?)?;
+        let hand = AheadHand::new(*rt, hand, folder, Arc::try_clone(&sealed)?)?;
+        if hands.push(hand).is_err() {
+            return Err(io::Error::from(io::ErrorKind::OutOfMemory));
+        }
+    }
+    Ok(Place {
+        folder: String::from_str(rt.alloc(), folder)?,
+        left: Vec::new(rt.alloc()),
+        first: 1,
+        numbers,
+        hands,
+    })
+}
+
+// A gate for so many connections, at a port that is free.
+fn gate_for<R: Net<Listener = TcpListener, Stream = TcpStream>>(
+    rt: &R,
+    most: usize,
+) -> io::Result<Gate> {
+    Gate::open(TcpListener::bind(rt, (Ipv4Addr::LOCALHOST, 0))?, most)
+}
+
+// A client that has said these lines.
+fn says<R: Net<Listener = TcpListener, Stream = TcpStream>>(
+    rt: &R,
+    gate: &Gate,
+    lines: &[u8],
+) -> io::Result<TcpStream> {
+    let mut client: TcpStream = TcpStream::connect(rt, (Ipv4Addr::LOCALHOST, gate.port()?))?;
+    client.set_read_timeout(Some(Duration::from_millis(WAITS)))?;
+    client.write_all(lines)?;
+    Ok(client)
+}
+
+// Whether a client is told this, and then nothing more.
+fn is_told(client: &mut TcpStream, told: &[u8]) -> bool {
+    let mut piece = [0; 256];
+    let mut rest = told;
+    for _ in 0..=told.len() {
+        let Ok(len) = client.read(&mut piece) else {
+            return false;
+        };
+        if len == 0 {
+            return rest.is_empty();
+        }
+        match rest.strip_prefix(&piece[..len]) {
+            Some(behind) => rest = behind,
+            None => return false,
+        }
+    }
+    false
+}
+
+// Whether the file of this name in a folder begins so.
+fn begins<R: Files + AllocGlobal>(rt: &R, folder: &str, name: &str, with: &[u8]) -> bool {
+    let Ok(path) = format!(in rt.alloc(); "{folder}/{name}") else {
+        return false;
+    };
+    match fs::read(rt, path.as_str()) {
+        Ok(bytes) => bytes.as_slice().starts_with(with),
+        Err(_) => false,
+    }
+}
+
+// Serves so many connections. It answers whether the server ends whole, tells nothing on standard error, and writes its
+// port and then this.
+fn serves<R: Files + AllocGlobal + Threads + Wait + Clock + Copy + Drop + Send + Sync>(
+    rt: &R,
+    folder: &str,
+    gate: &Gate,
+    sessions: usize,
+    told: &str,
+) -> io::Result<bool>
+where
+    R::File: FileExt + Send,
+{
+    let all = format!(in rt.alloc(); "listening {}\n{told}", gate.port()?)?;
+    let place = place_of(rt, folder, sessions)?;
+    let (mut out, mut error) = (Vec::new(rt.alloc()), Vec::new(rt.alloc()));
+    let ended = serve_on(rt, rt.alloc(), SOURCE, place, gate, &mut out, &mut error);
+    Ok(ended == Ok(ServeEnd::Whole) && error.is_empty() && out.as_slice() == all.as_bytes())
+}
+
+// Two clients at once, each of an object of its own. Both have said their lines before the server takes them.
+#[test]
+fn a_server_serves_each_client_and_closes_each_object(rt: HostRuntime) {
+    let folder = new_folder(&rt, process::id(rt.process()), "served").expect(&rt, "a folder");
+    let gate = gate_for(&rt, 2).expect(&rt, "a gate");
+    let lines = b"open cell\ncall put 7\ncall get\nquit\n";
+    let mut one = says(&rt, &gate, lines).expect(&rt, "a connection");
+    let lines = b"open other as ann\ncall #1 add 5\nquit\n";
+    let mut two = says(&rt, &gate, lines).expect(&rt, "a connection");
+    let told = "cell entries 2\nother entries 1\n";
+    let is_whole = serves(&rt, folder.as_str(), &gate, 2, told).expect(&rt, "a folder");
+    assert!(rt; is_whole);
+    let answers = b"opened cell\naccepted 1\ndone 1\naccepted 2\ndone 2 7\nbye\n";
+    assert!(rt; is_told(&mut one, answers));
+    let answers = b"opened other next 1\naccepted 1\ndone 1\nbye\n";
+    assert!(rt; is_told(&mut two, answers));
+    let saved = b"\x02\x01\x00\x01\x00\x00\x00\x07";
+    assert!(rt; begins(&rt, folder.as_str(), "cell.v.part", saved));
+    let saved = b"\x02\x01\x00\x01\x00\x00\x00\x05";
+    assert!(rt; begins(&rt, folder.as_str(), "other.v.part", saved));
+    let trace = b"object other\npart v 0201000100000000\n";
+    assert!(rt; begins(&rt, folder.as_str(), "other.trace", trace));
+    assert!(rt; fs::remove_dir_all(&rt, folder.as_str()).is_ok());
+}
+
+// A client that says nothing more once it is told that its object is opened, and then has the server stop. It answers
+// whether it is left in time.
+fn is_left(gate: &Gate, client: TcpStream) -> bool {
+    let mut client = client;
+    let mut piece = [0; 64];
+    let is_opened = match client.read(&mut piece) {
+        Ok(len) => &piece[..len] == b"opened cell\n".as_slice(),
+        Err(_) => false,
+    };
+    gate.stop();
+    match client.read(&mut piece) {
+        Ok(len) => is_opened && len == 0,
+        Err(_) => false,
+    }
+}
+
+#[test]
+fn a_silent_client_is_left_when_the_gate_is_stopped(rt: HostRuntime) {
+    let folder = new_folder(&rt, process::id(rt.process()), "stopped").expect(&rt, "a folder");
+    let gate = gate_for(&rt, 2).expect(&rt, "a gate");
+    let silent = says(&rt, &gate, b"open cell\n").expect(&rt, "a connection");
+    let told = "cell entries 0\nother entries 0\n";
+    let shared = &rt;
+    let (is_whole, left) = thread::join(
+        shared,
+        || serves(shared, folder.as_str(), &gate, 2, told),
+        || is_left(&gate, silent),
+    );
+    assert!(rt; left && is_whole.is_ok_and(|it| it));
+    assert!(rt; fs::remove_dir_all(&rt, folder.as_str()).is_ok());
+}
