@@ -5,8 +5,8 @@
 #[cfg(test)]
 mod closed;
 #[cfg(test)]
-mod gathered;
-#[cfg(test)]
 mod gates;
+#[cfg(test)]
+mod gathered;
 #[cfg(test)]
 mod served;

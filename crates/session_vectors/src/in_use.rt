@@ -348,9 +348,7 @@ fn lines_are_sent_before_a_call_that_is_held_back(rt: HostRuntime) {
     } = end;
     let mut hand = hand;
     let mut outcome = run_at_once(alloc, ticket, &mut hand);
-    let taken = named
-        .office
-        .complete_in_place(&rt, &mut seat, &mut outcome);
+    let taken = named.office.complete_in_place(&rt, &mut seat, &mut outcome);
     assert!(rt; taken.is_ok());
     assert!(rt; fault == Some(SessionFault::WriteFault) && receipts.is_empty());
     let ticket = begun(&rt, &named.office, &mut seat);
