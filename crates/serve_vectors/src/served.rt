@@ -30,8 +30,10 @@ object other;
 end;
 ";
 
-// How long a client waits for an answer, in milliseconds.
+// How long a client waits for an answer, and how long it rests, in milliseconds.
 const WAITS: u64 = 5_000;
+
+const RESTS: u64 = 300;
 
 // A new folder that no other test has.
 fn new_folder<R: Files + AllocGlobal>(rt: &R, process: u32, name: &str) -> io::Result<String> {
@@ -160,8 +162,8 @@ fn a_server_serves_each_client_and_closes_each_object(rt: HostRuntime) {
     assert!(rt; fs::remove_dir_all(&rt, folder.as_str()).is_ok());
 }
 
-// A client that says nothing more once it is told that its object is opened, and then has the server stop. It answers
-// whether it is left in time.
+// A client that says nothing more once it is told that its object is opened, and has the server stop when that has
+// waited for it for a while. It answers whether it is left in time.
 fn is_left(gate: &Gate, client: TcpStream) -> bool {
     let mut client = client;
     let mut piece = [0; 64];
@@ -169,9 +171,12 @@ fn is_left(gate: &Gate, client: TcpStream) -> bool {
         Ok(len) => &piece[..len] == b"opened cell\n".as_slice(),
         Err(_) => false,
     };
+    let _ = client.set_read_timeout(Some(Duration::from_millis(RESTS)));
+    let is_kept = client.read(&mut piece).is_err();
+    let _ = client.set_read_timeout(Some(Duration::from_millis(WAITS)));
     gate.stop();
     match client.read(&mut piece) {
-        Ok(len) => is_opened && len == 0,
+        Ok(len) => is_opened && is_kept && len == 0,
         Err(_) => false,
     }
 }
