@@ -48,10 +48,12 @@ fn named(alloc: Global, text: &[u8], part: &[u8]) -> Option<Vec<Named>> {
 
 // A session of the first object, or of none, that ended so.
 fn ended(alloc: Global, object: Option<usize>, fault: Option<SessionFault>) -> Came<MemHand> {
+    let receipts = Vec::new(alloc);
+    let backed = Backed::new(receipts, MemHand::new(alloc));
     Came::Session(Left {
         object,
         seat: None,
-        backed: Backed::new(Vec::new(alloc), MemHand::new(alloc)),
+        backed,
         fault,
     })
 }

@@ -11,16 +11,16 @@ use Rattle.serve_core.proofs.serve.close_all.Goals as goal
 pub loop-named-init : goal.loop-named-init
 loop-named-init g c =
     let gives = c.into_iter-named-iterator.ensures.into_iter_gives in
-    let values = c.into_iter-values.ensures.into_iter_gives in
-    let left = c.into_iter-left.ensures.into_iter_gives in
+    let values = c.into_iter-values.ensures in
+    let left = c.into_iter-left.ensures in
     let count = c.args.served.offices.ok.0 in
     record {
       so = closed_none g.H.Hand.agrees _ _ _ _ _ _ _ _ _ _ _ _ _ (ap named_in gives.0) (omega (arith, gives.1, ap length gives.0, count, length-map c.args.served.offices.items (λ (n : Named). n.name), ap length (ap named_in gives.0)))
-          (ap openings_in values.0) (ap slips_in left.0);
-      values = omega (arith, gives.1, values.1, count, c.args.served.openings.ok.0, c.requires.openings);
-      values_items = omega (arith, gives.1, ap length values.0, count, c.requires.openings);
-      left = omega (arith, gives.1, left.1, count, c.args.gathered.ok.0, c.requires.gathered);
-      left_items = omega (arith, gives.1, ap length left.0, count, c.requires.gathered);
+          (ap openings_in values.rest) (ap slips_in left.rest);
+      values = omega (arith, gives.1, values.len, count, c.args.served.openings.ok.0, c.requires.openings);
+      values_items = omega (arith, gives.1, ap length values.rest, count, c.requires.openings);
+      left = omega (arith, gives.1, left.len, count, c.args.gathered.ok.0, c.requires.gathered);
+      left_items = omega (arith, gives.1, ap length left.rest, count, c.requires.gathered);
     }
 
 pub loop-named-preserved : goal.loop-named-preserved
