@@ -1,2 +1,3 @@
 pub mod Running
+pub mod Naming
 pub mod Telling

@@ -1,18 +1,20 @@
 -- What the trace of a desk tells.
 use Rattle.std.proofs.Common.{◌≡◌, ℕ, ◌≤◌, zero, suc, List, [], ◌∷◌, ◌++◌, length, refl, sym, ap, ◌∙◌, subst, arith, append_assoc, map}
-use Rattle.std.specs.Prelude.{Option, Some, None, slice_get, slice_index_or, unwrap_or}
+use Rattle.std.specs.Prelude.{All, Option, Some, None, slice_get, slice_index_or, unwrap_or}
 use Rattle.std.specs.List.{fold}
 use Rattle.std.proofs.lemmas.List.{append-nil, length-map}
 use Rattle.std.proofs.lemmas.Option.{slice_get_within}
 use Rattle.path_tree.specs.Trace.{IsTrace}
+use Rattle.path_tree.specs.Known.{place_of}
 use Rattle.path_tree.specs.Satisfies.{SatisfiesAll}
+use Rattle.value_core.specs.Datum.{IsDatum}
 use Rattle.decl_core.specs.Bodies.{body_of}
 use Rattle.decl_core.specs.ObjectForm.{ObjectForm, OperationForm}
 use Rattle.decl_core.specs.ObjectMap.{object_of, operation_of}
 use Rattle.apply_core.specs.declared.reply.Reply.{Reply}
 use Rattle.apply_core.specs.History as history
 use Rattle.trace_core.specs.Events.{Happened, began, ended, event_of, trace_of, form_body, no_body, body_at, end_of, history_of}
-use Rattle.trace_core.specs.Text.{call_ended, trace_text, told_of}
+use Rattle.trace_core.specs.Text.{call_ended, trace_text, told_of, operation_name}
 use Rattle.trace_core.specs.Laws.{IsReply}
 use Rattle.trace_core.proofs.Growing.{body_is_same}
 use Rattle.board_core.specs.declared.event.TraceEvent.{TraceEvent}
@@ -24,10 +26,12 @@ use Rattle.board_core.specs.Sound.{IsNumbered, IsMadeOf, IsNoted, event_number, 
 use Rattle.board_core.specs.Chain as chain
 use Rattle.desk_core.specs.Told.{called_of, line_told, lines_told}
 use Rattle.audit_core.specs.Laws.{IsCallFor, AreCallsFor}
+use Rattle.audit_core.specs.Operations.{operation_names}
 use Rattle.audit_core.specs.Verdicts.{IsLegalTrace}
 use Rattle.audit_core.proofs.Written.{text_is_legal}
-use Rattle.audit_law.specs.Laws.{IsTakenBy, DeskTextIsLegal}
+use Rattle.audit_law.specs.Laws.{DeskTextIsLegal}
 use Rattle.audit_law.proofs.Running.{OfCalls, runs}
+use Rattle.audit_law.proofs.Naming.{name_there, found_there}
 
 -- an event, as what happened
 abbrev happened_at : List AcceptedCall → TraceEvent → Happened
@@ -117,18 +121,18 @@ module _ (b : Board) (made : Every (IsMadeOf b.object) b.calls) where
   call_within zero call few is = absurd cc
   call_within (suc k) call few is = (omega arith, omega (arith, few, slice_get_within b.calls k call is))
 
-  call_for : (n : ℕ) (call : AcceptedCall) → length b.calls ≤ 65536 → Every (IsTakenBy (object_of b.object)) b.calls → call_at b.calls n ≡ Some call → IsCallFor (object_of b.object) (called_of n (Some call))
-  call_for n call few taken is =
+  call_for : (n : ℕ) (call : AcceptedCall) → length b.calls ≤ 65536 → Every (λ c. All IsDatum c.arguments) b.calls → call_at b.calls n ≡ Some call → IsCallFor (object_of b.object) (called_of n (Some call))
+  call_for n call few known is =
       let o = object_of b.object in
       let of = every_at (IsMadeOf b.object) b.calls n call made is in
-      let by = every_at (IsTakenBy o) b.calls n call taken is in
+      let named : operation_name o call.op ≡ call.operation.name = name_there o.operations call.op (operation_of call.operation) of.operation in
       record {
         number = call_within n call few is;
-        session = by.session;
+        session = of.session;
         there = slice_get_within o.operations call.op (operation_of call.operation) of.operation;
-        first = by.first;
+        first = subst (λ name. place_of (operation_names o.operations) name ≡ Some call.op) (sym named) (found_there b.object.operations.items call.op (operation_of call.operation) call.operation.name of.operation refl of.first);
         fit = of.fits ∙ ap (λ x. x.params) (sym (body_made n call is));
-        known = by.known;
+        known = every_at (λ c. All IsDatum c.arguments) b.calls n call known is;
       }
 
 -- each start is of a call within the limits
@@ -142,7 +146,7 @@ of_calls calls past [] of = of
 of_calls calls past (Start n ∷ trace) of = of_calls calls (happened_at calls (Start n) ∷ past) trace (ap (λ m. called_of m (call_at calls m)) (sym (number_kept n (call_at calls n))), of)
 of_calls calls past (End n reply ∷ trace) of = of_calls calls (happened_at calls (End n reply) ∷ past) trace (ap (λ m. called_of m (call_at calls m)) (sym (number_kept n (call_at calls n))), of)
 
-each_starts : (b : Board) (past : List Happened) (trace : List TraceEvent) → Every (IsMadeOf b.object) b.calls → length b.calls ≤ 65536 → Every (IsTakenBy (object_of b.object)) b.calls
+each_starts : (b : Board) (past : List Happened) (trace : List TraceEvent) → Every (IsMadeOf b.object) b.calls → length b.calls ≤ 65536 → Every (λ c. All IsDatum c.arguments) b.calls
     → Every (λ e. IsNumbered b.calls (event_number e)) trace → Every (λ (x : ℕ × Reply). IsReply x.1) (ends_of trace) → EachStarts (object_of b.object) past → EachStarts (object_of b.object) (past_from b.calls past trace)
 unfolding EachStarts
 each_starts b past [] made few taken numbered replies starts = starts
@@ -164,14 +168,14 @@ replies_of (e ∷ entries) every = (every.0, replies_of entries every.1)
 
 pub desk_text_is_legal : DeskTextIsLegal
 unfolding EachStarts
-desk_text_is_legal b opening sound names front taken replies legal =
+desk_text_is_legal b opening sound names front known legal =
     let o = object_of b.object in
     let counted = sound.counted in
     let past = past_from b.calls [] b.trace in
     let seen_so : trace_of past ≡ path_trace b.calls b.trace = trace_is b.calls [] b.trace in
     let told_so : told_of past ≡ lines_told b = told_is b.calls [] b.trace in
     let ends : history_of o past ≡ chain.history_of b.history = history_is o b.calls [] b.trace ∙ ap (map (end_at o b.calls)) sound.told.ends ∙ entries_are b counted.made b.history sound.told.noted in
-    let each = each_starts b [] b.trace counted.made counted.few taken counted.numbered (subst (Every (λ (x : ℕ × Reply). IsReply x.1)) (sym sound.told.ends) (replies_of b.history replies)) tt in
+    let each = each_starts b [] b.trace counted.made counted.few known.arguments counted.numbered (subst (Every (λ (x : ℕ × Reply). IsReply x.1)) (sym sound.told.ends) (replies_of b.history known.replies)) tt in
     let are = are_calls o b.calls past (of_calls b.calls [] b.trace tt) (subst IsTrace (sym seen_so) counted.trace) each in
     let is = text_is_legal o opening past names front are (subst (SatisfiesAll o.paths) (sym seen_so) counted.satisfied) (subst (λ h. history.IsLegal h opening) (sym ends) legal) in
     let many : length (history_of o past) ≡ length b.history = ap length ends ∙ length-map b.history chain.end_of in

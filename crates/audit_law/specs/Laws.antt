@@ -19,18 +19,15 @@ use Rattle.audit_core.specs.Tells.{IsSession}
 use Rattle.audit_core.specs.Verdicts.{IsLegalTrace}
 use Rattle.audit_core.specs.Laws.{AreOpening}
 
--- an accepted call has a session within the limits, integers and texts as arguments, and its operation is
--- the first of its name
-pub record IsTakenBy (o : ObjectForm) (c : AcceptedCall) : Type 0 where
-  pub session : IsSession c.session
-  pub first : place_of (operation_names o.operations) (operation_name o c.op) ≡ Some c.op
-  pub known : All IsDatum c.arguments
+-- the arguments of each call and the reply of each entry are integers below 2^32, texts that are short enough, and words
+-- of refusals, as all that a program holds of these types is
+pub record AreData (b : Board) : Type 0 where
+  pub arguments : Every (λ c. All IsDatum c.arguments) b.calls
+  pub replies : Every (λ e. IsReply e.reply) b.history
 
 -- the text of a desk's trace is a legal trace, where the history of its entries is legal from the opening contents
 abbrev pub DeskTextIsLegal : Type 0
 DeskTextIsLegal =
     (b : Board) (opening : List Contents) → IsSound b → HasNames (object_of b.object) →
-    AreOpening (object_of b.object) opening
-    → Every (IsTakenBy (object_of b.object)) b.calls → Every (λ e. IsReply e.reply) b.history →
-    IsLegal (history_of b.history) opening
+    AreOpening (object_of b.object) opening → AreData b → IsLegal (history_of b.history) opening
     → IsLegalTrace (object_of b.object) (trace_text (object_of b.object) opening (lines_told b)) (length b.history)

@@ -1,5 +1,5 @@
 -- Calls are made of operations of the object.
-use Rattle.std.proofs.Common.{◌≡◌, ◌≢◌, ℕ, zero, suc, ◌-◌, ◌<◌, List, [], ◌∷◌, length, Some, refl, ap, subst, arith, map}
+use Rattle.std.proofs.Common.{◌≡◌, ◌≢◌, ℕ, zero, suc, ◌-◌, ◌<◌, ◌≤◌, List, [], ◌∷◌, length, Some, refl, ap, subst, arith, map}
 use Rattle.std.specs.Prelude.{slice_get, unwrap_or}
 use Rattle.std.specs.declared.sync.Arc.{Arc}
 use Rattle.std.specs.Arc.{arc_value}
@@ -10,9 +10,9 @@ use Rattle.decl_core.specs.ObjectMap.{operation_of, operations_of}
 use Rattle.apply_core.specs.Fits.{ArgumentsFit}
 use Rattle.value_core.specs.declared.kind.Kind.{Kind}
 use Rattle.board_core.specs.Calls.{AcceptedCall}
-use Rattle.board_core.specs.Board.{bodies, call_at}
+use Rattle.board_core.specs.Board.{bodies, call_at, most_sessions}
 use Rattle.board_core.specs.Chain.{AreOf}
-use Rattle.board_core.specs.Sound.{IsMadeOf, kinds_of}
+use Rattle.board_core.specs.Sound.{IsMadeOf, IsFirstNamed, kinds_of}
 
 -- at a place below their number there is an operation
 body_there : {Z : Type 0} (xs : List (Arc Operation Z)) (k : ℕ) → k < length xs → (operation : Operation) × (slice_get (map (λ a. arc_value a) xs) k ≡ Some operation)
@@ -33,10 +33,12 @@ parts_there kinds [] k operation all is = absurd cc
 parts_there kinds (x ∷ xs) zero operation all is = subst (AreOf kinds) (ap (λ o. unwrap_or o (arc_value x)) is) (λ p kind named. all.0 p kind named.held)
 parts_there kinds (x ∷ xs) (suc k) operation all is = parts_there kinds xs k operation all.1 is
 
-pub made_of : (o : Object) (call : AcceptedCall) → slice_get (bodies o) call.op ≡ Some call.operation → ArgumentsFit call.operation call.arguments → IsMadeOf o call
-made_of o call is fits = record {
+pub made_of : (o : Object) (call : AcceptedCall) → (1 ≤ call.session) × (call.session ≤ most_sessions) → slice_get (bodies o) call.op ≡ Some call.operation → IsFirstNamed o call.op call.operation → ArgumentsFit call.operation call.arguments → IsMadeOf o call
+made_of o call there is first fits = record {
+  session = there;
   operation = form_there o.operations.items call.op call.operation is;
   parts = parts_there (kinds_of o) o.operations.items call.op call.operation o.of_parts is;
+  first = first;
   fits = fits;
 }
 

@@ -1,11 +1,12 @@
 -- What holds of each board that a desk has.
-use Rattle.std.specs.Prelude.{◌≡◌, ◌≢◌, ℕ, ◌+◌, ◌<◌, ◌≤◌, ◌⊎◌, List, [], ◌∷◌, length, map, slice_get, Some}
+use Rattle.std.specs.Prelude.{◌≡◌, ◌≢◌, ℕ, ◌+◌, ◌<◌, ◌≤◌, ◌⊎◌, List, [], ◌∷◌, length, map, take, slice_get, Some}
 use Rattle.value_core.specs.declared.kind.Kind.{Kind}
 use Rattle.path_tree.specs.Trace.{IsTrace, IsFresh, IsAmong, running_calls}
 use Rattle.path_tree.specs.Trace.{Call as PathCall}
 use Rattle.path_tree.specs.Satisfies.{SatisfiesAll}
 use Rattle.path_count.specs.Stands.{started_calls}
 use Rattle.decl_core.specs.declared.object.Object.{Object}
+use Rattle.decl_core.specs.declared.object.Operation.{Operation}
 use Rattle.decl_core.specs.declared.object.Part.{Part}
 use Rattle.decl_core.specs.Bodies.{body_of}
 use Rattle.decl_core.specs.ObjectMap.{object_of}
@@ -20,7 +21,7 @@ use Rattle.board_core.specs.declared.event.TraceEvent.{TraceEvent}
 use Rattle.board_core.specs.declared.event.TraceEvent.TheVariants.{Start, End}
 use Rattle.board_core.specs.Lists.{Every, EachPair, Among}
 use Rattle.board_core.specs.Calls.{AcceptedCall, WaitingCall, RunningCall, Noted}
-use Rattle.board_core.specs.Board.{Board, call_at, paths_of, past_of, most_sessions, read_pins}
+use Rattle.board_core.specs.Board.{Board, bodies, call_at, paths_of, past_of, most_sessions, read_pins}
 use Rattle.board_core.specs.Chain.{IsChained, AreOf}
 
 -- the kinds of an object's parts
@@ -36,9 +37,16 @@ event_number (End n reply) = n
 abbrev pub IsNumbered : List AcceptedCall → ℕ → Type 0
 IsNumbered calls n = (call : AcceptedCall) × (call_at calls n ≡ Some call)
 
--- a call's operation stands at its place in the object, and its arguments fit it
+-- no operation that stands before this place has the name of this one
+abbrev pub IsFirstNamed : Object → ℕ → Operation → Type 0
+IsFirstNamed o place operation = Every (λ x. x.name ≡ operation.name → ⊥) (take place (bodies o))
+
+-- a call is of a session that there may be; its operation stands at its place in the object, and is the first of its
+-- name there; and its arguments fit it
 pub record IsMadeOf (o : Object) (call : AcceptedCall) : Type 0 where
+  pub session : (1 ≤ call.session) × (call.session ≤ most_sessions)
   pub operation : slice_get (object_of o).operations call.op ≡ Some (operation_of call.operation)
+  pub first : IsFirstNamed o call.op call.operation
   pub parts : AreOf (kinds_of o) call.operation
   pub fits : ArgumentsFit call.operation call.arguments
 

@@ -7,3 +7,4 @@ pub mod Telling
 pub mod Sending
 pub mod Publishing
 pub mod Sessions
+pub mod Naming

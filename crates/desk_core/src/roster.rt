@@ -28,7 +28,7 @@ ghost use Rattle.board_core.specs.Outcomes.{IsOf};
 ghost use Rattle.desk_core.specs.Publishing.{ArePageLists, with_pin};
 ghost use Rattle.trace_core.specs.Text.{trace_text as text_of};
 ghost use Rattle.desk_core.specs.Told.{lines_told};
-ghost use Rattle.board_core.specs.Sound.{IsSound};
+ghost use Rattle.board_core.specs.Sound.{IsSound, IsFirstNamed};
 
 use crate::marks::{Mark, event_of, note, note_end, note_start};
 use crate::text::{call_of, push_marks};
@@ -359,6 +359,8 @@ impl Roster {
         requires open_few { length self.old.waiting + length self.old.running < 256 }
         requires free { is_busy self.old session ≡ false }
         requires session { (0 < session) × (session ≤ 1024) }
+        requires first { (operation : Operation) → slice_get (bodies self.old.object) place ≡ Some operation →
+            IsFirstNamed self.old.object place operation }
         ensures number { IfOk result (λ r. r.0 ≡ length self.old.calls + 1) }
         ensures shared { IfOk result (λ r. (operation : Operation) →
             slice_get (bodies self.old.object) place ≡ Some operation →

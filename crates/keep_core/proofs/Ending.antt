@@ -10,8 +10,8 @@ use Rattle.board_core.specs.Board.{Board}
 use Rattle.board_core.specs.Sound.{IsSound}
 use Rattle.slip_core.specs.Slips.{Told, StandsIn}
 use Rattle.seat_core.specs.declared.seat.Seat.{Seat}
-use Rattle.office_core.specs.declared.room.CloseFault.{CloseFault}
-use Rattle.office_core.specs.Rooms.{RoomState}
+use Rattle.office_core.specs.declared.inside.CloseFault.{CloseFault}
+use Rattle.office_core.specs.Insides.{InsideView}
 use Rattle.office_core.specs.Closing.{IsIdle, AreSeatsOf, IsWhyBy, place_told}
 use Rattle.keep_core.specs.declared.close.Became.{Became}
 use Rattle.keep_core.specs.declared.trouble.Trouble.{Trouble}
@@ -34,7 +34,7 @@ stays_refused (place ∷ places) = refl
 pub ending_closed : {agrees : Assignment → Type 0} {parts_were parts_are traces_were traces_are : Papers → Type 0} {became : Became} {before kept : Trouble} {kept_all keeps_all : Bool} {old known new : Option (List ℕ)} {given : List Contents} {stood : List Told} {called : List ℕ} {count : ℕ}
     (name : List ℕ) (opening : List Contents) (seats : List Seat) (slips : List Told) (b : Board) (after : Trouble) (result : Result (Unit {0}) LinesFault) →
     given ≡ opening → stood ≡ slips → called ≡ name → count ≡ length b.history →
-    (r : RoomState) × IsIdle r.board × AreSeatsOf r seats × Every (StandsIn r.board.history) stood × (b ≡ r.board) →
+    (r : InsideView) × IsIdle r.board × AreSeatsOf r seats × Every (StandsIn r.board.history) stood × (b ≡ r.board) →
     IsSound b → KeepsDesk agrees parts_were parts_are traces_were traces_are b given true became before kept kept_all keeps_all old known →
     AreTold (entries_lines (kept_in became) called count) result known new → after.fault ≡ first_of kept.fault (fault_in result) → after.refused ≡ kept.refused →
     (e : Ended) × IsOf name opening seats slips e × IsEnding agrees parts_were parts_are traces_were traces_are e before after kept_all keeps_all old new
@@ -53,7 +53,7 @@ ending_closed {became = became} {before = before} {old = old} {known = known} {n
       e,
       record { named = refl; opened = opens; seated = refl; slipped = slipped },
       record {
-        ended = record { sound = sound; room = r; of = sym is; closed = subst (λ (v : Bool). IsClosed v r seats stood) (sym k.closed) (idle, all_seats, stand) };
+        ended = record { sound = sound; inside = r; of = sym is; closed = subst (λ (v : Bool). IsClosed v r seats stood) (sym k.closed) (idle, all_seats, stand) };
         met = met;
         closing = closing_first (first_of one two) last (closing_first one two k.saves.closing k.traces.closing) told.closing;
         fault = fault ∙ ap (λ (f : Option LinesFault). first_of f last) (k.traces.fault ∙ ap (λ (f : Option LinesFault). first_of f two) k.saves.fault ∙ first_first before.fault one two) ∙ first_first before.fault (first_of one two) last;
@@ -74,7 +74,7 @@ ending_closed {became = became} {before = before} {old = old} {known = known} {n
 pub ending_refused : {agrees : Assignment → Type 0} {parts_were parts_are traces_were traces_are : Papers → Type 0} {became : Became} {told_all after : Trouble} {kept_all keeps_all : Bool} {old known new : Option (List ℕ)} {given : List Contents} {stood : List Told} {called : List ℕ}
     (name : List ℕ) (opening : List Contents) (seats : List Seat) (slips : List Told) (b : Board) (before refused : Trouble) (result : Result (Unit {0}) LinesFault) (why : CloseFault) →
     given ≡ opening → stood ≡ slips → called ≡ name →
-    (r : RoomState) × IsWhyBy Told StandsIn place_told r seats stood why × (b ≡ r.board) →
+    (r : InsideView) × IsWhyBy Told StandsIn place_told r seats stood why × (b ≡ r.board) →
     IsSound b → refused.fault ≡ before.fault → refused.refused ≡ true → told_all.fault ≡ first_of refused.fault (fault_in result) → told_all.refused ≡ refused.refused →
     AreTold (refused_line called ∷ []) result old known → KeepsDesk agrees parts_were parts_are traces_were traces_are b given false became told_all after kept_all keeps_all known new →
     (e : Ended) × IsOf name opening seats slips e × IsEnding agrees parts_were parts_are traces_were traces_are e before after kept_all keeps_all old new
@@ -95,7 +95,7 @@ ending_refused {became = became} {told_all = told_all} {old = old} {known = know
       e,
       record { named = refl; opened = opens; seated = refl; slipped = slipped },
       record {
-        ended = record { sound = sound; room = r; of = sym is; closed = subst (λ (v : Bool). IsClosed v r seats stood) (sym k.closed) (why, is_why) };
+        ended = record { sound = sound; inside = r; of = sym is; closed = subst (λ (v : Bool). IsClosed v r seats stood) (sym k.closed) (why, is_why) };
         met = met;
         closing = closing_first early (first_of one two) told.closing (closing_first one two k.saves.closing k.traces.closing);
         fault = k.traces.fault ∙ ap (λ (f : Option LinesFault). first_of f two) k.saves.fault ∙ first_first told_all.fault one two

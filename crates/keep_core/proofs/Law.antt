@@ -20,7 +20,7 @@ use Rattle.board_core.specs.Lists.{Every}
 use Rattle.board_core.specs.Board.{Board}
 use Rattle.board_core.specs.Sound.{kinds_of}
 use Rattle.slip_core.specs.Slips.{Told, StandsIn}
-use Rattle.office_core.specs.Rooms.{RoomState}
+use Rattle.office_core.specs.Insides.{InsideView}
 use Rattle.office_core.proofs.Law.{slips_are_legal}
 use Rattle.seat_core.specs.declared.seat.Seat.{Seat}
 use Rattle.keep_core.specs.Kept.{Stored, with_stores, IsOfPart, IsOfPin, HasStore}
@@ -72,8 +72,8 @@ module _ (a : Assignment) (object : List ℕ) (parts : List Part) (pins : List (
   good_all papers (first ∷ more) (s, inr among, same) (of, all_of) (pinned, all_pinned) =
       good_all (insert papers (part_key object first.part.name) first.bytes) more (s, among, same) all_of all_pinned
 
--- the slips of a room that was closed stand in its history
-slips_stand : (closed : Bool) (r : RoomState) (b : Board) (seats : List Seat) (slips : List Told) → IsClosed closed r seats slips → closed ≡ true → r.board ≡ b → Every (StandsIn b.history) slips
+-- the slips of an office that was closed stand in its history
+slips_stand : (closed : Bool) (r : InsideView) (b : Board) (seats : List Seat) (slips : List Told) → IsClosed closed r seats slips → closed ≡ true → r.board ≡ b → Every (StandsIn b.history) slips
 slips_stand closed r b seats slips how is same =
     let all = subst (λ (v : Bool). IsClosed v r seats slips) is how in
     subst (λ (c : Board). Every (StandsIn c.history) slips) same all.2
@@ -81,7 +81,7 @@ slips_stand closed r b seats slips how is same =
 pub kept_is_history : KeptIsHistory
 kept_is_history a e before papers contents ended closed have hold shows =
     let o = e.board.object in
-    let stand : Every (StandsIn e.board.history) e.slips = slips_stand e.became.closed ended.room e.board e.seats e.slips ended.closed closed ended.of in
+    let stand : Every (StandsIn e.board.history) e.slips = slips_stand e.became.closed ended.inside e.board e.seats e.slips ended.closed closed ended.of in
     let law = slips_are_legal a e.board e.slips contents ended.sound stand have hold shows in (
       law.0,
       λ apart saved stored place part there.

@@ -12,8 +12,8 @@ use Rattle.board_core.specs.Sound.{IsSound}
 use Rattle.desk_core.specs.Told.{lines_told}
 use Rattle.slip_core.specs.Slips.{Told, StandsIn}
 use Rattle.seat_core.specs.declared.seat.Seat.{Seat}
-use Rattle.office_core.specs.declared.room.CloseFault.{CloseFault}
-use Rattle.office_core.specs.Rooms.{RoomState}
+use Rattle.office_core.specs.declared.inside.CloseFault.{CloseFault}
+use Rattle.office_core.specs.Insides.{InsideView}
 use Rattle.office_core.specs.Closing.{IsIdle, AreSeatsOf, IsWhyBy, place_told}
 use Rattle.keep_core.specs.declared.close.Became.{Became}
 use Rattle.keep_core.specs.declared.trouble.Trouble.{Trouble}
@@ -66,18 +66,18 @@ lines_of e =
 abbrev pub refused_after : Bool → Ended → Bool
 refused_after refused e = cond e.became.closed (refused_by refused e.damaged) true
 
--- A room was closed: no call waits or runs, each session has its seat, the seats count the entries, and each slip is of
+-- An office was closed: no call waits or runs, each session has its seat, the seats count the entries, and each slip is of
 -- the entry at its place. Or it was not, for the first of these that is not so.
-abbrev pub IsClosed : Bool → RoomState → List Seat → List Told → Type 0
+abbrev pub IsClosed : Bool → InsideView → List Seat → List Told → Type 0
 IsClosed true r seats slips = IsIdle r.board × AreSeatsOf r seats × Every (StandsIn r.board.history) slips
 IsClosed false r seats slips = (why : CloseFault) × IsWhyBy Told StandsIn place_told r seats slips why
 
--- its board is that of a room, which was closed with what its sessions left or not
+-- its board is that of an office, which was closed with what its sessions left or not
 pub record IsAtEnd (e : Ended) : Type 0 where
   pub sound : IsSound e.board
-  pub room : RoomState
-  pub of : room.board ≡ e.board
-  pub closed : IsClosed e.became.closed room e.seats e.slips
+  pub inside : InsideView
+  pub of : inside.board ≡ e.board
+  pub closed : IsClosed e.became.closed inside e.seats e.slips
 
 -- it is the one of this name, with these values, seats and slips
 pub record IsOf (name : List ℕ) (opening : List Contents) (seats : List Seat) (slips : List Told)

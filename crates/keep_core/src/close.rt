@@ -509,7 +509,7 @@ impl<S: Shelf + Drop, T: Shelf + Drop, H: Hand + Drop> Closing<S, T, H> {
                 self.trouble.refuse();
                 let told = tell_refused(&mut self.line, name.as_bytes(), writer);
                 self.trouble.heed(told);
-                self.keep(alloc, refused.room.desk(), &opening, false, writer, error);
+                self.keep(alloc, refused.inside.desk(), &opening, false, writer, error);
             }
         }
     }

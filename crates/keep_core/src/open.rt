@@ -9,8 +9,8 @@ use exclude_core::analyse::Accepted;
 use hand_core::hand::Hand;
 use hand_core::shelf::Shelf;
 use line_core::LinesFault;
+use office_core::inside::Inside;
 use office_core::office::Office;
-use office_core::room::Room;
 use page_core::pins::Pins;
 use path_tree::name::Name;
 use std::alloc::{AllocError, Global};
@@ -101,8 +101,8 @@ pub fn open_one<S: Shelf, H: Hand>(
 {
     let name = accepted.object().name.copy(alloc)?;
     let (pins, opening) = parts_of(alloc, &accepted, shelf, hand)?;
-    let room = Room::open(alloc, accepted, pins)?;
-    let office = Office::open(alloc, room)?;
+    let inside = Inside::open(alloc, accepted, pins)?;
+    let office = Office::open(alloc, inside)?;
     Ok(Opened {
         name,
         office,

@@ -1,4 +1,4 @@
--- When a room is closed.
+-- When an inside is closed.
 use Rattle.std.specs.Prelude.{◌≡◌, ℕ, ◌+◌, ◌-◌, ◌<◌, List, ◌++◌, length, slice_get, take, Some, Result, Ok, Err}
 use Rattle.board_core.specs.declared.receipt.Receipt.{Receipt}
 use Rattle.board_core.specs.Lists.{Every}
@@ -9,18 +9,18 @@ use Rattle.slip_core.specs.Slips.{Told, StandsIn}
 use Rattle.seat_core.specs.declared.seat.Seat.{Seat}
 use Rattle.seat_core.specs.Seats.{AreSeats}
 use Rattle.seat_core.specs.Clients.{parked_of}
-use Rattle.office_core.specs.declared.room.CloseFault.{CloseFault}
-use Rattle.office_core.specs.declared.room.CloseFault.TheVariants.{Outstanding, SeatMissing, Mismatch}
-use Rattle.office_core.specs.declared.room.CloseRefused.{CloseRefused}
-use Rattle.office_core.specs.declared.room.Closed.{Closed}
-use Rattle.office_core.specs.Rooms.{RoomState}
+use Rattle.office_core.specs.declared.inside.CloseFault.{CloseFault}
+use Rattle.office_core.specs.declared.inside.CloseFault.TheVariants.{Outstanding, SeatMissing, Mismatch}
+use Rattle.office_core.specs.declared.inside.CloseRefused.{CloseRefused}
+use Rattle.office_core.specs.declared.inside.Closed.{Closed}
+use Rattle.office_core.specs.Insides.{InsideView}
 
 -- no call waits or runs
 abbrev pub IsIdle : Board → Type 0
 IsIdle b = length b.waiting + length b.running ≡ 0
 
--- those of a room, with the seats that are parked there
-abbrev pub AreSeatsOf : RoomState → List Seat → Type 0
+-- those of an inside, with the seats that are parked there
+abbrev pub AreSeatsOf : InsideView → List Seat → Type 0
 AreSeatsOf r seats = AreSeats r.given (length r.board.history) (parked_of r.clients ++ seats)
 
 -- a receipt tells of the entry at its place
@@ -37,37 +37,37 @@ pub record Misses (X : Type 0) (stands : X → Type 0) (place_of : X → ℕ) (r
   pub other : stands receipt → ⊥
   pub before : Every stands (take k receipts)
 
--- what keeps a room open whatever receipts there are
-abbrev pub IsOpen : RoomState → List Seat → CloseFault → Type 0
+-- what keeps an inside open whatever receipts there are
+abbrev pub IsOpen : InsideView → List Seat → CloseFault → Type 0
 IsOpen r seats Outstanding = IsIdle r.board → ⊥
 IsOpen r seats SeatMissing = IsIdle r.board × (AreSeatsOf r seats → ⊥)
 IsOpen r seats (Mismatch k place) = ⊥
 
 module _ (X : Type 0) (stands : List Noted → X → Type 0) (place_of : X → ℕ) where
-  -- why a room is not closed: the first cause that applies
-  abbrev pub IsWhyBy : RoomState → List Seat → List X → CloseFault → Type 0
+  -- why an inside is not closed: the first cause that applies
+  abbrev pub IsWhyBy : InsideView → List Seat → List X → CloseFault → Type 0
   IsWhyBy r seats receipts Outstanding = IsIdle r.board → ⊥
   IsWhyBy r seats receipts SeatMissing = IsIdle r.board × (AreSeatsOf r seats → ⊥)
   IsWhyBy r seats receipts (Mismatch k place) =
       IsIdle r.board × AreSeatsOf r seats × Misses X (stands r.board.history) place_of receipts k place
 
-  -- A room is closed where nothing is missing; a refusal hands room and seats back.
-  abbrev pub ClosesBy : RoomState → List Seat → List X → Result Closed CloseRefused → Type 0
+  -- An inside is closed where nothing is missing; a refusal hands inside and seats back.
+  abbrev pub ClosesBy : InsideView → List Seat → List X → Result Closed CloseRefused → Type 0
   ClosesBy r seats receipts (Ok closed) =
       IsIdle r.board × AreSeatsOf r seats × Every (stands r.board.history) receipts × (closed.desk ≡ r.board)
   ClosesBy r seats receipts (Err refused) =
-      IsWhyBy r seats receipts refused.why × (refused.room ≡ r) × (refused.seats.items ≡ seats)
+      IsWhyBy r seats receipts refused.why × (refused.inside ≡ r) × (refused.seats.items ≡ seats)
 
 abbrev pub place_of_receipt : Receipt → ℕ
 place_of_receipt r = r.place
 
 -- by receipts
-abbrev pub Closes : RoomState → List Seat → List Receipt → Result Closed CloseRefused → Type 0
+abbrev pub Closes : InsideView → List Seat → List Receipt → Result Closed CloseRefused → Type 0
 Closes = ClosesBy Receipt Stands place_of_receipt
 
 abbrev pub place_told : Told → ℕ
 place_told t = t.place
 
 -- by slips
-abbrev pub ClosesBySlips : RoomState → List Seat → List Told → Result Closed CloseRefused → Type 0
+abbrev pub ClosesBySlips : InsideView → List Seat → List Told → Result Closed CloseRefused → Type 0
 ClosesBySlips = ClosesBy Told StandsIn place_told

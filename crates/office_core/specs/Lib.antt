@@ -1,4 +1,4 @@
-pub mod Rooms
+pub mod Insides
 pub mod Submissions
 pub mod Seats
 pub mod Closing

@@ -11,7 +11,7 @@ use Rattle.office_core.specs.declared.seat.NotTaken.{NotTaken}
 use Rattle.office_core.specs.declared.seat.NotTaken.TheVariants.{Front as missed, Stranger as unknown}
 use Rattle.office_core.specs.declared.seat.CompleteFault.{CompleteFault}
 use Rattle.office_core.specs.declared.seat.CompleteFault.TheVariants.{Front, Stranger}
-use Rattle.office_core.specs.Rooms.{RoomState, KeepsSeats}
+use Rattle.office_core.specs.Insides.{InsideView, KeepsSeats}
 
 -- What a `complete` tells of an outcome and of the seat: a receipt whose outcome tells the same, at a place past all
 -- that the seat had seen; or the outcome back, and the seat as it was.
@@ -34,20 +34,20 @@ fault_with (missed seen found) o = Front seen found o
 fault_with unknown o = Stranger o
 
 -- the place that the next entry gets is past all that the seat has seen
-abbrev pub IsAhead : RoomState → Seat → Type 0
+abbrev pub IsAhead : InsideView → Seat → Type 0
 IsAhead r seat = seat.seen < length r.board.history + 1
 
--- What a `complete` makes of the room: what `finish` makes of the desk's board, where the next place is past all that
+-- What a `complete` makes of the inside: what `finish` makes of the desk's board, where the next place is past all that
 -- the seat has seen; else it is as it was.
-abbrev pub Completes : RoomState → Seat → Outcome → Result Receipt CompleteFault → RoomState → Type 0
+abbrev pub Completes : InsideView → Seat → Outcome → Result Receipt CompleteFault → InsideView → Type 0
 Completes old seat o (Ok r) new = IsAhead old seat × Finishes old.board o r new.board × KeepsSeats old new
 Completes old seat o (Err (Front seen found back)) new =
     (found ≡ length old.board.history + 1) × (found ≤ seat.seen) × (new ≡ old)
 Completes old seat o (Err (Stranger back)) new = IsAhead old seat × IsStranger old.board o × (new ≡ old)
 
--- What a `complete_in_place` makes of the room: what `finish` makes of the desk's board, where the next place is past
+-- What a `complete_in_place` makes of the inside: what `finish` makes of the desk's board, where the next place is past
 -- all that the seat has seen; else it is as it was.
-abbrev pub CompletesInPlace : RoomState → Seat → Outcome → Result Finished NotTaken → Outcome → RoomState → Type 0
+abbrev pub CompletesInPlace : InsideView → Seat → Outcome → Result Finished NotTaken → Outcome → InsideView → Type 0
 CompletesInPlace old seat o (Ok f) after new =
     IsAhead old seat × Finishes old.board o (receipt_by f after) new.board × KeepsSeats old new
 CompletesInPlace old seat o (Err (missed seen found)) after new =

@@ -16,7 +16,7 @@ use Rattle.office_core.specs.declared.seat.Started.{Started}
 use Rattle.office_core.specs.declared.seat.Started.TheVariants as started
 use Rattle.office_core.specs.declared.seat.Tried.{Tried}
 use Rattle.office_core.specs.declared.seat.Tried.TheVariants.{Ticket, Cancelled, Waiting, Stranger}
-use Rattle.office_core.specs.Rooms.{RoomState, KeepsSeats}
+use Rattle.office_core.specs.Insides.{InsideView, KeepsSeats}
 
 abbrev pub submitted_operation : Submitted → Operation
 submitted_operation s = (arc_value s.call).operation
@@ -66,9 +66,9 @@ IsStartOf s (started.Ticket t) = IsTicketOf s t
 IsStartOf s started.Cancelled = WasCancelled s
 IsStartOf s (started.Stranger back) = back ≡ s
 
--- what a look for a start makes of the room: what `collect` makes of the desk's board, where the call of that number
+-- what a look for a start makes of the inside: what `collect` makes of the desk's board, where the call of that number
 -- is of the submission
-abbrev pub Tries : RoomState → Submitted → Tried → RoomState → Type 0
+abbrev pub Tries : InsideView → Submitted → Tried → InsideView → Type 0
 Tries old s (Ticket t) new =
     IsOf old.board s × Collects old.board s.number (collected.Ticket t) new.board × KeepsSeats old new
 Tries old s Cancelled new =

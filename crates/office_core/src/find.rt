@@ -1,4 +1,4 @@
-//! What is looked up of a room.
+//! What is looked up of an inside.
 
 ghost use Rattle.std.specs.Prelude.{◌≡◌, ◌↔◌, ◌+◌, IsTrue, IfSome, IfNone, length, slice_get, Some};
 ghost use Rattle.decl_core.specs.ObjectMap.{operation_of};

@@ -6,11 +6,11 @@ ghost use Rattle.board_core.specs.Sound.{IsSound};
 ghost use Rattle.key_core.specs.Keys.{next_key};
 ghost use Rattle.ask_core.specs.Answers.{IsGone};
 ghost use Rattle.ask_core.specs.Keyed.{Finds, SubmitsKeyed};
-ghost use Rattle.office_core.specs.Rooms.{KeepsSeats};
+ghost use Rattle.office_core.specs.Insides.{KeepsSeats};
 ghost use Rattle.office_core.specs.Keyed.{answer_of, Resubmits};
 
+use crate::inside::Inside;
 use crate::office::Office;
-use crate::room::Room;
 use crate::seat::Submitted;
 use ask_core::answer::{Kept, KeyedFault};
 use seat_core::seat::Seat;
@@ -25,7 +25,7 @@ pub enum Resubmitted {
     Kept(Kept),
 }
 
-impl Room {
+impl Inside {
     /// What is known of a key of this seat's session, as the desk's `kept` tells: the call that the session made under
     /// it, or `None` where it is the key of its next call. The errors are those of `kept`, in its order.
     pub fn kept(
@@ -48,7 +48,7 @@ impl Room {
     }
 
     /// Takes a call of this seat's session under a key, as the desk's `submit_keyed` does: under the key of the
-    /// session's next call it is a [`Room::submit`]; under that of an earlier one it answers what became of that call,
+    /// session's next call it is a [`Inside::submit`]; under that of an earlier one it answers what became of that call,
     /// changes nothing and takes no memory.
     ///
     /// The errors are those of `submit_keyed`, in its order, and change nothing.
@@ -117,7 +117,7 @@ impl Room {
 }
 
 impl Office {
-    /// What is known of a key of this seat's session, as [`Room::kept`], of some board of this office.
+    /// What is known of a key of this seat's session, as [`Inside::kept`], of some board of this office.
     pub fn kept<R: Wait>(
         &self,
         rt: &R,
@@ -135,7 +135,7 @@ impl Office {
         self.enter(rt).kept(seat, key, op, args)
     }
 
-    /// Submits a call of this seat's session under a key, as [`Room::submit_keyed`]. Of a call that the session made
+    /// Submits a call of this seat's session under a key, as [`Inside::submit_keyed`]. Of a call that the session made
     /// before it answers what some board of this office has of it.
     pub fn submit_keyed<R: Wait>(
         &self,

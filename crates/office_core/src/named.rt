@@ -5,8 +5,8 @@ ghost use Rattle.seat_core.specs.declared.clients.Client.{Client as AClient};
 ghost use Rattle.seat_core.specs.Clients.{IsOut};
 ghost use Rattle.office_core.specs.Named.{GivesNamed, IsNew, Parks};
 
+use crate::inside::{Inside, MOST_SESSIONS};
 use crate::office::{Office, bed_of, started};
-use crate::room::{MOST_SESSIONS, Room};
 use path_tree::name::Name;
 use seat_core::seat::Seat;
 use std::sync::Wait;
@@ -31,9 +31,9 @@ pub enum ParkFault {
     Running,
 }
 
-impl Room {
+impl Inside {
     /// The seat that was given out under this name and parked: its session is back, and it has seen what it had seen. A
-    /// new name gets the next session, and with it the room that [`Room::park`] needs.
+    /// new name gets the next session, and with it the room that [`Inside::park`] needs.
     ///
     /// The errors, of which the first that applies is told, are those of [`NameFault`]; they change nothing.
     pub fn seat_named(&mut self, name: &Name) -> Result<Seat, NameFault>
@@ -80,11 +80,11 @@ impl Room {
         }
     }
 
-    /// Parks the seat of a name: its waiting call is cancelled and its session leaves, until [`Room::seat_named`] gives
+    /// Parks the seat of a name: its waiting call is cancelled and its session leaves, until [`Inside::seat_named`] gives
     /// the seat out again. It takes no memory.
     ///
     /// The errors, of which the first that applies is told, are those of [`ParkFault`]; they hand the seat back and
-    /// change nothing. A seat does not tell of which room it is: that of another room is a stranger only where its
+    /// change nothing. A seat does not tell of which inside it is: that of another inside is a stranger only where its
     /// session has no name here whose seat is out.
     pub fn park(&mut self, seat: Seat) -> Result<(), (Seat, ParkFault)>
         ensures { Parks self.old seat result self.new }
@@ -111,7 +111,7 @@ impl Room {
 }
 
 impl Office {
-    /// The seat of this name, as [`Room::seat_named`]: the one that was parked, or for a new name the next session.
+    /// The seat of this name, as [`Inside::seat_named`]: the one that was parked, or for a new name the next session.
     ///
     /// The errors, of which the first that applies is told, are those of [`NameFault`]; they change nothing.
     pub fn seat_named<R: Wait>(&self, rt: &R, name: &Name) -> Result<Seat, NameFault>
@@ -120,7 +120,7 @@ impl Office {
         self.enter(rt).seat_named(name)
     }
 
-    /// Parks the seat of a name, as [`Room::park`]: who waits for a call of its session is told that it was cancelled.
+    /// Parks the seat of a name, as [`Inside::park`]: who waits for a call of its session is told that it was cancelled.
     ///
     /// The errors, of which the first that applies is told, are those of [`ParkFault`]; they hand the seat
     /// back and change nothing.
@@ -128,11 +128,11 @@ impl Office {
         ensures { IfErr result (λ e. e.0 ≡ seat) }
     {
         let bed = bed_of(seat.session());
-        let mut room = self.enter(rt);
-        let before = room.desk().trace().len();
-        let answer = room.park(seat);
-        let beds = started(&mut room, before) | 1u64 << bed;
-        drop(room);
+        let mut inside = self.enter(rt);
+        let before = inside.desk().trace().len();
+        let answer = inside.park(seat);
+        let beds = started(&mut inside, before) | 1u64 << bed;
+        drop(inside);
         if answer.is_ok() {
             self.wake(beds);
         }

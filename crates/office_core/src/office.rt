@@ -1,14 +1,14 @@
-//! The lock round a room.
+//! The lock round an inside.
 
 ghost use Rattle.std.specs.Prelude.{◌≡◌, ◌<◌, ◌≤◌, ◌+◌, IfErr, IfOk, IfSome, length, vec_capacity};
-ghost use Rattle.office_core.specs.Rooms.{RoomState};
+ghost use Rattle.office_core.specs.Insides.{InsideView};
 ghost use Rattle.office_core.specs.declared.seat.Submitted.{Submitted as Ask};
 ghost use Rattle.office_core.specs.Submissions.{Asks, IsStartOf, Tells};
 ghost use Rattle.office_core.specs.Seats.{Receives, ReceivesInPlace};
 ghost use Rattle.office_core.specs.Closing.{Closes, ClosesBySlips};
 
+use crate::inside::{CloseRefused, Closed, Inside, SeatsFull, with_outcome};
 use crate::late::Late;
-use crate::room::{CloseRefused, Closed, Room, SeatsFull, with_outcome};
 use crate::seat::{CompleteFault, NotTaken, Started, Submitted, Tried};
 use ask_core::answer::{Cancelled, Finished, SubmitFault};
 use board_core::event::TraceEvent;
@@ -25,9 +25,9 @@ use std::time::{Clock, Duration};
 use turn_core::turns::Pace;
 use value_core::datum::Datum;
 
-/// How often a thread looks whether the room is free before it sleeps. A room is held for a microsecond or two, and a
-/// thread that sleeps is woken in tens of them. One pause between two looks lasts up to 140 cycles: with more of them a
-/// room that is free stands empty. So long, some 80 microseconds, since each thread that comes while
+/// How often a thread looks whether the inside is free before it sleeps. An inside is held for a microsecond or two, and a
+/// thread that sleeps is woken in tens of them. One pause between two looks lasts up to 140 cycles: with more of them an
+/// inside that is free stands empty. So long, some 80 microseconds, since each thread that comes while
 /// one sleeps sleeps too.
 const LOOKS: usize = 1024;
 
@@ -57,11 +57,11 @@ const HOLD: u64 = 10;
 /// How many places there are at which waiters sleep: session `n` sleeps at `n % BEDS`.
 const BEDS: usize = 64;
 
-/// A room that threads share.
+/// An inside that threads share.
 #[derive(Drop)]
 pub struct Office {
-    // The room lies elsewhere: who looks for the lock writes where the lock lies.
-    room: Mutex<Box<Room>>,
+    // The inside lies elsewhere: who looks for the lock writes where the lock lies.
+    inside: Mutex<Box<Inside>>,
     beds: Vec<Condvar>,
     // Where those sleep whose call is not yet submitted.
     door: Condvar,
@@ -85,13 +85,13 @@ fn bed_for(desk: &Desk, number: u32) -> usize
     }
 }
 
-// The beds of the sessions whose calls started since the trace was so long, a bit each. The room notes these starts.
-pub(crate) fn started(room: &mut Room, before: usize) -> u64 {
+// The beds of the sessions whose calls started since the trace was so long, a bit each. The inside notes these starts.
+pub(crate) fn started(inside: &mut Inside, before: usize) -> u64 {
     let mut beds = 0u64;
-    for place in before..room.desk().trace().len() {
-        if let Some(TraceEvent::Start(number)) = room.desk().trace().get(place) {
-            beds |= 1u64 << bed_for(room.desk(), number);
-            room.note_start(number);
+    for place in before..inside.desk().trace().len() {
+        if let Some(TraceEvent::Start(number)) = inside.desk().trace().get(place) {
+            beds |= 1u64 << bed_for(inside.desk(), number);
+            inside.note_start(number);
         }
     }
     beds
@@ -111,7 +111,7 @@ fn add_beds(beds: &mut Vec<Condvar>, count: usize)
 
 // Submits a call, and looks whether it has started.
 fn submit_and_look(
-    room: &mut Room,
+    inside: &mut Inside,
     seat: &mut Seat,
     op: &str,
     args: &[Datum],
@@ -119,40 +119,40 @@ fn submit_and_look(
     ensures tells { IfOk result (λ r. (s : Ask) × Asks op.now args.now s × (r.0 ≡ s.number) × Tells s r.1) }
     ensures seat { seat.new ≡ seat.old }
 {
-    let submitted = match room.submit(seat, op, args) {
+    let submitted = match inside.submit(seat, op, args) {
         Ok(submitted) => submitted,
         Err(fault) => return Err(fault),
     };
     let number = submitted.number();
-    let tried = room.look(submitted);
+    let tried = inside.look(submitted);
     if let Tried::Ticket(_) = &tried {
-        room.note_start(number);
+        inside.note_start(number);
     }
     Ok((number, tried))
 }
 
 impl Office {
-    /// An office with this room. The error is that memory was refused.
-    pub fn open(alloc: Global, room: Room) -> Result<Office, AllocError> {
-        let room = Box::new(alloc, room)?;
+    /// An office with this inside. The error is that memory was refused.
+    pub fn open(alloc: Global, inside: Inside) -> Result<Office, AllocError> {
+        let inside = Box::new(alloc, inside)?;
         let mut beds = Vec::with_capacity(alloc, BEDS)?;
         add_beds(&mut beds, BEDS);
         Ok(Office {
-            room: Mutex::new(room),
+            inside: Mutex::new(inside),
             beds,
             door: Condvar::new(),
         })
     }
 
-    // The room, once no other thread has it.
-    pub(crate) fn enter<R: Wait>(&self, rt: &R) -> MutexGuard<'_, Box<Room>> {
+    // The inside, once no other thread has it.
+    pub(crate) fn enter<R: Wait>(&self, rt: &R) -> MutexGuard<'_, Box<Inside>> {
         for _ in 0..LOOKS {
-            if let Some(room) = self.room.try_lock() {
-                return room;
+            if let Some(inside) = self.inside.try_lock() {
+                return inside;
             }
             spin_loop();
         }
-        self.room.lock(rt)
+        self.inside.lock(rt)
     }
 
     // Looks for some microseconds whether there were more notifications at the door than these, but no longer
@@ -173,7 +173,7 @@ impl Office {
         false
     }
 
-    // The room, once a call of this operation would not wait long. Nothing where the watch tells before that that so
+    // The inside, once a call of this operation would not wait long. Nothing where the watch tells before that that so
     // much time has passed. A call that is submitted while one runs that excludes it stands in a queue: its thread has
     // to be woken for its turn, and no other call of its operation can run until it is. One that is submitted when the
     // other has ended starts at once.
@@ -183,15 +183,15 @@ impl Office {
         op: &str,
         late: &mut Late,
         most: Duration,
-    ) -> Option<MutexGuard<'_, Box<Room>>> {
+    ) -> Option<MutexGuard<'_, Box<Inside>>> {
         for _ in 0..NAPS {
-            let room = self.enter(rt);
-            let pace = room.pace(op);
+            let inside = self.enter(rt);
+            let pace = inside.pace(op);
             let seen = self.door.notifications();
             match pace {
-                Pace::Now => return Some(room),
+                Pace::Now => return Some(inside),
                 Pace::Soon => {
-                    drop(room);
+                    drop(inside);
                     if late.is_over(rt, most) {
                         return None;
                     }
@@ -200,7 +200,7 @@ impl Office {
                     }
                 }
                 Pace::InTurn => {
-                    drop(room);
+                    drop(inside);
                     if late.is_over(rt, most) {
                         return None;
                     }
@@ -233,7 +233,7 @@ impl Office {
         self.enter(rt).seat()
     }
 
-    /// Submits a call of this seat's session, as [`Room::submit`].
+    /// Submits a call of this seat's session, as [`Inside::submit`].
     pub fn submit<R: Wait>(
         &self,
         rt: &R,
@@ -294,52 +294,52 @@ impl Office {
         Some(submit_and_look(&mut guard, seat, op, args))
     }
 
-    /// Looks whether a submitted call has started or was cancelled, as [`Room::try_start`]. It does not wait for that.
+    /// Looks whether a submitted call has started or was cancelled, as [`Inside::try_start`]. It does not wait for that.
     pub fn try_start<R: Wait>(&self, rt: &R, submitted: Submitted) -> Tried
         ensures { Tells submitted result }
     {
         self.enter(rt).try_start(submitted)
     }
 
-    /// Looks whether a submitted call has started or was cancelled, as [`Room::try_start`]. Where the call waits, it
+    /// Looks whether a submitted call has started or was cancelled, as [`Inside::try_start`]. Where the call waits, it
     /// waits for it, at most so long, and looks once more.
     pub fn try_start_within<R: Wait>(&self, rt: &R, submitted: Submitted, most: Duration) -> Tried
         ensures { Tells submitted result }
     {
-        let mut room = self.enter(rt);
-        let waiting = match room.try_start(submitted) {
+        let mut inside = self.enter(rt);
+        let waiting = match inside.try_start(submitted) {
             Tried::Waiting(back) => back,
             other => return other,
         };
-        let bed = &self.beds[bed_for(room.desk(), waiting.number)];
+        let bed = &self.beds[bed_for(inside.desk(), waiting.number)];
         let seen = bed.notifications();
-        drop(room);
+        drop(inside);
         bed.sleep(rt, seen, most);
         self.enter(rt).try_start(waiting)
     }
 
-    /// Waits until a submitted call has started or was cancelled, as [`Room::try_start`] finds it.
+    /// Waits until a submitted call has started or was cancelled, as [`Inside::try_start`] finds it.
     pub fn await_start<R: Wait>(&self, rt: &R, submitted: Submitted) -> Started
         ensures { IsStartOf submitted result }
     {
         let mut submitted = submitted;
-        let mut room = self.enter(rt);
+        let mut inside = self.enter(rt);
         for _ in rt.forever() {
-            match room.try_start(submitted) {
+            match inside.try_start(submitted) {
                 Tried::Ticket(ticket) => return Started::Ticket(ticket),
                 Tried::Cancelled => return Started::Cancelled,
                 Tried::Stranger(back) => return Started::Stranger(back),
                 Tried::Waiting(back) => {
-                    let bed = bed_for(room.desk(), back.number);
+                    let bed = bed_for(inside.desk(), back.number);
                     submitted = back;
-                    room = self.beds[bed].wait(rt, room);
+                    inside = self.beds[bed].wait(rt, inside);
                 }
             }
         }
         unreachable!()
     }
 
-    /// Takes the outcome of a call that runs here, as [`Room::complete`].
+    /// Takes the outcome of a call that runs here, as [`Inside::complete`].
     pub fn complete<R: Wait>(
         &self,
         rt: &R,
@@ -355,7 +355,7 @@ impl Office {
         }
     }
 
-    /// Takes the outcome of a call that runs here, and leaves it where it lies, as [`Room::complete_in_place`].
+    /// Takes the outcome of a call that runs here, and leaves it where it lies, as [`Inside::complete_in_place`].
     pub fn complete_in_place<R: Wait>(
         &self,
         rt: &R,
@@ -365,18 +365,18 @@ impl Office {
         ensures seat { ReceivesInPlace seat.old outcome.old result outcome.new seat.new }
     {
         let number = outcome.number();
-        let mut room = self.enter(rt);
-        let before = room.desk().trace().len();
-        let answer = room.complete_in_place(seat, outcome);
-        let ended = answer.is_ok() && room.note_end(number);
+        let mut inside = self.enter(rt);
+        let before = inside.desk().trace().len();
+        let answer = inside.complete_in_place(seat, outcome);
+        let ended = answer.is_ok() && inside.note_end(number);
         // What happened first is the end of this call, where it was taken. Mostly no call starts by it.
-        let beds = if room.desk().trace().len() > before.saturating_add(1) {
-            started(&mut room, before.saturating_add(1))
+        let beds = if inside.desk().trace().len() > before.saturating_add(1) {
+            started(&mut inside, before.saturating_add(1))
         } else {
             0
         };
-        let opens = ended && room.is_open();
-        drop(room);
+        let opens = ended && inside.is_open();
+        drop(inside);
         self.wake(beds);
         if opens {
             self.door.notify_one();
@@ -384,42 +384,42 @@ impl Office {
         answer
     }
 
-    /// Takes a waiting call out, as [`Room::cancel`].
+    /// Takes a waiting call out, as [`Inside::cancel`].
     pub fn cancel<R: Wait>(&self, rt: &R, number: u32) -> Cancelled {
-        let mut room = self.enter(rt);
-        let before = room.desk().trace().len();
-        let answer = room.cancel(number);
-        let beds = started(&mut room, before) | 1u64 << bed_for(room.desk(), number);
-        drop(room);
+        let mut inside = self.enter(rt);
+        let before = inside.desk().trace().len();
+        let answer = inside.cancel(number);
+        let beds = started(&mut inside, before) | 1u64 << bed_for(inside.desk(), number);
+        drop(inside);
         if answer == Cancelled::Cancelled {
             self.wake(beds);
         }
         answer
     }
 
-    /// A session leaves, as by [`Room::leave`].
+    /// A session leaves, as by [`Inside::leave`].
     pub fn leave<R: Wait>(&self, rt: &R, session: u32) {
-        let mut room = self.enter(rt);
-        let before = room.desk().trace().len();
-        room.leave(session);
-        let beds = started(&mut room, before) | 1u64 << bed_of(session);
-        drop(room);
+        let mut inside = self.enter(rt);
+        let before = inside.desk().trace().len();
+        inside.leave(session);
+        let beds = started(&mut inside, before) | 1u64 << bed_of(session);
+        drop(inside);
         self.wake(beds);
     }
 
-    /// Takes the room out of the lock and closes it, as [`Room::close`].
+    /// Takes the inside out of the lock and closes it, as [`Inside::close`].
     pub fn close(self, seats: Vec<Seat>, receipts: &[Receipt]) -> Result<Closed, CloseRefused>
-        ensures { (r : RoomState) × Closes r seats.items receipts.now result }
+        ensures { (r : InsideView) × Closes r seats.items receipts.now result }
     {
-        let room = Box::into_inner(self.room.into_inner());
-        room.close(seats, receipts)
+        let inside = Box::into_inner(self.inside.into_inner());
+        inside.close(seats, receipts)
     }
 
-    /// Takes the room out of the lock and closes it by slips, as [`Room::close_by_slips`].
+    /// Takes the inside out of the lock and closes it by slips, as [`Inside::close_by_slips`].
     pub fn close_by_slips(self, seats: Vec<Seat>, slips: &[Slip]) -> Result<Closed, CloseRefused>
-        ensures { (r : RoomState) × ClosesBySlips r seats.items slips.now result }
+        ensures { (r : InsideView) × ClosesBySlips r seats.items slips.now result }
     {
-        let room = Box::into_inner(self.room.into_inner());
-        room.close_by_slips(seats, slips)
+        let inside = Box::into_inner(self.inside.into_inner());
+        inside.close_by_slips(seats, slips)
     }
 }

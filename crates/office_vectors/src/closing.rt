@@ -1,14 +1,14 @@
-//! When a room and an office are closed.
+//! When an inside and an office are closed.
 
-use crate::make::{finish, page, room, room_of, stuck, turn};
+use crate::make::{finish, inside, inside_of, page, stuck, whole_call};
 use crate::named::{name, outcome_of};
 use apply_core::reply::Reply;
 use board_core::entry::Entry;
 use board_core::receipt::{NotedOutcome, Receipt};
 use device_core::memory::MemHand;
 use hand_core::hand::Stamp;
+use office_core::inside::{CloseFault, CloseRefused, Closed, Inside};
 use office_core::office::Office;
-use office_core::room::{CloseFault, CloseRefused, Closed, Room};
 use office_core::seat::{Seat, Started};
 use page_core::pins::Pins;
 use run_core::perform::perform;
@@ -20,23 +20,23 @@ use std::process::Abort;
 use std::sync::Wait;
 use value_core::datum::Datum;
 
-// The room that a refused close hands back, with so many entries, and its seats.
+// The inside that a refused close hands back, with so many entries, and its seats.
 fn refused(
     rt: &impl Abort,
     answer: Result<Closed, CloseRefused>,
     why: CloseFault,
     entries: usize,
-) -> (Room, Vec<Seat>) {
+) -> (Inside, Vec<Seat>) {
     match answer {
         Ok(_) => panic!(rt; "closed"),
         Err(refused) => {
-            assert!(rt; refused.why == why && refused.room.desk().history().len() == entries);
+            assert!(rt; refused.why == why && refused.inside.desk().history().len() == entries);
             let CloseRefused {
-                room,
+                inside,
                 seats,
                 why: _,
             } = refused;
-            (room, seats)
+            (inside, seats)
         }
     }
 }
@@ -64,12 +64,12 @@ fn is_closed(answer: Result<Closed, CloseRefused>, pins: Pins) -> bool {
     is_cell && file.is_some() && page(&opening) == file && page_read(entry) == file
 }
 
-// A receipt of a `put 8` at place 1 of another room.
+// A receipt of a `put 8` at place 1 of another inside.
 fn foreign<R: Abort + Wait>(rt: &R, alloc: Global) -> Receipt {
     let mut hand = MemHand::new(alloc);
-    let mut other = room(rt, alloc, &mut hand);
+    let mut other = inside(rt, alloc, &mut hand);
     let mut seat = other.seat().expect(rt, "a seat");
-    turn(rt, alloc, &mut other, &mut seat, &mut hand, 8).expect(rt, "a receipt")
+    whole_call(rt, alloc, &mut other, &mut seat, &mut hand, 8).expect(rt, "a receipt")
 }
 
 fn one(rt: &impl Abort, alloc: Global, receipt: Receipt) -> Vec<Receipt> {
@@ -80,14 +80,14 @@ fn one(rt: &impl Abort, alloc: Global, receipt: Receipt) -> Vec<Receipt> {
 
 // The slip of a receipt of a `put` of this value.
 fn slip(rt: &impl Abort, alloc: Global, receipt: Receipt, value: u32) -> Vec<Slip> {
-    let mut room = SlipRoom::new(alloc);
-    room.make(&[Datum::Integer(value)]).expect(rt, "memory");
+    let mut inside = SlipRoom::new(alloc);
+    inside.make(&[Datum::Integer(value)]).expect(rt, "memory");
     let Receipt {
         place,
         noted: NotedOutcome { session, outcome },
         free: _,
     } = receipt;
-    let slip = room.slip(place, session, outcome).expect(rt, "a slip");
+    let slip = inside.slip(place, session, outcome).expect(rt, "a slip");
     assert!(rt; slip.place() == 1 && slip.number() == 1 && slip.reply() == Reply::Done(None));
     let mut all = Vec::new(alloc);
     all.push(slip).expect(rt, "memory");
@@ -95,24 +95,24 @@ fn slip(rt: &impl Abort, alloc: Global, receipt: Receipt, value: u32) -> Vec<Sli
 }
 
 #[test]
-fn a_room_closes_with_its_seat_and_its_receipt(rt: HostRuntime) {
+fn an_office_closes_with_its_seat_and_its_receipt(rt: HostRuntime) {
     let alloc = rt.alloc();
     let mut hand = MemHand::new(alloc);
-    let mut room = room(&rt, alloc, &mut hand);
-    let pins = room.desk().pins();
-    let mut seat = room.seat().expect(&rt, "a seat");
-    let own = turn(&rt, alloc, &mut room, &mut seat, &mut hand, 7).expect(&rt, "a receipt");
+    let mut inside = inside(&rt, alloc, &mut hand);
+    let pins = inside.desk().pins();
+    let mut seat = inside.seat().expect(&rt, "a seat");
+    let own = whole_call(&rt, alloc, &mut inside, &mut seat, &mut hand, 7).expect(&rt, "a receipt");
     let foreign = one(&rt, alloc, foreign(&rt, alloc));
     let own = one(&rt, alloc, own);
     let why = CloseFault::SeatMissing;
-    let (room, mut seats) = refused(&rt, room.close(Vec::new(alloc), &[]), why, 1);
+    let (inside, mut seats) = refused(&rt, inside.close(Vec::new(alloc), &[]), why, 1);
     seats.push(seat).expect(&rt, "memory");
     let why = CloseFault::Mismatch {
         receipt: 0,
         place: 1,
     };
-    let (room, seats) = refused(&rt, room.close(seats, &foreign), why, 1);
-    assert!(rt; is_closed(room.close(seats, &own), pins));
+    let (inside, seats) = refused(&rt, inside.close(seats, &foreign), why, 1);
+    assert!(rt; is_closed(inside.close(seats, &own), pins));
 }
 
 // Makes a call of `put` in an office from beginning to end.
@@ -165,23 +165,23 @@ fn is_stranger<R: Wait>(
 fn an_office_closes_with_its_seat_and_its_slip(rt: HostRuntime) {
     let alloc = rt.alloc();
     let mut hand = MemHand::new(alloc);
-    let room = room(&rt, alloc, &mut hand);
-    let pins = room.desk().pins();
-    let office = Office::open(alloc, room).expect(&rt, "memory");
+    let inside = inside(&rt, alloc, &mut hand);
+    let pins = inside.desk().pins();
+    let office = Office::open(alloc, inside).expect(&rt, "memory");
     let mut seat = office.seat(&rt).expect(&rt, "a seat");
     let own = put(&rt, alloc, &office, &mut seat, &mut hand, 7).expect(&rt, "a receipt");
     let foreign = slip(&rt, alloc, foreign(&rt, alloc), 8);
     let own = slip(&rt, alloc, own, 7);
     let why = CloseFault::SeatMissing;
-    let (room, mut seats) = refused(&rt, office.close_by_slips(Vec::new(alloc), &[]), why, 1);
+    let (inside, mut seats) = refused(&rt, office.close_by_slips(Vec::new(alloc), &[]), why, 1);
     seats.push(seat).expect(&rt, "memory");
     let why = CloseFault::Mismatch {
         receipt: 0,
         place: 1,
     };
-    let office = Office::open(alloc, room).expect(&rt, "memory");
-    let (room, seats) = refused(&rt, office.close_by_slips(seats, &foreign), why, 1);
-    let office = Office::open(alloc, room).expect(&rt, "memory");
+    let office = Office::open(alloc, inside).expect(&rt, "memory");
+    let (inside, seats) = refused(&rt, office.close_by_slips(seats, &foreign), why, 1);
+    let office = Office::open(alloc, inside).expect(&rt, "memory");
     assert!(rt; is_closed(office.close_by_slips(seats, &own), pins));
 }
 
@@ -189,110 +189,122 @@ fn an_office_closes_with_its_seat_and_its_slip(rt: HostRuntime) {
 fn a_call_that_runs_keeps_an_office_open(rt: HostRuntime) {
     let alloc = rt.alloc();
     let mut hand = MemHand::new(alloc);
-    let first = Office::open(alloc, room(&rt, alloc, &mut hand)).expect(&rt, "memory");
-    let other = Office::open(alloc, room(&rt, alloc, &mut hand)).expect(&rt, "memory");
+    let first = Office::open(alloc, inside(&rt, alloc, &mut hand)).expect(&rt, "memory");
+    let other = Office::open(alloc, inside(&rt, alloc, &mut hand)).expect(&rt, "memory");
     let mut seat = first.seat(&rt).expect(&rt, "a seat");
     assert!(rt; is_stranger(&rt, alloc, &first, &other, &mut seat, &mut hand));
-    let (room, seats) = refused(
+    let (inside, seats) = refused(
         &rt,
         first.close(Vec::new(alloc), &[]),
         CloseFault::Outstanding,
         0,
     );
-    assert!(rt; room.desk().runs(1) && seats.is_empty());
+    assert!(rt; inside.desk().runs(1) && seats.is_empty());
 }
 
 // Parks the seat of a name behind a `put 7`, and answers the receipt.
 fn put_and_park<R: Abort + Wait>(
     rt: &R,
     alloc: Global,
-    room: &mut Room,
+    inside: &mut Inside,
     hand: &mut MemHand,
     bytes: &[u8],
 ) -> Receipt {
-    let mut seat = room
+    let mut seat = inside
         .seat_named(&name(rt, alloc, bytes))
         .expect(rt, "a seat");
-    let receipt = turn(rt, alloc, room, &mut seat, hand, 7).expect(rt, "a receipt");
-    room.park(seat).ok().expect(rt, "to park");
+    let receipt = whole_call(rt, alloc, inside, &mut seat, hand, 7).expect(rt, "a receipt");
+    inside.park(seat).ok().expect(rt, "to park");
     receipt
 }
 
 #[test]
-fn parked_seats_are_counted_where_a_room_closes(rt: HostRuntime) {
+fn parked_seats_are_counted_where_an_office_closes(rt: HostRuntime) {
     let alloc = rt.alloc();
     let mut hand = MemHand::new(alloc);
-    let mut room = room(&rt, alloc, &mut hand);
+    let mut inside = inside(&rt, alloc, &mut hand);
     let own = one(
         &rt,
         alloc,
-        put_and_park(&rt, alloc, &mut room, &mut hand, b"ann"),
+        put_and_park(&rt, alloc, &mut inside, &mut hand, b"ann"),
     );
     let foreign = one(&rt, alloc, foreign(&rt, alloc));
-    let seat = room.seat().expect(&rt, "a seat");
+    let seat = inside.seat().expect(&rt, "a seat");
     // The seat without a name is missing; then the parked one is out.
-    let (mut room, mut seats) = refused(
+    let (mut inside, mut seats) = refused(
         &rt,
-        room.close(Vec::new(alloc), &own),
+        inside.close(Vec::new(alloc), &own),
         CloseFault::SeatMissing,
         1,
     );
     seats.push(seat).expect(&rt, "memory");
-    let ann = room
+    let ann = inside
         .seat_named(&name(&rt, alloc, b"ann"))
         .expect(&rt, "a seat");
     assert!(rt; ann.session() == 1 && ann.count() == 1);
-    let (mut room, mut seats) = refused(&rt, room.close(seats, &own), CloseFault::SeatMissing, 1);
+    let (mut inside, mut seats) = refused(
+        &rt,
+        inside.close(seats, &own),
+        CloseFault::SeatMissing,
+        1,
+    );
     // A seat that is parked is handed in, too: each session has one seat.
-    room.park(ann).ok().expect(&rt, "to park");
-    let mut other = room_of(alloc, room.desk().pins()).expect(&rt, "a room");
+    inside.park(ann).ok().expect(&rt, "to park");
+    let mut other = inside_of(alloc, inside.desk().pins()).expect(&rt, "an inside");
     seats
         .push(other.seat().expect(&rt, "a seat"))
         .expect(&rt, "memory");
-    let (room, mut seats) = refused(&rt, room.close(seats, &own), CloseFault::SeatMissing, 1);
+    let (inside, mut seats) = refused(&rt, inside.close(seats, &own), CloseFault::SeatMissing, 1);
     let twice = seats.pop().expect(&rt, "a seat");
     assert!(rt; twice.session() == 1 && seats.len() == 1);
     let why = CloseFault::Mismatch {
         receipt: 0,
         place: 1,
     };
-    let (room, seats) = refused(&rt, room.close(seats, &foreign), why, 1);
-    assert!(rt; room.close(seats, &own).is_ok());
+    let (inside, seats) = refused(&rt, inside.close(seats, &foreign), why, 1);
+    assert!(rt; inside.close(seats, &own).is_ok());
 }
 
 #[test]
 fn an_office_closes_with_parked_seats_alone(rt: HostRuntime) {
     let alloc = rt.alloc();
     let mut hand = MemHand::new(alloc);
-    let mut room = room(&rt, alloc, &mut hand);
-    let pins = room.desk().pins();
-    let receipt = put_and_park(&rt, alloc, &mut room, &mut hand, b"ann");
+    let mut inside = inside(&rt, alloc, &mut hand);
+    let pins = inside.desk().pins();
+    let receipt = put_and_park(&rt, alloc, &mut inside, &mut hand, b"ann");
     let own = slip(&rt, alloc, receipt, 7);
-    let office = Office::open(alloc, room).expect(&rt, "memory");
+    let office = Office::open(alloc, inside).expect(&rt, "memory");
     assert!(rt; is_closed(office.close_by_slips(Vec::new(alloc), &own), pins));
 }
 
 // A call of a name that runs comes before a seat that is missing.
 #[test]
-fn a_running_call_of_a_name_keeps_a_room_open(rt: HostRuntime) {
+fn a_running_call_of_a_name_keeps_an_office_open(rt: HostRuntime) {
     let alloc = rt.alloc();
     let mut hand = MemHand::new(alloc);
-    let mut room = room(&rt, alloc, &mut hand);
-    let mut ann = room
+    let mut inside = inside(&rt, alloc, &mut hand);
+    let mut ann = inside
         .seat_named(&name(&rt, alloc, b"ann"))
         .expect(&rt, "a seat");
-    let submitted = room.submit(&mut ann, "get", &[]).ok().expect(&rt, "a call");
-    let outcome = outcome_of(&rt, alloc, &mut room, &mut hand, submitted).expect(&rt, "an outcome");
-    let (mut room, seats) = refused(
+    let submitted = inside
+        .submit(&mut ann, "get", &[])
+        .ok()
+        .expect(&rt, "a call");
+    let outcome = outcome_of(&rt, alloc, &mut inside, &mut hand, submitted).expect(
         &rt,
-        room.close(Vec::new(alloc), &[]),
+        "an outcome",
+    );
+    let (mut inside, seats) = refused(
+        &rt,
+        inside.close(Vec::new(alloc), &[]),
         CloseFault::Outstanding,
         0,
     );
-    room.complete(&mut ann, outcome)
+    inside
+        .complete(&mut ann, outcome)
         .ok()
         .expect(&rt, "a receipt");
-    let (mut room, seats) = refused(&rt, room.close(seats, &[]), CloseFault::SeatMissing, 1);
-    room.park(ann).ok().expect(&rt, "to park");
-    assert!(rt; room.close(seats, &[]).is_ok());
+    let (mut inside, seats) = refused(&rt, inside.close(seats, &[]), CloseFault::SeatMissing, 1);
+    inside.park(ann).ok().expect(&rt, "to park");
+    assert!(rt; inside.close(seats, &[]).is_ok());
 }

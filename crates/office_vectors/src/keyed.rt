@@ -1,15 +1,15 @@
-//! Calls under a key, in a room and in an office.
+//! Calls under a key, in an inside and in an office.
 
-use crate::make::{finish, room, stuck, turn};
+use crate::make::{finish, inside, stuck, whole_call};
 use crate::meeting::meets;
 use crate::named::{is_cancelled, name, outcome_of};
 use apply_core::reply::Reply;
 use ask_core::answer::{CallState, Kept, KeyedFault, SubmitFault};
 use device_core::memory::MemHand;
+use office_core::inside::Inside;
 use office_core::keyed::Resubmitted;
 use office_core::named::{NameFault, ParkFault};
 use office_core::office::Office;
-use office_core::room::Room;
 use office_core::seat::{Seat, Started, Submitted};
 use run_core::perform::perform;
 use run_core::run::Run;
@@ -64,97 +64,103 @@ fn is_refused<R: Wait>(rt: &R, answer: Result<Resubmitted, KeyedFault>, why: Key
 fn a_call_under_an_old_key_is_told_what_became_of_it(rt: HostRuntime) {
     let alloc = rt.alloc();
     let mut hand = MemHand::new(alloc);
-    let mut room = room(&rt, alloc, &mut hand);
-    let mut ann = room
+    let mut inside = inside(&rt, alloc, &mut hand);
+    let mut ann = inside
         .seat_named(&name(&rt, alloc, b"ann"))
         .expect(&rt, "a seat");
-    let mut bob = room.seat().expect(&rt, "a seat");
-    let first = taken(room.submit_keyed(&mut ann, 1, "put", &[Datum::Integer(7)])).expect(
+    let mut bob = inside.seat().expect(&rt, "a seat");
+    let first = taken(inside.submit_keyed(&mut ann, 1, "put", &[Datum::Integer(7)])).expect(
         &rt, "a call",
     );
-    assert!(rt; first.number() == 1 && room.next_key(&ann) == 2 && room.next_key(&bob) == 1);
-    let running = room.submit_keyed(&mut ann, 1, "put", &[Datum::Integer(7)]);
+    assert!(rt; first.number() == 1 && inside.next_key(&ann) == 2 && inside.next_key(&bob) == 1);
+    let running = inside.submit_keyed(&mut ann, 1, "put", &[Datum::Integer(7)]);
     assert!(rt; is_kept(&rt, running, 1, CallState::Running));
-    let second = taken(room.submit_keyed(&mut bob, 1, "put", &[Datum::Integer(7)])).expect(
+    let second = taken(inside.submit_keyed(&mut bob, 1, "put", &[Datum::Integer(7)])).expect(
         &rt, "a call",
     );
     assert!(rt; second.number() == 2);
     // The name of the operation may be in any case.
-    let waiting = room.submit_keyed(&mut bob, 1, "PUT", &[Datum::Integer(7)]);
+    let waiting = inside.submit_keyed(&mut bob, 1, "PUT", &[Datum::Integer(7)]);
     assert!(rt; is_kept(&rt, waiting, 2, CallState::Waiting));
-    room.cancel(2);
-    let cancelled = room.submit_keyed(&mut bob, 1, "put", &[Datum::Integer(7)]);
+    inside.cancel(2);
+    let cancelled = inside.submit_keyed(&mut bob, 1, "put", &[Datum::Integer(7)]);
     assert!(rt; is_kept(&rt, cancelled, 2, CallState::Cancelled));
-    let told = is_cancelled(&rt, alloc, &mut room, &mut hand, second);
+    let told = is_cancelled(&rt, alloc, &mut inside, &mut hand, second);
     assert!(rt; told);
-    let outcome = outcome_of(&rt, alloc, &mut room, &mut hand, first).expect(&rt, "an outcome");
-    room.complete(&mut ann, outcome)
+    let outcome = outcome_of(&rt, alloc, &mut inside, &mut hand, first).expect(&rt, "an outcome");
+    inside
+        .complete(&mut ann, outcome)
         .ok()
         .expect(&rt, "a receipt");
     let done = CallState::Ended(Reply::Done(None));
-    let ended = room.submit_keyed(&mut ann, 1, "put", &[Datum::Integer(7)]);
+    let ended = inside.submit_keyed(&mut ann, 1, "put", &[Datum::Integer(7)]);
     assert!(rt; is_kept(&rt, ended, 1, done));
     // One more call, and the first key still tells of the first one.
-    let third = taken(room.submit_keyed(&mut ann, 2, "get", &[])).expect(&rt, "a call");
-    let outcome = outcome_of(&rt, alloc, &mut room, &mut hand, third).expect(&rt, "an outcome");
-    room.complete(&mut ann, outcome)
+    let third = taken(inside.submit_keyed(&mut ann, 2, "get", &[])).expect(&rt, "a call");
+    let outcome = outcome_of(&rt, alloc, &mut inside, &mut hand, third).expect(&rt, "an outcome");
+    inside
+        .complete(&mut ann, outcome)
         .ok()
         .expect(&rt, "a receipt");
-    let ended = room.submit_keyed(&mut ann, 1, "put", &[Datum::Integer(7)]);
+    let ended = inside.submit_keyed(&mut ann, 1, "put", &[Datum::Integer(7)]);
     assert!(rt; is_kept(&rt, ended, 1, done));
     let seven = CallState::Ended(Reply::Done(Some(Datum::Integer(7))));
-    let ended = room.submit_keyed(&mut ann, 2, "get", &[]);
-    assert!(rt; is_kept(&rt, ended, 3, seven) && room.next_key(&ann) == 3);
-    assert!(rt; room.desk().history().len() == 2 && room.desk().is_idle());
+    let ended = inside.submit_keyed(&mut ann, 2, "get", &[]);
+    assert!(rt; is_kept(&rt, ended, 3, seven) && inside.next_key(&ann) == 3);
+    assert!(rt; inside.desk().history().len() == 2 && inside.desk().is_idle());
 }
 
 #[test]
 fn a_call_under_a_key_is_refused(rt: HostRuntime) {
     let alloc = rt.alloc();
     let mut hand = MemHand::new(alloc);
-    let mut room = room(&rt, alloc, &mut hand);
-    let mut seat = room.seat().expect(&rt, "a seat");
-    turn(&rt, alloc, &mut room, &mut seat, &mut hand, 7).expect(&rt, "a receipt");
-    let nothing = room.submit_keyed(&mut seat, 0, "put", &[Datum::Integer(7)]);
+    let mut inside = inside(&rt, alloc, &mut hand);
+    let mut seat = inside.seat().expect(&rt, "a seat");
+    whole_call(&rt, alloc, &mut inside, &mut seat, &mut hand, 7).expect(&rt, "a receipt");
+    let nothing = inside.submit_keyed(&mut seat, 0, "put", &[Datum::Integer(7)]);
     assert!(rt; is_refused(&rt, nothing, KeyedFault::BadKey));
-    let past = room.submit_keyed(&mut seat, 3, "put", &[Datum::Integer(7)]);
+    let past = inside.submit_keyed(&mut seat, 3, "put", &[Datum::Integer(7)]);
     assert!(rt; is_refused(&rt, past, KeyedFault::BadKey));
-    let other = room.submit_keyed(&mut seat, 1, "put", &[Datum::Integer(8)]);
+    let other = inside.submit_keyed(&mut seat, 1, "put", &[Datum::Integer(8)]);
     assert!(rt; is_refused(&rt, other, KeyedFault::KeyReused));
-    let other = room.submit_keyed(&mut seat, 1, "get", &[]);
+    let other = inside.submit_keyed(&mut seat, 1, "get", &[]);
     assert!(rt; is_refused(&rt, other, KeyedFault::KeyReused));
-    let unknown = room.submit_keyed(&mut seat, 1, "take", &[]);
+    let unknown = inside.submit_keyed(&mut seat, 1, "take", &[]);
     assert!(rt; is_refused(&rt, unknown, KeyedFault::KeyReused));
-    let unknown = room.submit_keyed(&mut seat, 2, "take", &[]);
+    let unknown = inside.submit_keyed(&mut seat, 2, "take", &[]);
     assert!(rt; is_refused(&rt, unknown, KeyedFault::Submit(SubmitFault::UnknownOp)));
-    let bad = room.submit_keyed(&mut seat, 2, "put", &[]);
+    let bad = inside.submit_keyed(&mut seat, 2, "put", &[]);
     assert!(rt; is_refused(&rt, bad, KeyedFault::Submit(SubmitFault::BadArgs)));
-    let submitted = taken(room.submit_keyed(&mut seat, 2, "get", &[])).expect(&rt, "a call");
-    let busy = room.submit_keyed(&mut seat, 3, "get", &[]);
+    let submitted = taken(inside.submit_keyed(&mut seat, 2, "get", &[])).expect(&rt, "a call");
+    let busy = inside.submit_keyed(&mut seat, 3, "get", &[]);
     assert!(rt; is_refused(&rt, busy, KeyedFault::Submit(SubmitFault::SessionBusy)));
-    let outcome = outcome_of(&rt, alloc, &mut room, &mut hand, submitted).expect(&rt, "an outcome");
-    room.complete(&mut seat, outcome)
+    let outcome = outcome_of(&rt, alloc, &mut inside, &mut hand, submitted).expect(
+        &rt,
+        "an outcome",
+    );
+    inside
+        .complete(&mut seat, outcome)
         .ok()
         .expect(&rt, "a receipt");
-    assert!(rt; room.next_key(&seat) == 3);
-    room.leave(seat.session());
-    let gone = room.submit_keyed(&mut seat, 1, "put", &[Datum::Integer(7)]);
+    assert!(rt; inside.next_key(&seat) == 3);
+    inside.leave(seat.session());
+    let gone = inside.submit_keyed(&mut seat, 1, "put", &[Datum::Integer(7)]);
     assert!(rt; is_refused(&rt, gone, KeyedFault::Gone));
-    let gone = room.submit_keyed(&mut seat, 0, "put", &[Datum::Integer(7)]);
-    assert!(rt; is_refused(&rt, gone, KeyedFault::Gone) && room.next_key(&seat) == 3);
+    let gone = inside.submit_keyed(&mut seat, 0, "put", &[Datum::Integer(7)]);
+    assert!(rt; is_refused(&rt, gone, KeyedFault::Gone) && inside.next_key(&seat) == 3);
 }
 
 // Whether so many sessions each start a call of `get`, which runs on.
-fn fill<R: Wait>(rt: &R, alloc: Global, room: &mut Room, hand: &mut MemHand) -> bool {
+fn fill<R: Wait>(rt: &R, alloc: Global, inside: &mut Inside, hand: &mut MemHand) -> bool {
     for _ in 0..MOST_OPEN {
-        let Ok(mut seat) = room.seat() else {
+        let Ok(mut seat) = inside.seat() else {
             return false;
         };
-        let Ok(submitted) = room.submit(&mut seat, "get", &[]) else {
+        let Ok(submitted) = inside.submit(&mut seat, "get", &[]) else {
             return false;
         };
         // Its outcome is lost.
-        if outcome_of(rt, alloc, room, hand, submitted).is_none() {
+        if outcome_of(rt, alloc, inside, hand, submitted).is_none() {
             return false;
         }
     }
@@ -165,20 +171,20 @@ fn fill<R: Wait>(rt: &R, alloc: Global, room: &mut Room, hand: &mut MemHand) -> 
 fn a_session_is_back_while_256_calls_run(rt: HostRuntime) {
     let alloc = rt.alloc();
     let mut hand = MemHand::new(alloc);
-    let mut room = room(&rt, alloc, &mut hand);
+    let mut inside = inside(&rt, alloc, &mut hand);
     let ann = name(&rt, alloc, b"ann");
-    let mut seat = room.seat_named(&ann).expect(&rt, "a seat");
-    turn(&rt, alloc, &mut room, &mut seat, &mut hand, 7).expect(&rt, "a receipt");
-    room.park(seat).ok().expect(&rt, "to park");
-    assert!(rt; fill(&rt, alloc, &mut room, &mut hand));
-    let mut seat = room.seat_named(&ann).expect(&rt, "a seat");
-    let ended = room.submit_keyed(&mut seat, 1, "put", &[Datum::Integer(7)]);
+    let mut seat = inside.seat_named(&ann).expect(&rt, "a seat");
+    whole_call(&rt, alloc, &mut inside, &mut seat, &mut hand, 7).expect(&rt, "a receipt");
+    inside.park(seat).ok().expect(&rt, "to park");
+    assert!(rt; fill(&rt, alloc, &mut inside, &mut hand));
+    let mut seat = inside.seat_named(&ann).expect(&rt, "a seat");
+    let ended = inside.submit_keyed(&mut seat, 1, "put", &[Datum::Integer(7)]);
     assert!(rt; is_kept(&rt, ended, 1, CallState::Ended(Reply::Done(None))));
-    let full = room.submit_keyed(&mut seat, 2, "get", &[]);
+    let full = inside.submit_keyed(&mut seat, 2, "get", &[]);
     assert!(rt; is_refused(&rt, full, KeyedFault::Submit(SubmitFault::Full)));
-    assert!(rt; room.next_key(&seat) == 2);
-    room.park(seat).ok().expect(&rt, "to park");
-    assert!(rt; room.desk().runs(2) && room.desk().runs(257));
+    assert!(rt; inside.next_key(&seat) == 2);
+    inside.park(seat).ok().expect(&rt, "to park");
+    assert!(rt; inside.desk().runs(2) && inside.desk().runs(257));
 }
 
 // A call of the seat that lies here, and a wait for its start: whether it was cancelled.
@@ -228,7 +234,7 @@ fn park_once<R: Wait>(
 fn an_office_parks_and_tells_who_waits(rt: HostRuntime) {
     let alloc = rt.alloc();
     let mut hand = MemHand::new(alloc);
-    let office = Office::open(alloc, room(&rt, alloc, &mut hand)).expect(&rt, "memory");
+    let office = Office::open(alloc, inside(&rt, alloc, &mut hand)).expect(&rt, "memory");
     let (ann, bob) = (name(&rt, alloc, b"ann"), name(&rt, alloc, b"bob"));
     let mut first = office.seat_named(&rt, &ann).expect(&rt, "a seat");
     let second = office.seat_named(&rt, &bob).expect(&rt, "a seat");

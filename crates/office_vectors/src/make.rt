@@ -1,12 +1,12 @@
-//! Objects, files, rooms and whole calls, as the tests make them.
+//! Objects, files, insides of offices and whole calls, as the tests make them.
 
 use board_core::receipt::Receipt;
 use decl_read::read::read_objects;
 use exclude_core::analyse::{Accepted, analyse};
 use hand_core::hand::{Hand, Stamp};
 use hand_core::whole::put;
+use office_core::inside::Inside;
 use office_core::office::Office;
-use office_core::room::Room;
 use office_core::seat::{Seat, Started, Submitted, Tried};
 use page_core::page_list::PageList;
 use page_core::pins::Pins;
@@ -53,35 +53,35 @@ pub fn page(pins: &Pins) -> Option<Stamp> {
     }
 }
 
-/// A room with a cell under these pins, where there is memory for it.
-pub fn room_of(alloc: Global, pins: Pins) -> Option<Room> {
+/// An inside with a cell under these pins, where there is memory for it.
+pub fn inside_of(alloc: Global, pins: Pins) -> Option<Inside> {
     let cell = cell(alloc)?;
     if pins.len() != cell.object().parts.len() {
         return None;
     }
-    Room::open(alloc, cell, pins).ok()
+    Inside::open(alloc, cell, pins).ok()
 }
 
-/// A room with a cell, over files of this hand.
-pub fn room<H: Hand>(rt: &impl Abort, alloc: Global, hand: &mut H) -> Room {
+/// An inside with a cell, over files of this hand.
+pub fn inside<H: Hand>(rt: &impl Abort, alloc: Global, hand: &mut H) -> Inside {
     let pins = pins(hand).expect(rt, "a file");
-    room_of(alloc, pins).expect(rt, "a room")
+    inside_of(alloc, pins).expect(rt, "an inside")
 }
 
-/// Makes a call of `put` on a room from beginning to end.
-pub fn turn<R: Wait, H: Hand>(
+/// Makes a call of `put` on an inside from beginning to end.
+pub fn whole_call<R: Wait, H: Hand>(
     rt: &R,
     alloc: Global,
-    room: &mut Room,
+    inside: &mut Inside,
     seat: &mut Seat,
     hand: &mut H,
     value: u32,
 ) -> Option<Receipt> {
-    let submitted = room.submit(seat, "put", &[Datum::Integer(value)]).ok()?;
-    match room.try_start(submitted) {
+    let submitted = inside.submit(seat, "put", &[Datum::Integer(value)]).ok()?;
+    match inside.try_start(submitted) {
         Tried::Ticket(ticket) => {
             let outcome = perform(Run::new(alloc, ticket), hand);
-            room.complete(seat, outcome).ok()
+            inside.complete(seat, outcome).ok()
         }
         Tried::Cancelled => None,
         Tried::Waiting(back) => {

@@ -1,6 +1,6 @@
 //! 64 threads that call, cancel and leave at random.
 
-use crate::make::{room, stuck};
+use crate::make::{inside, stuck};
 use apply_core::reply::Reply;
 use ask_core::answer::SubmitFault;
 use board_core::entry::Entry;
@@ -8,8 +8,8 @@ use board_core::event::TraceEvent;
 use board_core::receipt::Receipt;
 use desk_core::desk::Desk;
 use device_core::memory::MemHand;
+use office_core::inside::Closed;
 use office_core::office::Office;
-use office_core::room::Closed;
 use office_core::seat::{Seat, Started, Submitted};
 use run_core::perform::perform;
 use run_core::run::Run;
@@ -227,7 +227,7 @@ fn is_right(closed: &Closed, receipts: usize) -> bool {
 fn many_threads_close(rt: HostRuntime) {
     let alloc = rt.alloc();
     let mut files = MemHand::new(alloc);
-    let office = Office::open(alloc, room(&rt, alloc, &mut files)).expect(&rt, "memory");
+    let office = Office::open(alloc, inside(&rt, alloc, &mut files)).expect(&rt, "memory");
     let hand = Mutex::new(files);
     let all = thread::map_indices(
         &rt,

@@ -1,6 +1,6 @@
 //! Two bodies that run at once.
 
-use crate::make::{finish, page, pins, room, stuck};
+use crate::make::{finish, inside, page, pins, stuck};
 use device_core::memory::MemHand;
 use office_core::office::Office;
 use office_core::seat::Started;
@@ -75,11 +75,11 @@ fn two_gets_meet(rt: HostRuntime) {
     let alloc = rt.alloc();
     let mut one = MemHand::new(alloc);
     let mut two = MemHand::new(alloc);
-    let room = room(&rt, alloc, &mut one);
+    let inside = inside(&rt, alloc, &mut one);
     let same = pins(&mut two).expect(&rt, "memory");
-    let there = room.desk().pins();
+    let there = inside.desk().pins();
     assert!(rt; page(&same).is_some() && page(&same) == page(&there));
-    let office = Office::open(alloc, room).expect(&rt, "memory");
+    let office = Office::open(alloc, inside).expect(&rt, "memory");
     let word = AtomicU64::new(0);
     let (first, second) = thread::join(
         &rt,

@@ -1,12 +1,12 @@
 //! Seats that are given out under a name, parked, and given out again.
 
-use crate::make::{room, stuck, turn};
+use crate::make::{inside, stuck, whole_call};
 use apply_core::reply::Reply;
 use ask_core::answer::{CallState, Kept, KeyedFault};
 use device_core::memory::MemHand;
 use hand_core::hand::Hand;
+use office_core::inside::{CloseFault, CloseRefused, Closed, Inside};
 use office_core::named::{NameFault, ParkFault};
-use office_core::room::{CloseFault, CloseRefused, Closed, Room};
 use office_core::seat::{Seat, Submitted, Tried};
 use path_tree::name::Name;
 use run_core::outcome::Outcome;
@@ -27,8 +27,10 @@ pub fn name(rt: &impl Abort, alloc: Global, bytes: &[u8]) -> Name {
 }
 
 // What became of a session's `put 7` under this key.
-fn put_kept(room: &Room, session: u32, key: u32) -> Result<Option<Kept>, KeyedFault> {
-    room.desk().kept(session, key, "put", &[Datum::Integer(7)])
+fn put_kept(inside: &Inside, session: u32, key: u32) -> Result<Option<Kept>, KeyedFault> {
+    inside
+        .desk()
+        .kept(session, key, "put", &[Datum::Integer(7)])
 }
 
 // Whether this is a seat of this session that had so many receipts, the last at this place.
@@ -44,7 +46,7 @@ fn is_refused(answer: Result<(), (Seat, ParkFault)>, session: u32, why: ParkFaul
     }
 }
 
-// Why a room is not closed.
+// Why an inside is not closed.
 fn why_open(answer: Result<Closed, CloseRefused>) -> Option<CloseFault> {
     match answer {
         Ok(_) => None,
@@ -56,46 +58,46 @@ fn why_open(answer: Result<Closed, CloseRefused>) -> Option<CloseFault> {
 fn a_parked_seat_is_given_out_again(rt: HostRuntime) {
     let alloc = rt.alloc();
     let mut hand = MemHand::new(alloc);
-    let mut room = room(&rt, alloc, &mut hand);
-    let mut ann = room
+    let mut inside = inside(&rt, alloc, &mut hand);
+    let mut ann = inside
         .seat_named(&name(&rt, alloc, b"ann"))
         .expect(&rt, "a seat");
-    assert!(rt; is_seat(&ann, 1, 0, 0) && room.next_key(&ann) == 1);
-    turn(&rt, alloc, &mut room, &mut ann, &mut hand, 7).expect(&rt, "a receipt");
-    assert!(rt; is_seat(&ann, 1, 1, 1) && room.next_key(&ann) == 2);
-    let bob = room
+    assert!(rt; is_seat(&ann, 1, 0, 0) && inside.next_key(&ann) == 1);
+    whole_call(&rt, alloc, &mut inside, &mut ann, &mut hand, 7).expect(&rt, "a receipt");
+    assert!(rt; is_seat(&ann, 1, 1, 1) && inside.next_key(&ann) == 2);
+    let bob = inside
         .seat_named(&name(&rt, alloc, b"bob"))
         .expect(&rt, "a seat");
     assert!(rt; is_seat(&bob, 2, 0, 0));
     // The name is that of a seat that is out, in any case.
-    let again = room.seat_named(&name(&rt, alloc, b"ANN")).err();
+    let again = inside.seat_named(&name(&rt, alloc, b"ANN")).err();
     assert!(rt; again == Some(NameFault::InUse));
-    room.park(ann).ok().expect(&rt, "to park");
-    assert!(rt; put_kept(&room, 1, 1) == Err(KeyedFault::Gone));
-    let ann = room
+    inside.park(ann).ok().expect(&rt, "to park");
+    assert!(rt; put_kept(&inside, 1, 1) == Err(KeyedFault::Gone));
+    let ann = inside
         .seat_named(&name(&rt, alloc, b"Ann"))
         .expect(&rt, "a seat");
-    assert!(rt; is_seat(&ann, 1, 1, 1) && room.next_key(&ann) == 2);
+    assert!(rt; is_seat(&ann, 1, 1, 1) && inside.next_key(&ann) == 2);
     let state = CallState::Ended(Reply::Done(None));
     let kept = Kept { number: 1, state };
-    assert!(rt; put_kept(&room, 1, 1) == Ok(Some(kept)) && put_kept(&room, 1, 2) == Ok(None));
-    let next = room.seat().expect(&rt, "a seat");
-    assert!(rt; is_seat(&next, 3, 0, 0) && room.next_key(&next) == 1);
+    assert!(rt; put_kept(&inside, 1, 1) == Ok(Some(kept)) && put_kept(&inside, 1, 2) == Ok(None));
+    let next = inside.seat().expect(&rt, "a seat");
+    assert!(rt; is_seat(&next, 3, 0, 0) && inside.next_key(&next) == 1);
 }
 
 #[test]
 fn a_seat_without_a_name_is_not_parked(rt: HostRuntime) {
     let alloc = rt.alloc();
     let mut hand = MemHand::new(alloc);
-    let mut room = room(&rt, alloc, &mut hand);
-    let seat = room.seat().expect(&rt, "a seat");
-    let ann = room
+    let mut inside = inside(&rt, alloc, &mut hand);
+    let seat = inside.seat().expect(&rt, "a seat");
+    let ann = inside
         .seat_named(&name(&rt, alloc, b"ann"))
         .expect(&rt, "a seat");
-    assert!(rt; is_refused(room.park(seat), 1, ParkFault::Stranger));
-    room.park(ann).ok().expect(&rt, "to park");
+    assert!(rt; is_refused(inside.park(seat), 1, ParkFault::Stranger));
+    inside.park(ann).ok().expect(&rt, "to park");
     // The seat that was handed back is lost.
-    let why = why_open(room.close(Vec::new(alloc), &[]));
+    let why = why_open(inside.close(Vec::new(alloc), &[]));
     assert!(rt; why == Some(CloseFault::SeatMissing));
 }
 
@@ -103,11 +105,11 @@ fn a_seat_without_a_name_is_not_parked(rt: HostRuntime) {
 pub fn outcome_of<R: Wait, H: Hand>(
     rt: &R,
     alloc: Global,
-    room: &mut Room,
+    inside: &mut Inside,
     hand: &mut H,
     submitted: Submitted,
 ) -> Option<Outcome> {
-    match room.try_start(submitted) {
+    match inside.try_start(submitted) {
         Tried::Ticket(ticket) => Some(perform(Run::new(alloc, ticket), hand)),
         Tried::Cancelled => None,
         Tried::Waiting(back) => {
@@ -125,11 +127,11 @@ pub fn outcome_of<R: Wait, H: Hand>(
 pub fn is_cancelled<R: Wait>(
     rt: &R,
     alloc: Global,
-    room: &mut Room,
+    inside: &mut Inside,
     hand: &mut MemHand,
     submitted: Submitted,
 ) -> bool {
-    match room.try_start(submitted) {
+    match inside.try_start(submitted) {
         Tried::Ticket(ticket) => {
             perform(Run::new(alloc, ticket), hand);
             false
@@ -144,44 +146,51 @@ pub fn is_cancelled<R: Wait>(
 fn a_seat_is_parked_once_its_call_does_not_run(rt: HostRuntime) {
     let alloc = rt.alloc();
     let mut hand = MemHand::new(alloc);
-    let mut room = room(&rt, alloc, &mut hand);
-    let mut ann = room
+    let mut inside = inside(&rt, alloc, &mut hand);
+    let mut ann = inside
         .seat_named(&name(&rt, alloc, b"ann"))
         .expect(&rt, "a seat");
-    let mut bob = room
+    let mut bob = inside
         .seat_named(&name(&rt, alloc, b"bob"))
         .expect(&rt, "a seat");
     let put = &[Datum::Integer(7)];
-    let first = room.submit(&mut ann, "put", put).ok().expect(&rt, "a call");
-    let outcome = outcome_of(&rt, alloc, &mut room, &mut hand, first).expect(&rt, "an outcome");
-    let second = room.submit(&mut bob, "put", put).ok().expect(&rt, "a call");
-    assert!(rt; room.desk().runs(1) && room.desk().waits(2));
+    let first = inside
+        .submit(&mut ann, "put", put)
+        .ok()
+        .expect(&rt, "a call");
+    let outcome = outcome_of(&rt, alloc, &mut inside, &mut hand, first).expect(&rt, "an outcome");
+    let second = inside
+        .submit(&mut bob, "put", put)
+        .ok()
+        .expect(&rt, "a call");
+    assert!(rt; inside.desk().runs(1) && inside.desk().waits(2));
     // A waiting call is cancelled, and its session leaves.
-    room.park(bob).ok().expect(&rt, "to park");
-    let told = is_cancelled(&rt, alloc, &mut room, &mut hand, second);
-    assert!(rt; told && !room.desk().waits(2));
-    assert!(rt; put_kept(&room, 2, 1) == Err(KeyedFault::Gone));
+    inside.park(bob).ok().expect(&rt, "to park");
+    let told = is_cancelled(&rt, alloc, &mut inside, &mut hand, second);
+    assert!(rt; told && !inside.desk().waits(2));
+    assert!(rt; put_kept(&inside, 2, 1) == Err(KeyedFault::Gone));
     // A running call keeps its seat out.
-    let mut ann = match room.park(ann) {
+    let mut ann = match inside.park(ann) {
         Ok(()) => panic!(rt; "parked"),
         Err((seat, fault)) => {
-            assert!(rt; fault == ParkFault::Running && room.desk().runs(1));
+            assert!(rt; fault == ParkFault::Running && inside.desk().runs(1));
             seat
         }
     };
-    room.complete(&mut ann, outcome)
+    inside
+        .complete(&mut ann, outcome)
         .ok()
         .expect(&rt, "a receipt");
     assert!(rt; is_seat(&ann, 1, 1, 1));
-    room.park(ann).ok().expect(&rt, "to park");
-    let bob = room
+    inside.park(ann).ok().expect(&rt, "to park");
+    let bob = inside
         .seat_named(&name(&rt, alloc, b"bob"))
         .expect(&rt, "a seat");
     let state = CallState::Cancelled;
     assert!(rt;
-        is_seat(&bob, 2, 0, 0) && put_kept(&room, 2, 1) == Ok(Some(Kept { number: 2, state }))
+        is_seat(&bob, 2, 0, 0) && put_kept(&inside, 2, 1) == Ok(Some(Kept { number: 2, state }))
     );
-    assert!(rt; room.next_key(&bob) == 2 && room.desk().history().len() == 1);
+    assert!(rt; inside.next_key(&bob) == 2 && inside.desk().history().len() == 1);
 }
 
 // The name of a number below 10,000: a letter, and its digits.
@@ -199,12 +208,12 @@ fn numbered(rt: &impl Abort, alloc: Global, number: u32) -> Name {
 
 // Gives a seat out under each numbered name from this one to the last, and parks it, where the next session is
 // the number of the name.
-fn seat_and_park(rt: &impl Abort, alloc: Global, room: &mut Room, first: u32) -> bool {
+fn seat_and_park(rt: &impl Abort, alloc: Global, inside: &mut Inside, first: u32) -> bool {
     for number in first..MOST_SESSIONS + 1 {
-        let Ok(seat) = room.seat_named(&numbered(rt, alloc, number)) else {
+        let Ok(seat) = inside.seat_named(&numbered(rt, alloc, number)) else {
             return false;
         };
-        if !is_seat(&seat, number, 0, 0) || room.park(seat).is_err() {
+        if !is_seat(&seat, number, 0, 0) || inside.park(seat).is_err() {
             return false;
         }
     }
@@ -215,28 +224,28 @@ fn seat_and_park(rt: &impl Abort, alloc: Global, room: &mut Room, first: u32) ->
 fn seats_are_full_for_new_names_alone(rt: HostRuntime) {
     let alloc = rt.alloc();
     let mut hand = MemHand::new(alloc);
-    let mut room = room(&rt, alloc, &mut hand);
-    let ann = room
+    let mut inside = inside(&rt, alloc, &mut hand);
+    let ann = inside
         .seat_named(&name(&rt, alloc, b"ann"))
         .expect(&rt, "a seat");
-    assert!(rt; seat_and_park(&rt, alloc, &mut room, 2));
-    let full = room.seat_named(&name(&rt, alloc, b"bob")).err();
-    assert!(rt; full == Some(NameFault::SeatsFull) && room.seat().is_err());
-    let in_use = room.seat_named(&name(&rt, alloc, b"ann")).err();
+    assert!(rt; seat_and_park(&rt, alloc, &mut inside, 2));
+    let full = inside.seat_named(&name(&rt, alloc, b"bob")).err();
+    assert!(rt; full == Some(NameFault::SeatsFull) && inside.seat().is_err());
+    let in_use = inside.seat_named(&name(&rt, alloc, b"ann")).err();
     assert!(rt; in_use == Some(NameFault::InUse));
-    let last = room
+    let last = inside
         .seat_named(&numbered(&rt, alloc, MOST_SESSIONS))
         .expect(&rt, "a seat");
     assert!(rt; is_seat(&last, MOST_SESSIONS, 0, 0));
-    room.park(last).ok().expect(&rt, "to park");
+    inside.park(last).ok().expect(&rt, "to park");
     // All seats but one are parked.
-    let (room, mut seats) = match room.close(Vec::new(alloc), &[]) {
+    let (inside, mut seats) = match inside.close(Vec::new(alloc), &[]) {
         Ok(_) => panic!(rt; "closed"),
         Err(refused) => {
             assert!(rt; refused.why == CloseFault::SeatMissing);
-            (refused.room, refused.seats)
+            (refused.inside, refused.seats)
         }
     };
     seats.push(ann).expect(&rt, "memory");
-    assert!(rt; why_open(room.close(seats, &[])).is_none());
+    assert!(rt; why_open(inside.close(seats, &[])).is_none());
 }

@@ -1,17 +1,17 @@
-//! Rooms and offices where a growth of memory is refused: a refused submission leaves the room as it was.
+//! Rooms and offices where a growth of memory is refused: a refused submission leaves the inside as it was.
 //!
 //! `gate/refuse_memory` runs each test whose name begins with `refused_` with the first, the second, .. growth
 //! refused, and each whose name begins with `starved_` with all growths refused between its two marks. With no growth
 //! refused they are happy paths.
 
-use crate::make::{pins, room_of, stuck, turn};
+use crate::make::{inside_of, pins, stuck, whole_call};
 use apply_core::reply::Reply;
 use ask_core::answer::{CallState, Kept, KeyedFault, SubmitFault};
 use device_core::memory::MemHand;
+use office_core::inside::Inside;
 use office_core::keyed::Resubmitted;
 use office_core::named::NameFault;
 use office_core::office::Office;
-use office_core::room::Room;
 use office_core::seat::{Seat, Submitted, Tried};
 use page_core::pins::Pins;
 use path_tree::name::Name;
@@ -30,19 +30,19 @@ fn pins_twice(rt: &impl Abort, hand: &mut MemHand) -> Pins {
     }
 }
 
-// A room of a cell, where there is memory for it at the first or at the second try.
-fn room_twice(rt: &impl Abort, alloc: Global, pins: Pins) -> Room {
-    match room_of(alloc, pins) {
-        Some(room) => room,
-        None => room_of(alloc, pins).expect(rt, "memory"),
+// An inside of a cell, where there is memory for it at the first or at the second try.
+fn inside_twice(rt: &impl Abort, alloc: Global, pins: Pins) -> Inside {
+    match inside_of(alloc, pins) {
+        Some(inside) => inside,
+        None => inside_of(alloc, pins).expect(rt, "memory"),
     }
 }
 
 // An office of a cell, where there is memory for it at the first or at the second try.
 fn office_twice(rt: &impl Abort, alloc: Global, pins: Pins) -> Office {
-    match Office::open(alloc, room_twice(rt, alloc, pins)) {
+    match Office::open(alloc, inside_twice(rt, alloc, pins)) {
         Ok(office) => office,
-        Err(_) => { Office::open(alloc, room_twice(rt, alloc, pins)).expect(rt, "memory") }
+        Err(_) => { Office::open(alloc, inside_twice(rt, alloc, pins)).expect(rt, "memory") }
     }
 }
 
@@ -50,12 +50,12 @@ fn office_twice(rt: &impl Abort, alloc: Global, pins: Pins) -> Office {
 fn starts<R: Wait>(
     rt: &R,
     alloc: Global,
-    room: &mut Room,
+    inside: &mut Inside,
     hand: &mut MemHand,
     submitted: Submitted,
     number: u32,
 ) -> bool {
-    match room.try_start(submitted) {
+    match inside.try_start(submitted) {
         Tried::Ticket(ticket) => perform(Run::new(alloc, ticket), hand).number() == number,
         Tried::Cancelled => false,
         Tried::Waiting(back) => stuck(rt, back),
@@ -67,19 +67,19 @@ fn starts<R: Wait>(
 fn is_taken<R: Wait>(
     rt: &R,
     alloc: Global,
-    room: &mut Room,
+    inside: &mut Inside,
     hand: &mut MemHand,
     seat: &mut Seat,
     number: u32,
 ) -> bool {
-    match room.submit(seat, "put", &[Datum::Integer(7)]) {
-        Ok(submitted) => starts(rt, alloc, room, hand, submitted, number),
+    match inside.submit(seat, "put", &[Datum::Integer(7)]) {
+        Ok(submitted) => starts(rt, alloc, inside, hand, submitted, number),
         Err(fault) => {
-            if fault != SubmitFault::Memory || room.desk().call(number).is_some() {
+            if fault != SubmitFault::Memory || inside.desk().call(number).is_some() {
                 return false;
             }
-            match room.submit(seat, "put", &[Datum::Integer(7)]) {
-                Ok(submitted) => starts(rt, alloc, room, hand, submitted, number),
+            match inside.submit(seat, "put", &[Datum::Integer(7)]) {
+                Ok(submitted) => starts(rt, alloc, inside, hand, submitted, number),
                 Err(_) => false,
             }
         }
@@ -93,10 +93,10 @@ fn refused_open_and_submit(rt: HostRuntime) {
     let office = office_twice(&rt, rt.alloc(), pins);
     let refused = office.close(Vec::new(rt.alloc()), &[]).err();
     assert!(rt; refused.is_none());
-    let mut room = room_twice(&rt, rt.alloc(), pins);
-    let mut seat = room.seat().expect(&rt, "a seat");
+    let mut inside = inside_twice(&rt, rt.alloc(), pins);
+    let mut seat = inside.seat().expect(&rt, "a seat");
     assert!(rt;
-        is_taken(&rt, rt.alloc(), &mut room, &mut hand, &mut seat, 1) && room.desk().runs(1)
+        is_taken(&rt, rt.alloc(), &mut inside, &mut hand, &mut seat, 1) && inside.desk().runs(1)
     );
 }
 
@@ -110,23 +110,23 @@ fn name_twice(rt: &impl Abort, alloc: Global, bytes: &[u8]) -> Name {
 }
 
 // The seat of a name, at the first or at the second try.
-fn seat_twice(room: &mut Room, name: &Name) -> Option<Seat> {
-    match room.seat_named(name) {
+fn seat_twice(inside: &mut Inside, name: &Name) -> Option<Seat> {
+    match inside.seat_named(name) {
         Ok(seat) => Some(seat),
-        Err(NameFault::Memory) => room.seat_named(name).ok(),
+        Err(NameFault::Memory) => inside.seat_named(name).ok(),
         Err(_) => None,
     }
 }
 
 // Whether new names get the sessions in order, so that a refusal takes none. Their seats are parked.
-fn are_seated(rt: &impl Abort, alloc: Global, room: &mut Room) -> bool {
+fn are_seated(rt: &impl Abort, alloc: Global, inside: &mut Inside) -> bool {
     for letter in b'a'..b'k' {
         let name = name_twice(rt, alloc, &[letter]);
-        let Some(seat) = seat_twice(room, &name) else {
+        let Some(seat) = seat_twice(inside, &name) else {
             return false;
         };
         let is_next = seat.session() == u32::from(letter - b'a') + 1;
-        if !is_next || room.park(seat).is_err() {
+        if !is_next || inside.park(seat).is_err() {
             return false;
         }
     }
@@ -138,21 +138,23 @@ fn are_seated(rt: &impl Abort, alloc: Global, room: &mut Room) -> bool {
 fn is_taken_under<R: Wait>(
     rt: &R,
     alloc: Global,
-    room: &mut Room,
+    inside: &mut Inside,
     hand: &mut MemHand,
     seat: &mut Seat,
     key: u32,
     number: u32,
 ) -> bool {
-    match room.submit_keyed(seat, key, "put", &[Datum::Integer(7)]) {
-        Ok(Resubmitted::New(submitted)) => starts(rt, alloc, room, hand, submitted, number),
+    match inside.submit_keyed(seat, key, "put", &[Datum::Integer(7)]) {
+        Ok(Resubmitted::New(submitted)) => starts(rt, alloc, inside, hand, submitted, number),
         Ok(Resubmitted::Kept(_)) => false,
         Err(fault) => {
-            if fault != KeyedFault::Submit(SubmitFault::Memory) || room.next_key(seat) != key {
+            if fault != KeyedFault::Submit(SubmitFault::Memory) || inside.next_key(seat) != key {
                 return false;
             }
-            match room.submit_keyed(seat, key, "put", &[Datum::Integer(7)]) {
-                Ok(Resubmitted::New(submitted)) => starts(rt, alloc, room, hand, submitted, number),
+            match inside.submit_keyed(seat, key, "put", &[Datum::Integer(7)]) {
+                Ok(Resubmitted::New(submitted)) => starts(
+                    rt, alloc, inside, hand, submitted, number,
+                ),
                 Ok(Resubmitted::Kept(_)) => false,
                 Err(_) => false,
             }
@@ -164,14 +166,14 @@ fn is_taken_under<R: Wait>(
 fn refused_names_and_calls_under_keys(rt: HostRuntime) {
     let mut hand = MemHand::new(rt.alloc());
     let pins = pins_twice(&rt, &mut hand);
-    let mut room = room_twice(&rt, rt.alloc(), pins);
-    assert!(rt; are_seated(&rt, rt.alloc(), &mut room));
-    let mut seat = room
+    let mut inside = inside_twice(&rt, rt.alloc(), pins);
+    assert!(rt; are_seated(&rt, rt.alloc(), &mut inside));
+    let mut seat = inside
         .seat_named(&name_twice(&rt, rt.alloc(), b"c"))
         .expect(&rt, "a seat");
     assert!(rt;
         seat.session() == 3
-            && is_taken_under(&rt, rt.alloc(), &mut room, &mut hand, &mut seat, 1, 1)
+            && is_taken_under(&rt, rt.alloc(), &mut inside, &mut hand, &mut seat, 1, 1)
     );
 }
 
@@ -185,14 +187,14 @@ fn is_starved(alloc: Global) -> bool {
 
 // Makes a growth of so many bytes.
 fn grow(rt: &impl Abort, alloc: Global, bytes: usize) {
-    let room: Vec<u8> = Vec::with_capacity(alloc, bytes).expect(rt, "memory");
-    assert!(rt; room.is_empty());
+    let inside: Vec<u8> = Vec::with_capacity(alloc, bytes).expect(rt, "memory");
+    assert!(rt; inside.is_empty());
 }
 
 // Whether a call under a key is answered by what became of the `put 7` of this number.
-fn is_kept<R: Wait>(rt: &R, room: &mut Room, seat: &mut Seat, key: u32, number: u32) -> bool {
+fn is_kept<R: Wait>(rt: &R, inside: &mut Inside, seat: &mut Seat, key: u32, number: u32) -> bool {
     let state = CallState::Ended(Reply::Done(None));
-    match room.submit_keyed(seat, key, "put", &[Datum::Integer(7)]) {
+    match inside.submit_keyed(seat, key, "put", &[Datum::Integer(7)]) {
         Ok(Resubmitted::New(submitted)) => stuck(rt, submitted),
         Ok(Resubmitted::Kept(kept)) => kept == Kept { number, state },
         Err(_) => false,
@@ -200,38 +202,38 @@ fn is_kept<R: Wait>(rt: &R, room: &mut Room, seat: &mut Seat, key: u32, number: 
 }
 
 // A seat is parked and given out again, its call is told of, and neither a new name nor a new call gets memory.
-fn goes_on<R: Wait>(rt: &R, room: &mut Room, seat: Seat, own: &Name, new: &Name) -> bool {
-    if room.park(seat).is_err() {
+fn goes_on<R: Wait>(rt: &R, inside: &mut Inside, seat: Seat, own: &Name, new: &Name) -> bool {
+    if inside.park(seat).is_err() {
         return false;
     }
-    let Ok(mut seat) = room.seat_named(own) else {
+    let Ok(mut seat) = inside.seat_named(own) else {
         return false;
     };
-    if room.next_key(&seat) != 2 || !is_kept(rt, room, &mut seat, 1, 1) {
+    if inside.next_key(&seat) != 2 || !is_kept(rt, inside, &mut seat, 1, 1) {
         return false;
     }
-    let refused = match room.submit_keyed(&mut seat, 2, "get", &[]) {
+    let refused = match inside.submit_keyed(&mut seat, 2, "get", &[]) {
         Ok(Resubmitted::New(submitted)) => stuck(rt, submitted),
         Ok(Resubmitted::Kept(_)) => false,
         Err(fault) => fault == KeyedFault::Submit(SubmitFault::Memory),
     };
-    let nameless = room.seat_named(new).err() == Some(NameFault::Memory);
-    refused && nameless && room.park(seat).is_ok()
+    let nameless = inside.seat_named(new).err() == Some(NameFault::Memory);
+    refused && nameless && inside.park(seat).is_ok()
 }
 
 // A seat is parked and given out again, its call is told of, and a new name gets a session, since there is memory.
-fn goes_on_fed<R: Wait>(rt: &R, room: &mut Room, seat: Seat, own: &Name, new: &Name) -> bool {
-    if room.park(seat).is_err() {
+fn goes_on_fed<R: Wait>(rt: &R, inside: &mut Inside, seat: Seat, own: &Name, new: &Name) -> bool {
+    if inside.park(seat).is_err() {
         return false;
     }
-    let Ok(mut seat) = room.seat_named(own) else {
+    let Ok(mut seat) = inside.seat_named(own) else {
         return false;
     };
-    let kept = is_kept(rt, room, &mut seat, 1, 1);
-    let Ok(other) = room.seat_named(new) else {
+    let kept = is_kept(rt, inside, &mut seat, 1, 1);
+    let Ok(other) = inside.seat_named(new) else {
         return false;
     };
-    kept && room.park(other).is_ok() && room.park(seat).is_ok()
+    kept && inside.park(other).is_ok() && inside.park(seat).is_ok()
 }
 
 #[test]
@@ -239,19 +241,19 @@ fn starved_seats_are_parked_and_given_again(rt: HostRuntime) {
     let alloc = rt.alloc();
     let mut hand = MemHand::new(alloc);
     let pins = pins_twice(&rt, &mut hand);
-    let mut room = room_twice(&rt, alloc, pins);
+    let mut inside = inside_twice(&rt, alloc, pins);
     let (own, new) = (
         name_twice(&rt, alloc, b"ann"),
         name_twice(&rt, alloc, b"bob"),
     );
-    let mut seat = room.seat_named(&own).expect(&rt, "a seat");
-    turn(&rt, alloc, &mut room, &mut seat, &mut hand, 7).expect(&rt, "a receipt");
+    let mut seat = inside.seat_named(&own).expect(&rt, "a seat");
+    whole_call(&rt, alloc, &mut inside, &mut seat, &mut hand, 7).expect(&rt, "a receipt");
     grow(&rt, alloc, MARK);
     let goes_on = if is_starved(alloc) {
-        goes_on(&rt, &mut room, seat, &own, &new)
+        goes_on(&rt, &mut inside, seat, &own, &new)
     } else {
-        goes_on_fed(&rt, &mut room, seat, &own, &new)
+        goes_on_fed(&rt, &mut inside, seat, &own, &new)
     };
     grow(&rt, alloc, MARK + 1);
-    assert!(rt; goes_on && room.close(Vec::new(alloc), &[]).is_ok());
+    assert!(rt; goes_on && inside.close(Vec::new(alloc), &[]).is_ok());
 }

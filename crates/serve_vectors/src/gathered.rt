@@ -6,8 +6,8 @@ use exclude_core::analyse::analyse;
 use hand_core::whole::put;
 use keep_core::trouble::Trouble;
 use line_core::LinesFault;
+use office_core::inside::Inside;
 use office_core::office::Office;
-use office_core::room::Room;
 use page_core::page_list::PageList;
 use page_core::pins::Pins;
 use serve_core::gather::Gathering;
@@ -39,7 +39,7 @@ fn named(alloc: Global, text: &[u8], part: &[u8]) -> Option<Vec<Named>> {
         if pins.len() != accepted.object().parts.len() {
             return None;
         }
-        let office = Office::open(alloc, Room::open(alloc, accepted, pins).ok()?).ok()?;
+        let office = Office::open(alloc, Inside::open(alloc, accepted, pins).ok()?).ok()?;
         all.push(Named { name, office }).ok()?;
     }
     Some(all)

@@ -5,8 +5,8 @@ use device_core::memory::MemHand;
 use exclude_core::analyse::{Accepted, analyse};
 use hand_core::hand::Hand;
 use hand_core::whole::put;
+use office_core::inside::Inside;
 use office_core::office::Office;
-use office_core::room::Room;
 use page_core::page_list::PageList;
 use page_core::pins::Pins;
 use path_tree::name::Name;
@@ -46,24 +46,29 @@ fn accepted(alloc: Global, text: &[u8]) -> Option<(Name, Accepted)> {
     None
 }
 
-// A room with the object of a text, whose one part is spelled so.
-fn room_of(alloc: Global, text: &[u8], part: &[u8], hand: &mut MemHand) -> Option<(Name, Room)> {
+// The inside of an office with the object of a text, whose one part is spelled so.
+fn inside_of(
+    alloc: Global,
+    text: &[u8],
+    part: &[u8],
+    hand: &mut MemHand,
+) -> Option<(Name, Inside)> {
     let (name, accepted) = accepted(alloc, text)?;
     let stamp = put(hand, part).ok()?;
     let pins = Pins::new(&[PageList::of(&[stamp])]);
     if pins.len() != accepted.object().parts.len() {
         return None;
     }
-    let room = Room::open(alloc, accepted, pins).ok()?;
-    Some((name, room))
+    let inside = Inside::open(alloc, accepted, pins).ok()?;
+    Some((name, inside))
 }
 
 /// The office of the object of a text, whose one part is spelled so, and the hand that its file is on, where
 /// there is memory for them.
 pub fn offices_of(alloc: Global, text: &[u8], part: &[u8]) -> Option<(Vec<Named>, MemHand)> {
     let mut hand = MemHand::new(alloc);
-    let (name, room) = room_of(alloc, text, part, &mut hand)?;
-    let office = Office::open(alloc, room).ok()?;
+    let (name, inside) = inside_of(alloc, text, part, &mut hand)?;
+    let office = Office::open(alloc, inside).ok()?;
     let mut all = Vec::new(alloc);
     all.push(Named { name, office }).ok()?;
     Some((all, hand))

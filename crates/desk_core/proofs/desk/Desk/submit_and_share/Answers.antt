@@ -9,6 +9,7 @@ use Rattle.ask_core.specs.declared.answer.SubmitFault.TheVariants.{Memory}
 use Rattle.board_core.specs.Started.{Settles}
 use Rattle.board_core.proofs.Admission.{rests_after, joined_history, settled}
 use Rattle.desk_core.proofs.Sessions.{session_there}
+use Rattle.desk_core.proofs.Naming.{first_at}
 use Rattle.desk_core.proofs.desk.Desk.submit_and_share.Goals as goal
 
 pub join-requires-clause-place : goal.join-requires-clause-place
@@ -18,6 +19,11 @@ join-requires-clause-place c =
 
 pub join-requires-clause-session : goal.join-requires-clause-session
 join-requires-clause-session c = session_there c.self.inside.roster c.args.session c.in-Ok.ensures.taken.1.here
+
+pub join-requires-clause-first : goal.join-requires-clause-first
+join-requires-clause-first c = λ operation is.
+    let taken = c.in-Ok.ensures.taken in
+    first_at c.self.inside.roster.object c.in-Ok.place taken.0 operation _ taken.1.asked.named is
 
 pub invariant_of-self : goal.invariant_of-self
 invariant_of-self c = rests_after _ _ c.admit.ensures

@@ -7,7 +7,7 @@ use Rattle.path_count.specs.Stands.{StandsFor}
 use Rattle.board_core.specs.Calls.{AcceptedCall, WaitingCall}
 use Rattle.board_core.specs.Board.{Board, joined, bodies, paths_of, past_of}
 use Rattle.desk_core.specs.Kept.{board_of, IsMarkIn, ArePlaces}
-use Rattle.board_core.specs.Sound.{IsSound}
+use Rattle.board_core.specs.Sound.{IsSound, IsFirstNamed}
 use Rattle.board_core.proofs.Sound.{sound-joined, past_joined}
 use Rattle.ask_core.specs.Answers.{is_busy}
 use Rattle.desk_core.proofs.Busy.{not_open}
@@ -93,6 +93,7 @@ invariant_of-self-2 c =
     ∙ ap (λ (w : WaitingCall). b.waiting ++ w ∷ []) (asked ∙ ap (λ n. record { number = n; call = call }) number) in
     let made = joined_is b call _ _ _ _ _ calls waiting (events_same e.history e.marks) e.history e.running in
     let fits = c.requires.fits body.0 (subst (λ (x : Board). slice_get (bodies x.object) c.args.place ≡ Some body.0) c.self.view_is body.1) in
+    let first = subst (λ (x : Board). IsFirstNamed x.object c.args.place body.0) (sym c.self.view_is) (c.requires.first body.0 (subst (λ (x : Board). slice_get (bodies x.object) c.args.place ≡ Some body.0) c.self.view_is body.1)) in
     let few : length b.calls < 65536 = subst (λ (x : Board). length x.calls < 65536) (sym c.self.view_is) c.requires.few in
     let open_few : length b.waiting + length b.running < 256 = subst (λ (x : Board). length x.waiting + length x.running < 256) (sym c.self.view_is) c.requires.open_few in
     let places : c.push_reserved.new.self.items ≡ c.self.inside.places.items ++ 0 ∷ [] = c.push_reserved.ensures.items ∙ ap (λ xs. xs ++ 0 ∷ []) e.places in
@@ -112,7 +113,7 @@ invariant_of-self-2 c =
           (subst (ArePlaces b.history (length c.self.inside.calls.items + 1)) (sym places) (places_joined b.history (length c.self.inside.calls.items) c.self.inside.places.items c.self.invariant.places below)));
       index = subst (λ cs. AreIndexed cs c.add.new.self) (sym calls)
           (subst (AreIndexed (b.calls ++ call ∷ [])) (sym (c.in_ok-add.ensures.ok row there ∙ ap (λ n. slice_set rows k (row ++ n ∷ [])) number)) (indexed_joined b.calls call rows row c.self.invariant.index c.requires.session.0 there));
-      sound = subst IsSound (sym made) (sound-joined b call sound (made_of b.object call body.1 fits) few open_few (not_open b call.session (subst (λ (x : Board). is_busy x c.args.session ≡ false) (sym c.self.view_is) c.requires.free)));
+      sound = subst IsSound (sym made) (sound-joined b call sound (made_of b.object call c.requires.session body.1 first fits) few open_few (not_open b call.session (subst (λ (x : Board). is_busy x c.args.session ≡ false) (sym c.self.view_is) c.requires.free)));
       stands = subst (StandsFor c.self.inside.counters (length c.self.inside.accepted.operations.items) (paths_of b)) (sym (ap past_of made ∙ past_joined b call sound.counted)) c.self.invariant.stands;
       room = record {
         marks = omega (arith, w, r, ap length e.marks, all.marks_room, c.len-2.ensures);

@@ -1,6 +1,6 @@
 use Rattle.std.proofs.Common.{◌∙◌, ap, sym, subst, length}
 use Rattle.board_core.specs.Sound.{IsSound}
-use Rattle.office_core.specs.Rooms.{RoomState}
+use Rattle.office_core.specs.Insides.{InsideView}
 use Rattle.keep_core.proofs.Ending.{ending_closed, ending_refused}
 use Rattle.keep_core.proofs.close.Closing.close_one.Goals as goal
 
@@ -16,5 +16,5 @@ returns-clause-ended g c =
     let closes = c.in-Err.ensures in
     ending_refused c.args.ending.name c.args.ending.opening.items c.args.ending.seats.items c.args.ending.receipts.items c.desk-in-Err.result.now c.args.self.now.trouble c.refuse.new.self c.tell_refused-told.result c.in-Err.refused.why
     c.deref-in-Err.ensures.value c.deref.ensures.value c.as_bytes-in-Err.ensures.bytes
-    (closes.0, closes.1.0, c.desk-in-Err.ensures.desk ∙ ap (λ (r : RoomState). r.board) closes.1.1) (subst IsSound (sym c.desk-in-Err.ensures.desk) c.desk-in-Err.ensures.sound)
+    (closes.0, closes.1.0, c.desk-in-Err.ensures.desk ∙ ap (λ (r : InsideView). r.board) closes.1.1) (subst IsSound (sym c.desk-in-Err.ensures.desk) c.desk-in-Err.ensures.sound)
     c.refuse.ensures.fault c.refuse.ensures.refused c.heed-in-Err.ensures.fault c.heed-in-Err.ensures.refused c.tell_refused-told.ensures c.keep.ensures.kept
