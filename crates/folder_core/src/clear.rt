@@ -113,7 +113,9 @@ fn put_all<V: Values>(values: &mut V, numbers: &[u64], left: u64, moved: &mut Mo
     requires none { (moved.old.there.items ≡ []) × (moved.old.stays.items ≡ []) }
     requires there { length numbers.now ≤ vec_capacity moved.old.there }
     requires stays { length numbers.now ≤ vec_capacity moved.old.stays }
-    ensures { PutsAll V.does left values.old numbers.now moved.new.there.items moved.new.stays.items values.new }
+    ensures puts { PutsAll V.does left values.old numbers.now moved.new.there.items moved.new.stays.items values.new }
+    ensures few { (length moved.new.there.items ≤ length numbers.now)
+        × (length moved.new.stays.items ≤ length numbers.now) }
 {
     for number in numbers {
         if values.put_left(*number, left) {
@@ -121,6 +123,33 @@ fn put_all<V: Values>(values: &mut V, numbers: &[u64], left: u64, moved: &mut Mo
         } else {
             moved.stays.push_reserved(*number);
         }
+    }
+}
+
+// Moves these value files into a folder of their own, and tells which.
+fn move_told<V: Values, E: Write>(
+    values: &mut V,
+    numbers: &[u64],
+    line: &mut Vec<u8>,
+    moved: &mut Moved,
+    error: &mut E,
+) -> bool
+    requires line { 64 + 25 * length numbers.now ≤ vec_capacity line.old }
+    requires none { (moved.old.there.items ≡ []) × (moved.old.stays.items ≡ []) }
+    requires there { length numbers.now ≤ vec_capacity moved.old.there }
+    requires stays { length numbers.now ≤ vec_capacity moved.old.stays }
+    ensures { (left : Option ℕ) × (there : List ℕ) × (stays : List ℕ)
+        × MovesLeft V.does values.old numbers.now left there stays values.new
+        × AreTold left there stays result (E.contents error.old) (E.contents error.new) }
+{
+    match values.open_left() {
+        Some(left) => {
+            put_all(values, numbers, left, moved);
+            let first = tell_moved(line, left, &moved.there, error);
+            let second = tell_stays(line, &moved.stays, error);
+            first && second
+        }
+        None => tell_stays(line, numbers, error),
     }
 }
 
@@ -159,15 +188,7 @@ pub fn move_left<V: Values, E: Write>(
         there: Vec::with_capacity(alloc, numbers.len())?,
         stays: Vec::with_capacity(alloc, numbers.len())?,
     };
-    match values.open_left() {
-        Some(left) => {
-            put_all(values, numbers, left, &mut moved);
-            let first = tell_moved(&mut line, left, &moved.there, error);
-            let second = tell_stays(&mut line, &moved.stays, error);
-            Ok(first && second)
-        }
-        None => Ok(tell_stays(&mut line, numbers, error)),
-    }
+    Ok(move_told(values, numbers, &mut line, &mut moved, error))
 }
 
 /// Removes the value files of these numbers, each once. One that can't be removed is left.

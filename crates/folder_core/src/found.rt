@@ -2,7 +2,7 @@
 
 ghost use Rattle.std.specs.Prelude.{◌≡◌, ◌<◌, ◌≤◌, ◌^◌, IfOk, All};
 ghost use Rattle.std.specs.List.Sorted.{IsSorted, IsPermutation};
-ghost use Rattle.std.specs.Cmp.{nat_cmp};
+ghost use Rattle.std.specs.Ordering.{nat_cmp};
 ghost use Rattle.folder_core.specs.Numbers.{IsFirstAbove};
 
 use crate::folder::{END_OF_NUMBERS, number_above};
@@ -22,7 +22,7 @@ pub struct Found {
 impl Model for Found {
     ghost use Rattle.std.specs.Prelude.{◌<◌, ◌^◌, All};
     ghost use Rattle.std.specs.List.Sorted.{IsSorted};
-    ghost use Rattle.std.specs.Cmp.{nat_cmp};
+    ghost use Rattle.std.specs.Ordering.{nat_cmp};
     ghost use Rattle.folder_core.specs.Finding.{Finding};
     ghost use Rattle.folder_core.specs.Numbers.{IsFirstAbove};
 
