@@ -1,10 +1,12 @@
 -- The first number above others.
-use Rattle.std.proofs.Common.{◌≡◌, ◌<◌, ◌≤◌, ◌+◌, ◌^◌, ◌⊎◌, inl, inr, ℕ, List, Result, Ok, All, length, take, get_or, sym, subst, codes, decimal, arith}
+use Rattle.std.proofs.Common.{◌≡◌, ◌<◌, ◌≤◌, ◌+◌, ◌^◌, ◌⊎◌, inl, inr, ℕ, List, [], ◌∷◌, Result, Ok, All, length, take, get_or, sym, subst, codes, decimal, arith}
 use Rattle.std.proofs.lemmas.List.{take-take, take_all, length-take-le, get_or-take, append_cancel_right}
 use Rattle.std.proofs.lemmas.Bool.{cases_lt}
 use Rattle.std.proofs.lemmas.Fmt.{decimal_injective}
-use Rattle.std.proofs.lemmas.List.Elements.{All-more, All-nil, All-take, All-get_or, All-weaker}
-use Rattle.folder_core.specs.Numbers.{value_name, IsFirstAbove}
+use Rattle.std.proofs.lemmas.List.Elements.{All-more, All-nil, All-cons, All-append, All-take, All-get_or, All-weaker}
+use Rattle.std.proofs.lemmas.List.Sorted.{All-permutation}
+use Rattle.std.specs.List.Sorted.{IsPermutation}
+use Rattle.folder_core.specs.Numbers.{value_name, IsFirstAbove, AreBetween, AddsNumber}
 
 pub above_none : (xs : List ℕ) → IsFirstAbove (take 0 xs) 1
 above_none xs = (omega arith, All-nil (λ n. n < 1), λ other least all. least)
@@ -55,3 +57,15 @@ above_more xs i first next within stays rises low before =
 -- all numbers
 pub above_all : (xs : List ℕ) (i first : ℕ) → length xs ≤ i → IsFirstAbove (take i xs) first → IsFirstAbove xs first
 above_all xs i first past done = subst (λ l. IsFirstAbove l first) (take_all i xs past) done
+
+-- the first number above those that were found, in the order of a sort
+pub found_first : (given sorted seen : List ℕ) (first : ℕ) → IsPermutation given sorted → seen ≡ sorted → (All (λ n. n < 2 ^ 63) seen → IsFirstAbove seen first) → All (λ n. n < 2 ^ 63) given → IsFirstAbove sorted first × All (λ n. n < 2 ^ 63) sorted
+found_first given sorted seen first order same above low =
+    let all : All (λ n. n < 2 ^ 63) sorted = All-permutation (λ n. n < 2 ^ 63) given sorted order low in
+    (subst (λ l. IsFirstAbove l first) same (above (subst (All (λ n. n < 2 ^ 63)) (sym same) all)), all)
+
+-- what a name adds is from the first number on and below the last
+pub adds_between : (first end : ℕ) (name old new : List ℕ) → AddsNumber first end name old new → AreBetween first end old → AreBetween first end new
+adds_between first end name old new (inl (number, is, added)) each =
+    subst (AreBetween first end) (sym added) (All-append (λ n. (first ≤ n) × (n < end)) old (number ∷ []) each (All-cons (λ n. (first ≤ n) × (n < end)) number [] (is.from, is.below) (All-nil (λ n. (first ≤ n) × (n < end)))))
+adds_between first end name old new (inr (other, same)) each = subst (AreBetween first end) (sym same) each

@@ -1,1 +1,4 @@
 pub mod Numbers
+pub mod Finding
+pub mod Deeds
+pub mod Told

@@ -1,5 +1,8 @@
 //! `pathserve serve` over any runtime, hands and writer.
 
+ghost use Rattle.std.specs.Prelude.{◌≡◌, IfOk};
+ghost use Rattle.std.specs.Arc.{arc_value};
+
 use crate::start::{Names, Need, tell_lack};
 use ahead_core::ahead::{AheadHand, Ends};
 use ahead_core::sealed::Sealed;
@@ -8,7 +11,8 @@ use answer_core::explanation::explained;
 use answer_core::failure::Failure;
 use device_core::dir::DirHand;
 use device_core::numbers::Numbers;
-use folder_core::folder::{number_above, value_numbers};
+use folder_core::found::found_in;
+use folder_core::values::DirValues;
 use hand_core::hand::Hand;
 use line_core::LinesFault;
 use serve_core::gate::Gate;
@@ -22,7 +26,9 @@ use std::thread::Threads;
 use std::time::Clock;
 
 // Numbers from this one on, which hands share.
-fn numbers_from<R: AllocGlobal>(rt: &R, first: u64) -> Result<Arc<Numbers>, AllocError> {
+fn numbers_from<R: AllocGlobal>(rt: &R, first: u64) -> Result<Arc<Numbers>, AllocError>
+    ensures { IfOk result (λ numbers. arc_value numbers ≡ first) }
+{
     match Arc::new(rt.alloc(), Numbers::new(first)) {
         Ok(numbers) => Ok(numbers),
         Err(_) => Err(AllocError),
@@ -45,9 +51,9 @@ pub fn place_of<R: Files + AllocGlobal + Clone + Drop>(
     folder: &str,
     sessions: usize,
 ) -> Result<Place<AheadHand<R>>, Failure> {
-    let left = value_numbers(rt, rt.alloc(), folder)?;
-    let first = number_above(&left);
-    let numbers = numbers_from(rt, first)?;
+    let values = DirValues::new(rt.clone()?, folder)?;
+    let found = found_in(&values, rt.alloc())?;
+    let numbers = numbers_from(rt, found.first())?;
     let sealed = shared(rt)?;
     let mut hands = Vec::new(rt.alloc());
     for _ in 0..sessions {
@@ -60,8 +66,7 @@ pub fn place_of<R: Files + AllocGlobal + Clone + Drop>(
     let folder = String::from_str(rt.alloc(), folder)?;
     Ok(Place {
         folder,
-        left,
-        first,
+        found,
         numbers,
         hands,
     })

@@ -6,6 +6,9 @@ ghost use Rattle.std.specs.Vec.Iter.{into_iter_len, into_iter_steps};
 ghost use Rattle.decl_core.specs.declared.object.Object.{Object};
 ghost use Rattle.keep_core.specs.Troubles.{fault_in};
 ghost use Rattle.keep_core.specs.Lines.{AreSaid};
+ghost use Rattle.std.specs.Arc.{arc_value};
+ghost use Rattle.folder_core.specs.Numbers.{AreBetween};
+ghost use Rattle.folder_core.specs.Deeds.{RemovesAll};
 ghost use Rattle.serve_core.specs.Backed.{AreBacked};
 ghost use Rattle.serve_core.specs.Gathers.{slips_in, none_of, IsGathered};
 ghost use Rattle.serve_core.specs.Handled.{IsHandled};
@@ -23,7 +26,9 @@ use device_core::dir::DirHand;
 use device_core::dir_shelf::{DirShelf, Kept};
 use device_core::numbers::Numbers;
 use exclude_core::analyse::Accepted;
-use folder_core::folder::{move_left, remove_between};
+use folder_core::clear::{move_left, remove_between};
+use folder_core::found::Found;
+use folder_core::values::{DirValues, Values};
 use hand_core::hand::Hand;
 use hand_core::shelf::Shelf;
 use keep_core::close::{Closing, Ending};
@@ -48,14 +53,14 @@ use value_core::value::Value;
 pub struct Place<H: Drop> {
     /// The folder.
     pub folder: String,
-    /// The numbers of the value files that an earlier run left there.
-    pub left: Vec<u64>,
-    /// The number with which this run begins, above all of these.
-    pub first: u64,
+    /// The numbers of the value files that an earlier run left there, and the first number above them.
+    pub found: Found,
     /// Numbers from that one on, from which each of the hands draws.
     pub numbers: Arc<Numbers>,
     /// A hand on the folder for each session.
     pub hands: Vec<H>,
+    // No number that is drawn is that of a file which was left.
+    ghost above: { arc_value numbers ≡ found.first },
 }
 
 /// How a server ended.
@@ -303,6 +308,14 @@ where
     Closing::new(alloc, parts, traces, hand)
 }
 
+// The value files of a folder.
+fn values_in<R: Files + AllocGlobal + Clone + Drop>(
+    rt: &R,
+    folder: &str,
+) -> Result<DirValues<R>, AllocError> {
+    DirValues::new(rt.clone()?, folder)
+}
+
 // Serves objects that are accepted, and removes the value files of this run where nothing hangs on them any more.
 fn serve_ready<
     R: Files + AllocGlobal + Threads + Wait + Clock + Clone + Drop + Sync,
@@ -324,8 +337,7 @@ where
 {
     let Place {
         folder,
-        left,
-        first,
+        found,
         numbers,
         hands,
     } = place;
@@ -334,15 +346,18 @@ where
         Ok(closing) => closing,
         Err(_) => return Err(LinesFault::Memory),
     };
-    match move_left(rt, alloc, folder, &left, error) {
-        Ok(()) => {}
+    let mut values = match values_in(rt, folder) {
+        Ok(values) => values,
+        Err(_) => return Err(LinesFault::Memory),
+    };
+    match move_left(&mut values, alloc, found.numbers(), error) {
+        Ok(_) => {}
         Err(_) => return Err(LinesFault::Memory),
     }
     let guests = Guests { gate, hands };
     let ended = serve_closing(rt, alloc, ready, guests, &mut closing, writer, error);
     if closing.keeps_all {
-        // All numbers of this run are below the next one.
-        remove_own(rt, folder, first, numbers.draw(), ended)
+        remove_own(&mut values, alloc, &numbers, ended)
     } else {
         ended
     }
@@ -361,16 +376,22 @@ fn tell_refused<W: Write>(line: &[u8], writer: &mut W) -> Result<ServeEnd, Lines
 }
 
 // Removes the value files of this run, which has ended so. Where memory for that is refused they are left.
-fn remove_own<R: Files + AllocGlobal + Clone + Drop>(
-    rt: &R,
-    folder: &str,
-    first: u64,
-    end: u64,
+fn remove_own<V: Values>(
+    values: &mut V,
+    alloc: Global,
+    numbers: &Numbers,
     ended: Result<ServeEnd, LinesFault>,
 ) -> Result<ServeEnd, LinesFault>
-    ensures { IsEndBehind ended result }
+    ensures ended { IsEndBehind ended result }
+    // Only files of this run are removed: none is below its first number.
+    ensures own { (end : ℕ) × (own : List ℕ) × AreBetween numbers.now end own
+        × RemovesAll V.does values.old own values.new }
 {
-    match (remove_between(rt, folder, first, end), ended) {
+    // All numbers of this run are below the next one.
+    match (
+        remove_between(values, alloc, numbers.first(), numbers.draw()),
+        ended,
+    ) {
         (Err(error), Ok(_)) if error.kind() == ErrorKind::OutOfMemory => Err(LinesFault::Memory),
         _ => ended,
     }

@@ -10,7 +10,10 @@ pub returns-in-Err-move_left : goal.returns-in-Err-move_left
 returns-in-Err-move_left g c = inr (run_none c.args.ready.items Memory)
 
 pub returns-then-closing : goal.returns-then-closing
-returns-then-closing g c = run_behind c.args.ready.items c.serve_closing-ended.result c.remove_own.result (run_of c.serve_closing-ended.ensures) c.remove_own.ensures
+returns-then-closing g c = run_behind c.args.ready.items c.serve_closing-ended.result c.remove_own.result (run_of c.serve_closing-ended.ensures) c.remove_own.ensures.ended
 
 pub returns : goal.returns
 returns g c = run_of c.serve_closing-ended.ensures
+
+pub returns-in-Err-values_in : goal.returns-in-Err-values_in
+returns-in-Err-values_in g c = inr (run_none c.args.ready.items Memory)
