@@ -81,14 +81,16 @@ fn writer(alloc: Global) -> Short {
     }
 }
 
-// How all went where these lines are said, and sent after each, and then the last line of a call or none; and what was
-// written.
-fn health<R: Abort + Wait>(
+// Whether all goes so, and this is written, where these lines are said, and sent after each, and then the last line of a
+// call or none.
+fn goes<R: Abort + Wait>(
     rt: &R,
     alloc: Global,
     lines: &[Line],
     ended: Option<u32>,
-) -> (Health, Vec<u8>) {
+    so: Health,
+    told: &[u8],
+) -> bool {
     let mouth: Mouth<Short, Brand> = Mouth::new(alloc, writer(alloc));
     assert!(rt; mouth.make_room(rt));
     for line in lines {
@@ -100,31 +102,30 @@ fn health<R: Abort + Wait>(
         let _sent = mouth.flush(rt);
     }
     let (writer, _notes, health) = mouth.into_parts();
-    (health, writer.bytes)
+    health == so && writer.bytes.as_slice() == told
 }
 
 #[test]
 fn a_line_out_of_its_turn_is_told(rt: HostRuntime) {
     let alloc = rt.alloc();
-    let (fine, whole) = health(&rt, alloc, &[Line::Accepted(1)], Some(1));
-    assert!(rt; fine == Health::Fine && whole.as_slice() == b"accepted 1\ndone 1\n");
-    let (open, front) = health(&rt, alloc, &[Line::Accepted(1)], None);
-    assert!(rt; open == Health::Mixed && front.as_slice() == b"accepted 1\n");
-    let (other, front) = health(&rt, alloc, &[Line::Accepted(1)], Some(2));
-    assert!(rt; other == Health::Mixed && front.as_slice() == b"accepted 1\n");
-    let (twice, front) = health(&rt, alloc, &[Line::Accepted(1), Line::Accepted(2)], Some(1));
-    assert!(rt; twice == Health::Mixed && front.as_slice() == b"accepted 1\n");
-    let (none, empty) = health(&rt, alloc, &[], Some(1));
-    assert!(rt; none == Health::Mixed && empty.is_empty());
-    let (late, front) = health(&rt, alloc, &[Line::Bye, Line::Accepted(1)], None);
-    assert!(rt; late == Health::Mixed && front.as_slice() == b"bye\n");
-    let fault = conclude(&[], &[], Health::Mixed, Some(HearFault::ReadFault));
+    let one = [Line::Accepted(1)];
+    let two = [Line::Accepted(1), Line::Accepted(2)];
+    let late = [Line::Bye, Line::Accepted(1)];
+    let mixed = Health::Mixed;
+    assert!(rt; goes(&rt, alloc, &one, Some(1), Health::Fine, b"accepted 1\ndone 1\n"));
+    assert!(rt; goes(&rt, alloc, &one, None, mixed, b"accepted 1\n"));
+    assert!(rt; goes(&rt, alloc, &one, Some(2), mixed, b"accepted 1\n"));
+    assert!(rt; goes(&rt, alloc, &two, Some(1), mixed, b"accepted 1\n"));
+    assert!(rt; goes(&rt, alloc, &[], Some(1), mixed, b""));
+    assert!(rt; goes(&rt, alloc, &late, None, mixed, b"bye\n"));
+    let fault = conclude(&[], &[], mixed, Some(HearFault::ReadFault));
     assert!(rt; fault == Some(SessionFault::LogMixed));
 }
 
 #[test]
 fn lines_that_do_not_go_on_are_not_sent(rt: HostRuntime) {
     let alloc = rt.alloc();
+    let told: &[u8] = b"accepted 1\n";
     let mut output: Output<Short, Brand> = Output::new(alloc, writer(alloc));
     let mut first = Held::new(alloc);
     assert!(rt; first.say(Line::Accepted(1)));
@@ -135,7 +136,7 @@ fn lines_that_do_not_go_on_are_not_sent(rt: HostRuntime) {
     output.take(&mut other);
     assert!(rt; !output.flush());
     let (writer, _notes, health) = output.into_parts();
-    assert!(rt; health == Health::Mixed && writer.bytes.as_slice() == b"accepted 1\n");
+    assert!(rt; health == Health::Mixed && writer.bytes.as_slice() == told);
 }
 
 #[test]
