@@ -588,8 +588,8 @@ fn follow<R: Wait + Clock, I: Read + Drop, W: Write + Drop, H: Hand + Drop, J: S
     Goes::On
 }
 
-// One turn: what is heard next is done.
-fn turn<R: Wait + Clock, I: Read + Drop, W: Write + Drop, H: Hand + Drop, J: Start, O: Offices>(
+// One step: what is heard next is done.
+fn step<R: Wait + Clock, I: Read + Drop, W: Write + Drop, H: Hand + Drop, J: Start, O: Offices>(
     service: Service<'_, R, O, W, J>,
     reading: &mut Reading<'_, I>,
     worked: &mut Worked<H>,
@@ -604,9 +604,9 @@ fn turn<R: Wait + Clock, I: Read + Drop, W: Write + Drop, H: Hand + Drop, J: Sta
     }
 }
 
-// Takes turns until the session ends, and gives the fault that ended the hearing. But by `quit` the
+// Takes steps until the session ends, and gives the fault that ended the hearing. But by `quit` the
 // session leaves its object.
-fn take_turns<
+fn take_steps<
     R: Wait + Clock,
     I: Read + Drop,
     W: Write + Drop,
@@ -623,7 +623,7 @@ fn take_turns<
         AreTrue H.agrees worked.new.hand worked.new.receipts.items }
 {
     for _ in service.rt.forever() {
-        match turn(service, reading, worked) {
+        match step(service, reading, worked) {
             Goes::On => {}
             Goes::Leaves(fault) => {
                 leave(service.rt, service.by, reading.opened());
@@ -671,7 +671,7 @@ pub(crate) fn work<
         by: offices,
         mouth,
     };
-    worked.fault = take_turns(service, &mut reading, &mut worked);
+    worked.fault = take_steps(service, &mut reading, &mut worked);
     let _sent = rest(service, &mut worked);
     reading.over(rt);
     mouth.close(rt);

@@ -1,5 +1,5 @@
 use Rattle.talk_core.specs.Truth.{Keeps, AreTrue}
-use Rattle.session_core.proofs.work.take_turns.Given as goal
+use Rattle.session_core.proofs.work.take_steps.Given as goal
 
 abbrev pub invariant-loop : goal.invariant-loop
 invariant-loop g l =
