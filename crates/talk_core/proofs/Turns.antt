@@ -7,7 +7,7 @@ use Rattle.session_text.specs.declared.line.Refusal.TheVariants as refusals
 use Rattle.session_text.specs.Answers.{Said, opened, ended, repeated, told}
 use Rattle.talk_core.specs.declared.stage.Stage.{Stage}
 use Rattle.talk_core.specs.declared.stage.Stage.TheVariants.{Free, Open, Over}
-use Rattle.talk_core.specs.Dialogue.{Moves, IsDialogue, IsDialogueSoFar, IsShut, IsWholeDialogue}
+use Rattle.talk_core.specs.Dialogue.{Moves, IsDialogue, IsShut}
 use Rattle.talk_core.specs.Laws.{IsLastOf, IsAside, AcceptedEnds, LastWasAccepted, ByeIsLast}
 use Rattle.talk_core.proofs.Dialogues.{parted}
 
@@ -57,14 +57,14 @@ closes : (n : ℕ) (said : List Said) (to : Stage) → IsDialogue (Open n) said 
 closes n [] to leads shut = absurd (subst IsShut (sym leads) shut)
 closes n (line ∷ said) to (next, goes, leads) shut = elim (while_open n line next goes) [
   | inl is ↦ record {
-      beside = [];
-      last = line;
-      later = said;
-      parts = refl;
-      asides = tt;
-      is = is.0;
-      on = subst (λ s. IsDialogue s said to) is.1 leads;
-    }
+    beside = [];
+    last = line;
+    later = said;
+    parts = refl;
+    asides = tt;
+    is = is.0;
+    on = subst (λ s. IsDialogue s said to) is.1 leads;
+  }
   | inr is ↦ one_beside n line said to is.0 (closes n said to (subst (λ s. IsDialogue s said to) is.1 leads) shut)
 ]
 
@@ -138,9 +138,9 @@ begins first n [] leads = inr (leads, tt)
 begins first n (line ∷ said) (next, goes, leads) = elim (begins next n said leads) [
   | inl b ↦ inl (one_before n line said b)
   | inr is ↦ elim (led_open first n line (subst (λ s. Moves first line s) is.0 goes)) [
-      | inl accepted ↦ inl (record { before = []; beside = said; parts = ap (λ w. w ∷ said) accepted; asides = is.1 })
-      | inr was ↦ inr (was.0, (was.1, is.1))
-    ]
+    | inl accepted ↦ inl (record { before = []; beside = said; parts = ap (λ w. w ∷ said) accepted; asides = is.1 })
+    | inr was ↦ inr (was.0, (was.1, is.1))
+  ]
 ]
 
 free_begins : (n : ℕ) (said : List Said) → Begins n said ⊎ ((Free ≡ Open n) × Every IsAside said) → Begins n said

@@ -4,9 +4,7 @@ use Rattle.session_text.specs.declared.line.Line.TheVariants as lines
 use Rattle.session_text.specs.declared.line.Refusal.TheVariants as refusals
 use Rattle.session_text.specs.Answers.{Said, ended, told}
 use Rattle.board_core.specs.Lists.{Every}
-use Rattle.talk_core.specs.declared.stage.Stage.{Stage}
-use Rattle.talk_core.specs.declared.stage.Stage.TheVariants.{Free}
-use Rattle.talk_core.specs.Dialogue.{IsDialogue, IsDialogueSoFar, IsShut, IsWholeDialogue}
+use Rattle.talk_core.specs.Dialogue.{IsDialogueSoFar, IsWholeDialogue}
 
 -- the last line of a call of this number
 abbrev pub IsLastOf : ℕ → Said → Type 0
@@ -25,13 +23,13 @@ IsAside line = ⊥
 abbrev pub AcceptedEnds : Type 0
 AcceptedEnds = (before behind : List Said) (n : ℕ) → IsWholeDialogue (before ++ told (lines.Accepted n) ∷ behind)
     → (beside : List Said) × (last : Said) × (later : List Said) × (behind ≡ beside ++ last ∷ later)
-      × Every IsAside beside × IsLastOf n last × IsWholeDialogue later
+    × Every IsAside beside × IsLastOf n last × IsWholeDialogue later
 
 -- each last line is that of the call that was accepted before it, with nothing in between but what is said beside a call
 abbrev pub LastWasAccepted : Type 0
 LastWasAccepted = (front behind : List Said) (n : ℕ) (last : Said) → IsDialogueSoFar (front ++ last ∷ behind)
     → IsLastOf n last → (before beside : List Said)
-      × (front ≡ before ++ told (lines.Accepted n) ∷ beside) × Every IsAside beside
+    × (front ≡ before ++ told (lines.Accepted n) ∷ beside) × Every IsAside beside
 
 -- nothing comes behind `bye`
 abbrev pub ByeIsLast : Type 0
