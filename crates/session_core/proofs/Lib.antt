@@ -1,3 +1,5 @@
 pub mod Sending
 pub mod Telling
 pub mod Repeating
+pub mod Ending
+pub mod Leaving

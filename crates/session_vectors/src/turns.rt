@@ -112,7 +112,16 @@ fn a_line_out_of_its_turn_is_told(rt: HostRuntime) {
     let two = [Line::Accepted(1), Line::Accepted(2)];
     let late = [Line::Bye, Line::Accepted(1)];
     let mixed = Health::Mixed;
-    assert!(rt; goes(&rt, alloc, &one, Some(1), Health::Fine, b"accepted 1\ndone 1\n"));
+    assert!(rt;
+        goes(
+            &rt,
+            alloc,
+            &one,
+            Some(1),
+            Health::Fine,
+            b"accepted 1\ndone 1\n"
+        )
+    );
     assert!(rt; goes(&rt, alloc, &one, None, mixed, b"accepted 1\n"));
     assert!(rt; goes(&rt, alloc, &one, Some(2), mixed, b"accepted 1\n"));
     assert!(rt; goes(&rt, alloc, &two, Some(1), mixed, b"accepted 1\n"));

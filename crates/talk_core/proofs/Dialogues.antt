@@ -1,5 +1,5 @@
 -- Dialogues that are joined and parted.
-use Rattle.std.proofs.Common.{◌≡◌, List, [], ◌∷◌, ◌++◌, refl, sym, subst, append_assoc}
+use Rattle.std.proofs.Common.{List, [], ◌∷◌, ◌++◌, refl, sym, subst, append_assoc}
 use Rattle.session_text.specs.Answers.{Said}
 use Rattle.talk_core.specs.declared.stage.Stage.{Stage}
 use Rattle.talk_core.specs.Dialogue.{Moves, IsDialogue, IsDialogueSoFar}

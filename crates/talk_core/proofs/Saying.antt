@@ -1,5 +1,5 @@
 -- What was written, line by line.
-use Rattle.std.proofs.Common.{◌≡◌, ℕ, zero, suc, ◌+◌, ◌-◌, ◌≤◌, List, [], ◌∷◌, ◌++◌, length, take, refl, sym, ap, subst, ◌∙◌, append-nil, append_assoc, arith, Option, Some, None, Bool, true, false, inl, inr}
+use Rattle.std.proofs.Common.{◌≡◌, ℕ, ◌+◌, ◌-◌, ◌≤◌, List, [], ◌∷◌, ◌++◌, length, take, refl, sym, ap, subst, ◌∙◌, append-nil, append_assoc, arith, Option, Some, None, Bool, true, false, inl, inr}
 use Rattle.std.specs.Prelude.{IsTrue, ◌⊎◌, codes, decimal}
 use Rattle.std.specs.Io.KnownBytes.{Appends}
 use Rattle.std.specs.List.{flat_map}
@@ -28,7 +28,7 @@ use Rattle.talk_core.specs.declared.stage.Stage.TheVariants.{Free}
 use Rattle.hear_core.specs.declared.fault.HearFault.{HearFault}
 use Rattle.hear_core.specs.declared.fault.HearFault.TheVariants as hears
 use Rattle.talk_core.specs.Notes.{note_at}
-use Rattle.talk_core.specs.Dialogue.{Moves, IsDialogue, IsDialogueSoFar, IsWholeDialogue, IsShut}
+use Rattle.talk_core.specs.Dialogue.{Moves, IsDialogue, IsShut}
 use Rattle.talk_core.specs.Written.{note_of, notes_of, lines_text, IsWhole, IsCut, IsFront, IsHeld, IsWritten, IsSaid, IsStopped, Adds, HandsOver, Sends, IsNoteOf, AreFirst, AreAll, IsAccounted, IsTold, IsOfSession, AreOfSession}
 use Rattle.talk_core.specs.Written.{WroteAll, WroteLines, WroteFront, HasWritten, heard_fault, told_fault}
 use Rattle.talk_core.proofs.Dialogues.{joined, one_more, so_far, with_last}

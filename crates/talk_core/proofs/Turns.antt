@@ -7,7 +7,7 @@ use Rattle.session_text.specs.declared.line.Refusal.TheVariants as refusals
 use Rattle.session_text.specs.Answers.{Said, opened, ended, repeated, told}
 use Rattle.talk_core.specs.declared.stage.Stage.{Stage}
 use Rattle.talk_core.specs.declared.stage.Stage.TheVariants.{Free, Open, Over}
-use Rattle.talk_core.specs.Dialogue.{Moves, IsDialogue, IsDialogueSoFar, IsShut, IsWholeDialogue}
+use Rattle.talk_core.specs.Dialogue.{Moves, IsDialogue, IsShut}
 use Rattle.talk_core.specs.Laws.{IsLastOf, IsAside, AcceptedEnds, LastWasAccepted, ByeIsLast}
 use Rattle.talk_core.proofs.Dialogues.{parted}
 

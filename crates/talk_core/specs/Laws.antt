@@ -4,9 +4,7 @@ use Rattle.session_text.specs.declared.line.Line.TheVariants as lines
 use Rattle.session_text.specs.declared.line.Refusal.TheVariants as refusals
 use Rattle.session_text.specs.Answers.{Said, ended, told}
 use Rattle.board_core.specs.Lists.{Every}
-use Rattle.talk_core.specs.declared.stage.Stage.{Stage}
-use Rattle.talk_core.specs.declared.stage.Stage.TheVariants.{Free}
-use Rattle.talk_core.specs.Dialogue.{IsDialogue, IsDialogueSoFar, IsShut, IsWholeDialogue}
+use Rattle.talk_core.specs.Dialogue.{IsDialogueSoFar, IsWholeDialogue}
 
 -- the last line of a call of this number
 abbrev pub IsLastOf : ℕ → Said → Type 0

@@ -78,6 +78,10 @@ abbrev pub IsHeld : List ℕ → List Note → Stage → Stage → Type 0
 IsHeld held notes first at =
     (kept : List Said) × (notes_of kept ≡ notes) × IsDialogue first kept at × (held ≡ lines_text kept)
 
+-- no more lines are begun: one was lost, or may not stand where it was said
+abbrev pub IsSilent : Bool → Bool → Type 0
+IsSilent lost mixed = (lost ≡ true) ⊎ (mixed ≡ true)
+
 -- what adding a line to those held back does
 abbrev pub Adds : List ℕ → List ℕ → List Note → List Note → Said → Bool → Type 0
 Adds old new notes more line true = (new ≡ old ++ said_text line) × (more ≡ notes ++ note_of line)

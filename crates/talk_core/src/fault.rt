@@ -9,8 +9,8 @@ pub enum SessionFault {
     ReadFault,
     /// A write failed. The lines that were written are whole but for the last one.
     WriteFault,
-    /// Memory was refused.
+    /// Memory was refused. Lines may be missing at the end.
     Memory,
-    /// The last line of a call that was written is of no receipt.
+    /// A line was said where it may not stand, or the last lines that were written are not those of the receipts.
     LogMixed,
 }

@@ -1,9 +1,10 @@
 //! The lines of a session that are held back.
 
-ghost use Rattle.std.specs.Prelude.{◌≡◌, [], ℕ, List};
+ghost use Rattle.std.specs.Prelude.{◌≡◌, [], ℕ, List, false};
+ghost use Rattle.std.specs.Bool.{OnFalse};
 ghost use Rattle.session_text.specs.Answers.{opened, ended, repeated, told};
 ghost use Rattle.talk_core.specs.declared.note.Note.{Note};
-ghost use Rattle.talk_core.specs.Written.{IsHeld, Adds, HandsOver};
+ghost use Rattle.talk_core.specs.Written.{IsHeld, IsSilent, Adds, HandsOver};
 
 use crate::note::{Note, add_note};
 use crate::room::make_room_for;
@@ -38,14 +39,14 @@ pub struct Held {
 }
 
 impl Model for Held {
-    ghost use Rattle.std.specs.Prelude.{ℕ, List};
+    ghost use Rattle.std.specs.Prelude.{ℕ, List, Bool};
     ghost use Rattle.talk_core.specs.declared.note.Note.{Note};
     ghost use Rattle.talk_core.specs.declared.stage.Stage.{Stage};
     ghost use Rattle.talk_core.specs.Written.{IsHeld};
 
-    ghost Value = { List ℕ × List Note × Stage × Stage };
+    ghost Value = { List ℕ × List Note × Stage × Stage × Bool × Bool };
 
-    ghost view = { λ h. (h.text.items, h.notes.items, h.first, h.at) };
+    ghost view = { λ h. (h.text.items, h.notes.items, h.first, h.at, h.lost, h.mixed) };
 
     ghost invariant = { λ h. IsHeld h.text.items h.notes.items h.first h.at };
 }
@@ -137,7 +138,7 @@ fn hand_over(
 impl Held {
     /// Nothing is held back yet.
     pub fn new(alloc: Global) -> Held
-        ensures { result ≡ ([], [], Stage.Free, Stage.Free) }
+        ensures { result ≡ ([], [], Stage.Free, Stage.Free, false, false) }
     {
         Held {
             text: Vec::new(alloc),
@@ -174,17 +175,23 @@ impl Held {
     }
 
     /// Whether a line was lost, for which there was no memory.
-    pub fn is_lost(&self) -> bool {
+    pub fn is_lost(&self) -> bool
+        ensures { result ≡ self.now.4 }
+    {
         self.lost
     }
 
     /// Whether a line was not taken, since it may not stand where it was said.
-    pub fn is_mixed(&self) -> bool {
+    pub fn is_mixed(&self) -> bool
+        ensures { result ≡ self.now.5 }
+    {
         self.mixed
     }
 
     /// Whether each line that was said was held back.
-    pub fn is_whole(&self) -> bool {
+    pub fn is_whole(&self) -> bool
+        ensures { OnFalse result (IsSilent self.now.4 self.now.5) }
+    {
         !self.lost && !self.mixed
     }
 
@@ -204,7 +211,9 @@ impl Held {
 
     /// Holds a line back, unless it may not stand here, or a line before it was not held back. It answers whether it
     /// did.
-    pub fn say(&mut self, line: Line) -> bool {
+    pub fn say(&mut self, line: Line) -> bool
+        ensures { OnFalse result (IsSilent self.new.4 self.new.5) }
+    {
         if !self.is_whole() {
             return false;
         }
@@ -222,7 +231,9 @@ impl Held {
 
     /// Holds back the last line of a call that has a receipt, and notes it, unless that call is not open, or a line
     /// before it was not held back. It answers whether it did.
-    pub fn say_ended(&mut self, number: u32, reply: &Reply) -> bool {
+    pub fn say_ended(&mut self, number: u32, reply: &Reply) -> bool
+        ensures { OnFalse result (IsSilent self.new.4 self.new.5) }
+    {
         if !self.is_whole() {
             return false;
         }
@@ -248,7 +259,9 @@ impl Held {
 
     /// Holds back the last line of a call that was made before, unless a call is open, or a line before it was not held
     /// back. It answers whether it did. It is not noted.
-    pub fn say_repeated(&mut self, number: u32, reply: &Reply) -> bool {
+    pub fn say_repeated(&mut self, number: u32, reply: &Reply) -> bool
+        ensures { OnFalse result (IsSilent self.new.4 self.new.5) }
+    {
         if !self.is_whole() {
             return false;
         }
@@ -266,7 +279,9 @@ impl Held {
 
     /// Holds back `opened NAME`, with the next key where one is told, unless a call is open, or a line before it was not
     /// held back. It answers whether it did.
-    pub fn say_opened(&mut self, name: &Name, next: Option<u32>) -> bool {
+    pub fn say_opened(&mut self, name: &Name, next: Option<u32>) -> bool
+        ensures { OnFalse result (IsSilent self.new.4 self.new.5) }
+    {
         if !self.is_whole() {
             return false;
         }
