@@ -1,7 +1,7 @@
 //! Value files that go: those of an earlier run at the start, and those of this run at the end.
 
-ghost use Rattle.std.specs.Prelude.{◌≡◌, ◌+◌, ◌*◌, ◌<◌, ◌≤◌, ◌++◌, [], ℕ, List, Option, Ok, true, IfOk, OnErr, length, codes};
-ghost use Rattle.std.specs.Prelude.{decimal, vec_capacity};
+ghost use Rattle.std.specs.Prelude.{◌≡◌, ◌+◌, ◌*◌, ◌<◌, ◌≤◌, ◌++◌, [], ℕ, List, Option, Ok, true, IfOk, OnErr};
+ghost use Rattle.std.specs.Prelude.{length, codes, decimal, vec_capacity};
 ghost use Rattle.folder_core.specs.Numbers.{value_name, AreBetween};
 ghost use Rattle.folder_core.specs.Deeds.{RemovesAll, PutsAll, MovesLeft};
 ghost use Rattle.folder_core.specs.Told.{values_text, moved_front, Tells, AreTold};

@@ -4,6 +4,8 @@ use ahead_core::ahead::AheadHand;
 use ahead_core::sealed::Sealed;
 use device_core::dir::DirHand;
 use device_core::numbers::Numbers;
+use folder_core::found::found_in;
+use folder_core::values::DirValues;
 use serve_core::gate::Gate;
 use serve_core::serve::{Place, ServeEnd, serve_on};
 use std::io::{self, Read, Write};
@@ -49,7 +51,8 @@ fn place_of<R: Files + AllocGlobal + Copy + Drop>(
     folder: &str,
     sessions: usize,
 ) -> io::Result<Place<AheadHand<R>>> {
-    let numbers = Arc::new(rt.alloc(), Numbers::new(1))?;
+    let found = found_in(&DirValues::new(*rt, folder)?, rt.alloc())?;
+    let numbers = Arc::new(rt.alloc(), Numbers::new(found.first()))?;
     let sealed = Arc::new(rt.alloc(), Sealed::new(rt.alloc())?)?;
     let mut hands = Vec::new(rt.alloc());
     for _ in 0..sessions {
@@ -61,8 +64,7 @@ fn place_of<R: Files + AllocGlobal + Copy + Drop>(
     }
     Ok(Place {
         folder: String::from_str(rt.alloc(), folder)?,
-        left: Vec::new(rt.alloc()),
-        first: 1,
+        found,
         numbers,
         hands,
     })
