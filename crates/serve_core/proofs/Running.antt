@@ -73,22 +73,22 @@ apart_all true ends is = absurd (true≢false (sym (stays ends) ∙ is)) where
     still false damaged = refl
 
 -- by the hands of its sessions the history of an object is legal
-legal_one : {H : Type 0} {backs : H → Assignment → Type 0} (e : Ended) → IsAtEnd e → AreBacked backs e.slips → IsLegalBy backs e
-legal_one e ended (hands, backed) = record {
+legal_one : {H : Type 0} (backs : H → Assignment → Type 0) (e : Ended) → IsAtEnd e → AreBacked backs e.slips → IsLegalBy backs e
+legal_one backs e ended (hands, backed) = record {
   hands = hands;
   backed = backed;
   legal = λ closed have a all contents shows. (kept_is_history a e empty empty contents ended closed have (backed a all) shows).0;
 }
 
-legal_all : {H : Type 0} {backs : H → Assignment → Type 0} (ends : List Ended) → Every IsAtEnd ends → AreBackedAll backs ends → Every (IsLegalBy backs) ends
-legal_all [] each backed = tt
-legal_all (e ∷ ends) (one, each) (back, backed) = (legal_one e one back, legal_all ends each backed)
+legal_all : {H : Type 0} (backs : H → Assignment → Type 0) (ends : List Ended) → Every IsAtEnd ends → AreBackedAll backs ends → Every (IsLegalBy backs) ends
+legal_all backs [] each backed = tt
+legal_all backs (e ∷ ends) (one, each) (back, backed) = (legal_one backs e one back, legal_all backs ends each backed)
 
 -- objects that were served and closed
 pub run_served : {H : Type 0} {backs : H → Assignment → Type 0} {agrees mid : Assignment → Type 0} {pw pm pa tw tm ta : Papers → Type 0} {begun : Trouble} {kept_all keeps_all : Bool} {openings : List (List Contents)} {old new : Option (List ℕ)} (objects : List Object) (names : List (List ℕ)) (after : Trouble) (end : Result ServeEnd LinesFault) →
     Serves backs agrees mid pm pa tm ta names openings begun after kept_all keeps_all old new → names ≡ object_names objects → ArePinnedAll mid objects openings → ((papers : Papers) → pm papers → AreLoadedAll papers objects openings) → ((papers : Papers) → pm papers → pw papers) →
     ((papers : Papers) → tm papers → tw papers) → IsEndOf after.fault after.refused end → IsRunIn backs agrees pw pa tw ta objects end old new
-run_served {H = H} {backs = backs} {agrees = agrees} {begun = begun} {openings = openings} {old = old} {new = new} objects names after end s same pinned loaded papers traces is =
+run_served {H = H} {backs = backs} {agrees = agrees} {mid = mid} {begun = begun} {openings = openings} {old = old} {new = new} objects names after end s same pinned loaded papers traces is =
     let ends : List Ended = s.closes.ends in
     let all = s.closes.endings in
     let met_none : fault_of_end end ≡ None → all.met ≡ None = λ none. second_none s.gathered.fault all.met (sym all.fault ∙ end_quiet after.fault after.refused end is none) in
@@ -112,13 +112,13 @@ run_served {H = H} {backs = backs} {agrees = agrees} {begun = begun} {openings =
         begun = begun;
         gathered = s.gathered;
         gathers = gathers;
-        legal = legal_all ends all.each s.closes.backed;
+        legal = legal_all backs ends all.each s.closes.backed;
         met = all.met;
         by = inl (subst (λ (f : Option LinesFault). IsEndOf f (refused_all s.gathered.refused ends) end) all.fault (subst (λ (r : Bool). IsEndOf after.fault r end) all.refused is));
         whole = whole;
       },
       record {
-        pinned = subst (ArePinnedAll agrees objects) opened (pinned_as objects openings s.closes.files pinned);
+        pinned = subst (ArePinnedAll agrees objects) opened (pinned_as mid agrees objects openings s.closes.files pinned);
         stored = λ ps at.
             let so = all.stored ps at in
             (so.0, papers so.0 so.1, subst (AreLoadedAll so.0 objects) opened (loaded so.0 so.1), so.2);

@@ -10,7 +10,7 @@ loop-accepted-init g c =
     let gives = c.into_iter-accepted-iterator.ensures.into_iter_gives in
     record {
       so = opened_none (g.S.Shelf.holds c.args.closing.now.parts) (g.K.Hand.agrees c.args.closing.now.hand) _ _ _ _ _ gives.0 (omega (arith, gives.1, ap length gives.0, c.args.ready.ok.0)) (ap named_in c.new.ensures.items) (ap openings_in c.new-2.ensures.items);
-      many = ?;
+      many = ap length c.new-2.ensures.items ∙ sym (ap length c.new.ensures.items);
       traces = refl;
       trouble = refl;
     }

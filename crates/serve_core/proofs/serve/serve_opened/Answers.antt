@@ -1,4 +1,4 @@
-use Rattle.std.proofs.Common.{ap, subst, length, arith}
+use Rattle.std.proofs.Common.{arith}
 use Rattle.std.proofs.lemmas.List.{length-map}
 use Rattle.line_core.specs.declared.machine.LinesFault.TheVariants.{Memory}
 use Rattle.session_core.specs.declared.order.Named.{Named}
@@ -14,8 +14,10 @@ returns-in-Err g c = (0, none_said (listening_line 0) Memory (g.W.Write.contents
 pub returns-in-Err-tell_port : goal.returns-in-Err-tell_port
 returns-in-Err-tell_port g c = c.in-Err-tell_port.ensures
 
-pub close_all-requires-gathered : goal.close_all-requires-gathered
-close_all-requires-gathered g c = gathered_many c.len.result c.serve_gathered-gathered.result.items c.in-Ok.ensures c.serve_gathered-gathered.ensures
+pub close_all-requires-clause-gathered : goal.close_all-requires-clause-gathered
+close_all-requires-clause-gathered g c =
+    let many = gathered_many c.len.result c.serve_gathered-gathered.result.items c.in-Ok.ensures c.serve_gathered-gathered.ensures in
+    omega (arith, many, c.len.ensures, c.args.served.offices.ok.0)
 
 pub returns : goal.returns
 returns g c = record {
