@@ -1,10 +1,9 @@
 -- Calls that are made one after another, and lines of value files.
-use Rattle.std.proofs.Common.{◌≡◌, ◌<◌, ◌≤◌, ◌+◌, ℕ, List, [], ◌∷◌, ◌++◌, Bool, true, false, Option, Some, None, length, take, get_or, refl, sym, ap, ◌∙◌, subst, arith, codes}
-use Rattle.std.specs.Prelude.{◌&&◌}
+use Rattle.std.proofs.Common.{◌≡◌, ◌<◌, ◌≤◌, ◌+◌, ℕ, List, [], ◌∷◌, ◌++◌, Bool, true, false, length, take, get_or, refl, sym, ap, ◌∙◌, subst, arith, codes}
 use Rattle.std.proofs.lemmas.List.{take_more, take_all, append_assoc, append-nil, length-append}
 use Rattle.folder_core.specs.Numbers.{value_name}
 use Rattle.folder_core.specs.Deeds.{Deed, removes, puts, RemovesAll, removed, PutsAll, nothing, moved, stayed}
-use Rattle.folder_core.specs.Told.{values_text, moved_front, Tells, AreTold}
+use Rattle.folder_core.specs.Told.{values_text}
 
 -- one file more is removed
 pub remove_more : {V : Type 0} (does : V → Deed → V → Type 0) (old values next : V) (xs : List ℕ) (i : ℕ) (gone : Bool) → i < length xs → RemovesAll does old (take i xs) values → does values (removes (get_or xs i 0) gone) next → RemovesAll does old (take (i + 1) xs) next
@@ -71,25 +70,3 @@ stays_more does left old values next xs there stays more i answer one first two 
   same,
   equal,
 )
-
--- the two lines that are told
-pub told_both : (left : ℕ) (there stays seen rest : List ℕ) (one two told : Bool) (old mid new : Option (List ℕ)) → seen ≡ there → rest ≡ stays → Tells (moved_front left) seen one old mid → Tells (codes "not moved:") rest two mid new → told ≡ (one && two) → AreTold (Some left) there stays told old new
-told_both left there stays seen rest one two told old mid new same equal first second both = record {
-  between = mid;
-  first = one;
-  second = two;
-  moved = subst (λ l. Tells (moved_front left) l one old mid) same first;
-  stay = subst (λ l. Tells (codes "not moved:") l two mid new) equal second;
-  both = both;
-}
-
--- where no folder was made, one line is told
-pub told_stays : (numbers : List ℕ) (told : Bool) (old new : Option (List ℕ)) → Tells (codes "not moved:") numbers told old new → AreTold None [] numbers told old new
-told_stays numbers told old new line = record {
-  between = old;
-  first = true;
-  second = told;
-  moved = (refl, refl);
-  stay = line;
-  both = refl;
-}
