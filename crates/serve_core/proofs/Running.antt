@@ -77,7 +77,7 @@ legal_one : {H : Type 0} (backs : H → Assignment → Type 0) (e : Ended) → I
 legal_one backs e ended (hands, backed) = record {
   hands = hands;
   backed = backed;
-  legal = λ closed have a all contents shows. (kept_is_history a e empty empty contents ended closed have (backed a all) shows).0;
+  legal = λ closed a all contents shows. (kept_is_history a e empty empty contents ended closed (backed a all) shows).0;
 }
 
 legal_all : {H : Type 0} (backs : H → Assignment → Type 0) (ends : List Ended) → Every IsAtEnd ends → AreBackedAll backs ends → Every (IsLegalBy backs) ends

@@ -10,7 +10,6 @@ use Rattle.board_core.specs.Lists.{Every}
 use Rattle.board_core.specs.Chain.{ShowContents, history_of}
 use Rattle.board_core.specs.Sound.{kinds_of}
 use Rattle.slip_core.specs.Slips.{Told}
-use Rattle.office_core.specs.Receipts.{HaveSlips}
 use Rattle.keep_core.specs.declared.trouble.Trouble.{Trouble}
 use Rattle.keep_core.specs.Troubles.{first_of}
 use Rattle.keep_core.specs.Lines.{AreSaid, IsOfClosing, entries_line}
@@ -39,12 +38,12 @@ abbrev pub AreBackedAll : {H : Type 0} → (H → Assignment → Type 0) → Lis
 AreBackedAll {H} backs ends = Every (λ (e : Ended). AreBacked backs e.slips) ends
 
 -- There are hands, those of the sessions of an object, by which its receipts are true: each assignment that agrees with
--- all of them makes each true. Where the object was closed, each entry of its history has a receipt, and its opening
--- pins show contents by such an assignment, the history is legal from these.
+-- all of them makes each true. Where the object was closed, and its opening pins show contents by such an assignment,
+-- the history is legal from these.
 pub record IsLegalBy {H : Type 0} (backs : H → Assignment → Type 0) (e : Ended) : Type 0 where
   pub hands : List H
   pub backed : AreBackedBy backs hands e.slips
-  pub legal : IsTrue e.became.closed → HaveSlips e.board.history e.slips → (a : Assignment) →
+  pub legal : IsTrue e.became.closed → (a : Assignment) →
       Every (λ (hand : H). backs hand a) hands → (contents : List Contents) →
       ShowContents a (kinds_of e.board.object) e.board.opening contents → IsLegal (history_of e.board.history) contents
 
