@@ -100,8 +100,8 @@ fn parts_of<S: Shelf, H: Hand>(
 }
 
 /// Opens an object: its opening values are what the shelf has under the names of its parts, or those of their kinds
-/// where nothing is there, and they are sealed as the pages of the pins with which its office begins. Where a fault
-/// ends it, files that were sealed before it are left.
+/// where nothing is there, and they are sealed as the pages of the pins with which its office begins. Where a fault ends
+/// it, files that were sealed before it are left.
 pub fn open_one<S: Shelf, H: Hand>(
     alloc: Global,
     accepted: Accepted,
