@@ -1,7 +1,7 @@
 //! Clients that read nothing, and sessions that are stopped.
 
 use crate::make::{BUFFER, offices};
-use crate::waiting::{Counted, EMPTY, Gate, await_lines, goes_on};
+use crate::waiting::{Counted, EMPTY, Gate, await_lines};
 use device_core::memory::MemHand;
 use hear_core::bell::Bell;
 use session_core::order::Named;
@@ -167,18 +167,10 @@ impl Read for Silent {
     }
 }
 
-// Rings once so many lines were written. It answers whether all lines are written behind that.
-fn rings<R: Wait>(
-    rt: &R,
-    all: &Vec<Named>,
-    bell: &Bell,
-    written: &AtomicU64,
-    count: u64,
-    lines: u64,
-) -> bool {
+// Rings once so many lines were written.
+fn rings(bell: &Bell, written: &AtomicU64, count: u64) {
     await_lines(written, count);
     bell.ring();
-    goes_on(rt, all, written, lines)
 }
 
 // Whether a session over this text writes this.
@@ -196,14 +188,13 @@ fn tells<R: Threads + Wait + Clock + Sync>(
     end.fault.is_none() && end.writer.bytes.as_slice() == told
 }
 
-// A session over this text, whose bell rings once so many lines were written, writes this, so many lines, and ends.
+// A session over this text, whose bell rings once so many lines were written, writes this and ends.
 fn stops<R: Abort + Threads + Wait + Clock + Sync>(
     rt: &R,
     alloc: Global,
     text: &'static [u8],
     count: u64,
     told: &'static [u8],
-    lines: u64,
 ) {
     let (all, hand) = offices(rt, alloc, BUFFER, EMPTY);
     let written = Arc::new(alloc, AtomicU64::new(0)).expect(rt, "memory");
@@ -214,26 +205,25 @@ fn stops<R: Abort + Threads + Wait + Clock + Sync>(
     let bell = Bell::new();
     let rung = &bell;
     let shared = &all;
-    let (goes, told) = thread::join(
+    let (_, told) = thread::join(
         rt,
-        move || rings(rt, shared, rung, &written, count, lines),
+        move || rings(rung, &written, count),
         move || tells(rt, alloc, shared, hand, text, writer, rung, told),
     );
-    assert!(rt; goes && told);
+    assert!(rt; told);
 }
 
 #[test]
 fn a_silent_client_is_left_when_the_bell_rings(rt: HostRuntime) {
     let alloc = rt.alloc();
-    stops(&rt, alloc, b"", 0, b"", 0);
-    stops(&rt, alloc, b"open buffer\n", 1, b"opened buffer\n", 1);
+    stops(&rt, alloc, b"", 0, b"");
+    stops(&rt, alloc, b"open buffer\n", 1, b"opened buffer\n");
     stops(
         &rt,
         alloc,
         b"open buffer\ncall dep",
         1,
         b"opened buffer\nno Gone\n",
-        2,
     );
 }
 
@@ -241,10 +231,10 @@ fn a_silent_client_is_left_when_the_bell_rings(rt: HostRuntime) {
 fn a_waiting_call_is_cancelled_when_the_bell_rings(rt: HostRuntime) {
     let alloc = rt.alloc();
     let told = b"opened buffer\naccepted 1\ncancelled 1\n";
-    stops(&rt, alloc, b"open buffer\ncall remove\n", 2, told, 3);
+    stops(&rt, alloc, b"open buffer\ncall remove\n", 2, told);
     let told = b"opened buffer\naccepted 1\ncancelled 1\nno Gone\nno BadLine\nno Gone\n";
     let text = b"open buffer\ncall remove\ncall remove\ndance\ncall deposit 7\n";
-    stops(&rt, alloc, text, 2, told, 6);
+    stops(&rt, alloc, text, 2, told);
 }
 
 // A reader of one piece, which rings a bell with it.

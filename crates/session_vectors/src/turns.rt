@@ -24,10 +24,10 @@ use talk_core::output::{Health, Output};
 // How many of these lines are held back, one after the other.
 fn said(alloc: Global, lines: &[Line]) -> usize {
     let mut held = Held::new(alloc);
-    let mut count = 0;
+    let mut count = 0usize;
     for line in lines {
         if held.say(*line) {
-            count += 1;
+            count = count.saturating_add(1);
         }
     }
     count

@@ -208,22 +208,17 @@ fn a_call_that_waits_is_told_meanwhile(rt: HostRuntime) {
     assert!(rt; is_told && bytes.as_slice() == told);
 }
 
-// A session on an empty buffer writes this, so many lines, and ends by itself.
+// A session on an empty buffer writes this, and ends by itself.
 fn tells<R: Abort + Threads + Wait + Clock + Sync>(
     rt: &R,
     alloc: Global,
     lines: &'static [(u64, &'static [u8])],
-    count: u64,
     told: &[u8],
 ) {
     let (all, hand) = offices(rt, alloc, BUFFER, EMPTY);
-    let counter = Arc::new(alloc, AtomicU64::new(0)).expect(rt, "memory");
-    let (bytes, goes) = thread::join(
-        rt,
-        || written(rt, alloc, &all, hand, lines, &counter),
-        || goes_on(rt, &all, &counter, count),
-    );
-    assert!(rt; goes && bytes.as_slice() == told);
+    let count = Arc::new(alloc, AtomicU64::new(0)).expect(rt, "memory");
+    let bytes = written(rt, alloc, &all, hand, lines, &count);
+    assert!(rt; bytes.as_slice() == told);
 }
 
 const ENDS: &[(u64, &[u8])] = &[(0, b"open buffer\ncall remove\ncall remove\n")];
@@ -237,9 +232,8 @@ fn the_input_ends_while_a_call_waits(rt: HostRuntime) {
         &rt,
         alloc,
         ENDS,
-        4,
         b"opened buffer\naccepted 1\ncancelled 1\nno Gone\n",
     );
     let bye = b"opened buffer\naccepted 1\ncancelled 1\nbye\n";
-    tells(&rt, alloc, HANGS_UP, 4, bye);
+    tells(&rt, alloc, HANGS_UP, bye);
 }
