@@ -10,12 +10,10 @@ use serve_core::gate::Gate;
 use serve_core::serve::{Place, ServeEnd, serve_on};
 use std::io::{self, Read, Write};
 use std::net::{Ipv4Addr, Net, TcpListener, TcpStream};
-use std::os::unix::fs::FileExt;
 use std::process::Abort;
 use std::rt::Files;
-use std::sync::{Arc, Wait};
-use std::thread::Threads;
-use std::time::{Clock, Duration};
+use std::sync::Arc;
+use std::time::Duration;
 use std::{fs, process, thread};
 
 // Two objects, each with one part, of one number.
@@ -122,16 +120,13 @@ fn begins<R: Files + AllocGlobal>(rt: &R, folder: &str, name: &str, with: &[u8])
 
 // Serves so many connections. It answers whether the server ends whole, tells nothing on standard error, and writes its
 // port and then this.
-fn serves<R: Files + AllocGlobal + Threads + Wait + Clock + Copy + Drop + Send + Sync>(
-    rt: &R,
+fn serves(
+    rt: &HostRuntime,
     folder: &str,
     gate: &Gate,
     sessions: usize,
     told: &str,
-) -> io::Result<bool>
-where
-    R::File: FileExt + Send,
-{
+) -> io::Result<bool> {
     let all = format!(in rt.alloc(); "listening {}\n{told}", gate.port()?)?;
     let place = place_of(rt, folder, sessions)?;
     let (mut out, mut error) = (Vec::new(rt.alloc()), Vec::new(rt.alloc()));
