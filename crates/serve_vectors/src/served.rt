@@ -6,15 +6,17 @@ use device_core::dir::DirHand;
 use device_core::numbers::Numbers;
 use folder_core::found::found_in;
 use folder_core::values::DirValues;
+use line_core::LinesFault;
 use serve_core::gate::Gate;
 use serve_core::serve::{Place, ServeEnd, serve_on};
+use std::alloc::Global;
 use std::io::{self, Read, Write};
 use std::net::{Ipv4Addr, Net, TcpListener, TcpStream};
 use std::process::Abort;
 use std::rt::Files;
 use std::sync::Arc;
 use std::time::Duration;
-use std::{fs, process, thread};
+use std::{fs, process};
 
 // Two objects, each with one part, of one number.
 const SOURCE: &[u8] = b"object cell;
@@ -30,10 +32,8 @@ object other;
 end;
 ";
 
-// How long a client waits for an answer, and how long it rests, in milliseconds.
+// How long a client waits for an answer, in milliseconds.
 const WAITS: u64 = 5_000;
-
-const RESTS: u64 = 300;
 
 // A new folder that no other test has.
 fn new_folder<R: Files + AllocGlobal>(rt: &R, process: u32, name: &str) -> io::Result<String> {
@@ -118,20 +118,17 @@ fn begins<R: Files + AllocGlobal>(rt: &R, folder: &str, name: &str, with: &[u8])
     }
 }
 
-// Serves so many connections. It answers whether the server ends whole, tells nothing on standard error, and writes its
-// port and then this.
-fn serves(
-    rt: &HostRuntime,
-    folder: &str,
+// Whether a server ended whole, told nothing on standard error, and wrote its port and then this.
+fn is_whole(
     gate: &Gate,
-    sessions: usize,
+    ended: Result<ServeEnd, LinesFault>,
+    out: &[u8],
+    error: &[u8],
     told: &str,
+    alloc: Global,
 ) -> io::Result<bool> {
-    let all = format!(in rt.alloc(); "listening {}\n{told}", gate.port()?)?;
-    let place = place_of(rt, folder, sessions)?;
-    let (mut out, mut error) = (Vec::new(rt.alloc()), Vec::new(rt.alloc()));
-    let ended = serve_on(rt, rt.alloc(), SOURCE, place, gate, &mut out, &mut error);
-    Ok(ended == Ok(ServeEnd::Whole) && error.is_empty() && out.as_slice() == all.as_bytes())
+    let all = format!(in alloc; "listening {}\n{told}", gate.port()?)?;
+    Ok(ended == Ok(ServeEnd::Whole) && error.is_empty() && out == all.as_bytes())
 }
 
 // Two clients at once, each of an object of its own. Both have said their lines before the server takes them.
@@ -144,7 +141,11 @@ fn a_server_serves_each_client_and_closes_each_object(rt: HostRuntime) {
     let lines = b"open other as ann\ncall #1 add 5\nquit\n";
     let mut two = says(&rt, &gate, lines).expect(&rt, "a connection");
     let told = "cell entries 2\nother entries 1\n";
-    let is_whole = serves(&rt, folder.as_str(), &gate, 2, told).expect(&rt, "a folder");
+    let alloc = rt.alloc();
+    let place = place_of(&rt, folder.as_str(), 2).expect(&rt, "a place");
+    let (mut out, mut error) = (Vec::new(alloc), Vec::new(alloc));
+    let ended = serve_on(&rt, alloc, SOURCE, place, &gate, &mut out, &mut error);
+    let is_whole = is_whole(&gate, ended, &out, &error, told, alloc).expect(&rt, "a port");
     assert!(rt; is_whole);
     let answers = b"opened cell\naccepted 1\ndone 1\naccepted 2\ndone 2 7\nbye\n";
     assert!(rt; is_told(&mut one, answers));
@@ -156,40 +157,5 @@ fn a_server_serves_each_client_and_closes_each_object(rt: HostRuntime) {
     assert!(rt; begins(&rt, folder.as_str(), "other.v.part", saved));
     let trace = b"object other\npart v 0201000100000000\n";
     assert!(rt; begins(&rt, folder.as_str(), "other.trace", trace));
-    assert!(rt; fs::remove_dir_all(&rt, folder.as_str()).is_ok());
-}
-
-// A client that says nothing more once it is told that its object is opened, and has the server stop when that has
-// waited for it for a while. It answers whether it is left in time.
-fn is_left(gate: &Gate, client: TcpStream) -> bool {
-    let mut client = client;
-    let mut piece = [0; 64];
-    let is_opened = match client.read(&mut piece) {
-        Ok(len) => &piece[..len] == b"opened cell\n".as_slice(),
-        Err(_) => false,
-    };
-    let _ = client.set_read_timeout(Some(Duration::from_millis(RESTS)));
-    let is_kept = client.read(&mut piece).is_err();
-    let _ = client.set_read_timeout(Some(Duration::from_millis(WAITS)));
-    gate.stop();
-    match client.read(&mut piece) {
-        Ok(len) => is_opened && is_kept && len == 0,
-        Err(_) => false,
-    }
-}
-
-#[test]
-fn a_silent_client_is_left_when_the_gate_is_stopped(rt: HostRuntime) {
-    let folder = new_folder(&rt, process::id(rt.process()), "stopped").expect(&rt, "a folder");
-    let gate = gate_for(&rt, 2).expect(&rt, "a gate");
-    let silent = says(&rt, &gate, b"open cell\n").expect(&rt, "a connection");
-    let told = "cell entries 0\nother entries 0\n";
-    let shared = &rt;
-    let (is_whole, left) = thread::join(
-        shared,
-        || serves(shared, folder.as_str(), &gate, 2, told),
-        || is_left(&gate, silent),
-    );
-    assert!(rt; left && is_whole.is_ok_and(|it| it));
     assert!(rt; fs::remove_dir_all(&rt, folder.as_str()).is_ok());
 }
