@@ -4,10 +4,14 @@ ghost use Rattle.std.specs.Prelude.{IfOk};
 ghost use Rattle.folder_core.specs.Numbers.{AreBetween};
 
 use crate::folder::add_number;
+use itoa::Buffer;
 use std::alloc::{AllocError, Global};
 use std::io::ErrorKind;
 use std::rt::Files;
 use std::{fs, io};
+
+// The most bytes of a path behind the folder: a slash, 20 digits and the ending.
+const NAME_BYTES: usize = 25;
 
 /// The value files of a folder: which are there, and what is done to one, by its number.
 ///
@@ -50,13 +54,16 @@ pub trait Values {
 pub struct DirValues<R: Files + AllocGlobal> {
     rt: R,
     folder: String,
+    // The path of the file that was removed last. Its memory is taken at the start, so a removal takes none.
+    path: String,
 }
 
 impl<R: Files + AllocGlobal + Drop> DirValues<R> {
     /// The value files of this folder. It touches no file yet. The error is that memory was refused.
     pub fn new(rt: R, folder: &str) -> Result<DirValues<R>, AllocError> {
+        let path = String::with_capacity(rt.alloc(), folder.len().saturating_add(NAME_BYTES))?;
         let folder = String::from_str(rt.alloc(), folder)?;
-        Ok(DirValues { rt, folder })
+        Ok(DirValues { rt, folder, path })
     }
 }
 
@@ -103,9 +110,14 @@ impl<R: Files + AllocGlobal + Clone + Drop> DirValues<R> {
     }
 
     // Removes a value file.
-    fn unlink(&self, number: u64) -> io::Result<()> {
-        let path = format!(in self.rt.alloc(); "{}/{number}.val", self.folder)?;
-        fs::remove_file(&self.rt, path.as_str())
+    fn unlink(&mut self, number: u64) -> io::Result<()> {
+        let mut digits = Buffer::new();
+        self.path.clear();
+        self.path.push_str(self.folder.as_str())?;
+        self.path.push('/')?;
+        self.path.push_str(digits.format(number))?;
+        self.path.push_str(".val")?;
+        fs::remove_file(&self.rt, self.path.as_str())
     }
 }
 

@@ -445,3 +445,7 @@ last_fine start now held health notes at fine none shut is = all_said start now 
 -- or there was no memory for some
 pub last_short : (start now : Option (List ℕ)) (held : List ℕ) (health : Health) (notes : List Note) (at : Stage) → health ≡ NoMemory → IsWritten start now held health notes at → IsSaid start now NoMemory notes
 last_short start now held health notes at short is = (held, at, subst (λ h. IsWritten start now held h notes at) short is)
+
+-- all is as it was, but that a line was lost for which there was no memory
+pub was_lost : (start now : Option (List ℕ)) (held : List ℕ) (health : Health) (notes : List Note) (at : Stage) → health ≡ Fine → IsWritten start now held health notes at → IsWritten start now held NoMemory notes at
+was_lost start now held health notes at fine is = subst (λ h. IsWritten start now held h notes at) fine is

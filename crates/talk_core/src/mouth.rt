@@ -160,6 +160,9 @@ impl<W: Write + Drop, J: Start> Mouth<W, J> {
         let mut held = held.into_inner();
         let mut output = output.into_inner();
         output.take(&mut held);
+        if held.is_lost() {
+            output.lose();
+        }
         let (writer, notes, health) = output.into_parts();
         let health = with_held(health, &held);
         (writer, notes, health)

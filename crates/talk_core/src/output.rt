@@ -166,6 +166,14 @@ impl<W: Write + Drop, J: Start> Output<W, J> {
         self.at = at;
     }
 
+    /// A line was lost for which there was no memory: no more are taken.
+    pub fn lose(&mut self) {
+        if !is_fine(self.health) {
+            return;
+        }
+        self.health = Health::NoMemory;
+    }
+
     /// Sends the lines that were taken, in one write where the writer takes them so. It answers whether all
     /// lines so far were sent.
     pub fn flush(&mut self) -> bool {
