@@ -159,3 +159,16 @@ def digest(top, lines, name, kit, *more):
                 add(path.encode())
                 add(text.encode())
     return summed.hexdigest()
+
+
+def remember_stamps(rt):
+    """Has the kit's command make each stamp of a crate once: one hangs on those of all crates below it, which it makes
+    again for each. From the next call on they are made anew. No file may change in between."""
+    make, made = getattr(rt, "make_stamp", rt.rtlib.Crate.stamp), {}
+
+    def stamp(crate):
+        if crate.folder not in made:
+            made[crate.folder] = make(crate)
+        return made[crate.folder]
+
+    rt.make_stamp, rt.rtlib.Crate.stamp, rt.Crate.stamp = make, stamp, stamp

@@ -29,7 +29,7 @@ def ask(lines, line):
 
 
 def main(words):
-    if len(words) < 2 or not words[0].isdigit():
+    if len(words) < 2 or not words[0].isdecimal() or int(words[0]) > 65535:
         print(__doc__, file=sys.stderr)
         return 2
     port, name, *calls = words
@@ -40,7 +40,7 @@ def main(words):
         return 3
     sent = None
     try:
-        lines = connection.makefile("rw", newline="\n")
+        lines = connection.makefile("rw", encoding="utf-8", newline="\n")
         opened = ask(lines, f"open {name}")
         if not opened.startswith("opened "):
             print(opened, file=sys.stderr)

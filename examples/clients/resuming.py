@@ -24,7 +24,7 @@ class Connection:
 
     def __init__(self, port):
         self.it = socket.create_connection(("127.0.0.1", port))
-        self.lines = self.it.makefile("r", newline="\n")
+        self.lines = self.it.makefile("r", encoding="ascii", newline="\n")
 
     def line(self):
         """The next line. One that was cut is none."""
@@ -35,7 +35,7 @@ class Connection:
 
     def ask(self, line):
         """Sends a line and gives the first answer."""
-        self.it.sendall(f"{line}\n".encode("ascii"))
+        self.it.sendall(f"{line}\n".encode())
         return self.line()
 
     def close(self):
@@ -54,7 +54,7 @@ def opened(port, line):
                 time.sleep(0.02)
         except (Gone, OSError) as error:
             if time.monotonic() >= end:
-                raise Gone(error) from None
+                raise Gone(getattr(error, "strerror", None) or error) from None
             time.sleep(0.1)
             continue
         words = answer.split(" ")
@@ -73,7 +73,7 @@ def unknown(call):
 
 
 def main(words):
-    if len(words) < 3 or not words[0].isdigit():
+    if len(words) < 3 or not words[0].isdecimal() or int(words[0]) > 65535:
         print(__doc__, file=sys.stderr)
         return 2
     port, line, calls = int(words[0]), f"open {words[1]} as {words[2]}", words[3:]

@@ -1,5 +1,5 @@
-{ Slots of a test lab: at most three builds at once, and a release alone. It keeps no values: the paths are all of it. A
-  program takes a slot, builds, and gives it back; who takes one waits until one is free. After a start all slots are free. }
+{ Slots of a test lab: at most three builds at once, and a release alone. It keeps no values: the paths are all of it.
+  A program takes a slot, waiting until one is free, builds, and gives it back. After a start all slots are free. }
 object build_slots;
   const slots = 3;
   path slots:(take_slot; give_slot) end;

@@ -1,5 +1,5 @@
-{ A job queue: programs submit jobs, workers claim the oldest one, and finish it or give it back. A job that was claimed
-  is kept until it is finished, so somebody else can give back the job of a worker that died. Each job has a text of its own. }
+{ A job queue: programs submit jobs, workers claim the oldest one, and finish it or give it back. A claimed job is kept
+  until it is finished, so somebody else can give back that of a worker that died. Give each job a text of its own. }
 object job_queue;
   const most = 1000;
   { A claim waits until there is a job for it. }
@@ -7,7 +7,7 @@ object job_queue;
   path 1:(submit, claim, finish, give_back, [waiting, claimed, is_claimed]) end;
   var jobs : queue of text;
       taken : table of integer;
-  { A refused call has had its turn, too: where a submit or a give_back was refused, a claim may start and find nothing.
+  { A refused call counts for the paths: where a submit or a give_back was refused, a claim may start and find nothing.
     It is refused as `empty` then, and the worker claims again. }
   entry procedure submit(job : text);
   begin

@@ -1,5 +1,5 @@
-{ A ledger: accounts with whole amounts that never fall below zero. A transfer is done whole or not at all, also where the
-  disk fails in the middle. Whoever has this file and a trace can audit what was done. }
+{ A ledger: accounts with whole amounts that never fall below zero. A transfer is done whole or not at all, also where
+  the disk fails in the middle. Whoever has this file and a trace can audit what was done. }
 object ledger;
   path 1:(open_account, pay_in, pay_out, transfer, [balance, total]) end;
   var accounts : table of integer;

@@ -20,7 +20,7 @@ use judge_core::judge::Change;
 use page_core::cut::page_size;
 use page_core::file_bytes::FileBytes;
 use page_core::part_pins::PartPins;
-use page_core::plan::{PageWrite, plan_part};
+use page_core::plan::{PageWrite, Planned, plan_part};
 use std::alloc::{AllocError, Global};
 
 /// What a call writes of what its body changed, and the new page lists.
@@ -53,6 +53,13 @@ pub struct PagePlan {
     ghost twice: { (entry.items ≡ []) × (length stamps.items ≤ vec_capacity entry) },
 }
 
+// What there is of the parts before a call changes them: their pins, and the bytes that were read of each.
+#[derive(Clone, Copy)]
+struct Before<'a> {
+    pins: &'a PartPins,
+    read: &'a [FileBytes],
+}
+
 // The size of the pages into which some bytes are cut.
 fn cut_size(bytes: &[u8]) -> Option<usize>
     ensures { IfSome result (λ size. IsPageSize (length bytes.now) size × (0 < length bytes.now)) }
@@ -69,50 +76,47 @@ fn cut_size(bytes: &[u8]) -> Option<usize>
 // Adds the plan for a changed part, and tells how many pages it has.
 fn plan_change(
     alloc: Global,
-    pins: &PartPins,
-    read: &[FileBytes],
+    before: Before,
     change: &Change,
-    stamps: &mut Vec<Stamp>,
-    writes: &mut Vec<PageWrite>,
-    gone: &mut Vec<Stamp>,
+    planned: &mut Planned,
 ) -> Result<u8, AllocError>
-    requires pinned { pin_at pins.now change.now.part ≢ None }
-    requires read { change.now.part < length read.now }
-    ensures { IfOk result (λ count. IsPlannedChange pins.now read.now change.now count stamps.old.items stamps.new.items
-        writes.old.items writes.new.items gone.old.items gone.new.items) }
+    requires pinned { pin_at before.pins.now change.now.part ≢ None }
+    requires read { change.now.part < length before.read.now }
+    ensures { IfOk result (λ count. IsPlannedChange before.entry.pins.now before.entry.read.now change.now count
+        planned.old.stamps.items planned.new.stamps.items planned.old.writes.items planned.new.writes.items
+        planned.old.gone.items planned.new.gone.items) }
 {
     let after = change.bytes.as_slice();
     let Some(size) = cut_size(after) else {
         return Err(AllocError);
     };
-    let old = pages_of(pins, change.part);
-    let before = read[change.part].as_slice();
-    let start = stamps.len();
-    match plan_part(alloc, size, old, before, after, stamps, writes, gone) {
+    let old = pages_of(before.pins, change.part);
+    let read = before.read;
+    let was = read[change.part].as_slice();
+    let start = planned.stamps.len();
+    match plan_part(alloc, size, old, was, after, planned) {
         Ok(()) => {}
         Err(AllocError) => return Err(AllocError),
     }
-    Ok((stamps.len() - start) as u8)
+    Ok((planned.stamps.len() - start) as u8)
 }
 
 // Adds the plans for changed parts from this part on, and writes the counts of their pages.
 fn plan_from(
     alloc: Global,
-    pins: &PartPins,
-    read: &[FileBytes],
+    before: Before,
     part: usize,
     changes: &[Change],
     counts: &mut [u8],
-    stamps: &mut Vec<Stamp>,
-    writes: &mut Vec<PageWrite>,
-    gone: &mut Vec<Stamp>,
+    planned: &mut Planned,
 ) -> Result<(), AllocError>
     requires within { AreWithin part (part + length counts.old) changes.now }
-    requires known { AreKnown pins.now (length read.now) changes.now }
+    requires known { AreKnown before.pins.now (length before.read.now) changes.now }
     requires none { together counts.old ≡ 0 }
     requires few { part + length counts.old ≤ 16 }
-    ensures planned { OnOk result (ArePlansFrom pins.now read.now part changes.now counts.new stamps.old.items
-        stamps.new.items writes.old.items writes.new.items gone.old.items gone.new.items) }
+    ensures planned { OnOk result (ArePlansFrom before.entry.pins.now before.entry.read.now part changes.now counts.new
+        planned.old.stamps.items planned.new.stamps.items planned.old.writes.items planned.new.writes.items
+        planned.old.gone.items planned.new.gone.items) }
     ensures many { length counts.new ≡ length counts.old }
 {
     let Some((count, others)) = counts.split_first_mut() else {
@@ -122,33 +126,13 @@ fn plan_from(
         return Ok(());
     };
     if change.part != part {
-        return plan_from(
-            alloc,
-            pins,
-            read,
-            part + 1,
-            changes,
-            others,
-            stamps,
-            writes,
-            gone,
-        );
+        return plan_from(alloc, before, part + 1, changes, others, planned);
     }
-    match plan_change(alloc, pins, read, change, stamps, writes, gone) {
+    match plan_change(alloc, before, change, planned) {
         Ok(pages) => *count = pages,
         Err(AllocError) => return Err(AllocError),
     }
-    plan_from(
-        alloc,
-        pins,
-        read,
-        part + 1,
-        rest,
-        others,
-        stamps,
-        writes,
-        gone,
-    )
+    plan_from(alloc, before, part + 1, rest, others, planned)
 }
 
 // The plan of no change. It takes no memory.
@@ -186,23 +170,24 @@ pub fn plan_pages(
         return Ok(no_plan(alloc, &task.pins, read));
     }
     let mut counts = [0; MOST_PARTS];
-    let mut stamps = Vec::new(alloc);
-    let mut writes = Vec::new(alloc);
-    let mut gone = Vec::new(alloc);
-    match plan_from(
-        alloc,
-        &task.pins,
+    let mut planned = Planned {
+        stamps: Vec::new(alloc),
+        writes: Vec::new(alloc),
+        gone: Vec::new(alloc),
+    };
+    let before = Before {
+        pins: &task.pins,
         read,
-        0,
-        changes,
-        &mut counts,
-        &mut stamps,
-        &mut writes,
-        &mut gone,
-    ) {
+    };
+    match plan_from(alloc, before, 0, changes, &mut counts, &mut planned) {
         Ok(()) => {}
         Err(AllocError) => return Err(AllocError),
     }
+    let Planned {
+        stamps,
+        writes,
+        gone,
+    } = planned;
     let sealed = match Vec::with_capacity(alloc, writes.len()) {
         Ok(sealed) => sealed,
         Err(_) => return Err(AllocError),

@@ -95,24 +95,36 @@ fn new_operation<'t>(
     Ok((name, rest))
 }
 
+/// What the text of an operation says behind its name.
+#[derive(Drop)]
+struct Said {
+    params: Vec<Param>,
+    reply: Option<Elem>,
+    body: Vec<Stmt>,
+}
+
 /// An operation behind those before, with what its text says.
 fn with_operation(
     alloc: Global,
     before: Vec<Arc<Operation>>,
     parts: &[Part],
     own: &Name,
-    params: Vec<Param>,
-    reply: Option<Elem>,
-    body: Vec<Stmt>,
+    said: Said,
 ) -> Result<Vec<Arc<Operation>>, TextFault>
     requires few { length parts.now ≤ 16 }
-    requires typed { IsWellTyped (kinds_from (named_in_all (all_of body.items) 0) 0 (parts_of parts.now))
-        (map (λ p. p.kind) params.items) reply (all_of body.items) }
+    requires typed { IsWellTyped (kinds_from (named_in_all (all_of said.body.items) 0) 0 (parts_of parts.now))
+        (map (λ p. p.kind) said.params.items) said.reply (all_of said.body.items) }
     ensures { Gives (λ v. operations_of v.items) result (Some (operations_of before.items
-        ++ operation_with (parts_of parts.now) own.now (params_of params.items) reply (all_of body.items) ∷ [])) }
+        ++ operation_with (parts_of parts.now) own.now (params_of said.params.items) said.reply
+        (all_of said.body.items) ∷ [])) }
 {
     let mut all = before;
     let name = own.copy(alloc)?;
+    let Said {
+        params,
+        reply,
+        body,
+    } = said;
     let operation = Operation::new(alloc, name, params, reply, body, parts)?;
     all.push(Arc::new(alloc, operation)?)?;
     Ok(all)
@@ -155,7 +167,12 @@ fn procedure<'t>(
     };
     let (statements, rest) = body(alloc, &inside, rest)?;
     let rest = behind(rest, Symbol::Semicolon)?;
-    let all = with_operation(alloc, before, parts, own, given, None, statements)?;
+    let said = Said {
+        params: given,
+        reply: None,
+        body: statements,
+    };
+    let all = with_operation(alloc, before, parts, own, said)?;
     Ok((all, rest))
 }
 
@@ -198,7 +215,12 @@ fn function<'t>(
     };
     let (statements, rest) = body(alloc, &inside, rest)?;
     let rest = behind(rest, Symbol::Semicolon)?;
-    let all = with_operation(alloc, before, parts, own, given, Some(sort), statements)?;
+    let said = Said {
+        params: given,
+        reply: Some(sort),
+        body: statements,
+    };
+    let all = with_operation(alloc, before, parts, own, said)?;
     Ok((all, rest))
 }
 

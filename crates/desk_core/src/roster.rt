@@ -52,7 +52,7 @@ use page_core::part_pins::PartPins;
 use page_core::pins::Pins;
 use path_count::counters::{Counters, compile};
 use path_tree::node::OpId;
-use queue_core::open_call::{Running, Waiting};
+use queue_core::open_call::{Asked, Running, Waiting};
 use queue_core::queue::Queue;
 use run_core::outcome::Outcome;
 use std::alloc::{AllocError, Global};
@@ -148,33 +148,31 @@ fn start_at(waiting: &mut Queue, running: &mut Vec<Running>, place: usize, pins:
     running.push_reserved(asked.start(pins));
 }
 
-// A waiting call of the operation at this place of an object.
+// A waiting call of what is asked of an object.
 fn asked_of(
     alloc: Global,
     object: &Object,
-    number: u32,
-    session: u32,
-    place: usize,
-    args: &[Datum],
+    asked: Asked<'_>,
     pins: &Pins,
 ) -> Result<Waiting, AllocError>
-    requires place { place < length object.now.operations.items }
-    requires fits { (operation : Operation) → slice_get (bodies object.now) place ≡ Some operation →
-        ArgumentsFit operation args.now }
+    requires place { asked.op < length object.now.operations.items }
+    requires fits { (operation : Operation) → slice_get (bodies object.now) asked.op ≡ Some operation →
+        ArgumentsFit operation asked.args.now }
     ensures op { IfOk result (λ w. w.call.op < 32) }
-    ensures call { IfOk result (λ w. (operation : Operation) → slice_get (bodies object.now) place ≡ Some operation →
+    ensures call { IfOk result (λ w. (operation : Operation) →
+        slice_get (bodies object.now) asked.entry.op ≡ Some operation →
         w ≡ record {
-          number = number;
+          number = asked.entry.number;
           call = record {
-            session = session;
-            op = place;
+            session = asked.entry.session;
+            op = asked.entry.op;
             operation = operation;
-            arguments = args.now;
+            arguments = asked.entry.args.now;
           };
         }) }
 {
-    let operation = &object.operations[place];
-    Waiting::new(alloc, number, session, place as OpId, operation, args, pins)
+    let operation = &object.operations[asked.op as usize];
+    Waiting::new(alloc, asked, operation, pins)
 }
 
 // Makes room for all that one call more and the calls which wait or run will add.
@@ -378,10 +376,12 @@ impl Roster {
         let asked = asked_of(
             self.alloc,
             self.accepted.object(),
-            number,
-            session,
-            place,
-            args,
+            Asked {
+                number,
+                session,
+                op: place as OpId,
+                args,
+            },
             &self.pins,
         )?;
         let call = asked.share()?;

@@ -52,17 +52,19 @@ fn are_pages(pins: &Pins, want: &[&[u64]]) -> bool {
     pins.len() == want.len()
 }
 
-// Whether a call with the argument 1 replies so, frees the files of these numbers, and leaves the published pins of
-// those.
+// Whether a call with the argument 1 replies so, and of these files, by their numbers, frees the first ones and leaves the
+// others as the published pins, those of each part.
 fn comes_to<H: Hand>(
     alloc: Global,
     desk: &mut Desk,
     hand: &mut H,
     op: &str,
     want: Reply,
-    free: &[u64],
-    pins: &[&[u64]],
+    files: &[&[u64]],
 ) -> bool {
+    let Some((free, pins)) = files.split_first() else {
+        return false;
+    };
     match receipt_of(alloc, desk, hand, op, &[Datum::Integer(1)]) {
         Some(receipt) => {
             *receipt.noted.reply() == want
@@ -87,16 +89,14 @@ fn a_failed_call_frees_what_it_sealed(rt: HostRuntime) {
             &mut hand,
             "both",
             FAILED,
-            &[3],
-            &[&[1], &[2]]
+            &[&[3], &[1], &[2]]
         ) && comes_to(
             alloc,
             &mut desk,
             &mut hand,
             "both",
             DONE,
-            &[1, 2],
-            &[&[4], &[5]]
+            &[&[1, 2], &[4], &[5]]
         )
     );
 }
@@ -113,14 +113,14 @@ const WIDE_PAIR: Bytes = b"object pair;
 end;
 ";
 
-// A call, the files that it frees, and the files of both parts then.
-type Row = (&'static str, &'static [u64], [&'static [u64]; 2]);
+// A call, and the files that it frees, and those of both parts then.
+type Row = (&'static str, [&'static [u64]; 3]);
 
 // Whether a file that both parts have is freed when the second one has it no more, or at once where
 // one call replaces both.
 fn are_freed_once(alloc: Global, desk: &mut Desk, hand: &mut MemHand, rows: &[Row]) -> bool {
-    for (op, free, pins) in rows {
-        if !comes_to(alloc, desk, hand, op, DONE, free, pins) {
+    for (op, files) in rows {
+        if !comes_to(alloc, desk, hand, op, DONE, files) {
             return false;
         }
     }
@@ -139,8 +139,8 @@ fn is_freed_once(rt: &impl Abort, alloc: Global, text: Bytes, bytes: &[u8], rows
 
 #[test]
 fn a_file_of_two_parts_is_freed_once(rt: HostRuntime) {
-    let apart: [Row; 2] = [("right", &[], [&[1], &[2]]), ("left", &[1], [&[3], &[2]])];
-    let at_once: [Row; 1] = [("both", &[1], [&[2], &[3]])];
+    let apart: [Row; 2] = [("right", [&[], &[1], &[2]]), ("left", [&[1], &[3], &[2]])];
+    let at_once: [Row; 1] = [("both", [&[1], &[2], &[3]])];
     assert!(rt;
         is_freed_once(&rt, rt.alloc(), PAIR, ZERO, &apart)
             && is_freed_once(&rt, rt.alloc(), PAIR, ZERO, &at_once)
@@ -155,11 +155,11 @@ fn a_page_of_two_parts_is_freed_once(rt: HostRuntime) {
         .expect(&rt, "memory");
     bytes.resize(4_100, 0).expect(&rt, "memory");
     let apart: [Row; 3] = [
-        ("left", &[], [&[6, 2, 3, 4, 5], &[1, 2, 3, 4, 5]]),
-        ("right", &[1], [&[6, 2, 3, 4, 5], &[7, 2, 3, 4, 8]]),
-        ("both", &[7], [&[6, 2, 3, 4, 5], &[9, 2, 3, 4, 8]]),
+        ("left", [&[], &[6, 2, 3, 4, 5], &[1, 2, 3, 4, 5]]),
+        ("right", [&[1], &[6, 2, 3, 4, 5], &[7, 2, 3, 4, 8]]),
+        ("both", [&[7], &[6, 2, 3, 4, 5], &[9, 2, 3, 4, 8]]),
     ];
-    let at_once: [Row; 1] = [("both", &[1], [&[6, 2, 3, 4, 5], &[7, 2, 3, 4, 5]])];
+    let at_once: [Row; 1] = [("both", [&[1], &[6, 2, 3, 4, 5], &[7, 2, 3, 4, 5]])];
     assert!(rt;
         is_freed_once(&rt, rt.alloc(), WIDE_PAIR, &bytes, &apart)
             && is_freed_once(&rt, rt.alloc(), WIDE_PAIR, &bytes, &at_once)
@@ -171,8 +171,8 @@ fn is_damaged(rt: &impl Abort, alloc: Global, bytes: Bytes) -> bool {
     let mut hand = MemHand::new(alloc);
     let pins = pinned(rt, &mut hand, &[bytes]);
     let mut desk = desk_of(rt, alloc, CELL, pins);
-    comes_to(alloc, &mut desk, &mut hand, "put", DAMAGED, &[], &[&[1]])
-        && comes_to(alloc, &mut desk, &mut hand, "bump", DAMAGED, &[], &[&[1]])
+    comes_to(alloc, &mut desk, &mut hand, "put", DAMAGED, &[&[], &[1]])
+        && comes_to(alloc, &mut desk, &mut hand, "bump", DAMAGED, &[&[], &[1]])
 }
 
 #[test]

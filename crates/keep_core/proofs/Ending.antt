@@ -3,7 +3,7 @@ use Rattle.std.proofs.Common.{◌≡◌, ◌∙◌, ap, sym, subst, refl, inl, i
 use Rattle.std.specs.Prelude.{IsTrue}
 use Rattle.std.proofs.lemmas.Bool.{true≢false}
 use Rattle.line_core.specs.declared.machine.LinesFault.{LinesFault}
-use Rattle.value_core.specs.Contents.{Contents}
+use Rattle.value_core.specs.Contents.{Contents, kind_of}
 use Rattle.hand_core.specs.Device.{Assignment}
 use Rattle.hand_core.specs.Papers.{Papers}
 use Rattle.decl_core.specs.declared.object.Object.{Object}
@@ -17,6 +17,8 @@ use Rattle.office_core.specs.Insides.{InsideView}
 use Rattle.office_core.specs.Receipts.{HaveSlips}
 use Rattle.office_core.specs.Closing.{IsWhyBy, place_told}
 use Rattle.keep_core.specs.declared.close.Became.{Became}
+use Rattle.keep_core.specs.declared.opening.Opening.{Opening}
+use Rattle.keep_core.specs.Opening.{BeganWith, values_of}
 use Rattle.keep_core.specs.declared.trouble.Trouble.{Trouble}
 use Rattle.keep_core.specs.Troubles.{first_of, fault_in}
 use Rattle.keep_core.specs.Lines.{AreSaid, AreTold, damaged_lines, entries_lines, refused_line}
@@ -35,8 +37,8 @@ stays_refused (place ∷ places) = refl
 
 -- an object that is closed
 pub ends_closed : {agrees : Assignment → Type 0} {parts_were parts_are traces_were traces_are : Papers → Type 0} {became : Became} {before kept : Trouble} {kept_all keeps_all : Bool} {old known new : Option (List ℕ)} {count : ℕ}
-    (name : List ℕ) (opening : List Contents) (b : Board) (after : Trouble) (result : Result (Unit {0}) LinesFault) → count ≡ length b.history →
-    KeepsDesk agrees parts_were parts_are traces_were traces_are b opening true became before kept kept_all keeps_all old known →
+    (name : List ℕ) (opening : Opening) (b : Board) (after : Trouble) (result : Result (Unit {0}) LinesFault) → count ≡ length b.history →
+    KeepsDesk agrees parts_were parts_are traces_were traces_are b (values_of opening) true became before kept kept_all keeps_all old known →
     AreTold (entries_lines (kept_in became) name count) result known new → after.fault ≡ first_of kept.fault (fault_in result) → after.refused ≡ kept.refused →
     EndsDesk agrees parts_were parts_are traces_were traces_are name opening b true before after kept_all keeps_all old new
 ends_closed {became = became} {before = before} {old = old} {known = known} {new = new} name opening b after result counts k wrote fault refused =
@@ -74,9 +76,9 @@ ends_closed {became = became} {before = before} {old = old} {known = known} {new
 
 -- an object that is not closed
 pub ends_refused : {agrees : Assignment → Type 0} {parts_were parts_are traces_were traces_are : Papers → Type 0} {became : Became} {told_all after : Trouble} {kept_all keeps_all : Bool} {old known new : Option (List ℕ)}
-    (name : List ℕ) (opening : List Contents) (b : Board) (before refused : Trouble) (result : Result (Unit {0}) LinesFault) →
+    (name : List ℕ) (opening : Opening) (b : Board) (before refused : Trouble) (result : Result (Unit {0}) LinesFault) →
     refused.fault ≡ before.fault → refused.refused ≡ true → told_all.fault ≡ first_of refused.fault (fault_in result) → told_all.refused ≡ refused.refused →
-    AreTold (refused_line name ∷ []) result old known → KeepsDesk agrees parts_were parts_are traces_were traces_are b opening false became told_all after kept_all keeps_all known new →
+    AreTold (refused_line name ∷ []) result old known → KeepsDesk agrees parts_were parts_are traces_were traces_are b (values_of opening) false became told_all after kept_all keeps_all known new →
     EndsDesk agrees parts_were parts_are traces_were traces_are name opening b false before after kept_all keeps_all old new
 ends_refused {became = became} {told_all = told_all} {old = old} {known = known} {new = new} name opening b before refused result same marked fault kept told k =
     let early : Option LinesFault = fault_in result in
@@ -112,53 +114,54 @@ ends_refused {became = became} {told_all = told_all} {old = old} {known = known}
     }
 
 -- an object whose board is that of an office, which was closed or not
-pub ending_by : {agrees : Assignment → Type 0} {parts_were parts_are traces_were traces_are : Papers → Type 0} {before after : Trouble} {kept_all keeps_all : Bool} {old new : Option (List ℕ)} {given : List Contents} {called : List ℕ}
-    (name : List ℕ) (opening : List Contents) (seats : List Seat) (slips : List Told) (b : Board) (closes : Bool) (r : InsideView) →
-    called ≡ name → given ≡ opening → r.board ≡ b → IsSound b → IsClosed closes name r seats slips →
-    EndsDesk agrees parts_were parts_are traces_were traces_are called given b closes before after kept_all keeps_all old new →
+pub ending_by : {agrees : Assignment → Type 0} {parts_were parts_are traces_were traces_are : Papers → Type 0} {before after : Trouble} {kept_all keeps_all : Bool} {old new : Option (List ℕ)} {called : List ℕ}
+    (name : List ℕ) (opening : Opening) (seats : List Seat) (slips : List Told) (b : Board) (closes : Bool) (r : InsideView) →
+    called ≡ name → r.board ≡ b → IsSound b → IsClosed closes name opening r seats slips →
+    EndsDesk agrees parts_were parts_are traces_were traces_are called opening b closes before after kept_all keeps_all old new →
     (e : Ended) × IsOf name opening seats slips e × IsEnding agrees parts_were parts_are traces_were traces_are e before after kept_all keeps_all old new
-ending_by {given = given} {called = called} name opening seats slips b closes r calls opens of sound closed k = (
-  ended_of called given seats slips b k.became k.damaged,
-  record { named = calls; opened = opens; seated = refl; slipped = refl },
+ending_by {called = called} name opening seats slips b closes r calls of sound closed k = (
+  ended_of called opening seats slips b k.became k.damaged,
+  record { named = calls; opened = refl; seated = refl; slipped = refl },
   k.ends seats slips (record {
     sound = sound;
     held = k.held;
     inside = r;
     of = of;
-    closed = subst (λ (v : Bool). IsClosed v called r seats slips) (sym k.closed) (subst (λ (n : List ℕ). IsClosed closes n r seats slips) (sym calls) closed);
+    closed = subst (λ (v : Bool). IsClosed v called opening r seats slips) (sym k.closed) (subst (λ (n : List ℕ). IsClosed closes n opening r seats slips) (sym calls) closed);
   }),
 )
 
 -- what was closed is of the object that was asked for, and each entry of its history has a slip
-pub closed_has_all : (e : Ended) → IsAtEnd e → IsTrue e.became.closed → HasAll e.name e.board e.slips
+pub closed_has_all : (e : Ended) → IsAtEnd e → IsTrue e.became.closed → HasAll e.name e.opening e.board e.slips
 closed_has_all e ended closed =
-    let all = subst (λ (v : Bool). IsClosed v e.name ended.inside e.seats e.slips) closed ended.closed in
-    subst (λ (b : Board). HasAll e.name b e.slips) ended.of all.1
+    let all = subst (λ (v : Bool). IsClosed v e.name e.opening ended.inside e.seats e.slips) closed ended.closed in
+    subst (λ (b : Board). HasAll e.name e.opening b e.slips) ended.of all.1
 
 -- what sessions left adds up, and nothing is missing
-pub closed_by : {given shown : List Told} (name : List ℕ) (seats : List Seat) (slips : List Told) (b : Board) (r : InsideView) → given ≡ slips → shown ≡ slips → b ≡ r.board →
-    AddsUp r seats given → HasAll name b shown → IsClosed true name r seats slips
-closed_by {shown = shown} name seats slips b r gives shows of adds has = (
+pub closed_by : {given shown : List Told} (name : List ℕ) (opening : Opening) (seats : List Seat) (slips : List Told) (b : Board) (r : InsideView) → given ≡ slips → shown ≡ slips → b ≡ r.board →
+    AddsUp r seats given → HasAll name opening b shown → IsClosed true name opening r seats slips
+closed_by {shown = shown} name opening seats slips b r gives shows of adds has = (
   subst (λ (ts : List Told). AddsUp r seats ts) gives adds,
-  subst (λ (ts : List Told). HasAll name r.board ts) shows (subst (λ (c : Board). HasAll name c shown) of has),
+  subst (λ (ts : List Told). HasAll name opening r.board ts) shows (subst (λ (c : Board). HasAll name opening c shown) of has),
 )
 
 -- that adds up, and something is missing
-pub lacking_by : {given shown : List Told} (name : List ℕ) (seats : List Seat) (slips : List Told) (b : Board) (r : InsideView) → given ≡ slips → shown ≡ slips → b ≡ r.board →
-    AddsUp r seats given → (HasAll name b shown → ⊥) → IsClosed false name r seats slips
-lacking_by {shown = shown} name seats slips b r gives shows of adds lacks = inr (
+pub lacking_by : {given shown : List Told} (name : List ℕ) (opening : Opening) (seats : List Seat) (slips : List Told) (b : Board) (r : InsideView) → given ≡ slips → shown ≡ slips → b ≡ r.board →
+    AddsUp r seats given → (HasAll name opening b shown → ⊥) → IsClosed false name opening r seats slips
+lacking_by {shown = shown} name opening seats slips b r gives shows of adds lacks = inr (
   subst (λ (ts : List Told). AddsUp r seats ts) gives adds,
-  λ has. lacks (subst (λ (c : Board). HasAll name c shown) (sym of) (subst (λ (ts : List Told). HasAll name r.board ts) (sym shows) has)),
+  λ has. lacks (subst (λ (c : Board). HasAll name opening c shown) (sym of) (subst (λ (ts : List Told). HasAll name opening r.board ts) (sym shows) has)),
 )
 
 -- that does not add up
-pub refused_by_office : {given : List Told} (name : List ℕ) (seats : List Seat) (slips : List Told) (r : InsideView) (why : CloseFault) → given ≡ slips →
-    IsWhyBy Told StandsIn place_told r seats given why → IsClosed false name r seats slips
-refused_by_office name seats slips r why gives is = inl (why, subst (λ (ts : List Told). IsWhyBy Told StandsIn place_told r seats ts why) gives is)
+pub refused_by_office : {given : List Told} (name : List ℕ) (opening : Opening) (seats : List Seat) (slips : List Told) (r : InsideView) (why : CloseFault) → given ≡ slips →
+    IsWhyBy Told StandsIn place_told r seats given why → IsClosed false name opening r seats slips
+refused_by_office name opening seats slips r why gives is = inl (why, subst (λ (ts : List Told). IsWhyBy Told StandsIn place_told r seats ts why) gives is)
 
--- how the test for the name and the slips is answered
-pub has_all_by : {all : Bool} {history : List Noted} {o : Object} (name : List ℕ) (slips : List Told) (b : Board) → history ≡ b.history → o ≡ b.object → o.name ≡ name → IsTrue all ↔ HaveSlips history slips → IsTrue all ↔ HasAll name b slips
-has_all_by name slips b told is named have = (
-  λ all. (ap (λ (x : Object). x.name) (sym is) ∙ named, subst (λ (h : List Noted). HaveSlips h slips) told (have.0 all)),
-  λ has. have.1 (subst (λ (h : List Noted). HaveSlips h slips) (sym told) has.1),
+-- how the test for the name, the opening and the slips is answered
+pub has_all_by : {all : Bool} {history : List Noted} {o : Object} (name : List ℕ) (opening : Opening) (slips : List Told) (b : Board) → history ≡ b.history → o ≡ b.object → o.name ≡ name → BeganWith b opening → IsTrue all ↔ HaveSlips history slips →
+    IsTrue all ↔ HasAll name opening b slips
+has_all_by name opening slips b told is named began have = (
+  λ all. (ap (λ (x : Object). x.name) (sym is) ∙ named, began, subst (λ (h : List Noted). HaveSlips h slips) told (have.0 all)),
+  λ has. have.1 (subst (λ (h : List Noted). HaveSlips h slips) (sym told) has.2),
 )

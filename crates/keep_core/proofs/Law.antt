@@ -1,7 +1,7 @@
 -- What is saved of an object is what its history leads to.
-use Rattle.std.proofs.Common.{◌≡◌, ◌∙◌, ap, sym, subst, refl, inl, inr, ℕ, List, [], ◌∷◌, ◌++◌, Bool, true, false, cond, Some, arith}
+use Rattle.std.proofs.Common.{◌≡◌, ◌∙◌, ap, sym, subst, refl, inl, inr, ℕ, List, [], ◌∷◌, ◌++◌, Bool, true, false, cond, Some, arith, map}
 use Rattle.std.specs.Prelude.{slice_get, codes, IsTrue}
-use Rattle.std.specs.FinMap.{get, insert, get-insert}
+use Rattle.std.specs.FinMap.{empty, get, insert, get-insert}
 use Rattle.std.specs.Ordering.{nat_cmp, eq_by_cmp}
 use Rattle.std.specs.Cmp.Lexicographic.{slice_cmp, nat_list_cmp_total}
 use Rattle.std.proofs.lemmas.Cmp.{eq_by_cmp_equiv}
@@ -10,21 +10,27 @@ use Rattle.std.proofs.lemmas.Map.Views.{tells_apart}
 use Rattle.std.proofs.lemmas.List.{append_cancel_left}
 use Rattle.std.proofs.lemmas.Option.{same_Some, slice_get-map, slice_get_within}
 use Rattle.std.specs.Option.{option_map}
+use Rattle.value_core.specs.declared.kind.Kind.{Kind}
 use Rattle.value_core.specs.Spelling.{Spells}
 use Rattle.decl_core.specs.declared.object.Part.{Part}
 use Rattle.hand_core.specs.declared.hand.Stamp.{Stamp}
 use Rattle.hand_core.specs.Device.{Assignment}
 use Rattle.hand_core.specs.Papers.{Papers, part_key}
 use Rattle.page_core.specs.Bytes.{list_bytes}
+use Rattle.store_core.specs.Opened.{ArePinned}
+use Rattle.apply_core.specs.History.{IsLegal}
 use Rattle.board_core.specs.Lists.{Every}
 use Rattle.board_core.specs.Board.{Board}
+use Rattle.board_core.specs.Chain.{ShowContents, history_of}
 use Rattle.board_core.specs.Sound.{kinds_of}
-use Rattle.slip_core.specs.Slips.{StandsIn}
+use Rattle.slip_core.specs.Slips.{StandsIn, IsTrueTold}
 use Rattle.office_core.proofs.Law.{slips_are_legal}
 use Rattle.keep_core.specs.Kept.{Stored, with_stores, IsOfPart, IsOfPin, HasStore}
 use Rattle.keep_core.specs.Ends.{Ended, IsAtEnd, IsClosed}
-use Rattle.keep_core.specs.Laws.{AreApart, KeptIsHistory}
+use Rattle.keep_core.specs.Laws.{AreApart, KeptIsHistory, OpeningIsKept}
+use Rattle.keep_core.specs.Opening.{values_of}
 use Rattle.keep_core.proofs.Ending.{closed_has_all}
+use Rattle.keep_core.proofs.Showing.{pins_show, kinds_are}
 
 -- under this name stand the bytes of these pages
 abbrev IsGood : Assignment → List ℕ → List Stamp → Papers → Type 0
@@ -74,13 +80,13 @@ module _ (a : Assignment) (object : List ℕ) (parts : List Part) (pins : List (
 -- the slips of an office that was closed stand in its history
 slips_stand : (e : Ended) → IsAtEnd e → IsTrue e.became.closed → Every (StandsIn e.board.history) e.slips
 slips_stand e ended closed =
-    let all = subst (λ (v : Bool). IsClosed v e.name ended.inside e.seats e.slips) closed ended.closed in
+    let all = subst (λ (v : Bool). IsClosed v e.name e.opening ended.inside e.seats e.slips) closed ended.closed in
     subst (λ (c : Board). Every (StandsIn c.history) e.slips) ended.of all.0.2
 
 pub kept_is_history : KeptIsHistory
 kept_is_history a e before papers contents ended closed hold shows =
     let o = e.board.object in
-    let law = slips_are_legal a e.board e.slips contents ended.sound (slips_stand e ended closed) (closed_has_all e ended closed).1 hold shows in (
+    let law = slips_are_legal a e.board e.slips contents ended.sound (slips_stand e ended closed) (closed_has_all e ended closed).2 hold shows in (
       law.0,
       λ apart saved stored place part there.
           let kind : slice_get (kinds_of o) place ≡ Some part.kind = slice_get-map (λ (p : Part). p.kind) o.parts.items place ∙ ap (option_map (λ (p : Part). p.kind)) there in
@@ -96,3 +102,24 @@ kept_is_history a e before papers contents ended closed hold shows =
             spells = subst (λ (bs : List ℕ). Spells bs part.kind shown.1) same shown.4.spells;
           },
     )
+
+-- an object that was closed began with its opening values
+opening_shows : (a : Assignment) (e : Ended) (parts : List Part) → IsAtEnd e → IsTrue e.became.closed → ArePinned a parts e.opening.pins (values_of e.opening) → ShowContents a (kinds_of e.board.object) e.board.opening (values_of e.opening)
+opening_shows a e parts ended closed pinned =
+    let began = (closed_has_all e ended closed).1 in
+    let kinds : map (λ (p : Part). p.kind) parts ≡ kinds_of e.board.object = kinds_are a parts e.opening.pins (values_of e.opening) pinned ∙ sym began.1 in
+    subst (λ (ps : List (List Stamp)). ShowContents a (kinds_of e.board.object) ps (values_of e.opening)) (sym began.0)
+    (subst (λ (ks : List Kind). ShowContents a ks e.opening.pins (values_of e.opening)) kinds (pins_show a parts e.opening.pins (values_of e.opening) pinned))
+
+pub opening_is_kept : OpeningIsKept
+opening_is_kept a e parts before papers ended closed hold pinned =
+    let shows = opening_shows a e parts ended closed pinned in
+    let kept = kept_is_history a e before papers (values_of e.opening) ended closed hold shows in
+    (shows, kept.0, kept.1)
+
+-- of it all, what the history is
+pub opening_is_legal : (a : Assignment) (e : Ended) (parts : List Part) → IsAtEnd e → IsTrue e.became.closed → Every (IsTrueTold a) e.slips → ArePinned a parts e.opening.pins (values_of e.opening) →
+    ShowContents a (kinds_of e.board.object) e.board.opening (values_of e.opening) × IsLegal (history_of e.board.history) (values_of e.opening)
+opening_is_legal a e parts ended closed hold pinned =
+    let kept = opening_is_kept a e parts empty empty ended closed hold pinned in
+    (kept.0, kept.1)

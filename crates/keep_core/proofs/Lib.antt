@@ -4,3 +4,4 @@ pub mod Ending
 pub mod Few
 pub mod Law
 pub mod Marking
+pub mod Showing

@@ -18,8 +18,10 @@ use Rattle.office_core.specs.Insides.{InsideView}
 use Rattle.office_core.specs.Closing.{IsIdle, AreSeatsOf, IsWhyBy, place_told}
 use Rattle.office_core.specs.Receipts.{HaveSlips}
 use Rattle.keep_core.specs.declared.close.Became.{Became}
+use Rattle.keep_core.specs.declared.opening.Opening.{Opening}
 use Rattle.keep_core.specs.declared.trouble.Trouble.{Trouble}
 use Rattle.keep_core.specs.Troubles.{first_of}
+use Rattle.keep_core.specs.Opening.{BeganWith, values_of}
 use Rattle.keep_core.specs.Lines.{AreSaid, IsOfClosing, damaged_lines, entries_lines, refused_line}
 use Rattle.keep_core.specs.Kept.{AreStored, Saves, StoresText, Traces, once, refused_by}
 
@@ -47,11 +49,11 @@ pub record KeepsDesk (agrees : Assignment → Type 0) (parts_were parts_are trac
   pub keeps : IsTrue keeps_all → IsTrue kept_all × IsTrue became.saved × IsTrue became.traced
   pub held : CanBeTold b
 
--- An object at the end: its name, the values with which its parts opened, the seats and slips that its sessions left,
--- the board of its desk, what became of it, and the places of its parts that are damaged.
+-- An object at the end: its name, what its parts opened with, the seats and slips that its sessions left, the board of
+-- its desk, what became of it, and the places of its parts that are damaged.
 pub record Ended : Type 0 where
   pub name : List ℕ
-  pub opening : List Contents
+  pub opening : Opening
   pub seats : List Seat
   pub slips : List Told
   pub board : Board
@@ -74,18 +76,18 @@ refused_after refused e = cond e.became.closed (refused_by refused e.damaged) tr
 abbrev pub AddsUp : InsideView → List Seat → List Told → Type 0
 AddsUp r seats slips = IsIdle r.board × AreSeatsOf r seats × Every (StandsIn r.board.history) slips
 
--- A board is of the object of this name, and each entry of its history has a slip.
-abbrev pub HasAll : List ℕ → Board → List Told → Type 0
-HasAll name b slips = (b.object.name ≡ name) × HaveSlips b.history slips
+-- A board is of the object of this name, it began with this opening, and each entry of its history has a slip.
+abbrev pub HasAll : List ℕ → Opening → Board → List Told → Type 0
+HasAll name opening b slips = (b.object.name ≡ name) × BeganWith b opening × HaveSlips b.history slips
 
--- The office of the object of this name was closed: what its sessions left adds up, and nothing is missing. Or it was
--- not: for the first cause for which that does not add up; or it adds up, and an entry has no slip or the office is
--- another object's.
-abbrev pub IsClosed : Bool → List ℕ → InsideView → List Seat → List Told → Type 0
-IsClosed true name r seats slips = AddsUp r seats slips × HasAll name r.board slips
-IsClosed false name r seats slips =
+-- The office of the object of this name, which began with this opening, was closed: what its sessions left adds up, and
+-- nothing is missing. Or it was not: for the first cause for which that does not add up; or it adds up, and an entry has
+-- no slip or the office is another one.
+abbrev pub IsClosed : Bool → List ℕ → Opening → InsideView → List Seat → List Told → Type 0
+IsClosed true name opening r seats slips = AddsUp r seats slips × HasAll name opening r.board slips
+IsClosed false name opening r seats slips =
     ((why : CloseFault) × IsWhyBy Told StandsIn place_told r seats slips why)
-    ⊎ (AddsUp r seats slips × (HasAll name r.board slips → ⊥))
+    ⊎ (AddsUp r seats slips × (HasAll name opening r.board slips → ⊥))
 
 -- its board is that of an office, which was closed with what its sessions left or not; and lines can tell of it
 pub record IsAtEnd (e : Ended) : Type 0 where
@@ -93,10 +95,10 @@ pub record IsAtEnd (e : Ended) : Type 0 where
   pub held : CanBeTold e.board
   pub inside : InsideView
   pub of : inside.board ≡ e.board
-  pub closed : IsClosed e.became.closed e.name inside e.seats e.slips
+  pub closed : IsClosed e.became.closed e.name e.opening inside e.seats e.slips
 
--- it is the one of this name, with these values, seats and slips
-pub record IsOf (name : List ℕ) (opening : List Contents) (seats : List Seat) (slips : List Told)
+-- it is the one of this name, with this opening, these seats and slips
+pub record IsOf (name : List ℕ) (opening : Opening) (seats : List Seat) (slips : List Told)
     (e : Ended) : Type 0 where
   pub named : e.name ≡ name
   pub opened : e.opening ≡ opening
@@ -117,11 +119,12 @@ pub record IsEnding (agrees : Assignment → Type 0) (parts_were parts_are trace
   pub stored : (papers : Papers) → parts_are papers →
       (base : Papers) × parts_were base × AreStored agrees e.board.object e.board.pins 0
       (length e.board.object.parts.items) e.became.saved base papers
-  pub traced : StoresText (once e.became.traced) e.board.object.name (trace_of e.board e.opening) traces_were traces_are
+  pub traced : StoresText (once e.became.traced) e.board.object.name (trace_of e.board (values_of e.opening)) traces_were
+      traces_are
   pub keeps : IsTrue keeps_all → IsTrue kept_all × IsTrue e.became.saved × IsTrue e.became.traced
 
 -- an object at its end, by what is known of it where its board was ended
-abbrev pub ended_of : List ℕ → List Contents → List Seat → List Told → Board → Became → List ℕ → Ended
+abbrev pub ended_of : List ℕ → Opening → List Seat → List Told → Board → Became → List ℕ → Ended
 ended_of name opening seats slips b became damaged = record {
   name = name;
   opening = opening;
@@ -135,7 +138,7 @@ ended_of name opening seats slips b became damaged = record {
 -- Ending the board of an object comes to this: it is told as closed or not, and the rest is done, whatever its sessions
 -- left.
 pub record EndsDesk (agrees : Assignment → Type 0) (parts_were parts_are traces_were traces_are : Papers → Type 0)
-    (name : List ℕ) (opening : List Contents) (b : Board) (closes : Bool) (before after : Trouble)
+    (name : List ℕ) (opening : Opening) (b : Board) (closes : Bool) (before after : Trouble)
     (kept_all keeps_all : Bool) (old new : Option (List ℕ)) : Type 0 where
   pub became : Became
   pub closed : became.closed ≡ closes

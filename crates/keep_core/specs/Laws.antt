@@ -12,7 +12,9 @@ use Rattle.board_core.specs.Chain.{ShowContents, history_of}
 use Rattle.board_core.specs.Sound.{kinds_of}
 use Rattle.slip_core.specs.Slips.{IsTrueTold}
 use Rattle.keep_core.specs.Kept.{AreStored}
+use Rattle.store_core.specs.Opened.{ArePinned}
 use Rattle.keep_core.specs.Ends.{Ended, IsAtEnd}
+use Rattle.keep_core.specs.Opening.{values_of}
 
 -- no two of these parts have one name
 abbrev pub AreApart : List Part → Type 0
@@ -40,3 +42,18 @@ KeptIsHistory = (a : Assignment) (e : Ended) (before papers : Papers) (contents 
     e.became.saved before papers →
     (place : ℕ) (part : Part) → slice_get e.board.object.parts.items place ≡ Some part →
     HoldsPart papers e.board.object.name part place (leads_to (history_of e.board.history) contents))
+
+-- Where an object was closed, its pins at the opening were sealed with its opening values, and each slip that its
+-- sessions left is true, its history is legal from these values; and where its parts were saved, each part's name holds
+-- what the history leads to.
+abbrev pub OpeningIsKept : Type 0
+OpeningIsKept = (a : Assignment) (e : Ended) (parts : List Part) (before papers : Papers) →
+    IsAtEnd e → IsTrue e.became.closed → Every (IsTrueTold a) e.slips →
+    ArePinned a parts e.opening.pins (values_of e.opening) →
+    ShowContents a (kinds_of e.board.object) e.board.opening (values_of e.opening)
+    × IsLegal (history_of e.board.history) (values_of e.opening)
+    × (AreApart e.board.object.parts.items → IsTrue e.became.saved →
+    AreStored (λ (b : Assignment). b ≡ a) e.board.object e.board.pins 0 (length e.board.object.parts.items)
+    e.became.saved before papers →
+    (place : ℕ) (part : Part) → slice_get e.board.object.parts.items place ≡ Some part →
+    HoldsPart papers e.board.object.name part place (leads_to (history_of e.board.history) (values_of e.opening)))

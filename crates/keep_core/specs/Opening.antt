@@ -1,12 +1,14 @@
 -- How an object is opened, and why it is not.
-use Rattle.std.specs.Prelude.{◌≡◌, ℕ, List}
-use Rattle.value_core.specs.Contents.{Contents}
+use Rattle.std.specs.Prelude.{◌≡◌, ℕ, List, map}
+use Rattle.value_core.specs.Contents.{Contents, kind_of}
 use Rattle.decl_core.specs.declared.object.Object.{Object}
-use Rattle.hand_core.specs.declared.hand.Stamp.{Stamp}
 use Rattle.hand_core.specs.Device.{Assignment}
 use Rattle.store_core.specs.Opened.{ArePinned}
+use Rattle.board_core.specs.Board.{Board}
+use Rattle.board_core.specs.Sound.{kinds_of}
 use Rattle.keep_core.specs.declared.open.NotOpened.{NotOpened}
 use Rattle.keep_core.specs.declared.open.NotOpened.TheVariants.{Damaged, Fault}
+use Rattle.keep_core.specs.declared.opening.Opening.{Opening}
 use Rattle.keep_core.specs.Lines.{damaged_line}
 
 -- the line is that of one of its parts
@@ -14,7 +16,15 @@ abbrev pub IsNotOpened : Object → NotOpened → Type 0
 IsNotOpened object (Damaged line) = (place : ℕ) × (line.items ≡ damaged_line object place)
 IsNotOpened object (Fault fault) = Unit {0}
 
--- there are pins of its parts that were sealed with the spellings of these values
-abbrev pub HavePins : (Assignment → Type 0) → Object → List Contents → Type 0
-HavePins agrees object opening =
-    (pins : List (List Stamp)) × ((a : Assignment) → agrees a → ArePinned a object.parts.items pins opening)
+-- the values with which the parts opened
+abbrev pub values_of : Opening → List Contents
+values_of opening = opening.values.items
+
+-- its pins were sealed with the spellings of its values, those of the parts of this object
+abbrev pub IsSealed : (Assignment → Type 0) → Object → Opening → Type 0
+IsSealed agrees object opening =
+    (a : Assignment) → agrees a → ArePinned a object.parts.items opening.pins (values_of opening)
+
+-- a board began with the pins of this opening, and its object's parts have the kinds of its values
+abbrev pub BeganWith : Board → Opening → Type 0
+BeganWith b opening = (b.opening ≡ opening.pins) × (kinds_of b.object ≡ map kind_of (values_of opening))

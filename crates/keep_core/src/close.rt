@@ -11,11 +11,13 @@ ghost use Rattle.store_core.specs.Saved.{MaySave, StoreLeaves};
 ghost use Rattle.board_core.specs.Sound.{IsSound};
 ghost use Rattle.desk_core.specs.Told.{lines_told};
 ghost use Rattle.keep_core.specs.Ends.{kept_in, KeepsDesk, HasAll, EndsDesk, Ended, IsOf, IsEnding};
+ghost use Rattle.keep_core.specs.Opening.{values_of};
 ghost use Rattle.keep_core.specs.Kept.{fault_by, Notes, Saves, StoresText, Traces};
 ghost use Rattle.keep_core.specs.Lines.{IsWritten, AreTold, entries_line, entries_lines, refused_line, damaged_line};
 
 use crate::marks::Marks;
 use crate::open::{push_damaged, push_part};
+use crate::opening::{Opening, began_with};
 use crate::trouble::Trouble;
 use decl_core::object::Object;
 use desk_core::desk::Desk;
@@ -31,6 +33,7 @@ use path_tree::name::Name;
 use slip_core::slip::Slip;
 use std::alloc::{AllocError, Global};
 use std::io::Write;
+use store_core::part_at::PartAt;
 use store_core::save::{SaveFault, save_part, save_parts};
 use value_core::value::Value;
 
@@ -40,6 +43,7 @@ const LINE_BYTES: usize = 512;
 /// What closes objects: the shelves of their parts and of their traces, a hand on their values, and what was met.
 #[derive(Drop)]
 pub struct Closing<S: Shelf + Drop, T: Shelf + Drop, H: Hand + Drop> {
+    pub(crate) alloc: Global,
     pub(crate) parts: S,
     traces: T,
     pub(crate) hand: H,
@@ -55,13 +59,13 @@ pub struct Closing<S: Shelf + Drop, T: Shelf + Drop, H: Hand + Drop> {
     pub trouble: Trouble,
 }
 
-/// An object at the end: its name, its office, the values with which its parts opened, and the seats and receipts that
-/// its sessions left.
+/// An object at the end: its name, its office, what its parts opened with, and the seats and receipts that its sessions
+/// left.
 #[derive(Drop)]
 pub struct Ending {
     pub name: Name,
     pub office: Office,
-    pub opening: Vec<Value>,
+    pub opening: Opening,
     pub seats: Vec<Seat>,
     pub receipts: Vec<Slip>,
 }
@@ -304,13 +308,16 @@ fn is_same_name(one: &Name, other: &Name) -> bool
     one.as_bytes() == other.as_bytes()
 }
 
-// Whether a desk is of the object of this name, and each entry of its history has a slip.
-fn has_all(marks: &mut Marks, name: &Name, desk: &Desk, slips: &[Slip]) -> bool
-    ensures all { IsTrue result ↔ HasAll name.now desk.now slips.now }
+// Whether a desk is of the object of this name, it began with this opening, and each entry of its history has a slip.
+fn has_all(marks: &mut Marks, name: &Name, opening: &Opening, desk: &Desk, slips: &[Slip]) -> bool
+    ensures all { IsTrue result ↔ HasAll name.now opening.now desk.now slips.now }
     ensures sound { IsSound desk.now }
 {
     let history = desk.history();
     if !is_same_name(&desk.accepted().object().name, name) {
+        return false;
+    }
+    if !began_with(desk, opening) {
         return false;
     }
     marks.have_slips(history, slips)
@@ -326,6 +333,7 @@ impl<S: Shelf + Drop, T: Shelf + Drop, H: Hand + Drop> Closing<S, T, H> {
         hand: H,
     ) -> Result<Closing<S, T, H>, AllocError> {
         Ok(Closing {
+            alloc,
             parts,
             traces,
             hand,
@@ -341,7 +349,6 @@ impl<S: Shelf + Drop, T: Shelf + Drop, H: Hand + Drop> Closing<S, T, H> {
     // answers whether the part is saved.
     fn save_one<W: Write, E: Write>(
         &mut self,
-        alloc: Global,
         object: &Object,
         pins: &Pins,
         place: usize,
@@ -362,16 +369,12 @@ impl<S: Shelf + Drop, T: Shelf + Drop, H: Hand + Drop> Closing<S, T, H> {
         let pin = &lists[place];
         let shelf = &mut self.parts;
         let hand = &mut self.hand;
-        match save_part(
-            alloc,
-            &object.name,
+        let at = PartAt {
+            object: &object.name,
             part,
-            place,
-            pin,
-            shelf,
-            hand,
-            &mut self.key,
-        ) {
+            number: place,
+        };
+        match save_part(self.alloc, at, pin, shelf, hand, &mut self.key) {
             Ok(()) => true,
             Err(fault) => {
                 note_unsaved(
@@ -391,7 +394,6 @@ impl<S: Shelf + Drop, T: Shelf + Drop, H: Hand + Drop> Closing<S, T, H> {
     // Saves each part from this one on that can be saved by itself. It answers whether all of them are saved.
     fn save_from<W: Write, E: Write>(
         &mut self,
-        alloc: Global,
         object: &Object,
         pins: &Pins,
         first: usize,
@@ -409,21 +411,15 @@ impl<S: Shelf + Drop, T: Shelf + Drop, H: Hand + Drop> Closing<S, T, H> {
         if first >= object.parts.len() {
             return true;
         }
-        let one = self.save_one(alloc, object, pins, first, writer, error);
-        let more = self.save_from(alloc, object, pins, first + 1, writer, error);
+        let one = self.save_one(object, pins, first, writer, error);
+        let more = self.save_from(object, pins, first + 1, writer, error);
         both(one, more)
     }
 
     // Saves the parts of an object. Where that fails each part is tried by itself, so what is wrong with one of them
     // keeps no other one from being saved, and neither does memory that was refused once. It answers whether all are
     // saved.
-    fn save_all<W: Write, E: Write>(
-        &mut self,
-        alloc: Global,
-        desk: &Desk,
-        writer: &mut W,
-        error: &mut E,
-    ) -> bool
+    fn save_all<W: Write, E: Write>(&mut self, desk: &Desk, writer: &mut W, error: &mut E) -> bool
         ensures saves { Saves (H.agrees self.new.hand) desk.now.object desk.now.pins 0
             (length desk.now.object.parts.items) (S.holds self.old.parts) (S.holds self.new.parts) result
             self.old.trouble self.new.trouble (W.contents writer.old) (W.contents writer.new) }
@@ -435,11 +431,11 @@ impl<S: Shelf + Drop, T: Shelf + Drop, H: Hand + Drop> Closing<S, T, H> {
         desk.history();
         let object = desk.accepted().object();
         let pins = desk.pins();
-        match save_parts(alloc, object, &pins, &mut self.parts, &mut self.hand) {
+        match save_parts(self.alloc, object, &pins, &mut self.parts, &mut self.hand) {
             Ok(()) => true,
             Err(fault) => {
                 let first = first_unsaved(fault);
-                self.save_from(alloc, object, &pins, first, writer, error)
+                self.save_from(object, &pins, first, writer, error)
             }
         }
     }
@@ -447,24 +443,24 @@ impl<S: Shelf + Drop, T: Shelf + Drop, H: Hand + Drop> Closing<S, T, H> {
     // Saves the parts of an object and writes its trace.
     fn keep<W: Write, E: Write>(
         &mut self,
-        alloc: Global,
         desk: &Desk,
-        opening: &[Value],
+        opening: &Opening,
         closed: bool,
         writer: &mut W,
         error: &mut E,
     ) -> Became
         ensures kept { KeepsDesk (H.agrees self.new.hand) (S.holds self.old.parts) (S.holds self.new.parts)
-            (T.holds self.old.traces) (T.holds self.new.traces) desk.now opening.now closed result self.old.trouble
-            self.new.trouble self.old.keeps_all self.new.keeps_all (W.contents writer.old) (W.contents writer.new) }
+            (T.holds self.old.traces) (T.holds self.new.traces) desk.now (values_of opening.now) closed result
+            self.old.trouble self.new.trouble self.old.keeps_all self.new.keeps_all (W.contents writer.old)
+            (W.contents writer.new) }
         ensures files { (a : Assignment) → H.agrees self.new.hand a → H.agrees self.old.hand a }
     {
         // Called for its contract alone: lines can tell of the board.
         desk_can_be_told(desk);
-        let saved = self.save_all(alloc, desk, writer, error);
+        let saved = self.save_all(desk, writer, error);
         let traced = keep_trace(
             desk,
-            opening,
+            &opening.values,
             &mut self.traces,
             &mut self.line,
             &mut self.trouble,
@@ -483,9 +479,8 @@ impl<S: Shelf + Drop, T: Shelf + Drop, H: Hand + Drop> Closing<S, T, H> {
     // all of this was done.
     fn end_closed<W: Write, E: Write>(
         &mut self,
-        alloc: Global,
         name: &[u8],
-        opening: &[Value],
+        opening: &Opening,
         desk: &Desk,
         writer: &mut W,
         error: &mut E,
@@ -495,7 +490,7 @@ impl<S: Shelf + Drop, T: Shelf + Drop, H: Hand + Drop> Closing<S, T, H> {
             self.new.trouble self.old.keeps_all self.new.keeps_all (W.contents writer.old) (W.contents writer.new) }
         ensures files { (a : Assignment) → H.agrees self.new.hand a → H.agrees self.old.hand a }
     {
-        let became = self.keep(alloc, desk, opening, true, writer, error);
+        let became = self.keep(desk, opening, true, writer, error);
         let entries = desk.history().len();
         let told = tell_entries(&mut self.line, name, became, entries, writer);
         self.trouble.heed(told);
@@ -504,9 +499,8 @@ impl<S: Shelf + Drop, T: Shelf + Drop, H: Hand + Drop> Closing<S, T, H> {
     // Says that an object is not closed, and saves its parts and writes its trace all the same.
     fn end_refused<W: Write, E: Write>(
         &mut self,
-        alloc: Global,
         name: &[u8],
-        opening: &[Value],
+        opening: &Opening,
         desk: &Desk,
         writer: &mut W,
         error: &mut E,
@@ -519,21 +513,16 @@ impl<S: Shelf + Drop, T: Shelf + Drop, H: Hand + Drop> Closing<S, T, H> {
         self.trouble.refuse();
         let told = tell_refused(&mut self.line, name, writer);
         self.trouble.heed(told);
-        self.keep(alloc, desk, opening, false, writer, error);
+        self.keep(desk, opening, false, writer, error);
     }
 
     /// Closes one object, saves its parts, writes its trace, and says how many entries its history has, where all of
     /// this was done. It is not closed where what its sessions left does not add up, where an entry of its history has
-    /// no slip, or where the office is that of an object of another name; this is told as refused. A fault is noted,
-    /// and what does not hang on it is still done: an object that is not closed is saved all the same.
-    pub fn close_one<W: Write, E: Write>(
-        &mut self,
-        alloc: Global,
-        ending: Ending,
-        writer: &mut W,
-        error: &mut E,
-    )
-        ensures ended { (e : Ended) × IsOf ending.name ending.opening.items ending.seats.items ending.receipts.items e
+    /// no slip, or where the office is that of an object of another name or began with other pins; this is told as
+    /// refused. A fault is noted, and what does not hang on it is still done: an object that is not closed is saved all
+    /// the same.
+    pub fn close_one<W: Write, E: Write>(&mut self, ending: Ending, writer: &mut W, error: &mut E)
+        ensures ended { (e : Ended) × IsOf ending.name ending.opening ending.seats.items ending.receipts.items e
             × IsEnding (H.agrees self.new.hand) (S.holds self.old.parts) (S.holds self.new.parts)
             (T.holds self.old.traces) (T.holds self.new.traces) e self.old.trouble self.new.trouble self.old.keeps_all
             self.new.keeps_all (W.contents writer.old) (W.contents writer.new) }
@@ -549,17 +538,17 @@ impl<S: Shelf + Drop, T: Shelf + Drop, H: Hand + Drop> Closing<S, T, H> {
         match office.close_by_slips(seats, &receipts) {
             Ok(closed) => {
                 let desk = closed.desk;
-                let whole = has_all(&mut self.marks, &name, &desk, &receipts);
+                let whole = has_all(&mut self.marks, &name, &opening, &desk, &receipts);
                 drop(receipts);
                 if whole {
-                    self.end_closed(alloc, name.as_bytes(), &opening, &desk, writer, error);
+                    self.end_closed(name.as_bytes(), &opening, &desk, writer, error);
                 } else {
-                    self.end_refused(alloc, name.as_bytes(), &opening, &desk, writer, error);
+                    self.end_refused(name.as_bytes(), &opening, &desk, writer, error);
                 }
             }
             Err(refused) => {
                 let desk = refused.inside.desk();
-                self.end_refused(alloc, name.as_bytes(), &opening, desk, writer, error);
+                self.end_refused(name.as_bytes(), &opening, desk, writer, error);
             }
         }
     }

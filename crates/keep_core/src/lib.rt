@@ -9,4 +9,5 @@ pub mod close;
 pub mod laws;
 pub mod marks;
 pub mod open;
+pub mod opening;
 pub mod trouble;

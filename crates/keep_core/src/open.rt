@@ -5,9 +5,10 @@ ghost use Rattle.hand_core.specs.Device.{Assignment};
 ghost use Rattle.hand_core.specs.Papers.{Papers};
 ghost use Rattle.store_core.specs.Opened.{AreLoaded, ArePinned};
 ghost use Rattle.keep_core.specs.Lines.{part_text, damaged_line};
-ghost use Rattle.keep_core.specs.Opening.{IsNotOpened, HavePins};
+ghost use Rattle.keep_core.specs.Opening.{IsNotOpened, IsSealed, values_of};
 
 use crate::close::Closing;
+use crate::opening::Opening;
 use decl_core::object::Object;
 use exclude_core::analyse::Accepted;
 use hand_core::hand::Hand;
@@ -21,12 +22,12 @@ use std::alloc::{AllocError, Global};
 use store_core::open::{OpenFault, open_parts};
 use value_core::value::Value;
 
-/// An object that is open: its name, its office, and the values with which its parts opened.
+/// An object that is open: its name, its office, and what its parts opened with.
 #[derive(Drop)]
 pub struct Opened {
     pub name: Name,
     pub office: Office,
-    pub opening: Vec<Value>,
+    pub opening: Opening,
 }
 
 /// Why the parts of an object were not opened.
@@ -110,14 +111,15 @@ pub fn open_one<S: Shelf, H: Hand>(
 ) -> Result<Opened, NotOpened>
     ensures name { IfOk result (λ opened. opened.name ≡ accepted.name) }
     ensures loaded { IfOk result (λ opened. (papers : Papers) → S.holds shelf.new papers →
-        AreLoaded papers accepted.name accepted.parts.items opened.opening.items) }
-    ensures pinned { IfOk result (λ opened. HavePins (H.agrees hand.new) accepted opened.opening.items) }
+        AreLoaded papers accepted.name accepted.parts.items (values_of opened.opening)) }
+    ensures pinned { IfOk result (λ opened. IsSealed (H.agrees hand.new) accepted opened.opening) }
     ensures papers { (papers : Papers) → S.holds shelf.new papers → S.holds shelf.old papers }
     ensures files { (a : Assignment) → H.agrees hand.new a → H.agrees hand.old a }
     ensures not { IfErr result (IsNotOpened accepted) }
 {
     let name = accepted.object().name.copy(alloc)?;
-    let (pins, opening) = parts_of(alloc, &accepted, shelf, hand)?;
+    let (pins, values) = parts_of(alloc, &accepted, shelf, hand)?;
+    let opening = Opening { values, pins };
     let inside = Inside::open(alloc, accepted, pins)?;
     let office = Office::open(alloc, inside)?;
     Ok(Opened {
@@ -129,17 +131,17 @@ pub fn open_one<S: Shelf, H: Hand>(
 
 impl<S: Shelf + Drop, T: Shelf + Drop, H: Hand + Drop> Closing<S, T, H> {
     /// Opens an object from the shelf and with the hand that it will be closed with, as [`open_one`].
-    pub fn open(&mut self, alloc: Global, accepted: Accepted) -> Result<Opened, NotOpened>
+    pub fn open(&mut self, accepted: Accepted) -> Result<Opened, NotOpened>
         ensures name { IfOk result (λ opened. opened.name ≡ accepted.name) }
         ensures loaded { IfOk result (λ opened. (papers : Papers) → S.holds self.new.parts papers →
-            AreLoaded papers accepted.name accepted.parts.items opened.opening.items) }
-        ensures pinned { IfOk result (λ opened. HavePins (H.agrees self.new.hand) accepted opened.opening.items) }
+            AreLoaded papers accepted.name accepted.parts.items (values_of opened.opening)) }
+        ensures pinned { IfOk result (λ opened. IsSealed (H.agrees self.new.hand) accepted opened.opening) }
         ensures papers { (papers : Papers) → S.holds self.new.parts papers → S.holds self.old.parts papers }
         ensures files { (a : Assignment) → H.agrees self.new.hand a → H.agrees self.old.hand a }
         ensures traces { self.new.traces ≡ self.old.traces }
         ensures trouble { self.new.trouble ≡ self.old.trouble }
         ensures not { IfErr result (IsNotOpened accepted) }
     {
-        open_one(alloc, accepted, &mut self.parts, &mut self.hand)
+        open_one(self.alloc, accepted, &mut self.parts, &mut self.hand)
     }
 }

@@ -157,12 +157,12 @@ impl Office {
 
     // Looks for some microseconds whether there were more notifications at the door than these, but no longer
     // than the watch tells.
-    fn glance<R: Clock>(&self, rt: &R, seen: u64, late: &mut Late, most: Duration) -> bool {
+    fn glance<R: Clock>(&self, rt: &R, seen: u64, late: &mut Late) -> bool {
         for look in 0..GLANCES {
             if self.door.notifications() != seen {
                 return true;
             }
-            if look % LOOKS_A_CLOCK == LOOKS_A_CLOCK - 1 && late.is_over(rt, most) {
+            if look % LOOKS_A_CLOCK == LOOKS_A_CLOCK - 1 && late.is_over(rt) {
                 return false;
             }
             for _ in 0..PAUSES {
@@ -173,16 +173,15 @@ impl Office {
         false
     }
 
-    // The inside, once a call of this operation would not wait long. Nothing where the watch tells before that that so
-    // much time has passed. A call that is submitted while one runs that excludes it stands in a queue: its thread has
-    // to be woken for its turn, and no other call of its operation can run until it is. One that is submitted when the
-    // other has ended starts at once.
+    // The inside, once a call of this operation would not wait long. Nothing where the time of the watch is over before
+    // that. A call that is submitted while one runs that excludes it stands in a queue: its thread has to be woken for
+    // its turn, and no other call of its operation can run until it is. One that is submitted when the other has ended
+    // starts at once.
     fn enter_in_turn<R: Wait + Clock>(
         &self,
         rt: &R,
         op: &str,
         late: &mut Late,
-        most: Duration,
     ) -> Option<MutexGuard<'_, Box<Inside>>> {
         for _ in 0..NAPS {
             let inside = self.enter(rt);
@@ -192,19 +191,19 @@ impl Office {
                 Pace::Now => return Some(inside),
                 Pace::Soon => {
                     drop(inside);
-                    if late.is_over(rt, most) {
+                    if late.is_over(rt) {
                         return None;
                     }
-                    if !self.glance(rt, seen, late, most) {
+                    if !self.glance(rt, seen, late) {
                         return Some(self.enter(rt));
                     }
                 }
                 Pace::InTurn => {
                     drop(inside);
-                    if late.is_over(rt, most) {
+                    if late.is_over(rt) {
                         return None;
                     }
-                    if !self.glance(rt, seen, late, most) {
+                    if !self.glance(rt, seen, late) {
                         self.door.sleep(rt, seen, Duration::from_micros(NAP));
                     }
                 }
@@ -262,9 +261,8 @@ impl Office {
         ensures tells { IfOk result (λ r. (s : Ask) × Asks op.now args.now s × (r.0 ≡ s.number) × Tells s r.1) }
         ensures seat { seat.new ≡ seat.old }
     {
-        let mut late = Late::new();
-        let most = Duration::from_millis(HOLD);
-        let mut guard = match self.enter_in_turn(rt, op, &mut late, most) {
+        let mut late = Late::new(Duration::from_millis(HOLD));
+        let mut guard = match self.enter_in_turn(rt, op, &mut late) {
             Some(guard) => guard,
             None => self.enter(rt),
         };
@@ -272,8 +270,8 @@ impl Office {
     }
 
     /// Submits a call of this seat's session once its turn has come, and looks under the same lock whether it has
-    /// started. It answers the number of the call, and what the look tells; a fault is one of `submit`. Where the watch
-    /// tells before the call's turn that so much time has passed, nothing is submitted, and it answers `None`.
+    /// started. It answers the number of the call, and what the look tells; a fault is one of `submit`. Where the time
+    /// of the watch is over before the call's turn, nothing is submitted, and it answers `None`.
     pub fn submit_in_turn<R: Wait + Clock>(
         &self,
         rt: &R,
@@ -281,13 +279,12 @@ impl Office {
         op: &str,
         args: &[Datum],
         late: &mut Late,
-        most: Duration,
     ) -> Option<Result<(u32, Tried), SubmitFault>>
         ensures tells { IfSome result (λ found.
             IfOk found (λ r. (s : Ask) × Asks op.now args.now s × (r.0 ≡ s.number) × Tells s r.1)) }
         ensures seat { seat.new ≡ seat.old }
     {
-        let mut guard = match self.enter_in_turn(rt, op, late, most) {
+        let mut guard = match self.enter_in_turn(rt, op, late) {
             Some(guard) => guard,
             None => return None,
         };

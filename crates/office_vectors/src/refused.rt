@@ -133,6 +133,13 @@ fn are_seated(rt: &impl Abort, alloc: Global, inside: &mut Inside) -> bool {
     true
 }
 
+// The key of a call, and the number that it gets.
+#[derive(Clone, Copy)]
+struct Keyed {
+    key: u32,
+    number: u32,
+}
+
 // Whether a seat's `put 7` under this key gets this number and starts, at the first or at the second try, and a
 // refusal takes no key.
 fn is_taken_under<R: Wait>(
@@ -141,9 +148,9 @@ fn is_taken_under<R: Wait>(
     inside: &mut Inside,
     hand: &mut MemHand,
     seat: &mut Seat,
-    key: u32,
-    number: u32,
+    call: Keyed,
 ) -> bool {
+    let Keyed { key, number } = call;
     match inside.submit_keyed(seat, key, "put", &[Datum::Integer(7)]) {
         Ok(Resubmitted::New(submitted)) => starts(rt, alloc, inside, hand, submitted, number),
         Ok(Resubmitted::Kept(_)) => false,
@@ -171,9 +178,10 @@ fn refused_names_and_calls_under_keys(rt: HostRuntime) {
     let mut seat = inside
         .seat_named(&name_twice(&rt, rt.alloc(), b"c"))
         .expect(&rt, "a seat");
+    let call = Keyed { key: 1, number: 1 };
     assert!(rt;
         seat.session() == 3
-            && is_taken_under(&rt, rt.alloc(), &mut inside, &mut hand, &mut seat, 1, 1)
+            && is_taken_under(&rt, rt.alloc(), &mut inside, &mut hand, &mut seat, call)
     );
 }
 

@@ -21,6 +21,17 @@ pub struct PageWrite {
     pub bytes: FileBytes,
 }
 
+/// What is planned for parts, one behind the other.
+#[derive(Drop)]
+pub struct Planned {
+    /// The stamps of the new lists. Any stamp stands where a page is still to be written.
+    pub stamps: Vec<Stamp>,
+    /// The pages that are written.
+    pub writes: Vec<PageWrite>,
+    /// The stamps of the old lists that go.
+    pub gone: Vec<Stamp>,
+}
+
 // Adds a stamp.
 fn add(stamps: &mut Vec<Stamp>, stamp: &Stamp) -> Result<(), AllocError>
     ensures { OnOk result (stamps.new.items ≡ stamps.old.items ++ stamp.now ∷ []) }
@@ -95,32 +106,30 @@ pub fn plan_part(
     old: &[Stamp],
     before: &[u8],
     after: &[u8],
-    stamps: &mut Vec<Stamp>,
-    writes: &mut Vec<PageWrite>,
-    gone: &mut Vec<Stamp>,
+    planned: &mut Planned,
 ) -> Result<(), AllocError>
     requires size { 0 < size }
-    ensures { OnOk result (IsPlan size old.now before.now after.now stamps.old.items stamps.new.items writes.old.items
-        writes.new.items gone.old.items gone.new.items) }
+    ensures { OnOk result (IsPlan size old.now before.now after.now planned.old.stamps.items planned.new.stamps.items
+        planned.old.writes.items planned.new.writes.items planned.old.gone.items planned.new.gone.items) }
 {
     if after.is_empty() {
-        return add_all(gone, old);
+        return add_all(&mut planned.gone, old);
     }
     let (page, rest) = first_page(size, after);
     match old.split_first() {
         None => {
-            write_page(alloc, page, stamps, writes)?;
-            plan_part(alloc, size, old, before, rest, stamps, writes, gone)
+            write_page(alloc, page, &mut planned.stamps, &mut planned.writes)?;
+            plan_part(alloc, size, old, before, rest, planned)
         }
         Some((stamp, others)) => {
             let (was, later) = old_page(stamp.len, before);
             if is_same(was, page) {
-                add(stamps, stamp)?;
-                return plan_part(alloc, size, others, later, rest, stamps, writes, gone);
+                add(&mut planned.stamps, stamp)?;
+                return plan_part(alloc, size, others, later, rest, planned);
             }
-            add(gone, stamp)?;
-            write_page(alloc, page, stamps, writes)?;
-            plan_part(alloc, size, others, later, rest, stamps, writes, gone)
+            add(&mut planned.gone, stamp)?;
+            write_page(alloc, page, &mut planned.stamps, &mut planned.writes)?;
+            plan_part(alloc, size, others, later, rest, planned)
         }
     }
 }

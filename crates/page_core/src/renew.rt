@@ -7,7 +7,7 @@ ghost use Rattle.hand_core.specs.Device.{Assignment, Failed as DeviceFailed};
 ghost use Rattle.page_core.specs.Bytes.{list_bytes, AreWhole};
 ghost use Rattle.page_core.specs.Renewed.{IsIn};
 
-use crate::plan::plan_part;
+use crate::plan::{Planned, plan_part};
 use crate::write::{put_sealed, write_pages};
 use hand_core::hand::{Hand, HandFault, Stamp};
 use std::alloc::{AllocError, Global};
@@ -60,22 +60,21 @@ pub fn renew<H: Hand>(
     ensures counted { H.failed hand.old ≤ H.failed hand.new }
     ensures cause { result.fault ≡ Some faults.Device → DeviceFailed (H.failed hand.old) (H.failed hand.new) }
 {
-    let mut stamps = Vec::new(alloc);
-    let mut writes = Vec::new(alloc);
-    let mut gone = Vec::new(alloc);
-    match plan_part(
-        alloc,
-        size,
-        old,
-        before,
-        after,
-        &mut stamps,
-        &mut writes,
-        &mut gone,
-    ) {
+    let mut planned = Planned {
+        stamps: Vec::new(alloc),
+        writes: Vec::new(alloc),
+        gone: Vec::new(alloc),
+    };
+    match plan_part(alloc, size, old, before, after, &mut planned) {
         Ok(()) => {}
         Err(AllocError) => return starved(alloc),
     }
+    let Planned {
+        stamps,
+        writes,
+        gone,
+    } = planned;
+    let mut stamps = stamps;
     let sealed = match Vec::with_capacity(alloc, writes.len()) {
         Ok(sealed) => sealed,
         Err(AllocError) => return starved(alloc),

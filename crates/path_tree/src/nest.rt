@@ -24,6 +24,13 @@ use std::alloc::Global;
 /// What was read, and the tokens behind.
 pub(crate) type Read<'t, T> = Result<(T, &'t [Token]), PathFault>;
 
+/// What a token says, and its place in the text.
+#[derive(Clone, Copy)]
+struct Spot<T> {
+    said: T,
+    at: usize,
+}
+
 /// A number as a bound.
 #[tactic(auto, unfolding(crate::specs::Reading::limit_of))]
 fn limit(n: u32, at: usize) -> Result<u16, PathFault>
@@ -125,16 +132,15 @@ fn burst<'t>(
 fn bounded<'t>(
     alloc: Global,
     scope: &Scope,
-    n: u32,
-    at: usize,
+    number: Spot<u32>,
     tokens: &'t [Token],
     seen: &mut Vec<OpId>,
     depth: u8,
 ) -> Read<'t, Node>
-    ensures { Gives (node_read seen.new.items) result (bounded_in (nested_in scope.now depth) n seen.old.items
+    ensures { Gives (node_read seen.new.items) result (bounded_in (nested_in scope.now depth) number.said seen.old.items
         (lexemes tokens.now)) }
 {
-    let limit = limit(n, at)?;
+    let limit = limit(number.said, number.at)?;
     let paren = behind(tokens, Symbol::Colon)?;
     let opened = behind(paren, Symbol::OpenParen)?;
     let (inside, rest) = group(alloc, scope, start_of(paren), opened, seen, depth)?;
@@ -147,20 +153,20 @@ fn bounded<'t>(
 fn named<'t>(
     alloc: Global,
     scope: &Scope,
-    text: &[u8],
-    at: usize,
+    text: Spot<&[u8]>,
     tokens: &'t [Token],
     seen: &mut Vec<OpId>,
     depth: u8,
 ) -> Read<'t, Node>
     ensures { Gives (node_read seen.new.items) result (named_in (known_of scope.now) (nested_in scope.now depth)
-        text.now (lexemes tokens.now) (symbol_at Colon (lexemes tokens.now)) seen.old.items) }
+        text.entry.said.now (lexemes tokens.now) (symbol_at Colon (lexemes tokens.now)) seen.old.items) }
 {
+    let Spot { said, at } = text;
     match after(tokens, Symbol::Colon) {
-        None => name(scope, text, at, tokens, seen),
-        Some(_) => match constant_of(scope.constants, text) {
+        None => name(scope, said, at, tokens, seen),
+        Some(_) => match constant_of(scope.constants, said) {
             None => Err(PathFault::UnknownName(at)),
-            Some(n) => bounded(alloc, scope, n, at, tokens, seen, depth),
+            Some(n) => bounded(alloc, scope, Spot { said: n, at }, tokens, seen, depth),
         },
     }
 }
@@ -171,18 +177,18 @@ fn named<'t>(
 fn opened<'t>(
     alloc: Global,
     scope: &Scope,
-    symbol: Symbol,
-    at: usize,
+    symbol: Spot<Symbol>,
     tokens: &'t [Token],
     seen: &mut Vec<OpId>,
     depth: u8,
 ) -> Read<'t, Node>
-    ensures { Gives (node_read seen.new.items) result (opened_in (nested_in scope.now depth) symbol seen.old.items
+    ensures { Gives (node_read seen.new.items) result (opened_in (nested_in scope.now depth) symbol.said seen.old.items
         (lexemes tokens.now)) }
 {
-    if is_same_symbol(symbol, Symbol::OpenParen) {
+    let Spot { said, at } = symbol;
+    if is_same_symbol(said, Symbol::OpenParen) {
         group(alloc, scope, at, tokens, seen, depth)
-    } else if is_same_symbol(symbol, Symbol::OpenBracket) {
+    } else if is_same_symbol(said, Symbol::OpenBracket) {
         burst(alloc, scope, at, tokens, seen, depth)
     } else {
         Err(PathFault::Expected(at))
@@ -206,9 +212,12 @@ fn item<'t>(
         [token, rest @ ..] => {
             let at = token.start;
             match &token.kind {
-                Kind::Number(n) => bounded(alloc, scope, *n, at, rest, seen, depth),
-                Kind::Name(name) => named(alloc, scope, name.as_bytes(), at, rest, seen, depth),
-                Kind::Symbol(s) => opened(alloc, scope, *s, at, rest, seen, depth),
+                Kind::Number(n) => bounded(alloc, scope, Spot { said: *n, at }, rest, seen, depth),
+                Kind::Name(name) => {
+                    let said = name.as_bytes();
+                    named(alloc, scope, Spot { said, at }, rest, seen, depth)
+                }
+                Kind::Symbol(s) => opened(alloc, scope, Spot { said: *s, at }, rest, seen, depth),
                 Kind::Text(_) => Err(PathFault::Expected(at)),
                 Kind::EndMark => Err(PathFault::Expected(at)),
             }

@@ -28,7 +28,7 @@ use answer_core::source::read_source;
 use command_line::request::{Request, Serving, request_of};
 use explain_line::files::Files;
 use explain_line::kept::Kept;
-use serve::{place_of, serve_objects};
+use serve::{Source, place_of, serve_objects};
 use serve_core::gate::Gate;
 use serve_core::serve::Place;
 use start::{Names, Need, NotStarted, tell_lack};
@@ -77,6 +77,10 @@ fn main(rt: HostRuntime) -> ExitCode {
                 Ok(_) => true,
                 Err(_) => false,
             };
+            let source = Source {
+                text: source,
+                names,
+            };
             let ended = if is_watched {
                 serve_objects(
                     &rt,
@@ -84,7 +88,6 @@ fn main(rt: HostRuntime) -> ExitCode {
                     place,
                     &gate,
                     &mut io::writer(&rt),
-                    names.as_ref(),
                     &mut rt.stderr(),
                 )
             } else {

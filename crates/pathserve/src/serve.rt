@@ -89,6 +89,13 @@ fn lacking(ended: &Result<ServeEnd, LinesFault>) -> Option<Need> {
     }
 }
 
+/// The text of a source and, where a refusal is to be explained, the names of what a server needs.
+#[derive(Drop)]
+pub struct Source {
+    pub text: Vec<u8>,
+    pub names: Option<Names>,
+}
+
 /// `pathserve serve`: serves the objects of a source to a connection at the gate for each hand, over the parts in a
 /// folder, and gives the exit status: 0 where each object was served, closed and saved, 1 where a line says what was
 /// refused, damaged or mixed.
@@ -103,27 +110,26 @@ pub fn serve_objects<
     E: Write,
 >(
     rt: &R,
-    source: &[u8],
+    source: &Source,
     place: Place<H>,
     gate: &Gate,
     writer: &mut W,
-    explains: Option<&Names>,
     error: &mut E,
 ) -> Result<u8, Failure>
 where
     R::File: FileExt,
 {
-    let ended = serve_on(rt, rt.alloc(), source, place, gate, writer, error);
-    if let Some(names) = explains {
+    let ended = serve_on(rt, &source.text, place, gate, writer, error);
+    if let Some(names) = &source.names {
         tell_lack(rt.alloc(), lacking(&ended), names, error);
     }
     let ended = match ended {
         Ok(end) => status_of_serve(end),
         Err(fault) => Err(Failure::from(fault)),
     };
-    let file = match explains {
+    let file = match &source.names {
         Some(names) => Some(names.file.as_str()),
         None => None,
     };
-    explained(rt.alloc(), ended, file, source, None, error)
+    explained(rt.alloc(), ended, file, &source.text, None, error)
 }

@@ -58,6 +58,19 @@ pub(crate) struct Kit {
     reply: Vec<u8>,
 }
 
+/// What is asked of an object.
+#[derive(Clone, Copy)]
+pub struct Asked<'a> {
+    /// The number that the call gets.
+    pub number: u32,
+    /// The session that asks.
+    pub session: u32,
+    /// The place of its operation in the object, from 0.
+    pub op: OpId,
+    /// What it is asked with.
+    pub args: &'a [Datum],
+}
+
 /// A call that waits.
 #[derive(Drop)]
 pub struct Waiting {
@@ -200,22 +213,31 @@ fn shared_call(
 
 impl Waiting {
     /// A call that waits, with all that it will need: for its entry, as many stamps as the parts that it reads have
-    /// pages in these pins, and as many bytes as the longest text. The error is that memory was refused.
+    /// pages in these pins, and as many bytes as the longest text. This is the operation that is asked for. The error
+    /// is that memory was refused.
     pub fn new(
         alloc: Global,
-        number: u32,
-        session: u32,
-        op: OpId,
+        asked: Asked<'_>,
         operation: &Arc<Operation>,
-        args: &[Datum],
         pins: &Pins,
     ) -> Result<Waiting, AllocError>
-        requires { ArgumentsFit (arc_value operation.now) args.now }
+        requires { ArgumentsFit (arc_value operation.now) asked.args.now }
         ensures { IfOk result (λ w. w ≡ record {
-          number = number;
-          call = record { session = session; op = op; operation = arc_value operation.now; arguments = args.now };
+          number = asked.entry.number;
+          call = record {
+            session = asked.entry.session;
+            op = asked.entry.op;
+            operation = arc_value operation.now;
+            arguments = asked.entry.args.now;
+          };
         }) }
     {
+        let Asked {
+            number,
+            session,
+            op,
+            args,
+        } = asked;
         let reads = reads(operation);
         let call = shared_call(alloc, session, op, operation, args)?;
         let ticket = ForTicket::new(alloc, operation, args, reads)?;

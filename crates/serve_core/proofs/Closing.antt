@@ -4,7 +4,8 @@ use Rattle.std.specs.Prelude.{IsTrue}
 use Rattle.std.proofs.lemmas.List.{append-nil, append_assoc, map-append}
 use Rattle.std.proofs.lemmas.Bool.{true≢false}
 use Rattle.line_core.specs.declared.machine.LinesFault.{LinesFault}
-use Rattle.value_core.specs.Contents.{Contents}
+use Rattle.keep_core.specs.declared.opening.Opening.{Opening}
+use Rattle.keep_core.specs.Opening.{values_of}
 use Rattle.hand_core.specs.Device.{Assignment}
 use Rattle.hand_core.specs.Papers.{Papers}
 use Rattle.decl_core.specs.declared.object.Object.{Object}
@@ -56,9 +57,9 @@ stored_one : {then agrees : Assignment → Type 0} (ends : List Ended) (e : Ende
 stored_one {agrees = agrees} [] e before mid papers files all one = (papers, subst (λ (p : Papers). AreStored agrees e.board.object e.board.pins 0 (length e.board.object.parts.items) e.became.saved p papers) all one, refl)
 stored_one (first ∷ ends) e before mid papers files (next, here, all) one = (next, stored_as files here, stored_one ends e next mid papers files all one)
 
-traced_one : (ends : List Ended) (e : Ended) (before mid papers : Papers) (times : ℕ) → AreTracedAll before ends mid → once e.became.traced ≤ times → papers ≡ stored_times times mid e.board.object.name (trace_of e.board e.opening) →
+traced_one : (ends : List Ended) (e : Ended) (before mid papers : Papers) (times : ℕ) → AreTracedAll before ends mid → once e.became.traced ≤ times → papers ≡ stored_times times mid e.board.object.name (trace_of e.board (values_of e.opening)) →
     AreTracedAll before (ends ++ e ∷ []) papers
-traced_one [] e before mid papers times all least is = (papers, (times, least, subst (λ (p : Papers). papers ≡ stored_times times p e.board.object.name (trace_of e.board e.opening)) all is), refl)
+traced_one [] e before mid papers times all least is = (papers, (times, least, subst (λ (p : Papers). papers ≡ stored_times times p e.board.object.name (trace_of e.board (values_of e.opening))) all is), refl)
 traced_one (first ∷ ends) e before mid papers times (next, here, all) least is = (next, here, traced_one ends e next mid papers times all least is)
 
 -- no object is closed yet
@@ -108,7 +109,7 @@ endings_more {before = before} {old = old} {new = new} ends e so one files =
     }
 
 -- Of objects of all these names, with these opening values and receipts, those before the rest are closed.
-pub record ClosedSoFar {H : Type 0} (backs : H → Assignment → Type 0) (agrees earlier : Assignment → Type 0) (pw pa tw ta : Papers → Type 0) (all rest : List (List ℕ)) (left : ℕ) (openings values : List (List Contents)) (slips others : List (List Told)) (before after : Trouble) (kept_all keeps_all : Bool) (old new : Option (List ℕ)) : Type 0 where
+pub record ClosedSoFar {H : Type 0} (backs : H → Assignment → Type 0) (agrees earlier : Assignment → Type 0) (pw pa tw ta : Papers → Type 0) (all rest : List (List ℕ)) (left : ℕ) (openings values : List Opening) (slips others : List (List Told)) (before after : Trouble) (kept_all keeps_all : Bool) (old new : Option (List ℕ)) : Type 0 where
   pub ends : List Ended
   pub named : names_of ends ++ rest ≡ all
   pub counted : left ≡ length rest
@@ -118,7 +119,7 @@ pub record ClosedSoFar {H : Type 0} (backs : H → Assignment → Type 0) (agree
   pub endings : AreEndings agrees pw pa tw ta ends before after kept_all keeps_all old new
   pub files : (a : Assignment) → agrees a → earlier a
 
-pub closed_none : {H : Type 0} (backs : H → Assignment → Type 0) (agrees : Assignment → Type 0) (parts traces : Papers → Type 0) (all rest : List (List ℕ)) (left : ℕ) (openings values : List (List Contents)) (slips others : List (List Told)) (t : Trouble) (kept_all : Bool) (known : Option (List ℕ)) →
+pub closed_none : {H : Type 0} (backs : H → Assignment → Type 0) (agrees : Assignment → Type 0) (parts traces : Papers → Type 0) (all rest : List (List ℕ)) (left : ℕ) (openings values : List Opening) (slips others : List (List Told)) (t : Trouble) (kept_all : Bool) (known : Option (List ℕ)) →
     rest ≡ all → left ≡ length rest → values ≡ openings → others ≡ slips → ClosedSoFar backs agrees agrees parts parts traces traces all rest left openings values slips others t t kept_all kept_all known known
 closed_none backs agrees parts traces all rest left openings values slips others t kept_all known same counted opened slipped = record {
   ends = [];
@@ -137,8 +138,8 @@ one_more {X = X} of ends e later all rest x so is same =
     ap (λ (xs : List X). xs ++ later) (map-append of ends (e ∷ [])) ∙ append_assoc (map of ends) (of e ∷ []) later
     ∙ ap (λ (y : X). map of ends ++ (y ∷ later)) same ∙ ap (λ (xs : List X). map of ends ++ xs) (sym is) ∙ so
 
-pub closed_more : {H : Type 0} {backs : H → Assignment → Type 0} {then agrees earlier : Assignment → Type 0} {pw pm pa tw tm ta : Papers → Type 0} {all rest : List (List ℕ)} {left : ℕ} {openings values : List (List Contents)} {slips others : List (List Told)} {before middle after : Trouble} {first mid last : Bool} {old known new : Option (List ℕ)} {seats : List Seat}
-    (name : List ℕ) (later : List (List ℕ)) (fewer : ℕ) (opening : List Contents) (fewer_values : List (List Contents)) (told : List Told) (fewer_slips : List (List Told)) (n : List ℕ) (o : List Contents) (t : List Told) →
+pub closed_more : {H : Type 0} {backs : H → Assignment → Type 0} {then agrees earlier : Assignment → Type 0} {pw pm pa tw tm ta : Papers → Type 0} {all rest : List (List ℕ)} {left : ℕ} {openings values : List Opening} {slips others : List (List Told)} {before middle after : Trouble} {first mid last : Bool} {old known new : Option (List ℕ)} {seats : List Seat}
+    (name : List ℕ) (later : List (List ℕ)) (fewer : ℕ) (opening : Opening) (fewer_values : List Opening) (told : List Told) (fewer_slips : List (List Told)) (n : List ℕ) (o : Opening) (t : List Told) →
     ClosedSoFar backs then earlier pw pm tw tm all rest left openings values slips others before middle first mid old known →
     rest ≡ name ∷ later → fewer + 1 ≡ left → values ≡ opening ∷ fewer_values → others ≡ told ∷ fewer_slips → n ≡ name → o ≡ opening → t ≡ told → AreBacked backs t →
     (e : Ended) × IsOf n o seats t e × IsEnding agrees pm pa tm ta e middle after mid last known new → ((a : Assignment) → agrees a → then a) →
@@ -162,7 +163,7 @@ no_rest (x ∷ xs) none = absurd (omega (arith, none))
 none_left : {X : Type 0} (xs rest all : List X) → xs ++ rest ≡ all → rest ≡ [] → xs ≡ all
 none_left {X = X} xs rest all so empty = sym (append-nil xs) ∙ ap (λ (r : List X). xs ++ r) (sym empty) ∙ so
 
-pub closed_all : {H : Type 0} {backs : H → Assignment → Type 0} {agrees earlier : Assignment → Type 0} {pw pa tw ta : Papers → Type 0} {all : List (List ℕ)} {openings : List (List Contents)} {slips : List (List Told)} {before after : Trouble} {kept_all keeps_all : Bool} {old new : Option (List ℕ)} (rest : List (List ℕ)) (left : ℕ) (values : List (List Contents)) (others : List (List Told)) →
+pub closed_all : {H : Type 0} {backs : H → Assignment → Type 0} {agrees earlier : Assignment → Type 0} {pw pa tw ta : Papers → Type 0} {all : List (List ℕ)} {openings : List Opening} {slips : List (List Told)} {before after : Trouble} {kept_all keeps_all : Bool} {old new : Option (List ℕ)} (rest : List (List ℕ)) (left : ℕ) (values : List Opening) (others : List (List Told)) →
     ClosedSoFar backs agrees earlier pw pa tw ta all rest left openings values slips others before after kept_all keeps_all old new → left ≡ 0 → values ≡ [] → others ≡ [] → Closes backs agrees earlier pw pa tw ta all openings slips before after kept_all keeps_all old new
 closed_all rest left values others so none no_values no_others = record {
   ends = so.ends;

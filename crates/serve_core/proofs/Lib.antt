@@ -5,3 +5,4 @@ pub mod Closing
 pub mod Opening
 pub mod Running
 pub mod Steps
+pub mod Tidying

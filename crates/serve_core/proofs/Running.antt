@@ -6,7 +6,7 @@ use Rattle.std.specs.List.{concat}
 use Rattle.std.specs.Io.KnownBytes.{Appends, Keeps}
 use Rattle.std.proofs.lemmas.Bool.{true≢false}
 use Rattle.std.proofs.lemmas.List.{length-map}
-use Rattle.value_core.specs.Contents.{Contents}
+use Rattle.keep_core.specs.declared.opening.Opening.{Opening}
 use Rattle.line_core.specs.declared.machine.LinesFault.{LinesFault}
 use Rattle.line_core.specs.declared.machine.LinesFault.TheVariants.{Memory}
 use Rattle.hand_core.specs.Device.{Assignment}
@@ -19,7 +19,7 @@ use Rattle.keep_core.specs.declared.trouble.Trouble.{Trouble}
 use Rattle.keep_core.specs.Lines.{AreSaid, damaged_lines, entries_line, entries_lines, refused_line}
 use Rattle.keep_core.specs.Kept.{refused_by}
 use Rattle.keep_core.specs.Ends.{Ended, IsAtEnd, kept_in, lines_of}
-use Rattle.keep_core.proofs.Law.{kept_is_history}
+use Rattle.keep_core.proofs.Law.{kept_is_history, opening_is_legal}
 use Rattle.keep_core.proofs.Telling.{nothing_said, said_then, said_as, second_none, met_not}
 use Rattle.serve_core.specs.declared.serve.ServeEnd.{ServeEnd}
 use Rattle.serve_core.specs.declared.serve.ServeEnd.TheVariants.{Whole, Refused, Unopened}
@@ -27,8 +27,8 @@ use Rattle.serve_core.specs.Ends.{IsEndOf}
 use Rattle.serve_core.specs.Backed.{AreBacked}
 use Rattle.serve_core.specs.Gathers.{none_of, IsGathered}
 use Rattle.serve_core.specs.Opened.{AreLoadedAll, ArePinnedAll}
-use Rattle.serve_core.specs.Closes.{openings_of, slips_of, AreBackedAll, IsLegalBy, lines_all, entries_all, refused_all, IsWhole}
-use Rattle.serve_core.specs.Runs.{listening_line, fault_of_end, Serves, AreNotServed, IsDamagedLine, IsUnservedBy, IsRunOf, IsRunIn, IsRefusedBy, IsEndBehind}
+use Rattle.serve_core.specs.Closes.{openings_of, slips_of, AreBackedAll, IsFromOpening, IsLegalBy, lines_all, entries_all, refused_all, IsWhole}
+use Rattle.serve_core.specs.Runs.{listening_line, fault_of_end, Serves, AreServed, AreNotServed, IsDamagedLine, IsUnservedBy, IsRunOf, IsRunIn, IsRefusedBy, IsEndBehind}
 use Rattle.serve_core.proofs.Opening.{pinned_as}
 
 -- the lines of an object that was closed, saved and traced, and has no damaged part
@@ -84,8 +84,16 @@ legal_all : {H : Type 0} (backs : H → Assignment → Type 0) (ends : List Ende
 legal_all backs [] each backed = tt
 legal_all backs (e ∷ ends) (one, each) (back, backed) = (legal_one backs e one back, legal_all backs ends each backed)
 
+-- so it is from the values with which its parts opened
+from_opening : (agrees : Assignment → Type 0) (a : Assignment) (objects : List Object) (ends : List Ended) → agrees a → Every IsAtEnd ends → ArePinnedAll agrees objects (openings_of ends) → Every (IsFromOpening a) ends
+from_opening agrees a [] [] is each pinned = tt
+from_opening agrees a (o ∷ objects) (e ∷ ends) is (one, each) (here, pinned) =
+    (λ closed hold. (opening_is_legal a e o.parts.items one closed hold (here a is)).1, from_opening agrees a objects ends is each pinned)
+from_opening agrees a [] (e ∷ ends) is each pinned = absurd pinned
+from_opening agrees a (o ∷ objects) [] is each pinned = absurd pinned
+
 -- objects that were served and closed
-pub run_served : {H : Type 0} {backs : H → Assignment → Type 0} {agrees mid : Assignment → Type 0} {pw pm pa tw tm ta : Papers → Type 0} {begun : Trouble} {kept_all keeps_all : Bool} {openings : List (List Contents)} {old new : Option (List ℕ)} (objects : List Object) (names : List (List ℕ)) (after : Trouble) (end : Result ServeEnd LinesFault) →
+pub run_served : {H : Type 0} {backs : H → Assignment → Type 0} {agrees mid : Assignment → Type 0} {pw pm pa tw tm ta : Papers → Type 0} {begun : Trouble} {kept_all keeps_all : Bool} {openings : List Opening} {old new : Option (List ℕ)} (objects : List Object) (names : List (List ℕ)) (after : Trouble) (end : Result ServeEnd LinesFault) →
     Serves backs agrees mid pm pa tm ta names openings begun after kept_all keeps_all old new → names ≡ object_names objects → ArePinnedAll mid objects openings → ((papers : Papers) → pm papers → AreLoadedAll papers objects openings) → ((papers : Papers) → pm papers → pw papers) →
     ((papers : Papers) → tm papers → tw papers) → IsEndOf after.fault after.refused end → IsRunIn backs agrees pw pa tw ta objects end old new
 run_served {H = H} {backs = backs} {agrees = agrees} {mid = mid} {begun = begun} {openings = openings} {old = old} {new = new} objects names after end s same pinned loaded papers traces is =
@@ -102,6 +110,7 @@ run_served {H = H} {backs = backs} {agrees = agrees} {mid = mid} {begun = begun}
     let gathers : IsGathered H (none_of (length objects)) begun s.gathered (slips_of ends) =
     subst (λ (n : ℕ). IsGathered H (none_of n) begun s.gathered (slips_of ends)) many (subst (IsGathered H (none_of (length names)) begun s.gathered) (sym s.closes.slipped) s.gathers) in
     let opened : openings ≡ openings_of ends = sym s.closes.opened in
+    let sealed : ArePinnedAll agrees objects (openings_of ends) = subst (ArePinnedAll agrees objects) opened (pinned_as mid agrees objects openings s.closes.files pinned) in
     inl (
       record {
         port = s.port;
@@ -118,7 +127,8 @@ run_served {H = H} {backs = backs} {agrees = agrees} {mid = mid} {begun = begun}
         whole = whole;
       },
       record {
-        pinned = subst (ArePinnedAll agrees objects) opened (pinned_as mid agrees objects openings s.closes.files pinned);
+        pinned = sealed;
+        legal = λ a is. from_opening agrees a objects ends is all.each sealed;
         stored = λ ps at.
             let so = all.stored ps at in
             (so.0, papers so.0 so.1, subst (AreLoadedAll so.0 objects) opened (loaded so.0 so.1), so.2);
@@ -171,8 +181,8 @@ unserved_failed objects lines (Ok Refused) by = inr (inr by)
 unserved_failed objects lines (Ok Unopened) by = inl by
 unserved_failed objects lines (Err fault) by = by
 
-run_memory : {H : Type 0} {backs : H → Assignment → Type 0} {old new : Option (List ℕ)} (objects : List Object) (end : Result ServeEnd LinesFault) → IsRunOf backs objects end old new → IsRunOf backs objects (Err Memory) old new
-run_memory objects end (inl run) = inl (record {
+served_memory : {H : Type 0} {backs : H → Assignment → Type 0} {old new : Option (List ℕ)} (objects : List Object) (end : Result ServeEnd LinesFault) → AreServed backs objects end old new → AreServed backs objects (Err Memory) old new
+served_memory objects end run = record {
   port = run.port;
   ends = run.ends;
   named = run.named;
@@ -185,12 +195,16 @@ run_memory objects end (inl run) = inl (record {
   met = run.met;
   by = inr refl;
   whole = λ done. met_not (ap fault_of_end done);
-})
+}
+
+run_memory : {H : Type 0} {backs : H → Assignment → Type 0} {agrees : Assignment → Type 0} {pw pa tw ta : Papers → Type 0} {old new : Option (List ℕ)} (objects : List Object) (end : Result ServeEnd LinesFault) → IsRunIn backs agrees pw pa tw ta objects end old new → IsRunIn backs agrees pw pa tw ta objects (Err Memory) old new
+unfolding served_memory
+run_memory objects end (inl (run, kept)) = inl (served_memory objects end run, kept)
 run_memory objects end (inr run) = inr (record { lines = run.lines; by = unserved_failed objects run.lines end run.by; said = said_as run.said (λ none. met_not none) })
 
-pub run_behind : {H : Type 0} {backs : H → Assignment → Type 0} {old new : Option (List ℕ)} (objects : List Object) (before end : Result ServeEnd LinesFault) → IsRunOf backs objects before old new → IsEndBehind before end → IsRunOf backs objects end old new
-run_behind {backs = backs} {old = old} {new = new} objects before end run (inl same) = subst (λ (e : Result ServeEnd LinesFault). IsRunOf backs objects e old new) (sym same) run
-run_behind {backs = backs} {old = old} {new = new} objects before end run (inr none) = subst (λ (e : Result ServeEnd LinesFault). IsRunOf backs objects e old new) (sym none) (run_memory objects before run)
+pub run_behind : {H : Type 0} {backs : H → Assignment → Type 0} {agrees : Assignment → Type 0} {pw pa tw ta : Papers → Type 0} {old new : Option (List ℕ)} (objects : List Object) (before end : Result ServeEnd LinesFault) → IsRunIn backs agrees pw pa tw ta objects before old new → IsEndBehind before end → IsRunIn backs agrees pw pa tw ta objects end old new
+run_behind {backs = backs} {agrees = agrees} {pw = pw} {pa = pa} {tw = tw} {ta = ta} {old = old} {new = new} objects before end run (inl same) = subst (λ (e : Result ServeEnd LinesFault). IsRunIn backs agrees pw pa tw ta objects e old new) (sym same) run
+run_behind {backs = backs} {agrees = agrees} {pw = pw} {pa = pa} {tw = tw} {ta = ta} {old = old} {new = new} objects before end run (inr none) = subst (λ (e : Result ServeEnd LinesFault). IsRunIn backs agrees pw pa tw ta objects e old new) (sym none) (run_memory objects before run)
 
 -- what a good result says, and what follows from that
 pub if_ok : {X E : Type 0} {P Q : X → Type 0} (result : Result X E) → ((x : X) → P x → Q x) → IfOk result P → IfOk result Q

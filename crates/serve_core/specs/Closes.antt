@@ -1,7 +1,6 @@
 -- What closing all objects comes to.
 use Rattle.std.specs.Prelude.{◌≡◌, ◌≤◌, ℕ, List, [], ◌∷◌, ◌++◌, length, map, Bool, false, IsTrue, Option, None}
 use Rattle.line_core.specs.declared.machine.LinesFault.{LinesFault}
-use Rattle.std.specs.Global.{Vec}
 use Rattle.value_core.specs.Contents.{Contents}
 use Rattle.hand_core.specs.Device.{Assignment}
 use Rattle.hand_core.specs.Papers.{Papers}
@@ -9,24 +8,22 @@ use Rattle.apply_core.specs.History.{IsLegal}
 use Rattle.board_core.specs.Lists.{Every}
 use Rattle.board_core.specs.Chain.{ShowContents, history_of}
 use Rattle.board_core.specs.Sound.{kinds_of}
-use Rattle.slip_core.specs.Slips.{Told}
+use Rattle.slip_core.specs.Slips.{Told, IsTrueTold}
+use Rattle.keep_core.specs.declared.opening.Opening.{Opening}
 use Rattle.keep_core.specs.declared.trouble.Trouble.{Trouble}
+use Rattle.keep_core.specs.Opening.{values_of}
 use Rattle.keep_core.specs.Troubles.{first_of}
 use Rattle.keep_core.specs.Lines.{AreSaid, IsOfClosing, entries_line}
 use Rattle.keep_core.specs.Kept.{AreStored, stored_times, once}
 use Rattle.keep_core.specs.Ends.{Ended, IsAtEnd, IsKept, lines_of, refused_after, trace_of}
 use Rattle.serve_core.specs.Backed.{AreBacked, AreBackedBy}
 
--- values with which the parts of each object opened
-abbrev pub openings_in : List (Vec Contents) → List (List Contents)
-openings_in openings = map (λ (o : Vec Contents). o.items) openings
-
 -- the names of objects that have ended
 abbrev pub names_of : List Ended → List (List ℕ)
 names_of ends = map (λ (e : Ended). e.name) ends
 
--- the values with which their parts opened
-abbrev pub openings_of : List Ended → List (List Contents)
+-- what their parts opened with
+abbrev pub openings_of : List Ended → List Opening
 openings_of ends = map (λ (e : Ended). e.opening) ends
 
 -- the receipts that their sessions left
@@ -46,6 +43,12 @@ pub record IsLegalBy {H : Type 0} (backs : H → Assignment → Type 0) (e : End
   pub legal : IsTrue e.became.closed → (a : Assignment) →
       Every (λ (hand : H). backs hand a) hands → (contents : List Contents) →
       ShowContents a (kinds_of e.board.object) e.board.opening contents → IsLegal (history_of e.board.history) contents
+
+-- Where it was closed, and each of its receipts is true of this assignment, its history is legal from the values with
+-- which its parts opened.
+abbrev pub IsFromOpening : Assignment → Ended → Type 0
+IsFromOpening a e =
+    IsTrue e.became.closed → Every (IsTrueTold a) e.slips → IsLegal (history_of e.board.history) (values_of e.opening)
 
 -- the lines that are told of them, in order
 abbrev pub lines_all : List Ended → List (List ℕ)
@@ -74,7 +77,7 @@ abbrev pub AreTracedAll : Papers → List Ended → Papers → Type 0
 AreTracedAll before [] papers = papers ≡ before
 AreTracedAll before (e ∷ ends) papers =
     (mid : Papers) × ((times : ℕ) × (once e.became.traced ≤ times)
-    × (mid ≡ stored_times times before e.board.object.name (trace_of e.board e.opening))) × AreTracedAll mid ends papers
+    × (mid ≡ stored_times times before e.board.object.name (trace_of e.board (values_of e.opening)))) × AreTracedAll mid ends papers
 
 -- closed, saved and traced, and no part is damaged
 abbrev pub IsWhole : Ended → Type 0
@@ -98,11 +101,11 @@ pub record AreEndings (agrees : Assignment → Type 0) (parts_were parts_are tra
   pub keeps : IsTrue keeps_all → IsTrue kept_all
       × Every (λ (e : Ended). IsTrue e.became.saved × IsTrue e.became.traced) ends
 
--- Objects of these names were closed, each with the values with which its parts opened and the receipts that its
--- sessions left, and hands show that these are true.
+-- Objects of these names were closed, each with what its parts opened with and the receipts that its sessions left, and
+-- hands show that these are true.
 pub record Closes {H : Type 0} (backs : H → Assignment → Type 0) (agrees earlier : Assignment → Type 0)
     (parts_were parts_are traces_were traces_are : Papers → Type 0) (names : List (List ℕ))
-    (openings : List (List Contents)) (slips : List (List Told)) (before after : Trouble) (kept_all keeps_all : Bool)
+    (openings : List Opening) (slips : List (List Told)) (before after : Trouble) (kept_all keeps_all : Bool)
     (old new : Option (List ℕ)) : Type 0 where
   pub ends : List Ended
   pub named : names_of ends ≡ names

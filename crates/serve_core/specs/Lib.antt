@@ -5,3 +5,4 @@ pub mod Opened
 pub mod Closes
 pub mod Gathers
 pub mod Runs
+pub mod Tidies

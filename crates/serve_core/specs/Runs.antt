@@ -6,7 +6,6 @@ use Rattle.std.specs.Io.KnownBytes.{Appends, Keeps}
 use Rattle.line_core.specs.declared.machine.LinesFault.{LinesFault}
 use Rattle.line_core.specs.declared.machine.LinesFault.TheVariants.{Memory}
 use Rattle.line_core.specs.Reply.{reply}
-use Rattle.value_core.specs.Contents.{Contents}
 use Rattle.hand_core.specs.Device.{Assignment}
 use Rattle.hand_core.specs.Papers.{Papers}
 use Rattle.decl_core.specs.declared.object.Object.{Object}
@@ -17,6 +16,7 @@ use Rattle.session_core.specs.declared.order.Named.{Named}
 use Rattle.source_core.specs.Judging.{IsServed, IsUnserved}
 use Rattle.keep_core.specs.declared.open.NotOpened.{NotOpened}
 use Rattle.keep_core.specs.declared.open.NotOpened.TheVariants.{Damaged, Fault}
+use Rattle.keep_core.specs.declared.opening.Opening.{Opening}
 use Rattle.keep_core.specs.declared.trouble.Trouble.{Trouble}
 use Rattle.keep_core.specs.Troubles.{first_of}
 use Rattle.keep_core.specs.Lines.{AreSaid, damaged_line}
@@ -27,7 +27,7 @@ use Rattle.serve_core.specs.Ends.{IsEndOf}
 use Rattle.serve_core.specs.Gathers.{none_of, IsGathered}
 use Rattle.serve_core.specs.Opened.{AreLoadedAll, ArePinnedAll}
 use Rattle.serve_core.specs.Closes.{names_of, openings_of, slips_of, lines_all, entries_all, refused_all, IsWhole}
-use Rattle.serve_core.specs.Closes.{AreStoredAll, AreTracedAll, IsLegalBy, Closes}
+use Rattle.serve_core.specs.Closes.{AreStoredAll, AreTracedAll, IsFromOpening, IsLegalBy, Closes}
 
 -- the names under which offices are opened
 abbrev pub named_in : List Named → List (List ℕ)
@@ -54,7 +54,7 @@ fault_of_end (Err fault) = Some fault
 -- Objects under these names were served, and closed. What the sessions left was gathered between.
 pub record Serves {H : Type 0} (backs : H → Assignment → Type 0) (agrees earlier : Assignment → Type 0)
     (parts_were parts_are traces_were traces_are : Papers → Type 0) (names : List (List ℕ))
-    (openings : List (List Contents)) (before after : Trouble) (kept_all keeps_all : Bool)
+    (openings : List Opening) (before after : Trouble) (kept_all keeps_all : Bool)
     (old new : Option (List ℕ)) : Type 0 where
   pub port : ℕ
   pub known : Option (List ℕ)
@@ -68,7 +68,7 @@ pub record Serves {H : Type 0} (backs : H → Assignment → Type 0) (agrees ear
 -- so it was, or a fault came before any was served
 abbrev pub ServesOr : {H : Type 0} → (H → Assignment → Type 0) → (Assignment → Type 0) → (Assignment → Type 0) →
     (Papers → Type 0) → (Papers → Type 0) → (Papers → Type 0) → (Papers → Type 0) → List (List ℕ) →
-    List (List Contents) → Trouble → Trouble → Bool → Bool → Option (List ℕ) → Option (List ℕ) →
+    List Opening → Trouble → Trouble → Bool → Bool → Option (List ℕ) → Option (List ℕ) →
     Result (Unit {0}) LinesFault → Type 0
 ServesOr backs agrees earlier pw pa tw ta names openings before after kept_all keeps_all old new (Ok done) =
     Serves backs agrees earlier pw pa tw ta names openings before after kept_all keeps_all old new
@@ -98,10 +98,12 @@ pub record AreServed {H : Type 0} (backs : H → Assignment → Type 0) (objects
   pub whole : end ≡ Ok Whole → Every IsWhole ends × Appends old new (concat (listening_line port ∷ entries_all ends))
 
 -- What is stored of objects that have ended. The parts of each opened with what the shelf had before, pages were sealed
--- with that, and it stands at the head of the trace. What is stored then are the bytes under the pins at the end.
+-- with that, and it stands at the head of the trace. Where an object was closed, its history is legal from that. What is
+-- stored then are the bytes under the pins at the end.
 pub record AreKept (agrees : Assignment → Type 0) (parts_were parts_are traces_were traces_are : Papers → Type 0)
     (objects : List Object) (ends : List Ended) : Type 0 where
   pub pinned : ArePinnedAll agrees objects (openings_of ends)
+  pub legal : (a : Assignment) → agrees a → Every (IsFromOpening a) ends
   pub stored : (papers : Papers) → parts_are papers →
       (base : Papers) × parts_were base × AreLoadedAll base objects (openings_of ends)
       × AreStoredAll agrees base ends papers

@@ -11,7 +11,7 @@ use line_core::LinesFault;
 use office_core::seat::Seat;
 use session_core::end::SessionEnd;
 use session_core::order::Offices;
-use session_core::serve::serve_session;
+use session_core::serve::{Connection, serve_session};
 use std::alloc::{AllocError, Global};
 use std::net::TcpStream;
 use std::sync::{Mutex, Wait};
@@ -101,6 +101,10 @@ fn serve_stream<R: Threads + Wait + Clock + Sync, H: Ends + Send, O: Offices + S
         Ok(writer) => writer,
         Err(error) => return Came::Fault(fault_of(error)),
     };
+    let connection = Connection {
+        reader: stream,
+        writer: Patient::new(writer, bell),
+    };
     let SessionEnd {
         object,
         seat,
@@ -108,15 +112,7 @@ fn serve_stream<R: Threads + Wait + Clock + Sync, H: Ends + Send, O: Offices + S
         writer: _,
         mut hand,
         fault,
-    } = serve_session(
-        rt,
-        alloc,
-        stream,
-        Patient::new(writer, bell),
-        bell,
-        offices,
-        hand,
-    );
+    } = serve_session(rt, alloc, connection, bell, offices, hand);
     hand.end();
     Came::Session(Left {
         object,
@@ -158,7 +154,13 @@ fn serve_into<
     }
 }
 
-// Takes and serves so many connections, each in a thread of its own where these can be made, and else one after
+// So many hands that are free, each of which a session takes.
+struct Free<'a, H: Hand + Drop> {
+    count: usize,
+    hands: &'a Receiver<H>,
+}
+
+// Takes and serves a connection for each hand, each in a thread of its own where these can be made, and else one after
 // another, and returns when all have ended.
 fn serve_each<
     R: Threads + Wait + Clock + Sync,
@@ -166,7 +168,8 @@ fn serve_each<
     O: Offices + Sync,
     D: Door + Sync,
     B: Basket<Came<H>> + Sync,
->(rt: &R, alloc: Global, count: usize, door: &D, hands: &Receiver<H>, offices: &O, basket: &B) {
+>(rt: &R, alloc: Global, door: &D, free: Free<'_, H>, offices: &O, basket: &B) {
+    let Free { count, hands } = free;
     // A refusal of memory comes only once all have ended, and takes nothing from what they left.
     let _ended = thread::map_indices(
         rt,
@@ -194,6 +197,10 @@ pub fn serve_all<
             return Err(AllocError);
         }
     }
-    serve_each(rt, alloc, sessions, door, &free, offices, &leavings);
+    let free = Free {
+        count: sessions,
+        hands: &free,
+    };
+    serve_each(rt, alloc, door, free, offices, &leavings);
     Ok(leavings.into_all())
 }

@@ -4,7 +4,6 @@ ghost use Rattle.std.specs.Prelude.{◌≡◌, ◌++◌, ◌∷◌, [], IfOk, If
 ghost use Rattle.hand_core.specs.Device.{Assignment};
 ghost use Rattle.hand_core.specs.Papers.{Papers};
 ghost use Rattle.decl_core.specs.ObjectMap.{object_names};
-ghost use Rattle.serve_core.specs.Closes.{openings_in};
 ghost use Rattle.serve_core.specs.Opened.{AreLoadedAll, ArePinnedAll};
 ghost use Rattle.serve_core.specs.Runs.{named_in, IsNotOpenedOf};
 
@@ -13,24 +12,23 @@ use hand_core::hand::Hand;
 use hand_core::shelf::Shelf;
 use keep_core::close::Closing;
 use keep_core::open::{NotOpened, Opened};
+use keep_core::opening::Opening;
 use line_core::LinesFault;
 use session_core::order::Named;
 use std::alloc::Global;
-use value_core::value::Value;
 
-/// What is served: the offices of the objects, and the values with which the parts of each of them opened.
+/// What is served: the offices of the objects, and what the parts of each of them opened with.
 #[derive(Drop)]
 pub struct Served {
     pub offices: Vec<Named>,
-    pub openings: Vec<Vec<Value>>,
+    pub openings: Vec<Opening>,
 }
 
 // Adds an object that is open.
 fn add(served: &mut Served, opened: Opened) -> Result<(), NotOpened>
     ensures named { OnOk result (named_in served.new.offices.items
         ≡ named_in served.old.offices.items ++ opened.name ∷ []) }
-    ensures opening { OnOk result (openings_in served.new.openings.items
-        ≡ openings_in served.old.openings.items ++ opened.opening.items ∷ []) }
+    ensures opening { OnOk result (served.new.openings.items ≡ served.old.openings.items ++ opened.opening ∷ []) }
     ensures many { OnOk result (length served.old.openings.items ≡ length served.old.offices.items →
         length served.new.openings.items ≡ length served.new.offices.items) }
     ensures not { IfErr result (λ e. e ≡ NotOpened.Fault LinesFault.Memory) }
@@ -62,9 +60,8 @@ pub fn open_all<S: Shelf + Drop, T: Shelf + Drop, K: Hand + Drop>(
     // As many openings as offices, each with what its object's parts began with.
     ensures many { IfOk result (λ s. length s.openings.items ≡ length s.offices.items) }
     ensures loaded { IfOk result (λ s. (papers : Papers) → S.holds closing.new.parts papers →
-        AreLoadedAll papers ready.items (openings_in s.openings.items)) }
-    ensures pinned { IfOk result (λ s. ArePinnedAll (K.agrees closing.new.hand) ready.items
-        (openings_in s.openings.items)) }
+        AreLoadedAll papers ready.items s.openings.items) }
+    ensures pinned { IfOk result (λ s. ArePinnedAll (K.agrees closing.new.hand) ready.items s.openings.items) }
     ensures papers { (papers : Papers) → S.holds closing.new.parts papers → S.holds closing.old.parts papers }
     ensures files { (a : Assignment) → K.agrees closing.new.hand a → K.agrees closing.old.hand a }
     ensures traces { closing.new.traces ≡ closing.old.traces }
@@ -76,7 +73,7 @@ pub fn open_all<S: Shelf + Drop, T: Shelf + Drop, K: Hand + Drop>(
         openings: Vec::new(alloc),
     };
     for accepted in ready {
-        let opened = match closing.open(alloc, accepted) {
+        let opened = match closing.open(accepted) {
             Ok(opened) => opened,
             Err(why) => return Err(why),
         };

@@ -13,9 +13,10 @@ ghost use Rattle.serve_core.specs.Backed.{AreBacked};
 ghost use Rattle.serve_core.specs.Gathers.{slips_in, none_of, IsGathered};
 ghost use Rattle.serve_core.specs.Handled.{IsHandled};
 ghost use Rattle.serve_core.specs.Ends.{IsEndOf};
-ghost use Rattle.serve_core.specs.Closes.{Closes, openings_in};
+ghost use Rattle.serve_core.specs.Closes.{Closes};
 ghost use Rattle.serve_core.specs.Runs.{named_in, listening_line, ServesOr, IsNotOpenedOf, IsRunOf, IsRunIn};
 ghost use Rattle.serve_core.specs.Runs.{IsRefusedBy, IsRun, IsEndBehind, AreNotServed};
+ghost use Rattle.serve_core.specs.Tidies.{TidiesValues};
 
 use crate::gate::Gate;
 use crate::gather::{Gathered, Gathering};
@@ -33,6 +34,7 @@ use hand_core::hand::Hand;
 use hand_core::shelf::Shelf;
 use keep_core::close::{Closing, Ending};
 use keep_core::open::NotOpened;
+use keep_core::opening::Opening;
 use keep_core::trouble::{Trouble, fault_of};
 use line_core::reply::push_count;
 use line_core::{LinesFault, write_whole};
@@ -46,7 +48,6 @@ use std::sync::{Arc, Wait};
 use std::thread::Threads;
 use std::time::Clock;
 use std::vec::IntoIter;
-use value_core::value::Value;
 
 /// Where a server keeps its files, and the hands of its sessions: it takes a connection for each.
 #[derive(Drop)]
@@ -119,9 +120,9 @@ fn next_of<X>(items: &mut IntoIter<X>) -> X
 }
 
 // An object at the end, with what its sessions left.
-fn ending_of<H: Hand + Drop>(named: Named, opening: Vec<Value>, gathered: Gathered<H>) -> Ending
+fn ending_of<H: Hand + Drop>(named: Named, opening: Opening, gathered: Gathered<H>) -> Ending
     ensures name { result.name ≡ named.name }
-    ensures opening { result.opening.items ≡ opening.items }
+    ensures opening { result.opening ≡ opening }
     ensures slips { result.receipts.items ≡ gathered.backed }
     ensures backed { AreBacked H.agrees result.receipts.items }
 {
@@ -136,9 +137,8 @@ fn ending_of<H: Hand + Drop>(named: Named, opening: Vec<Value>, gathered: Gather
     }
 }
 
-// Closes each object, with the values with which its parts opened and what its sessions left.
+// Closes each object, with what its parts opened with and what its sessions left.
 fn close_all<S: Shelf + Drop, T: Shelf + Drop, K: Hand + Drop, H: Hand + Drop, W: Write, E: Write>(
-    alloc: Global,
     served: Served,
     gathered: Vec<Gathered<H>>,
     closing: &mut Closing<S, T, K>,
@@ -149,7 +149,7 @@ fn close_all<S: Shelf + Drop, T: Shelf + Drop, K: Hand + Drop, H: Hand + Drop, W
     requires gathered { length gathered.items ≡ length served.offices.items }
     ensures { Closes H.agrees (K.agrees closing.new.hand) (K.agrees closing.old.hand) (S.holds closing.old.parts)
         (S.holds closing.new.parts) (T.holds closing.old.traces) (T.holds closing.new.traces)
-        (named_in served.offices.items) (openings_in served.openings.items) (slips_in gathered.items)
+        (named_in served.offices.items) served.openings.items (slips_in gathered.items)
         closing.old.trouble closing.new.trouble closing.old.keeps_all closing.new.keeps_all
         (W.contents writer.old) (W.contents writer.new) }
 {
@@ -160,13 +160,14 @@ fn close_all<S: Shelf + Drop, T: Shelf + Drop, K: Hand + Drop, H: Hand + Drop, W
         let opening = next_of(&mut values);
         let by_sessions = next_of(&mut left);
         let ending = ending_of(named, opening, by_sessions);
-        closing.close_one(alloc, ending, writer, error);
+        closing.close_one(ending, writer, error);
     }
 }
 
-// Where sessions come from, and the hands that they take.
+// Where sessions come from, with the memory and the hands that they take.
 #[derive(Drop)]
 struct Guests<'a, H: Hand + Drop> {
+    alloc: Global,
     gate: &'a Gate,
     hands: Vec<H>,
 }
@@ -174,7 +175,6 @@ struct Guests<'a, H: Hand + Drop> {
 // Serves objects whose parts are open, and gathers what their sessions leave.
 fn serve_gathered<R: Threads + Wait + Clock + Sync, H: Ends + Send, E: Write>(
     rt: &R,
-    alloc: Global,
     offices: &Vec<Named>,
     guests: Guests<'_, H>,
     gathering: Gathering<H>,
@@ -183,7 +183,7 @@ fn serve_gathered<R: Threads + Wait + Clock + Sync, H: Ends + Send, E: Write>(
 ) -> Vec<Gathered<H>>
     ensures { IsGathered H (slips_in gathering.all.items) trouble.old trouble.new (slips_in result.items) }
 {
-    let Guests { gate, hands } = guests;
+    let Guests { alloc, gate, hands } = guests;
     let mut gathering = gathering;
     match serve_all(rt, alloc, gate, hands, offices) {
         Ok(all) => {
@@ -208,7 +208,6 @@ fn serve_opened<
     E: Write,
 >(
     rt: &R,
-    alloc: Global,
     served: Served,
     guests: Guests<'_, H>,
     closing: &mut Closing<S, T, K>,
@@ -218,27 +217,26 @@ fn serve_opened<
     requires { length served.openings.items ≡ length served.offices.items }
     ensures { ServesOr H.agrees (K.agrees closing.new.hand) (K.agrees closing.old.hand) (S.holds closing.old.parts)
         (S.holds closing.new.parts) (T.holds closing.old.traces) (T.holds closing.new.traces)
-        (named_in served.offices.items) (openings_in served.openings.items) closing.old.trouble closing.new.trouble
+        (named_in served.offices.items) served.openings.items closing.old.trouble closing.new.trouble
         closing.old.keeps_all closing.new.keeps_all (W.contents writer.old) (W.contents writer.new) result }
 {
-    let gathering = match Gathering::new(alloc, served.offices.len(), guests.hands.len()) {
+    let gathering = match Gathering::new(guests.alloc, served.offices.len(), guests.hands.len()) {
         Ok(gathering) => gathering,
         Err(_) => return Err(LinesFault::Memory),
     };
-    match tell_port(alloc, guests.gate, writer) {
+    match tell_port(guests.alloc, guests.gate, writer) {
         Ok(()) => {}
         Err(fault) => return Err(fault),
     }
     let gathered = serve_gathered(
         rt,
-        alloc,
         &served.offices,
         guests,
         gathering,
         &mut closing.trouble,
         error,
     );
-    close_all(alloc, served, gathered, closing, writer, error);
+    close_all(served, gathered, closing, writer, error);
     Ok(())
 }
 
@@ -253,7 +251,6 @@ fn serve_closing<
     E: Write,
 >(
     rt: &R,
-    alloc: Global,
     ready: Vec<Accepted>,
     guests: Guests<'_, H>,
     closing: &mut Closing<S, T, K>,
@@ -264,9 +261,9 @@ fn serve_closing<
         (T.holds closing.old.traces) (T.holds closing.new.traces) ready.items result (W.contents writer.old)
         (W.contents writer.new) }
 {
-    match open_all(alloc, ready, closing) {
+    match open_all(guests.alloc, ready, closing) {
         Ok(served) => {
-            match serve_opened(rt, alloc, served, guests, closing, writer, error) {
+            match serve_opened(rt, served, guests, closing, writer, error) {
                 Ok(()) => end_of(closing.trouble),
                 Err(fault) => Err(fault),
             }
@@ -316,7 +313,56 @@ fn values_in<R: Files + AllocGlobal + Clone + Drop>(
     DirValues::new(rt.clone()?, folder)
 }
 
-// Serves objects that are accepted, and removes the value files of this run where nothing hangs on them any more.
+// What a server keeps: what closes its objects, and the value files of its folder, with what an earlier run left there and
+// the numbers of its own.
+#[derive(Drop)]
+struct Keeping<S: Shelf + Drop, T: Shelf + Drop, K: Hand + Drop, V: Values + Drop> {
+    closing: Closing<S, T, K>,
+    values: V,
+    found: Found,
+    numbers: Arc<Numbers>,
+}
+
+// Moves the value files aside that an earlier run left, serves objects that are accepted, and removes the value files of
+// this run where nothing hangs on them any more.
+fn serve_keeping<
+    R: Threads + Wait + Clock + Sync,
+    S: Shelf + Drop,
+    T: Shelf + Drop,
+    K: Hand + Drop,
+    V: Values + Drop,
+    H: Ends + Send,
+    W: Write,
+    E: Write,
+>(
+    rt: &R,
+    ready: Vec<Accepted>,
+    guests: Guests<'_, H>,
+    keeping: &mut Keeping<S, T, K, V>,
+    writer: &mut W,
+    error: &mut E,
+) -> Result<ServeEnd, LinesFault>
+    ensures run { IsRunIn H.agrees (K.agrees keeping.new.closing.hand) (S.holds keeping.old.closing.parts)
+        (S.holds keeping.new.closing.parts) (T.holds keeping.old.closing.traces) (T.holds keeping.new.closing.traces)
+        ready.items result (W.contents writer.old) (W.contents writer.new) }
+    // Those that were found are moved, and of this run's own none is removed where an object was not saved and traced.
+    ensures files { TidiesValues V.does keeping.old.values keeping.old.found.numbers (arc_value keeping.old.numbers)
+        keeping.new.closing.keeps_all result keeping.new.values }
+{
+    let alloc = guests.alloc;
+    match move_left(&mut keeping.values, alloc, keeping.found.numbers(), error) {
+        Ok(_) => {}
+        Err(_) => return Err(LinesFault::Memory),
+    }
+    let ended = serve_closing(rt, ready, guests, &mut keeping.closing, writer, error);
+    if keeping.closing.keeps_all {
+        remove_own(&mut keeping.values, alloc, &keeping.numbers, ended)
+    } else {
+        ended
+    }
+}
+
+// Serves objects that are accepted, over a folder.
 fn serve_ready<
     R: Files + AllocGlobal + Threads + Wait + Clock + Clone + Drop + Sync,
     H: Ends + Send,
@@ -324,7 +370,6 @@ fn serve_ready<
     E: Write,
 >(
     rt: &R,
-    alloc: Global,
     ready: Vec<Accepted>,
     place: Place<H>,
     gate: &Gate,
@@ -335,6 +380,7 @@ where
     R::File: FileExt,
     ensures { IsRunOf H.agrees ready.items result (W.contents writer.old) (W.contents writer.new) }
 {
+    let alloc = rt.alloc();
     let Place {
         folder,
         found,
@@ -342,25 +388,22 @@ where
         hands,
     } = place;
     let folder = folder.as_str();
-    let mut closing = match closing_in(rt, alloc, folder, &numbers) {
+    let closing = match closing_in(rt, alloc, folder, &numbers) {
         Ok(closing) => closing,
         Err(_) => return Err(LinesFault::Memory),
     };
-    let mut values = match values_in(rt, folder) {
+    let values = match values_in(rt, folder) {
         Ok(values) => values,
         Err(_) => return Err(LinesFault::Memory),
     };
-    match move_left(&mut values, alloc, found.numbers(), error) {
-        Ok(_) => {}
-        Err(_) => return Err(LinesFault::Memory),
-    }
-    let guests = Guests { gate, hands };
-    let ended = serve_closing(rt, alloc, ready, guests, &mut closing, writer, error);
-    if closing.keeps_all {
-        remove_own(&mut values, alloc, &numbers, ended)
-    } else {
-        ended
-    }
+    let mut keeping = Keeping {
+        closing,
+        values,
+        found,
+        numbers,
+    };
+    let guests = Guests { alloc, gate, hands };
+    serve_keeping(rt, ready, guests, &mut keeping, writer, error)
 }
 
 // Writes why nothing is served.
@@ -423,7 +466,6 @@ pub fn serve_on<
     E: Write,
 >(
     rt: &R,
-    alloc: Global,
     source: &[u8],
     place: Place<H>,
     gate: &Gate,
@@ -437,9 +479,9 @@ where
     ensures handled { IfOk result (IsHandled source.now (W.contents writer.old) (W.contents writer.new)) }
     ensures run { IsRun H.agrees source.now result (W.contents writer.old) (W.contents writer.new) }
 {
-    match judge(alloc, source) {
+    match judge(rt.alloc(), source) {
         Ok(Judged::Told(text)) => tell_refused(&text, writer),
-        Ok(Judged::Ready(ready)) => serve_ready(rt, alloc, ready, place, gate, writer, error),
+        Ok(Judged::Ready(ready)) => serve_ready(rt, ready, place, gate, writer, error),
         Err(_) => Err(LinesFault::Memory),
     }
 }

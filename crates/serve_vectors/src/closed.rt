@@ -66,7 +66,7 @@ fn told<R: Abort + Wait>(rt: &R, alloc: Global, parks: bool) -> (Vec<u8>, Troubl
         seats,
         receipts: Vec::new(alloc),
     };
-    closing.close_one(alloc, ending, &mut out, &mut error);
+    closing.close_one(ending, &mut out, &mut error);
     assert!(rt; error.is_empty() && closing.keeps_all);
     (out, closing.trouble)
 }

@@ -1,4 +1,5 @@
-//! What is told of an object at the end where a call has finished: with its slip, without it, and under another name.
+//! What is told of an object at the end where a call has finished: with its slip, without it, under another name, and with
+//! what another office opened with.
 
 use crate::closed::{cell, name};
 use board_core::receipt::{NotedOutcome, Receipt};
@@ -65,17 +66,34 @@ fn slip(rt: &impl Abort, alloc: Global, receipt: Receipt) -> Slip {
     room.slip(place, session, outcome).expect(rt, "a slip")
 }
 
-// What is told of an object of this name at the end, and what was noted, where one call has finished, and its slip was
-// kept or not. In each case its part is saved, and its trace is written.
-fn told<R: Abort + Wait>(rt: &R, alloc: Global, own: &[u8], keeps: bool) -> (Vec<u8>, Trouble) {
-    let (mut parts, mut hand) = (MemShelf::new(alloc), MemHand::new(alloc));
+// The object, opened.
+fn open<R: Abort>(rt: &R, alloc: Global, parts: &mut MemShelf, hand: &mut MemHand) -> Opened {
     let accepted = cell(alloc).expect(rt, "memory");
-    let opened = open_one(alloc, accepted, &mut parts, &mut hand).ok();
+    let opened = open_one(alloc, accepted, parts, hand).ok();
+    opened.expect(rt, "memory")
+}
+
+// What an object of this name has at the end.
+struct Case<'a> {
+    own: &'a [u8],
+    // Its call has a slip.
+    keeps: bool,
+    // It is closed with what it opened with, and not with what another office of such an object did.
+    began: bool,
+}
+
+// What is told of an object at the end, and what was noted, where one call has finished. In each case its part is saved,
+// and its trace is written.
+fn told<R: Abort + Wait>(rt: &R, alloc: Global, case: Case<'_>) -> (Vec<u8>, Trouble) {
+    let Case { own, keeps, began } = case;
+    let (mut parts, mut hand) = (MemShelf::new(alloc), MemHand::new(alloc));
     let Opened {
         name: _,
         office,
         opening,
-    } = opened.expect(rt, "memory");
+    } = open(rt, alloc, &mut parts, &mut hand);
+    let other = open(rt, alloc, &mut parts, &mut hand);
+    let opening = if began { opening } else { other.opening };
     let mut seat = office.seat(rt).expect(rt, "a seat");
     let receipt = put(rt, alloc, &office, &mut seat, &mut hand).expect(rt, "a receipt");
     let slip = slip(rt, alloc, receipt);
@@ -95,25 +113,52 @@ fn told<R: Abort + Wait>(rt: &R, alloc: Global, own: &[u8], keeps: bool) -> (Vec
         seats,
         receipts,
     };
-    closing.close_one(alloc, ending, &mut out, &mut error);
+    closing.close_one(ending, &mut out, &mut error);
     assert!(rt; error.is_empty() && closing.keeps_all);
     (out, closing.trouble)
 }
 
 #[test]
 fn an_object_closes_where_each_entry_has_a_slip(rt: HostRuntime) {
-    let (out, trouble) = told(&rt, rt.alloc(), b"cell", true);
+    let case = Case {
+        own: b"cell",
+        keeps: true,
+        began: true,
+    };
+    let (out, trouble) = told(&rt, rt.alloc(), case);
     assert!(rt; out.as_slice() == b"cell entries 1\n".as_slice() && trouble == Trouble::none());
 }
 
 #[test]
 fn an_object_is_refused_and_saved_where_an_entry_has_no_slip(rt: HostRuntime) {
-    let (out, trouble) = told(&rt, rt.alloc(), b"cell", false);
+    let case = Case {
+        own: b"cell",
+        keeps: false,
+        began: true,
+    };
+    let (out, trouble) = told(&rt, rt.alloc(), case);
     assert!(rt; out.as_slice() == b"close cell refused\n".as_slice() && trouble.refused);
 }
 
 #[test]
 fn an_object_is_refused_and_saved_where_its_office_is_of_another_one(rt: HostRuntime) {
-    let (out, trouble) = told(&rt, rt.alloc(), b"celt", true);
+    let case = Case {
+        own: b"celt",
+        keeps: true,
+        began: true,
+    };
+    let (out, trouble) = told(&rt, rt.alloc(), case);
     assert!(rt; out.as_slice() == b"close celt refused\n".as_slice() && trouble.refused);
+}
+
+// The other one is opened from the same shelf: its values are the same, and its files are not.
+#[test]
+fn an_object_is_refused_and_saved_where_its_office_began_with_other_files(rt: HostRuntime) {
+    let case = Case {
+        own: b"cell",
+        keeps: true,
+        began: false,
+    };
+    let (out, trouble) = told(&rt, rt.alloc(), case);
+    assert!(rt; out.as_slice() == b"close cell refused\n".as_slice() && trouble.refused);
 }

@@ -144,7 +144,7 @@ fn a_server_serves_each_client_and_closes_each_object(rt: HostRuntime) {
     let alloc = rt.alloc();
     let place = place_of(&rt, folder.as_str(), 2).expect(&rt, "a place");
     let (mut out, mut error) = (Vec::new(alloc), Vec::new(alloc));
-    let ended = serve_on(&rt, alloc, SOURCE, place, &gate, &mut out, &mut error);
+    let ended = serve_on(&rt, SOURCE, place, &gate, &mut out, &mut error);
     let is_whole = is_whole(&gate, ended, &out, &error, told, alloc).expect(&rt, "a port");
     assert!(rt; is_whole);
     let answers = b"opened cell\naccepted 1\ndone 1\naccepted 2\ndone 2 7\nbye\n";

@@ -27,12 +27,13 @@ use talk_core::mouth::Mouth;
 use talk_core::note::Note;
 use talk_core::output::{Health, Start};
 
-// The client of a session: what is read from it, what is written to it, and the bell at which its session ends.
+/// The connection to a client, by its two sides.
 #[derive(Drop)]
-struct Client<'a, I: Read + Drop, W: Write + Drop> {
-    reader: I,
-    writer: W,
-    bell: &'a Bell,
+pub struct Connection<I: Read + Drop, W: Write + Drop> {
+    /// What the client says is read here.
+    pub reader: I,
+    /// What the client is told is written here.
+    pub writer: W,
 }
 
 // What a session hands back, by what was written and what its first thread left. All its threads have ended, so that
@@ -101,7 +102,7 @@ fn work_beside<
     worked
 }
 
-// Serves one session of a client whose writer held this at first.
+// Serves one session over a connection whose writer held this at first.
 fn serve_from<
     J: Start + Send + Sync,
     R: Threads + Wait + Clock + Sync,
@@ -109,17 +110,20 @@ fn serve_from<
     W: Write + Drop + Send,
     H: Hand + Drop,
     O: Offices + Sync,
->(rt: &R, alloc: Global, client: Client<'_, I, W>, offices: &O, hand: H) -> SessionEnd<W, H>
-    requires { W.contents client.writer ≡ J.start }
+>(
+    rt: &R,
+    alloc: Global,
+    connection: Connection<I, W>,
+    bell: &Bell,
+    offices: &O,
+    hand: H,
+) -> SessionEnd<W, H>
+    requires { W.contents connection.writer ≡ J.start }
     ensures kept { Keeps H.agrees hand result.hand }
     ensures told { AreTrue H.agrees result.hand result.receipts.items }
     ensures written { HasWritten J.start (W.contents result.writer) result.receipts.items result.fault }
 {
-    let Client {
-        reader,
-        writer,
-        bell,
-    } = client;
+    let Connection { reader, writer } = connection;
     let (to, from) = match crossbeam_channel::bounded(alloc, 1) {
         Ok(ends) => ends,
         Err(_) => {
@@ -185,24 +189,25 @@ pub fn serve_session<
 >(
     rt: &R,
     alloc: Global,
-    reader: I,
-    writer: W,
+    connection: Connection<I, W>,
     bell: &Bell,
     offices: &O,
     hand: H,
 ) -> SessionEnd<W, H>
     ensures kept { Keeps H.agrees hand result.hand }
     ensures told { AreTrue H.agrees result.hand result.receipts.items }
-    ensures written { HasWritten (W.contents writer) (W.contents result.writer) result.receipts.items result.fault }
+    ensures written { HasWritten (W.contents connection.writer) (W.contents result.writer) result.receipts.items
+        result.fault }
 {
+    let Connection { reader, writer } = connection;
     serve_from::<Brand, R, UntilBell<'_, I>, W, H, O>(
         rt,
         alloc,
-        Client {
+        Connection {
             reader: UntilBell::new(reader, bell),
             writer,
-            bell,
         },
+        bell,
         offices,
         hand,
     )

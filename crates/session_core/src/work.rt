@@ -164,7 +164,7 @@ fn started<R: Wait + Clock, I: Read + Drop, W: Write + Drop, J: Start>(
         Tried::Stranger(back) => return awaited(service.rt, service.by, back),
         Tried::Waiting(back) => back,
     };
-    let most = late.left(service.rt, Duration::from_millis(BRIEF));
+    let most = late.left(service.rt);
     match service.by.try_start_within(service.rt, waiting, most) {
         Tried::Ticket(ticket) => Some(ticket),
         Tried::Cancelled => None,
@@ -188,11 +188,7 @@ fn submitted<R: Wait + Clock, W: Write + Drop, J: Start>(
 ) -> Result<(u32, Tried), SubmitFault>
     ensures { IfOk result (λ r. (s : Ask) × Asks op.now args.now s × (r.0 ≡ s.number) × Tells s r.1) }
 {
-    let most = Duration::from_millis(BRIEF);
-    if let Some(answer) = service
-        .by
-        .submit_in_turn(service.rt, seat, op, args, late, most)
-    {
+    if let Some(answer) = service.by.submit_in_turn(service.rt, seat, op, args, late) {
         return answer;
     }
     flush(service, seat);
@@ -661,7 +657,7 @@ pub(crate) fn work<
         receipts: Vec::new(alloc),
         room: SlipRoom::new(alloc),
         free: Vec::new(alloc),
-        late: Late::new(),
+        late: Late::new(Duration::from_millis(BRIEF)),
         fault: None,
     };
     let mut reading = reading;

@@ -1,7 +1,7 @@
 //! Clients that have a name: what they ask for under a key is done once, however often they come back.
 
 use crate::lines::{ZERO, is_closed};
-use crate::make::{CELL, Pieces, Short, offices};
+use crate::make::{CELL, Short, Streams, connected, offices};
 use device_core::fuse::FuseHand;
 use device_core::memory::MemHand;
 use hand_core::hand::Hand;
@@ -85,43 +85,48 @@ const OTHERS: &[Visit] = &[
     ),
 ];
 
-// A session over these lines, so many bytes a read, with a writer that takes so many bytes. At their end both streams
-// fail, or there is no more.
+// A session over these lines.
 fn visit<R: Threads + Wait + Clock + Sync + Abort, H: Hand + Drop>(
     rt: &R,
     alloc: Global,
     all: &Vec<Named>,
     hand: H,
     lines: &[u8],
-    step: usize,
-    fails: bool,
-    takes: usize,
+    streams: Streams,
 ) -> SessionEnd<Short, H> {
-    let reader = Pieces {
-        bytes: lines.to_vec(alloc).expect(rt, "memory"),
-        at: 0,
-        step,
-        fails,
-    };
-    let writer = Short {
-        bytes: Vec::new(alloc),
-        left: takes,
-        fails,
-    };
-    serve_session(rt, alloc, reader, writer, &Bell::new(), all, hand)
+    let connection = connected(rt, alloc, lines, streams);
+    serve_session(rt, alloc, connection, &Bell::new(), all, hand)
 }
 
-// What sessions left.
+// Offices that sessions came to, and what these left there.
 #[derive(Drop)]
-struct Left {
+struct Visited {
+    all: Vec<Named>,
     seats: Vec<Seat>,
     slips: Vec<Slip>,
+}
+
+// The office of a cell that nobody came to, and the hand that its file is on.
+fn unvisited(rt: &impl Abort, alloc: Global) -> (Visited, MemHand) {
+    let (all, hand) = offices(rt, alloc, CELL, ZERO);
+    let visited = Visited {
+        all,
+        seats: Vec::new(alloc),
+        slips: Vec::new(alloc),
+    };
+    (visited, hand)
+}
+
+// Whether the office is closed with what was left there.
+fn is_left_whole(visited: Visited) -> bool {
+    let Visited { all, seats, slips } = visited;
+    is_closed(all, seats, &slips)
 }
 
 // Keeps what a session left, and gives what it wrote, its fault and its hand.
 fn kept<R: Abort, H: Hand + Drop>(
     rt: &R,
-    left: &mut Left,
+    visited: &mut Visited,
     end: SessionEnd<Short, H>,
 ) -> (Vec<u8>, Option<SessionFault>, H) {
     let SessionEnd {
@@ -133,10 +138,10 @@ fn kept<R: Abort, H: Hand + Drop>(
         fault,
     } = end;
     if let Some(seat) = seat {
-        left.seats.push(seat).expect(rt, "memory");
+        visited.seats.push(seat).expect(rt, "memory");
     }
     let mut receipts = receipts;
-    left.slips.append(&mut receipts).expect(rt, "memory");
+    visited.slips.append(&mut receipts).expect(rt, "memory");
     let Short {
         bytes,
         left: _,
@@ -149,15 +154,14 @@ fn kept<R: Abort, H: Hand + Drop>(
 fn told<R: Abort + Threads + Wait + Clock + Sync, H: Hand + Drop>(
     rt: &R,
     alloc: Global,
-    all: &Vec<Named>,
+    visited: &mut Visited,
     hand: H,
-    left: &mut Left,
     step: usize,
     one: &Visit,
 ) -> H {
     let (lines, answers) = *one;
-    let end = visit(rt, alloc, all, hand, lines, step, false, 4096);
-    let (bytes, fault, hand) = kept(rt, left, end);
+    let end = visit(rt, alloc, &visited.all, hand, lines, Streams::whole(step));
+    let (bytes, fault, hand) = kept(rt, visited, end);
     assert!(rt; bytes.as_slice() == answers && fault.is_none());
     hand
 }
@@ -166,15 +170,14 @@ fn told<R: Abort + Threads + Wait + Clock + Sync, H: Hand + Drop>(
 fn all_told<R: Abort + Threads + Wait + Clock + Sync>(
     rt: &R,
     alloc: Global,
-    all: &Vec<Named>,
+    visited: &mut Visited,
     hand: MemHand,
-    left: &mut Left,
     step: usize,
     visits: &[Visit],
 ) {
     let mut hand = hand;
     for one in visits {
-        hand = told(rt, alloc, all, hand, left, step, one);
+        hand = told(rt, alloc, visited, hand, step, one);
     }
 }
 
@@ -188,14 +191,10 @@ fn come<R: Abort + Threads + Wait + Clock + Sync>(
     entries: usize,
 ) {
     for step in [1, 7, 4096] {
-        let (all, hand) = offices(rt, alloc, CELL, ZERO);
-        let mut left = Left {
-            seats: Vec::new(alloc),
-            slips: Vec::new(alloc),
-        };
-        all_told(rt, alloc, &all, hand, &mut left, step, visits);
-        let Left { seats: out, slips } = left;
-        assert!(rt; out.len() == seats && slips.len() == entries && is_closed(all, out, &slips));
+        let (mut visited, hand) = unvisited(rt, alloc);
+        all_told(rt, alloc, &mut visited, hand, step, visits);
+        assert!(rt; visited.seats.len() == seats && visited.slips.len() == entries);
+        assert!(rt; is_left_whole(visited));
     }
 }
 
@@ -225,32 +224,18 @@ fn breaks_off<R: Abort + Threads + Wait + Clock + Sync>(
     rt: &R,
     alloc: Global,
     bytes: usize,
-    step: usize,
-    fails: bool,
-    takes: usize,
+    streams: Streams,
     is_done: bool,
 ) {
-    let (all, hand) = offices(rt, alloc, CELL, ZERO);
-    let mut left = Left {
-        seats: Vec::new(alloc),
-        slips: Vec::new(alloc),
-    };
-    let end = visit(
-        rt,
-        alloc,
-        &all,
-        hand,
-        &ASKS[..bytes.min(ASKS.len())],
-        step,
-        fails,
-        takes,
-    );
-    let (_, _, hand) = kept(rt, &mut left, end);
-    assert!(rt; left.slips.len() == usize::from(is_done));
+    let (mut visited, hand) = unvisited(rt, alloc);
+    let asks = &ASKS[..bytes.min(ASKS.len())];
+    let end = visit(rt, alloc, &visited.all, hand, asks, streams);
+    let (_, _, hand) = kept(rt, &mut visited, end);
+    assert!(rt; visited.slips.len() == usize::from(is_done));
     let answers = if is_done { DONE_BEFORE } else { DONE_NOW };
-    let _hand = told(rt, alloc, &all, hand, &mut left, step, &(BACK, answers));
-    let Left { seats, slips } = left;
-    assert!(rt; slips.len() == 2 && is_closed(all, seats, &slips));
+    let back: Visit = (BACK, answers);
+    let _hand = told(rt, alloc, &mut visited, hand, streams.step, &back);
+    assert!(rt; visited.slips.len() == 2 && is_left_whole(visited));
 }
 
 #[test]
@@ -259,7 +244,12 @@ fn the_input_of_a_client_breaks_off_at_each_byte(rt: HostRuntime) {
     for bytes in 0..=ASKS.len() {
         for fails in [false, true] {
             // A CR may stand before the LF, so a line is whole only with its LF.
-            breaks_off(&rt, alloc, bytes, 7, fails, 4096, bytes == ASKS.len());
+            let streams = Streams {
+                step: 7,
+                takes: 4096,
+                fails,
+            };
+            breaks_off(&rt, alloc, bytes, streams, bytes == ASKS.len());
         }
     }
 }
@@ -271,8 +261,18 @@ fn the_output_of_a_client_breaks_off_at_each_byte(rt: HostRuntime) {
     let alloc = rt.alloc();
     for takes in 0..ASKS_TOLD.len() {
         for fails in [false, true] {
-            breaks_off(&rt, alloc, ASKS.len(), 4096, fails, takes, true);
-            breaks_off(&rt, alloc, ASKS.len(), 1, fails, takes, takes >= 19);
+            let at_once = Streams {
+                step: 4096,
+                takes,
+                fails,
+            };
+            breaks_off(&rt, alloc, ASKS.len(), at_once, true);
+            let by_bytes = Streams {
+                step: 1,
+                takes,
+                fails,
+            };
+            breaks_off(&rt, alloc, ASKS.len(), by_bytes, takes >= 19);
         }
     }
 }
@@ -281,32 +281,20 @@ fn the_output_of_a_client_breaks_off_at_each_byte(rt: HostRuntime) {
 #[test]
 fn a_call_that_failed_is_not_run_again(rt: HostRuntime) {
     let alloc = rt.alloc();
-    let (all, hand) = offices(&rt, alloc, CELL, ZERO);
-    let mut left = Left {
-        seats: Vec::new(alloc),
-        slips: Vec::new(alloc),
-    };
+    let (mut visited, hand) = unvisited(&rt, alloc);
     let hand = FuseHand::new(hand, 0);
     let first: Visit = (
         b"open cell as ann\ncall #1 put 7\nquit\n",
         b"opened cell next 1\naccepted 1\nfailed 1 device\nbye\n",
     );
-    let hand = told(&rt, alloc, &all, hand, &mut left, 4096, &first);
+    let hand = told(&rt, alloc, &mut visited, hand, 4096, &first);
     let second: Visit = (
         b"open cell as ann\ncall #1 put 7\ncall #2 get\nquit\n",
         b"opened cell next 2\nrepeat failed 1 device\naccepted 2\ndone 2 0\nbye\n",
     );
-    let _hand = told(
-        &rt,
-        alloc,
-        &all,
-        hand.into_inner(),
-        &mut left,
-        4096,
-        &second,
-    );
-    let Left { seats, slips } = left;
-    assert!(rt; slips.len() == 2 && is_closed(all, seats, &slips));
+    let hand = hand.into_inner();
+    let _hand = told(&rt, alloc, &mut visited, hand, 4096, &second);
+    assert!(rt; visited.slips.len() == 2 && is_left_whole(visited));
 }
 
 // Gives out the seats of an office that are left after this one.
@@ -320,18 +308,14 @@ fn fills<R: Abort + Wait>(rt: &R, office: &Office, from: u32) {
 #[test]
 fn a_name_keeps_its_seat_where_all_are_given_out(rt: HostRuntime) {
     let alloc = rt.alloc();
-    let (all, hand) = offices(&rt, alloc, CELL, ZERO);
-    let mut left = Left {
-        seats: Vec::new(alloc),
-        slips: Vec::new(alloc),
-    };
+    let (mut visited, hand) = unvisited(&rt, alloc);
     let first: Visit = (b"open cell as ann\nquit\n", b"opened cell next 1\nbye\n");
     let second: Visit = (
         b"open cell as bob\nopen cell\nopen cell as ann\ncall #1 get\nquit\n",
         b"no Full\nno Full\nopened cell next 1\naccepted 1\ndone 1 0\nbye\n",
     );
-    let hand = told(&rt, alloc, &all, hand, &mut left, 4096, &first);
-    let named = all.first().expect(&rt, "an office");
+    let hand = told(&rt, alloc, &mut visited, hand, 4096, &first);
+    let named = visited.all.first().expect(&rt, "an office");
     fills(&rt, &named.office, 2);
-    let _hand = told(&rt, alloc, &all, hand, &mut left, 4096, &second);
+    let _hand = told(&rt, alloc, &mut visited, hand, 4096, &second);
 }

@@ -5,7 +5,7 @@ use crate::waiting::{Counted, EMPTY, Gate, await_lines};
 use device_core::memory::MemHand;
 use hear_core::bell::Bell;
 use session_core::order::Named;
-use session_core::serve::serve_session;
+use session_core::serve::{Connection, serve_session};
 use std::alloc::Global;
 use std::io::{self, Read, Write};
 use std::process::Abort;
@@ -93,7 +93,14 @@ fn deaf<R: Threads + Wait + Clock + Sync>(
     reader: Gate,
     writer: Stuck,
 ) -> bool {
-    let end = serve_session(rt, alloc, reader, writer, &Bell::new(), all, hand);
+    let end = serve_session(
+        rt,
+        alloc,
+        Connection { reader, writer },
+        &Bell::new(),
+        all,
+        hand,
+    );
     end.fault.is_none() && end.writer.bytes.as_slice() == DEAF_TOLD
 }
 
@@ -113,7 +120,14 @@ fn other<R: Threads + Wait + Clock + Sync>(
     writer: Counted,
 ) -> bool {
     let hand = MemHand::new(alloc);
-    let end = serve_session(rt, alloc, reader, writer, &Bell::new(), all, hand);
+    let end = serve_session(
+        rt,
+        alloc,
+        Connection { reader, writer },
+        &Bell::new(),
+        all,
+        hand,
+    );
     end.fault.is_none() && end.writer.bytes.as_slice() == OTHER_TOLD
 }
 
@@ -173,18 +187,26 @@ fn rings(bell: &Bell, written: &AtomicU64, count: u64) {
     bell.ring();
 }
 
-// Whether a session over this text writes this.
+// A client that says this and then only pauses, and what it is to be told.
+#[derive(Drop)]
+struct Client {
+    text: &'static [u8],
+    writer: Counted,
+    told: &'static [u8],
+}
+
+// Whether the session of a client writes what it is to be told.
 fn tells<R: Threads + Wait + Clock + Sync>(
     rt: &R,
     alloc: Global,
     all: &Vec<Named>,
     hand: MemHand,
-    text: &'static [u8],
-    writer: Counted,
+    client: Client,
     bell: &Bell,
-    told: &'static [u8],
 ) -> bool {
-    let end = serve_session(rt, alloc, Silent { text }, writer, bell, all, hand);
+    let Client { text, writer, told } = client;
+    let reader = Silent { text };
+    let end = serve_session(rt, alloc, Connection { reader, writer }, bell, all, hand);
     end.fault.is_none() && end.writer.bytes.as_slice() == told
 }
 
@@ -202,13 +224,14 @@ fn stops<R: Abort + Threads + Wait + Clock + Sync>(
         bytes: Vec::new(alloc),
         written: Arc::try_clone(&written).expect(rt, "memory"),
     };
+    let client = Client { text, writer, told };
     let bell = Bell::new();
     let rung = &bell;
     let shared = &all;
     let (_, told) = thread::join(
         rt,
         move || rings(rung, &written, count),
-        move || tells(rt, alloc, shared, hand, text, writer, rung, told),
+        move || tells(rt, alloc, shared, hand, client, rung),
     );
     assert!(rt; told);
 }
@@ -267,7 +290,7 @@ fn what_was_read_before_the_bell_is_sent_ahead(rt: HostRuntime) {
         bytes: Vec::new(alloc),
         written: Arc::new(alloc, AtomicU64::new(0)).expect(&rt, "memory"),
     };
-    let end = serve_session(&rt, alloc, reader, writer, &bell, &all, hand);
+    let end = serve_session(&rt, alloc, Connection { reader, writer }, &bell, &all, hand);
     let told = b"opened buffer\nno Gone\ncancel 1 Unknown\nno Gone\nbye\n";
     assert!(rt; end.fault.is_none() && end.writer.bytes.as_slice() == told.as_slice());
 }

@@ -10,7 +10,7 @@ use hand_core::whole::fetch;
 use hear_core::bell::Bell;
 use session_core::end::SessionEnd;
 use session_core::order::Named;
-use session_core::serve::serve_session;
+use session_core::serve::{Connection, serve_session};
 use std::alloc::Global;
 use std::process::Abort;
 use std::sync::Wait;
@@ -54,7 +54,14 @@ fn played<R: Abort + Threads + Wait + Clock + Sync, H: Hand + Drop>(
         writer,
         hand,
         fault,
-    } = serve_session(rt, alloc, reader, writer, &Bell::new(), &all, hand);
+    } = serve_session(
+        rt,
+        alloc,
+        Connection { reader, writer },
+        &Bell::new(),
+        &all,
+        hand,
+    );
     let mut seats = Vec::new(alloc);
     if let Some(seat) = seat {
         seats.push(seat).expect(rt, "memory");

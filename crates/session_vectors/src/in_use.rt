@@ -14,7 +14,7 @@ use path_tree::name::Name;
 use run_core::at_once::run_at_once;
 use session_core::end::SessionEnd;
 use session_core::order::Named;
-use session_core::serve::serve_session;
+use session_core::serve::{Connection, serve_session};
 use std::alloc::Global;
 use std::io::{self, Read};
 use std::process::Abort;
@@ -44,7 +44,14 @@ fn visit<R: Threads + Wait + Clock + Sync + Abort>(
         left: 4096,
         fails: false,
     };
-    let end = serve_session(rt, alloc, reader, writer, &Bell::new(), all, hand);
+    let end = serve_session(
+        rt,
+        alloc,
+        Connection { reader, writer },
+        &Bell::new(),
+        all,
+        hand,
+    );
     assert!(rt; end.fault.is_none() && end.seat.is_none());
     (end.writer.bytes, end.hand)
 }
@@ -163,7 +170,14 @@ fn quits<R: Threads + Wait + Clock + Sync>(
     reader: Lingering,
     writer: Counted,
 ) -> Option<MemHand> {
-    let end = serve_session(rt, alloc, reader, writer, &Bell::new(), all, hand);
+    let end = serve_session(
+        rt,
+        alloc,
+        Connection { reader, writer },
+        &Bell::new(),
+        all,
+        hand,
+    );
     let told: &[u8] = b"opened buffer next 1\naccepted 1\ncancelled 1\nbye\n";
     if end.fault.is_some() || end.seat.is_some() || end.writer.bytes.as_slice() != told {
         return None;
@@ -270,7 +284,14 @@ fn follows<R: Threads + Wait + Clock + Sync>(
     reader: Gate,
     writer: Counted,
 ) -> bool {
-    let end = serve_session(rt, alloc, reader, writer, &Bell::new(), all, hand);
+    let end = serve_session(
+        rt,
+        alloc,
+        Connection { reader, writer },
+        &Bell::new(),
+        all,
+        hand,
+    );
     let told: &[u8] =
         b"opened turns next 2\nrepeat done 1\naccepted 3\ndone 3\nrepeat done 3\nbye\n";
     end.fault.is_none() && end.seat.is_none() && end.writer.bytes.as_slice() == told
@@ -337,7 +358,14 @@ fn lines_are_sent_before_a_call_that_is_held_back(rt: HostRuntime) {
         fails: true,
     };
     let ticket = begun(&rt, &named.office, &mut seat);
-    let end = serve_session(&rt, alloc, reader, writer, &Bell::new(), &all, hand);
+    let end = serve_session(
+        &rt,
+        alloc,
+        Connection { reader, writer },
+        &Bell::new(),
+        &all,
+        hand,
+    );
     let SessionEnd {
         object: _,
         seat: _,

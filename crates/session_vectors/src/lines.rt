@@ -1,6 +1,6 @@
 //! What a session answers, and how it ends.
 
-use crate::make::{CELL, Pieces, Short, offices};
+use crate::make::{CELL, Streams, connected, offices};
 use hear_core::bell::Bell;
 use office_core::office::Office;
 use office_core::seat::Seat;
@@ -46,37 +46,24 @@ pub fn is_closed(all: Vec<Named>, seats: Vec<Seat>, receipts: &[Slip]) -> bool {
     false
 }
 
-// Plays a session over these lines, so many bytes a read, with a writer that takes so many bytes. At their end both
-// streams fail, or there is no more. It answers whether what was written is a front of what is expected, as long as the
+// Plays a session over these lines. It answers whether what was written is a front of what is expected, as long as the
 // writer takes it, whether the fault is this one, and whether the office is closed with the seat and the receipts.
 fn plays<R: Abort + Threads + Wait + Clock + Sync>(
     rt: &R,
     alloc: Global,
     lines: &[u8],
-    step: usize,
-    fails: bool,
-    takes: usize,
+    streams: Streams,
     told: &[u8],
     fault: Option<SessionFault>,
 ) -> bool {
     let (all, hand) = offices(rt, alloc, CELL, ZERO);
-    let reader = Pieces {
-        bytes: lines.to_vec(alloc).expect(rt, "memory"),
-        at: 0,
-        step,
-        fails,
-    };
-    let writer = Short {
-        bytes: Vec::new(alloc),
-        left: takes,
-        fails,
-    };
-    let end = serve_session(rt, alloc, reader, writer, &Bell::new(), &all, hand);
+    let connection = connected(rt, alloc, lines, streams);
+    let end = serve_session(rt, alloc, connection, &Bell::new(), &all, hand);
     let mut seats = Vec::new(alloc);
     if let Some(seat) = end.seat {
         seats.push(seat).expect(rt, "memory");
     }
-    let len = told.len().min(takes);
+    let len = told.len().min(streams.takes);
     end.writer.bytes.as_slice() == &told[..len]
         && end.fault == fault
         && is_closed(all, seats, &end.receipts)
@@ -90,7 +77,7 @@ fn answers<R: Abort + Threads + Wait + Clock + Sync>(
     told: &[u8],
 ) {
     for step in [1, 7, 4096] {
-        assert!(rt; plays(rt, alloc, lines, step, false, 4096, told, None));
+        assert!(rt; plays(rt, alloc, lines, Streams::whole(step), told, None));
     }
 }
 
@@ -108,7 +95,12 @@ fn a_write_fails_at_each_byte(rt: HostRuntime) {
     for takes in 0..CALLED_TOLD.len() {
         let fault = Some(SessionFault::WriteFault);
         for fails in [false, true] {
-            assert!(rt; plays(&rt, alloc, CALLED, 4096, fails, takes, CALLED_TOLD, fault));
+            let streams = Streams {
+                step: 4096,
+                takes,
+                fails,
+            };
+            assert!(rt; plays(&rt, alloc, CALLED, streams, CALLED_TOLD, fault));
         }
     }
 }
@@ -130,9 +122,7 @@ fn a_line_is_too_long(rt: HostRuntime) {
             &rt,
             alloc,
             &long,
-            4096,
-            false,
-            4096,
+            Streams::whole(4096),
             b"no BadLine\nbye\n",
             None
         )
@@ -144,9 +134,7 @@ fn a_line_is_too_long(rt: HostRuntime) {
             &rt,
             alloc,
             &longer,
-            4096,
-            false,
-            4096,
+            Streams::whole(4096),
             b"no LineTooLong\n",
             fault
         )
@@ -157,14 +145,17 @@ fn a_line_is_too_long(rt: HostRuntime) {
 fn a_read_fails(rt: HostRuntime) {
     let alloc = rt.alloc();
     let fault = Some(SessionFault::ReadFault);
+    let streams = Streams {
+        step: 4096,
+        takes: 4096,
+        fails: true,
+    };
     assert!(rt;
         plays(
             &rt,
             alloc,
             b"open cell\ndan",
-            4096,
-            true,
-            4096,
+            streams,
             b"opened cell\n",
             fault
         )
@@ -259,9 +250,14 @@ fn calls_are_cut_at_each_byte(rt: HostRuntime) {
 fn a_read_fails_at_each_byte(rt: HostRuntime) {
     let alloc = rt.alloc();
     let fault = Some(SessionFault::ReadFault);
+    let streams = Streams {
+        step: 7,
+        takes: 4096,
+        fails: true,
+    };
     for len in 0..CUT.len() {
         let told = told_from(WHOLE_TOLD, len);
-        assert!(rt; plays(&rt, alloc, &CUT[..len], 7, true, 4096, told, fault));
+        assert!(rt; plays(&rt, alloc, &CUT[..len], streams, told, fault));
     }
 }
 
@@ -300,20 +296,13 @@ fn all_seats_are_given_out(rt: HostRuntime) {
     let (all, hand) = offices(&rt, alloc, CELL, ZERO);
     let named = all.first().expect(&rt, "an office");
     fills(&rt, &named.office);
-    let reader = Pieces {
-        bytes: b"open cell\ncall get\nquit\n"
-            .to_vec(alloc)
-            .expect(&rt, "memory"),
-        at: 0,
-        step: 4096,
-        fails: false,
-    };
-    let writer = Short {
-        bytes: Vec::new(alloc),
-        left: 4096,
-        fails: false,
-    };
-    let end = serve_session(&rt, alloc, reader, writer, &Bell::new(), &all, hand);
+    let connection = connected(
+        &rt,
+        alloc,
+        b"open cell\ncall get\nquit\n",
+        Streams::whole(4096),
+    );
+    let end = serve_session(&rt, alloc, connection, &Bell::new(), &all, hand);
     assert!(rt; end.writer.bytes.as_slice() == b"no Full\nno NotOpen\nbye\n".as_slice());
     assert!(rt; end.seat.is_none() && end.fault.is_none());
 }

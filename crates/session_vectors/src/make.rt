@@ -11,6 +11,7 @@ use page_core::page_list::PageList;
 use page_core::pins::Pins;
 use path_tree::name::Name;
 use session_core::order::Named;
+use session_core::serve::Connection;
 use std::alloc::Global;
 use std::io;
 use std::io::{Read, Write};
@@ -129,4 +130,46 @@ impl Write for Short {
     fn flush(&mut self) -> io::Result<()> {
         Ok(())
     }
+}
+
+/// How the two sides of a connection behave: so many bytes a read, and a writer that takes so many bytes. At their end
+/// both fail, or there is no more.
+#[derive(Clone, Copy)]
+pub struct Streams {
+    pub step: usize,
+    pub takes: usize,
+    pub fails: bool,
+}
+
+impl Streams {
+    /// Streams without a fault, so many bytes a read, whose writer takes what the tests write.
+    pub fn whole(step: usize) -> Streams {
+        Streams {
+            step,
+            takes: 4096,
+            fails: false,
+        }
+    }
+}
+
+/// A connection over which these lines are read.
+pub fn connected(
+    rt: &impl Abort,
+    alloc: Global,
+    lines: &[u8],
+    streams: Streams,
+) -> Connection<Pieces, Short> {
+    let Streams { step, takes, fails } = streams;
+    let reader = Pieces {
+        bytes: lines.to_vec(alloc).expect(rt, "memory"),
+        at: 0,
+        step,
+        fails,
+    };
+    let writer = Short {
+        bytes: Vec::new(alloc),
+        left: takes,
+        fails,
+    };
+    Connection { reader, writer }
 }

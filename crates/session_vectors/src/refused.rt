@@ -9,7 +9,7 @@ use device_core::memory::MemHand;
 use hear_core::bell::Bell;
 use session_core::end::SessionEnd;
 use session_core::order::Named;
-use session_core::serve::serve_session;
+use session_core::serve::{Connection, serve_session};
 use slip_core::slip::Slip;
 use std::alloc::Global;
 use std::io::{self, Read};
@@ -87,8 +87,10 @@ fn comes<R: Abort + Threads + Wait + Clock + Sync>(
     } = serve_session(
         rt,
         alloc,
-        Text { rest: ASKS },
-        writer,
+        Connection {
+            reader: Text { rest: ASKS },
+            writer,
+        },
         &Bell::new(),
         all,
         hand,

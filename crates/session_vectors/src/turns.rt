@@ -7,7 +7,7 @@ use ask_core::answer::Cancelled;
 use hear_core::bell::Bell;
 use hear_core::fault::HearFault;
 use session_core::end::conclude;
-use session_core::serve::serve_session;
+use session_core::serve::{Connection, serve_session};
 use session_text::line::{Line, Refusal, Unended};
 use slip_core::slip::Slip;
 use std::alloc::Global;
@@ -168,7 +168,17 @@ fn two_receipts<R: Abort + Threads + Wait + Clock + Sync>(rt: &R, alloc: Global)
         step: 4096,
         fails: false,
     };
-    let end = serve_session(rt, alloc, reader, writer(alloc), &Bell::new(), &all, hand);
+    let end = serve_session(
+        rt,
+        alloc,
+        Connection {
+            reader,
+            writer: writer(alloc),
+        },
+        &Bell::new(),
+        &all,
+        hand,
+    );
     assert!(rt; end.fault.is_none());
     end.receipts
 }

@@ -5,7 +5,7 @@ use device_core::memory::MemHand;
 use hear_core::bell::Bell;
 use session_core::end::SessionEnd;
 use session_core::order::Named;
-use session_core::serve::serve_session;
+use session_core::serve::{Connection, serve_session};
 use std::alloc::Global;
 use std::io::{Read, Write};
 use std::process::Abort;
@@ -119,7 +119,14 @@ fn written<R: Abort + Threads + Wait + Clock + Sync>(
         writer,
         hand: _,
         fault,
-    } = serve_session(rt, alloc, reader, writer, &Bell::new(), all, hand);
+    } = serve_session(
+        rt,
+        alloc,
+        Connection { reader, writer },
+        &Bell::new(),
+        all,
+        hand,
+    );
     let Counted { bytes, written: _ } = writer;
     assert!(rt; fault.is_none() && receipts.is_empty());
     bytes

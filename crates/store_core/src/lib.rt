@@ -10,4 +10,5 @@
 pub mod laws;
 pub mod open;
 pub mod pages;
+pub mod part_at;
 pub mod save;

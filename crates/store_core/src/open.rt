@@ -12,7 +12,8 @@ ghost use Rattle.store_core.specs.Opened.{AreLoaded, ArePinned, OpenCause, PartC
 ghost use Rattle.store_core.specs.Pages.{ArePinsServed};
 
 use crate::pages::put_cut;
-use decl_core::object::{Object, Part};
+use crate::part_at::PartAt;
+use decl_core::object::Object;
 use hand_core::hand::{Hand, HandFault};
 use hand_core::shelf::Shelf;
 use page_core::page_list::PageList;
@@ -148,19 +149,17 @@ fn pin_value<H: Hand>(alloc: Global, hand: &mut H, value: &Value) -> Result<Page
 // Opens one part.
 fn open_part<S: Shelf, H: Hand>(
     alloc: Global,
-    object: &Name,
-    part: &Part,
-    number: usize,
+    at: PartAt,
     shelf: &mut S,
     hand: &mut H,
     key: &mut Vec<u8>,
 ) -> Result<(PageList, Value), OpenFault>
     ensures loaded { IfOk result (λ opened. (papers : Papers) → S.holds shelf.new papers →
-        BeginsWith part.now.kind (get papers (part_key object.now part.now.name)) opened.1) }
+        BeginsWith at.entry.part.now.kind (get papers (part_key at.entry.object.now at.entry.part.now.name)) opened.1) }
     ensures pinned { IfOk result (λ opened. (a : Assignment) → H.agrees hand.new a →
-        IsPinned a part.now.kind opened.0 opened.1) }
+        IsPinned a at.entry.part.now.kind opened.0 opened.1) }
     ensures served { IfOk result (λ opened. AreServed (H.serves hand.new) opened.0) }
-    ensures kind { IfOk result (λ opened. kind_of opened.1 ≡ part.now.kind) }
+    ensures kind { IfOk result (λ opened. kind_of opened.1 ≡ at.entry.part.now.kind) }
     ensures papers { (papers : Papers) → S.holds shelf.new papers → S.holds shelf.old papers }
     ensures files { (a : Assignment) → H.agrees hand.new a → H.agrees hand.old a }
     ensures serves { (s : Stamp) → H.serves hand.old s → H.serves hand.new s }
@@ -169,11 +168,12 @@ fn open_part<S: Shelf, H: Hand>(
         IfErr result (λ e. e ≡ OpenFault.Device → Failed (S.failed shelf.old) (S.failed shelf.new)) }
     ensures counted_shelf { S.failed shelf.old ≤ S.failed shelf.new }
     ensures counted_hand { H.failed hand.old ≤ H.failed hand.new }
-    ensures cause { IfErr result (λ e. PartCause (S.holds shelf.new) (part_key object.now part.now.name) part.now.kind
-        number (Failed (S.failed shelf.old) (S.failed shelf.new) ⊎ Failed (H.failed hand.old) (H.failed hand.new)) e) }
+    ensures cause { IfErr result (λ e. PartCause (S.holds shelf.new)
+        (part_key at.entry.object.now at.entry.part.now.name) at.entry.part.now.kind at.entry.number
+        (Failed (S.failed shelf.old) (S.failed shelf.new) ⊎ Failed (H.failed hand.old) (H.failed hand.new)) e) }
 {
-    write_key(key, object, &part.name)?;
-    let value = load_value(alloc, shelf, key, part.kind, number)?;
+    write_key(key, at.object, &at.part.name)?;
+    let value = load_value(alloc, shelf, key, at.part.kind, at.number)?;
     let pin = pin_value(alloc, hand, &value)?;
     Ok((pin, value))
 }
@@ -234,7 +234,12 @@ pub fn open_parts<S: Shelf, H: Hand>(
     let mut values = Vec::with_capacity(alloc, count)?;
     for number in 0..count {
         let part = &object.parts[number];
-        let opened = match open_part(alloc, &object.name, part, number, shelf, hand, &mut key) {
+        let at = PartAt {
+            object: &object.name,
+            part,
+            number,
+        };
+        let opened = match open_part(alloc, at, shelf, hand, &mut key) {
             Ok(opened) => opened,
             Err(fault) => return Err(fault),
         };

@@ -12,12 +12,12 @@ ghost use Rattle.store_core.specs.Pages.{ArePinsServed};
 
 use crate::open::write_key;
 use crate::pages::fetch_pages;
-use decl_core::object::{Object, Part};
+use crate::part_at::PartAt;
+use decl_core::object::Object;
 use hand_core::hand::{Hand, HandFault};
 use hand_core::shelf::Shelf;
 use page_core::page_list::PageList;
 use page_core::pins::Pins;
-use path_tree::name::Name;
 use std::alloc::{AllocError, Global};
 use thiserror::Error;
 use value_core::decode::{DecodeFault, decode};
@@ -86,81 +86,77 @@ fn of_device(fault: HandFault, number: usize) -> SaveFault
 // The bytes under a part's pin, which spell a value of its kind in the second format.
 fn fetch_part<H: Hand>(
     alloc: Global,
-    part: &Part,
+    at: PartAt,
     pin: &PageList,
-    number: usize,
     hand: &mut H,
 ) -> Result<Vec<u8>, SaveFault>
     ensures ok { IfOk result (λ bytes. (a : Assignment) → H.agrees hand.new a →
-        IsFetched a part.now pin.now bytes.items) }
+        IsFetched a at.entry.part.now pin.now bytes.items) }
     ensures files { (a : Assignment) → H.agrees hand.new a → H.agrees hand.old a }
     ensures serves { (s : Stamp) → H.serves hand.old s → H.serves hand.new s }
     ensures works { Always (H.works_for hand.old) → Always (H.works_for hand.new) }
     ensures in_order { Always (H.works_for hand.old) → AreServed (H.serves hand.old) pin.now →
         IfErr result (λ e. (n : ℕ) → e ≡ SaveFault.Device n → ⊥) }
     ensures counted { H.failed hand.old ≤ H.failed hand.new }
-    ensures cause { IfErr result (λ e. PinSaveCause (H.agrees hand.new) part.now pin.now number
+    ensures cause { IfErr result (λ e. PinSaveCause (H.agrees hand.new) at.entry.part.now pin.now at.entry.number
         (Failed (H.failed hand.old) (H.failed hand.new)) e) }
 {
     match fetch_pages(alloc, hand, pin.stamps()) {
-        Ok(bytes) => match decode(alloc, part.kind, &bytes) {
+        Ok(bytes) => match decode(alloc, at.part.kind, &bytes) {
             Ok(_) => Ok(bytes),
-            Err(DecodeFault::Damaged) => Err(SaveFault::Damaged(number)),
+            Err(DecodeFault::Damaged) => Err(SaveFault::Damaged(at.number)),
             Err(DecodeFault::Memory) => Err(SaveFault::Memory),
         },
-        Err(fault) => Err(of_device(fault, number)),
+        Err(fault) => Err(of_device(fault, at.number)),
     }
 }
 
 // Stores bytes under a part's name.
 fn store_part<S: Shelf>(
-    object: &Name,
-    part: &Part,
-    number: usize,
+    at: PartAt,
     bytes: &[u8],
     shelf: &mut S,
     key: &mut Vec<u8>,
 ) -> Result<(), SaveFault>
     ensures ok { OnOk result ((papers : Papers) → S.holds shelf.new papers →
         (before : Papers) × S.holds shelf.old before
-        × (papers ≡ insert before (part_key object.now part.now.name) bytes.now)) }
-    ensures left { OnErr result (StoreLeaves (S.holds shelf.old) (S.holds shelf.new) (part_key object.now part.now.name)
-        bytes.now) }
+        × (papers ≡ insert before (part_key at.entry.object.now at.entry.part.now.name) bytes.now)) }
+    ensures left { OnErr result (StoreLeaves (S.holds shelf.old) (S.holds shelf.new)
+        (part_key at.entry.object.now at.entry.part.now.name) bytes.now) }
     ensures counted { S.failed shelf.old ≤ S.failed shelf.new }
-    ensures cause { IfErr result (λ e. StoreCause number (Failed (S.failed shelf.old) (S.failed shelf.new)) e) }
+    ensures cause { IfErr result (λ e. StoreCause at.entry.number
+        (Failed (S.failed shelf.old) (S.failed shelf.new)) e) }
 {
-    match write_key(key, object, &part.name) {
+    match write_key(key, at.object, &at.part.name) {
         Ok(()) => {}
         Err(_) => return Err(SaveFault::Memory),
     }
     match shelf.store(key, bytes) {
         Ok(()) => Ok(()),
-        Err(fault) => Err(of_device(fault, number)),
+        Err(fault) => Err(of_device(fault, at.number)),
     }
 }
 
-/// Saves one part of an object, the one of this number, counted from 0: the bytes under its pin, those of its pages one
-/// behind the other, are read from the hand, and stored on the shelf under the part's name, which `key` gets.
+/// Saves one part of an object: the bytes under its pin, those of its pages one behind the other, are read from the
+/// hand, and stored on the shelf under the part's name, which `key` gets.
 ///
 /// The faults are those of `save_parts`. Where the part is damaged nothing is stored; where a device failed or memory
 /// was refused, nothing of it or all.
 pub fn save_part<S: Shelf, H: Hand>(
     alloc: Global,
-    object: &Name,
-    part: &Part,
-    number: usize,
+    at: PartAt,
     pin: &PageList,
     shelf: &mut S,
     hand: &mut H,
     key: &mut Vec<u8>,
 ) -> Result<(), SaveFault>
     ensures ok { OnOk result ((bytes : List ℕ)
-        × ((a : Assignment) → H.agrees hand.new a → IsFetched a part.now pin.now bytes)
+        × ((a : Assignment) → H.agrees hand.new a → IsFetched a at.entry.part.now pin.now bytes)
         × ((papers : Papers) → S.holds shelf.new papers →
         (before : Papers) × S.holds shelf.old before
-        × (papers ≡ insert before (part_key object.now part.now.name) bytes))) }
-    ensures left { IfErr result (λ e. PartLeaves (H.agrees hand.new) (S.holds shelf.old) (S.holds shelf.new) object.now
-        part.now pin.now e) }
+        × (papers ≡ insert before (part_key at.entry.object.now at.entry.part.now.name) bytes))) }
+    ensures left { IfErr result (λ e. PartLeaves (H.agrees hand.new) (S.holds shelf.old) (S.holds shelf.new)
+        at.entry.object.now at.entry.part.now pin.now e) }
     ensures files { (a : Assignment) → H.agrees hand.new a → H.agrees hand.old a }
     ensures serves { (s : Stamp) → H.serves hand.old s → H.serves hand.new s }
     ensures works { Always (H.works_for hand.old) → Always (H.works_for hand.new) }
@@ -168,14 +164,14 @@ pub fn save_part<S: Shelf, H: Hand>(
         IfErr result (λ e. (n : ℕ) → e ≡ SaveFault.Device n → Failed (S.failed shelf.old) (S.failed shelf.new)) }
     ensures counted_shelf { S.failed shelf.old ≤ S.failed shelf.new }
     ensures counted_hand { H.failed hand.old ≤ H.failed hand.new }
-    ensures cause { IfErr result (λ e. PinSaveCause (H.agrees hand.new) part.now pin.now number
+    ensures cause { IfErr result (λ e. PinSaveCause (H.agrees hand.new) at.entry.part.now pin.now at.entry.number
         (Failed (S.failed shelf.old) (S.failed shelf.new) ⊎ Failed (H.failed hand.old) (H.failed hand.new)) e) }
 {
-    let bytes = match fetch_part(alloc, part, pin, number, hand) {
+    let bytes = match fetch_part(alloc, at, pin, hand) {
         Ok(bytes) => bytes,
         Err(fault) => return Err(fault),
     };
-    match store_part(object, part, number, &bytes, shelf, key) {
+    match store_part(at, &bytes, shelf, key) {
         Ok(()) => Ok(()),
         Err(fault) => Err(fault),
     }
@@ -221,16 +217,12 @@ pub fn save_parts<S: Shelf, H: Hand>(
     for number in 0..object.parts.len() {
         let part = &object.parts[number];
         let pin = &lists[number];
-        match save_part(
-            alloc,
-            &object.name,
+        let at = PartAt {
+            object: &object.name,
             part,
             number,
-            pin,
-            shelf,
-            hand,
-            &mut key,
-        ) {
+        };
+        match save_part(alloc, at, pin, shelf, hand, &mut key) {
             Ok(()) => {}
             Err(fault) => return Err(fault),
         }

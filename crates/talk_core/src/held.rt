@@ -85,6 +85,13 @@ fn add_repeated(held: &mut Vec<u8>, text: &mut Vec<u8>, number: u32, reply: &Rep
     held.extend_from_slice(text.as_slice()).is_ok()
 }
 
+// How a call ended.
+#[derive(Clone, Copy)]
+struct Ended<'a> {
+    number: u32,
+    reply: &'a Reply,
+}
+
 // Holds the last line of a call that has a receipt back, and notes it.
 fn add_ended(
     alloc: Global,
@@ -92,11 +99,12 @@ fn add_ended(
     text: &mut Vec<u8>,
     notes: &mut Vec<Note>,
     spare: &mut Vec<u8>,
-    number: u32,
-    reply: &Reply,
+    call: Ended<'_>,
 ) -> bool
-    ensures { Adds held.old.items held.new.items notes.old.items notes.new.items (ended number reply.now) result }
+    ensures { Adds held.old.items held.new.items notes.old.items notes.new.items
+        (ended call.entry.number call.entry.reply.now) result }
 {
+    let Ended { number, reply } = call;
     text.clear();
     if push_ended(text, number, reply).is_err() {
         return false;
@@ -247,8 +255,7 @@ impl Held {
             &mut self.line,
             &mut self.notes,
             &mut self.spare,
-            number,
-            reply,
+            Ended { number, reply },
         ) {
             self.lost = true;
             return false;

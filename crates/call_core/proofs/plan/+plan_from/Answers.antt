@@ -9,13 +9,13 @@ use Rattle.call_core.proofs.plan.+plan_from.Goals as goal
 
 pub returns-in_default-clause-planned : goal.returns-in_default-clause-planned
 returns-in_default-clause-planned t c =
-    none_at c.args.pins.now c.args.read.now c.args.part c.args.changes.now c.args.counts.now c.args.stamps.now.items c.args.writes.now.items c.args.gone.now.items
+    none_at c.args.before.pins.now c.args.before.read.now c.args.part c.args.changes.now c.args.counts.now c.args.planned.now.stamps.items c.args.planned.now.writes.items c.args.planned.now.gone.items
     (no_room c.args.part (c.args.part + length c.args.counts.now) c.args.changes.now (omega (arith, c.in_default.ensures.cases)) c.requires.within) c.requires.none
 
 pub returns-in_default-split_first-clause-planned : goal.returns-in_default-split_first-clause-planned
 returns-in_default-split_first-clause-planned t c =
     let first : c.args.counts.now ≡ c.in-Some.count.now ∷ c.in-Some.others.now = c.in-Some.ensures.cases.0 in
-    none_at c.args.pins.now c.args.read.now c.args.part c.args.changes.now (c.in-Some.count.now ∷ c.in-Some.others.now) c.args.stamps.now.items c.args.writes.now.items c.args.gone.now.items
+    none_at c.args.before.pins.now c.args.before.read.now c.args.part c.args.changes.now (c.in-Some.count.now ∷ c.in-Some.others.now) c.args.planned.now.stamps.items c.args.planned.now.writes.items c.args.planned.now.gone.items
     (nil_from_length c.args.changes.now c.in_default-split_first.ensures.cases) (ap together (sym first) ∙ c.requires.none)
 
 pub returns-then-change-part-clause-planned : goal.returns-then-change-part-clause-planned
@@ -23,8 +23,8 @@ returns-then-change-part-clause-planned t c =
     let first : c.args.counts.now ≡ c.in-Some.count.now ∷ c.in-Some.others.now = c.in-Some.ensures.cases.0 in
     let zero : 0 ≡ c.in-Some.count.now = omega (arith, ap together (sym first) ∙ c.requires.none) in
     ok_then c.plan_from.result
-    (λ p. subst (λ n. ArePlansFrom c.args.pins.now c.args.read.now c.args.part c.args.changes.now (n ∷ c.plan_from.new.counts) c.args.stamps.now.items c.plan_from.new.stamps.items c.args.writes.now.items c.plan_from.new.writes.items c.args.gone.now.items c.plan_from.new.gone.items) zero
-    (same_from c.args.pins.now c.args.read.now c.args.part c.args.changes.now c.plan_from.new.counts c.args.stamps.now.items c.plan_from.new.stamps.items c.args.writes.now.items c.plan_from.new.writes.items c.args.gone.now.items c.plan_from.new.gone.items p))
+    (λ p. subst (λ n. ArePlansFrom c.args.before.pins.now c.args.before.read.now c.args.part c.args.changes.now (n ∷ c.plan_from.new.counts) c.args.planned.now.stamps.items c.plan_from.new.planned.stamps.items c.args.planned.now.writes.items c.plan_from.new.planned.writes.items c.args.planned.now.gone.items c.plan_from.new.planned.gone.items) zero
+    (same_from c.args.before.pins.now c.args.before.read.now c.args.part c.args.changes.now c.plan_from.new.counts c.args.planned.now.stamps.items c.plan_from.new.planned.stamps.items c.args.planned.now.writes.items c.plan_from.new.planned.writes.items c.args.planned.now.gone.items c.plan_from.new.planned.gone.items p))
     c.plan_from.ensures.planned
 
 pub returns-clause-planned : goal.returns-clause-planned
@@ -34,6 +34,6 @@ returns-clause-planned t c =
     let first : c.args.changes.now ≡ change ∷ rest = c.in-Some-split_first.ensures.cases.0 in
     let at : change.part ≡ c.args.part = omega (arith, c.if-change-part.false) in
     ok_then c.plan_from-2.result
-    (λ p. subst (λ (l : List Change). ArePlansFrom c.args.pins.now c.args.read.now c.args.part l (c.in-Ok.pages ∷ c.plan_from-2.new.counts) c.args.stamps.now.items c.plan_from-2.new.stamps.items c.args.writes.now.items c.plan_from-2.new.writes.items c.args.gone.now.items c.plan_from-2.new.gone.items) (sym first)
-    (one_from c.args.pins.now c.args.read.now c.args.part change rest c.in-Ok.pages c.plan_from-2.new.counts c.args.stamps.now.items c.plan_change.new.stamps.items c.plan_from-2.new.stamps.items c.args.writes.now.items c.plan_change.new.writes.items c.plan_from-2.new.writes.items c.args.gone.now.items c.plan_change.new.gone.items c.plan_from-2.new.gone.items at c.in-Ok.ensures p))
+    (λ p. subst (λ (l : List Change). ArePlansFrom c.args.before.pins.now c.args.before.read.now c.args.part l (c.in-Ok.pages ∷ c.plan_from-2.new.counts) c.args.planned.now.stamps.items c.plan_from-2.new.planned.stamps.items c.args.planned.now.writes.items c.plan_from-2.new.planned.writes.items c.args.planned.now.gone.items c.plan_from-2.new.planned.gone.items) (sym first)
+    (one_from c.args.before.pins.now c.args.before.read.now c.args.part change rest c.in-Ok.pages c.plan_from-2.new.counts c.args.planned.now.stamps.items c.plan_change.new.planned.stamps.items c.plan_from-2.new.planned.stamps.items c.args.planned.now.writes.items c.plan_change.new.planned.writes.items c.plan_from-2.new.planned.writes.items c.args.planned.now.gone.items c.plan_change.new.planned.gone.items c.plan_from-2.new.planned.gone.items at c.in-Ok.ensures p))
     c.plan_from-2.ensures.planned

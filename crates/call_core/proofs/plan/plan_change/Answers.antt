@@ -6,13 +6,13 @@ use Rattle.call_core.proofs.plan.plan_change.Goals as goal
 
 pub overflow_cast-result : goal.overflow_cast-result
 overflow_cast-result c =
-    let few = count_few c.in-Some.size c.pages_of-old.result.now c.as_slice-before.result.now c.as_slice-after.result.now c.args.stamps.now.items c.plan_part.new.stamps.items c.args.writes.now.items c.plan_part.new.writes.items c.args.gone.now.items c.plan_part.new.gone.items
+    let few = count_few c.in-Some.size c.pages_of-old.result.now c.as_slice-was.result.now c.as_slice-after.result.now c.args.planned.now.stamps.items c.plan_part.new.planned.stamps.items c.args.planned.now.writes.items c.plan_part.new.planned.writes.items c.args.planned.now.gone.items c.plan_part.new.planned.gone.items
     c.in-Ok.ensures c.in-Some.ensures.0 c.in-Some.ensures.1 c.len.result c.len-start.result (omega (arith, c.len-start.ensures)) (omega (arith, c.len.ensures)) in
     omega (arith, few)
 
 pub returns : goal.returns
 returns c =
-    let there : slice_get c.args.read.now c.args.change.now.part ≡ Some c.index-read-change.result = slice_get_read c.args.read.now (length c.args.read.now) c.args.change.now.part c.index-read-change.result refl c.requires.read c.index-read-change.is in
-    planned_change c.in-Some.size c.pages_of-old.result.now c.as_slice-before.result.now c.as_slice-after.result.now c.args.stamps.now.items c.plan_part.new.stamps.items c.args.writes.now.items c.plan_part.new.writes.items c.args.gone.now.items c.plan_part.new.gone.items
+    let there : slice_get c.args.before.read.now c.args.change.now.part ≡ Some c.index-read-change.result = slice_get_read c.args.before.read.now (length c.args.before.read.now) c.args.change.now.part c.index-read-change.result refl c.requires.read c.index-read-change.is in
+    planned_change c.in-Some.size c.pages_of-old.result.now c.as_slice-was.result.now c.as_slice-after.result.now c.args.planned.now.stamps.items c.plan_part.new.planned.stamps.items c.args.planned.now.writes.items c.plan_part.new.planned.writes.items c.args.planned.now.gone.items c.plan_part.new.planned.gone.items
     c.in-Ok.ensures c.in-Some.ensures.0 c.in-Some.ensures.1 c.len.result c.len-start.result (omega (arith, c.len-start.ensures)) (omega (arith, c.len.ensures))
-    c.args.pins.now c.args.read.now c.args.change.now c.pages_of-old.ensures (there ∙ ap Some (sym c.as_slice-before.ensures)) c.as_slice-after.ensures
+    c.args.before.pins.now c.args.before.read.now c.args.change.now c.pages_of-old.ensures (there ∙ ap Some (sym c.as_slice-was.ensures)) c.as_slice-after.ensures

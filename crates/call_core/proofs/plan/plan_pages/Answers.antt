@@ -20,19 +20,19 @@ plan_from-requires-clause-known c =
 
 pub invariant_of-result : goal.invariant_of-result
 invariant_of-result c =
-    let plan : IsPlanned c.args.task.now.pins c.args.read.now c.args.changes.now c.plan_from.new.counts c.plan_from.new.stamps.items c.plan_from.new.writes.items c.plan_from.new.gone.items =
-    planned_from_empty c.args.task.now.pins c.args.read.now c.args.changes.now c.plan_from.new.counts c.new-stamps.result.items c.plan_from.new.stamps.items c.new-writes.result.items c.plan_from.new.writes.items c.new-gone.result.items c.plan_from.new.gone.items
-    c.in-Ok.ensures.planned c.new-stamps.ensures.items c.new-writes.ensures.items c.new-gone.ensures.items in
+    let plan : IsPlanned c.args.task.now.pins c.args.read.now c.args.changes.now c.plan_from.new.counts c.plan_from.new.planned.stamps.items c.plan_from.new.planned.writes.items c.plan_from.new.planned.gone.items =
+    planned_from_empty c.args.task.now.pins c.args.read.now c.args.changes.now c.plan_from.new.counts c.new.result.items c.plan_from.new.planned.stamps.items c.new-2.result.items c.plan_from.new.planned.writes.items c.new-3.result.items c.plan_from.new.planned.gone.items
+    c.in-Ok.ensures.planned c.new.ensures.items c.new-2.ensures.items c.new-3.ensures.items in
     record {
-      counted = counts_are c.args.task.now.pins c.args.read.now c.args.changes.now c.plan_from.new.counts c.plan_from.new.stamps.items c.plan_from.new.writes.items c.plan_from.new.gone.items plan;
-      placed = each_place plan.parts c.plan_from.new.stamps.items c.plan_from.new.writes.items c.plan_from.new.gone.items plan.plans;
+      counted = counts_are c.args.task.now.pins c.args.read.now c.args.changes.now c.plan_from.new.counts c.plan_from.new.planned.stamps.items c.plan_from.new.planned.writes.items c.plan_from.new.planned.gone.items plan;
+      placed = each_place plan.parts c.plan_from.new.planned.stamps.items c.plan_from.new.planned.writes.items c.plan_from.new.planned.gone.items plan.plans;
       short = renewals_short c.args.task.now.pins c.args.read.now 0 c.args.changes.now plan.parts c.plan_from.new.counts plan.renewals;
       few = omega (arith, ap length c.in-Ok-with_capacity.ensures.items);
-      twice = (c.in-Ok-with_capacity-2.ensures.items, omega (arith, c.in-Ok-with_capacity-2.ensures.capacity, c.len-2.ensures, c.plan_from.new.stamps.ok.0));
-      room = omega (arith, c.in-Ok-with_capacity.ensures.capacity, c.len.ensures, c.plan_from.new.writes.ok.0);
+      twice = (c.in-Ok-with_capacity-2.ensures.items, omega (arith, c.in-Ok-with_capacity-2.ensures.capacity, c.len-2.ensures, c.plan_from.new.planned.stamps.ok.0));
+      room = omega (arith, c.in-Ok-with_capacity.ensures.capacity, c.len.ensures, c.plan_from.new.planned.writes.ok.0);
     }
 
 pub returns-clause-planned : goal.returns-clause-planned
 returns-clause-planned c =
-    planned_from_empty c.args.task.now.pins c.args.read.now c.args.changes.now c.plan_from.new.counts c.new-stamps.result.items c.plan_from.new.stamps.items c.new-writes.result.items c.plan_from.new.writes.items c.new-gone.result.items c.plan_from.new.gone.items
-    c.in-Ok.ensures.planned c.new-stamps.ensures.items c.new-writes.ensures.items c.new-gone.ensures.items
+    planned_from_empty c.args.task.now.pins c.args.read.now c.args.changes.now c.plan_from.new.counts c.new.result.items c.plan_from.new.planned.stamps.items c.new-2.result.items c.plan_from.new.planned.writes.items c.new-3.result.items c.plan_from.new.planned.gone.items
+    c.in-Ok.ensures.planned c.new.ensures.items c.new-2.ensures.items c.new-3.ensures.items

@@ -1,5 +1,4 @@
 use Rattle.std.proofs.Common.{◌∙◌, ap, sym, subst, refl, length, arith}
-use Rattle.serve_core.specs.Closes.{openings_in}
 use Rattle.serve_core.specs.Runs.{named_in, IsNotOpenedOf}
 use Rattle.serve_core.proofs.Steps.{step_some, step_none}
 use Rattle.serve_core.proofs.Opening.{opened_none, opened_more, opened_all, loaded_all, pinned_all, opened_not}
@@ -9,7 +8,7 @@ pub loop-accepted-init : goal.loop-accepted-init
 loop-accepted-init g c =
     let gives = c.into_iter-accepted-iterator.ensures.into_iter_gives in
     record {
-      so = opened_none (g.S.Shelf.holds c.args.closing.now.parts) (g.K.Hand.agrees c.args.closing.now.hand) _ _ _ _ _ gives.0 (omega (arith, gives.1, ap length gives.0, c.args.ready.ok.0)) (ap named_in c.new.ensures.items) (ap openings_in c.new-2.ensures.items);
+      so = opened_none (g.S.Shelf.holds c.args.closing.now.parts) (g.K.Hand.agrees c.args.closing.now.hand) _ _ _ _ _ gives.0 (omega (arith, gives.1, ap length gives.0, c.args.ready.ok.0)) (ap named_in c.new.ensures.items) c.new-2.ensures.items;
       many = ap length c.new-2.ensures.items ∙ sym (ap length c.new.ensures.items);
       traces = refl;
       trouble = refl;
@@ -20,7 +19,7 @@ loop-accepted-preserved g c =
     let step = step_some c.loop-accepted.accepted-iterator c.next.new.self _ _ c.in-Some.is c.next.ensures.steps in
     let so = c.loop-accepted.invariant.so in
     record {
-      so = opened_more c.in-Some.accepted _ _ _ c.in-Ok.opened.name _ c.in-Ok.opened.opening.items so step.0 step.1 c.in-Ok.ensures.name c.in-Ok-add.ensures.named c.in-Ok-add.ensures.opening
+      so = opened_more c.in-Some.accepted _ _ _ c.in-Ok.opened.name _ c.in-Ok.opened.opening so step.0 step.1 c.in-Ok.ensures.name c.in-Ok-add.ensures.named c.in-Ok-add.ensures.opening
           c.in-Ok.ensures.loaded c.in-Ok.ensures.pinned c.in-Ok.ensures.papers c.in-Ok.ensures.files;
       many = c.in-Ok-add.ensures.many c.loop-accepted.invariant.many;
       traces = c.in-Ok.ensures.traces ∙ c.loop-accepted.invariant.traces;

@@ -1,6 +1,8 @@
-use Rattle.std.proofs.Common.{refl, subst, Bool}
+use Rattle.std.proofs.Common.{refl, subst, Bool, List}
 use Rattle.std.specs.Prelude.{IsTrue}
+use Rattle.value_core.specs.Contents.{Contents}
 use Rattle.keep_core.specs.Kept.{Traces}
+use Rattle.keep_core.specs.Opening.{values_of}
 use Rattle.keep_core.specs.Ends.{trace_of}
 use Rattle.keep_core.proofs.close.Closing.keep.Goals as goal
 
@@ -10,7 +12,8 @@ returns-clause-kept g c =
       closed = refl;
       between = c.save_all-saved.new.self.trouble;
       saves = c.save_all-saved.ensures.saves;
-      traces = subst (λ x. Traces c.args.desk.now.object.name (trace_of c.args.desk.now c.args.opening.now) (g.T.Shelf.holds x) (g.T.Shelf.holds c.keep_trace-traced.new.traces) c.keep_trace-traced.result c.save_all-saved.new.self.trouble c.keep_trace-traced.new.trouble) c.save_all-saved.ensures.traces c.keep_trace-traced.ensures;
+      traces = subst (λ x. Traces c.args.desk.now.object.name (trace_of c.args.desk.now (values_of c.args.opening.now)) (g.T.Shelf.holds x) (g.T.Shelf.holds c.keep_trace-traced.new.traces) c.keep_trace-traced.result c.save_all-saved.new.self.trouble c.keep_trace-traced.new.trouble) c.save_all-saved.ensures.traces
+          (subst (λ (values : List Contents). Traces c.args.desk.now.object.name (trace_of c.args.desk.now values) (g.T.Shelf.holds c.save_all-saved.new.self.traces) (g.T.Shelf.holds c.keep_trace-traced.new.traces) c.keep_trace-traced.result c.save_all-saved.new.self.trouble c.keep_trace-traced.new.trouble) c.deref.ensures.value c.keep_trace-traced.ensures);
       keeps = λ all.
           let one = c.both-self.ensures.all all in
           let kept = c.both-kept.ensures.all one.1 in

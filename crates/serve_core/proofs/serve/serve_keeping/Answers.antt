@@ -1,0 +1,37 @@
+use Rattle.std.proofs.Common.{refl, subst, inl, inr, ℕ}
+use Rattle.line_core.specs.declared.machine.LinesFault.TheVariants.{Memory}
+use Rattle.folder_core.specs.Numbers.{AreBetween}
+use Rattle.serve_core.proofs.Running.{run_none, run_behind}
+use Rattle.serve_core.proofs.Tidying.{moved_not, moved_all}
+use Rattle.serve_core.proofs.serve.serve_keeping.Goals as goal
+
+pub returns-in-Err-clause-run : goal.returns-in-Err-clause-run
+returns-in-Err-clause-run g c = inr (run_none c.args.ready.items Memory)
+
+pub returns-in-Err-clause-files : goal.returns-in-Err-clause-files
+returns-in-Err-clause-files g c = record {
+  mid = c.move_left.new.values;
+  moved = moved_not g.V.Values.does c.args.keeping.now.values c.move_left.new.values c.args.keeping.now.found.numbers c.in-Err.ensures.err.0;
+  own = inl refl;
+}
+
+pub returns-then-keeping-clause-run : goal.returns-then-keeping-clause-run
+returns-then-keeping-clause-run g c = run_behind c.args.ready.items c.serve_closing-ended.result c.remove_own.result c.serve_closing-ended.ensures c.remove_own.ensures.ended
+
+pub returns-then-keeping-clause-files : goal.returns-then-keeping-clause-files
+returns-then-keeping-clause-files g c =
+    let own = c.remove_own.ensures.own in
+    record {
+      mid = c.move_left.new.values;
+      moved = moved_all g.V.Values.does c.args.keeping.now.values c.move_left.new.values c.args.keeping.now.found.numbers c.numbers.result.now c.remove_own.result c.numbers.ensures.numbers (λ none. (c.in-Ok.ensures.none none).1)
+          (λ many. let moved = c.in-Ok.ensures.moved many in (moved.0, moved.1, moved.2, moved.3));
+      own = inr (c.if-keeping.true, (own.0, own.1, subst (λ (first : ℕ). AreBetween first own.0 own.1) c.deref.ensures own.2, own.3));
+    }
+
+pub returns-else-keeping-clause-files : goal.returns-else-keeping-clause-files
+returns-else-keeping-clause-files g c = record {
+  mid = c.move_left.new.values;
+  moved = moved_all g.V.Values.does c.args.keeping.now.values c.move_left.new.values c.args.keeping.now.found.numbers c.numbers.result.now c.serve_closing-ended.result c.numbers.ensures.numbers (λ none. (c.in-Ok.ensures.none none).1)
+      (λ many. let moved = c.in-Ok.ensures.moved many in (moved.0, moved.1, moved.2, moved.3));
+  own = inl refl;
+}
