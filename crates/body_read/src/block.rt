@@ -27,9 +27,9 @@ use crate::text_fault::TextFault;
 use decl_core::expr::Expr;
 use decl_core::id::PartId;
 use decl_core::stmt::{Cond, Stmt};
-use decl_core::word::Word;
+use decl_core::word::RefusalWord;
 use path_tree::name::Name;
-use path_tree::token::{Kind, Symbol, Token, is_same_symbol};
+use path_tree::token::{Symbol, Token, TokenKind, is_same_symbol};
 use std::alloc::Global;
 use value_core::kind::Elem;
 
@@ -240,21 +240,21 @@ fn string<'t>(tokens: &'t [Token]) -> Result<(&'t [u8], &'t [Token]), TextFault>
     match tokens {
         [] => Err(TextFault::Syntax(0)),
         [token, rest @ ..] => match &token.kind {
-            Kind::Text(content) => Ok((content, rest)),
-            Kind::Symbol(_) => Err(TextFault::Syntax(token.start)),
-            Kind::Number(_) => Err(TextFault::Syntax(token.start)),
-            Kind::Name(_) => Err(TextFault::Syntax(token.start)),
-            Kind::EndMark => Err(TextFault::Syntax(token.start)),
+            TokenKind::Text(content) => Ok((content, rest)),
+            TokenKind::Symbol(_) => Err(TextFault::Syntax(token.start)),
+            TokenKind::Number(_) => Err(TextFault::Syntax(token.start)),
+            TokenKind::Name(_) => Err(TextFault::Syntax(token.start)),
+            TokenKind::EndMark => Err(TextFault::Syntax(token.start)),
         },
     }
 }
 
 /// The content of a string as a word by which a body refuses.
 #[tactic(auto, using(crate::proofs::Refusals::word_some, crate::proofs::Refusals::word_none))]
-fn word(alloc: Global, bytes: &[u8], at: usize) -> Result<Word, TextFault>
+fn word(alloc: Global, bytes: &[u8], at: usize) -> Result<RefusalWord, TextFault>
     ensures { Gives (λ w. w) result (word_of_refusal bytes.now) }
 {
-    match Word::read(alloc, bytes)? {
+    match RefusalWord::read(alloc, bytes)? {
         None => Err(TextFault::Syntax(at)),
         Some(word) => Ok(word),
     }
@@ -433,11 +433,11 @@ fn statement<'t>(alloc: Global, scope: &Scope, tokens: &'t [Token], depth: u8) -
     match tokens {
         [] => Ok((empty(alloc), tokens)),
         [token, rest @ ..] => match &token.kind {
-            Kind::Name(name) => assigned(alloc, scope, name.as_bytes(), token.start, rest),
-            Kind::Symbol(s) => by_symbol(alloc, scope, tokens, *s, rest, depth),
-            Kind::Number(_) => Ok((empty(alloc), tokens)),
-            Kind::Text(_) => Ok((empty(alloc), tokens)),
-            Kind::EndMark => Ok((empty(alloc), tokens)),
+            TokenKind::Name(name) => assigned(alloc, scope, name.as_bytes(), token.start, rest),
+            TokenKind::Symbol(s) => by_symbol(alloc, scope, tokens, *s, rest, depth),
+            TokenKind::Number(_) => Ok((empty(alloc), tokens)),
+            TokenKind::Text(_) => Ok((empty(alloc), tokens)),
+            TokenKind::EndMark => Ok((empty(alloc), tokens)),
         },
     }
 }

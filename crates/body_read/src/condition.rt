@@ -21,7 +21,7 @@ use crate::text_fault::TextFault;
 use decl_core::expr::Expr;
 use decl_core::id::PartId;
 use decl_core::stmt::{Cond, Relation};
-use path_tree::token::{Kind, Symbol, Token, is_same_symbol};
+use path_tree::token::{Symbol, Token, TokenKind, is_same_symbol};
 use std::alloc::Global;
 
 /// The relation of a symbol that compares.
@@ -52,14 +52,14 @@ fn relation<'t>(tokens: &'t [Token]) -> Read<'t, Relation>
     match tokens {
         [] => Err(TextFault::Syntax(0)),
         [token, rest @ ..] => match &token.kind {
-            Kind::Symbol(s) => match relation_by(*s) {
+            TokenKind::Symbol(s) => match relation_by(*s) {
                 None => Err(TextFault::Syntax(token.start)),
                 Some(relation) => Ok((relation, rest)),
             },
-            Kind::Number(_) => Err(TextFault::Syntax(token.start)),
-            Kind::Name(_) => Err(TextFault::Syntax(token.start)),
-            Kind::Text(_) => Err(TextFault::Syntax(token.start)),
-            Kind::EndMark => Err(TextFault::Syntax(token.start)),
+            TokenKind::Number(_) => Err(TextFault::Syntax(token.start)),
+            TokenKind::Name(_) => Err(TextFault::Syntax(token.start)),
+            TokenKind::Text(_) => Err(TextFault::Syntax(token.start)),
+            TokenKind::EndMark => Err(TextFault::Syntax(token.start)),
         },
     }
 }

@@ -9,7 +9,7 @@ ghost use Rattle.body_read.specs.Starts.{start_at, second_start_at};
 
 use crate::text_fault::TextFault;
 use path_tree::name::Name;
-use path_tree::token::{Kind, Symbol, Token, is_same_symbol};
+use path_tree::token::{Symbol, Token, TokenKind, is_same_symbol};
 
 /// The byte where the first of these tokens starts; there is one, an end mark at least.
 pub fn start_of(tokens: &[Token]) -> usize
@@ -39,15 +39,15 @@ pub fn after<'t>(tokens: &'t [Token], symbol: Symbol) -> Option<&'t [Token]>
     match tokens {
         [] => None,
         [token, rest @ ..] => match &token.kind {
-            Kind::Symbol(s) => if is_same_symbol(*s, symbol) {
+            TokenKind::Symbol(s) => if is_same_symbol(*s, symbol) {
                 Some(rest)
             } else {
                 None
             },
-            Kind::Number(_) => None,
-            Kind::Name(_) => None,
-            Kind::Text(_) => None,
-            Kind::EndMark => None,
+            TokenKind::Number(_) => None,
+            TokenKind::Name(_) => None,
+            TokenKind::Text(_) => None,
+            TokenKind::EndMark => None,
         },
     }
 }
@@ -69,11 +69,11 @@ pub fn name<'t>(tokens: &'t [Token]) -> Result<(&'t Name, &'t [Token]), TextFaul
     match tokens {
         [] => Err(TextFault::Syntax(0)),
         [token, rest @ ..] => match &token.kind {
-            Kind::Name(name) => Ok((name, rest)),
-            Kind::Symbol(_) => Err(TextFault::Syntax(token.start)),
-            Kind::Number(_) => Err(TextFault::Syntax(token.start)),
-            Kind::Text(_) => Err(TextFault::Syntax(token.start)),
-            Kind::EndMark => Err(TextFault::Syntax(token.start)),
+            TokenKind::Name(name) => Ok((name, rest)),
+            TokenKind::Symbol(_) => Err(TextFault::Syntax(token.start)),
+            TokenKind::Number(_) => Err(TextFault::Syntax(token.start)),
+            TokenKind::Text(_) => Err(TextFault::Syntax(token.start)),
+            TokenKind::EndMark => Err(TextFault::Syntax(token.start)),
         },
     }
 }
@@ -86,17 +86,17 @@ pub(crate) fn operator<'t>(tokens: &'t [Token]) -> Option<(bool, &'t [Token])>
     match tokens {
         [] => None,
         [token, rest @ ..] => match &token.kind {
-            Kind::Symbol(s) => if is_same_symbol(*s, Symbol::Plus) {
+            TokenKind::Symbol(s) => if is_same_symbol(*s, Symbol::Plus) {
                 Some((true, rest))
             } else if is_same_symbol(*s, Symbol::Minus) {
                 Some((false, rest))
             } else {
                 None
             },
-            Kind::Number(_) => None,
-            Kind::Name(_) => None,
-            Kind::Text(_) => None,
-            Kind::EndMark => None,
+            TokenKind::Number(_) => None,
+            TokenKind::Name(_) => None,
+            TokenKind::Text(_) => None,
+            TokenKind::EndMark => None,
         },
     }
 }

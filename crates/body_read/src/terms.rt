@@ -20,9 +20,9 @@ use crate::scope::Scope;
 use crate::text_fault::TextFault;
 use decl_core::expr::{Expr, IntegerExpr, Source};
 use decl_core::id::PartId;
-use path_tree::token::{Kind, Symbol, Token, is_same_symbol};
+use path_tree::token::{Symbol, Token, TokenKind, is_same_symbol};
 use std::alloc::Global;
-use value_core::kind::Kind as PartKind;
+use value_core::kind::Kind;
 
 /// What was read, and the tokens behind.
 pub type Read<'t, T> = Result<(T, &'t [Token]), TextFault>;
@@ -55,7 +55,7 @@ pub(crate) fn part<'t>(
     scope: &Scope,
     tokens: &'t [Token],
     depth: u8,
-) -> Result<(u8, PartKind, &'t [Token]), TextFault>
+) -> Result<(u8, Kind, &'t [Token]), TextFault>
     ensures within { IfOk result (λ x. x.0 < 16) }
     ensures read { Gives part_read result (part_in (names_of scope.now) depth (lexemes tokens.now)) }
 {
@@ -221,14 +221,14 @@ fn term<'t>(alloc: Global, scope: &Scope, tokens: &'t [Token], depth: u8) -> Rea
         [token, rest @ ..] => {
             let at = token.start;
             match &token.kind {
-                Kind::Number(n) => Ok((Expr::Integer(IntegerExpr::Number(*n)), rest)),
-                Kind::Text(content) => {
+                TokenKind::Number(n) => Ok((Expr::Integer(IntegerExpr::Number(*n)), rest)),
+                TokenKind::Text(content) => {
                     let e = literal(alloc, content, at)?;
                     Ok((e, rest))
                 }
-                Kind::Name(name) => named(alloc, scope, name.as_bytes(), at, rest, depth),
-                Kind::Symbol(s) => by_symbol(alloc, scope, *s, at, rest, depth),
-                Kind::EndMark => Err(TextFault::Syntax(at)),
+                TokenKind::Name(name) => named(alloc, scope, name.as_bytes(), at, rest, depth),
+                TokenKind::Symbol(s) => by_symbol(alloc, scope, *s, at, rest, depth),
+                TokenKind::EndMark => Err(TextFault::Syntax(at)),
             }
         }
     }

@@ -2,7 +2,7 @@
 
 use crate::expr::{Expr, IntegerExpr, TextExpr};
 use crate::id::PartId;
-use crate::word::Word;
+use crate::word::RefusalWord;
 
 /// How two integers compare.
 #[derive(Clone, Copy, Debug, PartialEq, Eq)]
@@ -57,5 +57,5 @@ pub enum Stmt {
     /// `if c then s else t`; without `else` the second is the empty statement.
     If(Cond, Box<Stmt>, Box<Stmt>),
     /// `refuse('w')`
-    Refuse(Word),
+    Refuse(RefusalWord),
 }

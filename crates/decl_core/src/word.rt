@@ -11,11 +11,11 @@ pub const MOST_LETTERS: usize = 16;
 
 /// A word by which a body refuses: 1 to 16 lower-case letters.
 #[derive(Debug, Drop)]
-pub struct Word {
+pub struct RefusalWord {
     letters: Vec<u8>,
 }
 
-impl Model for Word {
+impl Model for RefusalWord {
     ghost use Rattle.std.specs.Prelude.{List, ℕ};
     ghost use Rattle.decl_core.specs.RefusalWord.{IsRefusalWord};
 
@@ -26,9 +26,9 @@ impl Model for Word {
     ghost invariant = { λ a. IsRefusalWord a.letters.items };
 }
 
-impl Word {
+impl RefusalWord {
     /// The word of these bytes, or `None` where they are not 1 to 16 lower-case letters.
-    pub fn read(alloc: Global, bytes: &[u8]) -> Result<Option<Word>, AllocError>
+    pub fn read(alloc: Global, bytes: &[u8]) -> Result<Option<RefusalWord>, AllocError>
         ensures { IfOk result (λ found. MatchOption found (IsRefusalWord bytes.now → ⊥)
             (λ word. IsRefusalWord bytes.now × (word ≡ bytes.now))) }
     {
@@ -36,7 +36,7 @@ impl Word {
             return Ok(None);
         }
         let letters = bytes.to_vec(alloc)?;
-        Ok(Some(Word { letters }))
+        Ok(Some(RefusalWord { letters }))
     }
 
     /// Its letters.

@@ -8,7 +8,7 @@ ghost use Rattle.decl_read.specs.declared.collect.Opening.TheVariants.{Nothing};
 
 use body_read::text_fault::TextFault;
 use path_tree::name::Name;
-use path_tree::token::{Kind, Symbol, Token, is_same_symbol};
+use path_tree::token::{Symbol, Token, TokenKind, is_same_symbol};
 use std::alloc::Global;
 
 /// What stands directly before a token.
@@ -23,15 +23,15 @@ pub(crate) enum Opening {
 }
 
 /// Whether a token is the word `object`.
-fn opens_object(kind: &Kind) -> bool
+fn opens_object(kind: &TokenKind) -> bool
     ensures { result ≡ is_object_word (lexeme_of kind.now) }
 {
     match kind {
-        Kind::Symbol(s) => is_same_symbol(*s, Symbol::Object),
-        Kind::Number(_) => false,
-        Kind::Name(_) => false,
-        Kind::Text(_) => false,
-        Kind::EndMark => false,
+        TokenKind::Symbol(s) => is_same_symbol(*s, Symbol::Object),
+        TokenKind::Number(_) => false,
+        TokenKind::Name(_) => false,
+        TokenKind::Text(_) => false,
+        TokenKind::EndMark => false,
     }
 }
 
@@ -47,11 +47,11 @@ fn is_behind_entry(opening: Opening) -> bool
 }
 
 /// What stands before the next token.
-fn opening_behind(opening: Opening, kind: &Kind) -> Opening
+fn opening_behind(opening: Opening, kind: &TokenKind) -> Opening
     ensures { result ≡ opening_after opening (lexeme_of kind.now) }
 {
     match kind {
-        Kind::Symbol(s) => if is_same_symbol(*s, Symbol::Entry) {
+        TokenKind::Symbol(s) => if is_same_symbol(*s, Symbol::Entry) {
             Opening::Entry
         } else if is_behind_entry(opening)
             && (is_same_symbol(*s, Symbol::Procedure) || is_same_symbol(*s, Symbol::Function))
@@ -60,10 +60,10 @@ fn opening_behind(opening: Opening, kind: &Kind) -> Opening
         } else {
             Opening::Nothing
         },
-        Kind::Number(_) => Opening::Nothing,
-        Kind::Name(_) => Opening::Nothing,
-        Kind::Text(_) => Opening::Nothing,
-        Kind::EndMark => Opening::Nothing,
+        TokenKind::Number(_) => Opening::Nothing,
+        TokenKind::Name(_) => Opening::Nothing,
+        TokenKind::Text(_) => Opening::Nothing,
+        TokenKind::EndMark => Opening::Nothing,
     }
 }
 
@@ -72,7 +72,7 @@ fn noted(
     alloc: Global,
     so_far: Vec<Name>,
     opening: Opening,
-    kind: &Kind,
+    kind: &TokenKind,
 ) -> Result<Vec<Name>, TextFault>
     ensures { Gives (λ v. v.items) result (Some (so_far.items ++ name_behind opening (lexeme_of kind.now))) }
 {
@@ -81,15 +81,15 @@ fn noted(
         Opening::Nothing => Ok(all),
         Opening::Entry => Ok(all),
         Opening::Operation => match kind {
-            Kind::Symbol(_) => Ok(all),
-            Kind::Number(_) => Ok(all),
-            Kind::Name(name) => {
+            TokenKind::Symbol(_) => Ok(all),
+            TokenKind::Number(_) => Ok(all),
+            TokenKind::Name(name) => {
                 let name = name.copy(alloc)?;
                 all.push(name)?;
                 Ok(all)
             }
-            Kind::Text(_) => Ok(all),
-            Kind::EndMark => Ok(all),
+            TokenKind::Text(_) => Ok(all),
+            TokenKind::EndMark => Ok(all),
         },
     }
 }

@@ -16,7 +16,7 @@ use body_read::lookup::constant_of;
 use body_read::terms::Read;
 use body_read::text_fault::TextFault;
 use path_tree::lookup::Constant;
-use path_tree::token::{Kind, Symbol, Token};
+use path_tree::token::{Symbol, Token, TokenKind};
 use std::alloc::Global;
 
 /// The most constants of an object.
@@ -29,11 +29,11 @@ fn number<'t>(tokens: &'t [Token]) -> Read<'t, u32>
     match tokens {
         [] => Err(TextFault::Syntax(0)),
         [token, rest @ ..] => match &token.kind {
-            Kind::Number(n) => Ok((*n, rest)),
-            Kind::Name(_) => Err(TextFault::Syntax(token.start)),
-            Kind::Symbol(_) => Err(TextFault::Syntax(token.start)),
-            Kind::Text(_) => Err(TextFault::Syntax(token.start)),
-            Kind::EndMark => Err(TextFault::Syntax(token.start)),
+            TokenKind::Number(n) => Ok((*n, rest)),
+            TokenKind::Name(_) => Err(TextFault::Syntax(token.start)),
+            TokenKind::Symbol(_) => Err(TextFault::Syntax(token.start)),
+            TokenKind::Text(_) => Err(TextFault::Syntax(token.start)),
+            TokenKind::EndMark => Err(TextFault::Syntax(token.start)),
         },
     }
 }

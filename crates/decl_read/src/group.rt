@@ -15,7 +15,7 @@ use body_read::scope::Scope;
 use body_read::terms::Read;
 use body_read::text_fault::TextFault;
 use path_tree::name::Name;
-use path_tree::token::{Kind, Symbol, Token};
+use path_tree::token::{Symbol, Token, TokenKind};
 use std::alloc::Global;
 
 /// Whether a symbol stands in front.
@@ -35,11 +35,11 @@ pub(crate) fn begins_name(tokens: &[Token]) -> bool
     match tokens {
         [] => false,
         [token, ..] => match &token.kind {
-            Kind::Name(_) => true,
-            Kind::Symbol(_) => false,
-            Kind::Number(_) => false,
-            Kind::Text(_) => false,
-            Kind::EndMark => false,
+            TokenKind::Name(_) => true,
+            TokenKind::Symbol(_) => false,
+            TokenKind::Number(_) => false,
+            TokenKind::Text(_) => false,
+            TokenKind::EndMark => false,
         },
     }
 }

@@ -14,8 +14,8 @@ use body_read::scope::Scope;
 use body_read::terms::Read;
 use body_read::text_fault::TextFault;
 use path_tree::name::Name;
-use path_tree::token::{Kind, Symbol, Token, is_same_symbol};
-use value_core::kind::{Elem, Kind as PartKind};
+use path_tree::token::{Symbol, Token, TokenKind, is_same_symbol};
+use value_core::kind::{Elem, Kind};
 
 /// The most elements of an array.
 const MOST_ELEMENTS: u32 = 1024;
@@ -41,11 +41,11 @@ fn size<'t>(scope: &Scope, group: &[Name], tokens: &'t [Token]) -> Read<'t, u16>
     match tokens {
         [] => Err(TextFault::Syntax(0)),
         [token, rest @ ..] => match &token.kind {
-            Kind::Number(n) => {
+            TokenKind::Number(n) => {
                 let size = allowed(*n, token.start)?;
                 Ok((size, rest))
             }
-            Kind::Name(name) => match constant_of(scope.constants, name.as_bytes()) {
+            TokenKind::Name(name) => match constant_of(scope.constants, name.as_bytes()) {
                 None => if is_known(scope, name.as_bytes()) || is_among(group, name.as_bytes()) {
                     Err(TextFault::WrongType(token.start))
                 } else {
@@ -56,9 +56,9 @@ fn size<'t>(scope: &Scope, group: &[Name], tokens: &'t [Token]) -> Read<'t, u16>
                     Ok((size, rest))
                 }
             },
-            Kind::Symbol(_) => Err(TextFault::Syntax(token.start)),
-            Kind::Text(_) => Err(TextFault::Syntax(token.start)),
-            Kind::EndMark => Err(TextFault::Syntax(token.start)),
+            TokenKind::Symbol(_) => Err(TextFault::Syntax(token.start)),
+            TokenKind::Text(_) => Err(TextFault::Syntax(token.start)),
+            TokenKind::EndMark => Err(TextFault::Syntax(token.start)),
         },
     }
 }
@@ -83,14 +83,14 @@ pub(crate) fn elem<'t>(tokens: &'t [Token]) -> Read<'t, Elem>
     match tokens {
         [] => Err(TextFault::Syntax(0)),
         [token, rest @ ..] => match &token.kind {
-            Kind::Symbol(s) => {
+            TokenKind::Symbol(s) => {
                 let e = elem_by_symbol(*s, token.start)?;
                 Ok((e, rest))
             }
-            Kind::Number(_) => Err(TextFault::Syntax(token.start)),
-            Kind::Name(_) => Err(TextFault::Syntax(token.start)),
-            Kind::Text(_) => Err(TextFault::Syntax(token.start)),
-            Kind::EndMark => Err(TextFault::Syntax(token.start)),
+            TokenKind::Number(_) => Err(TextFault::Syntax(token.start)),
+            TokenKind::Name(_) => Err(TextFault::Syntax(token.start)),
+            TokenKind::Text(_) => Err(TextFault::Syntax(token.start)),
+            TokenKind::EndMark => Err(TextFault::Syntax(token.start)),
         },
     }
 }
@@ -107,7 +107,7 @@ fn of_elem<'t>(tokens: &'t [Token]) -> Read<'t, Elem>
 
 /// What stands behind `array`.
 #[tactic(auto, unfolding(crate::specs::DeclarationReading::array_in))]
-fn array<'t>(scope: &Scope, group: &[Name], tokens: &'t [Token]) -> Read<'t, PartKind>
+fn array<'t>(scope: &Scope, group: &[Name], tokens: &'t [Token]) -> Read<'t, Kind>
     ensures { Gives (λ x. (x.0, lexemes x.1.now)) result (array_in (constants_of scope.now.constants.now)
         (lexemes tokens.now)) }
 {
@@ -115,25 +115,25 @@ fn array<'t>(scope: &Scope, group: &[Name], tokens: &'t [Token]) -> Read<'t, Par
     let (size, rest) = size(scope, group, opened)?;
     let rest = behind(rest, Symbol::CloseBracket)?;
     let (e, rest) = of_elem(rest)?;
-    Ok((PartKind::Array(size, e), rest))
+    Ok((Kind::Array(size, e), rest))
 }
 
 /// What stands behind `queue`.
 #[tactic(auto, unfolding(crate::specs::DeclarationReading::queue_in))]
-fn queue<'t>(tokens: &'t [Token]) -> Read<'t, PartKind>
+fn queue<'t>(tokens: &'t [Token]) -> Read<'t, Kind>
     ensures { Gives (λ x. (x.0, lexemes x.1.now)) result (queue_in (lexemes tokens.now)) }
 {
     let (e, rest) = of_elem(tokens)?;
-    Ok((PartKind::Queue(e), rest))
+    Ok((Kind::Queue(e), rest))
 }
 
 /// What stands behind `table`.
 #[tactic(auto, unfolding(crate::specs::DeclarationReading::table_in))]
-fn table<'t>(tokens: &'t [Token]) -> Read<'t, PartKind>
+fn table<'t>(tokens: &'t [Token]) -> Read<'t, Kind>
     ensures { Gives (λ x. (x.0, lexemes x.1.now)) result (table_in (lexemes tokens.now)) }
 {
     let (e, rest) = of_elem(tokens)?;
-    Ok((PartKind::Table(e), rest))
+    Ok((Kind::Table(e), rest))
 }
 
 /// What begins with a symbol.
@@ -144,7 +144,7 @@ fn by_symbol<'t>(
     symbol: Symbol,
     at: usize,
     tokens: &'t [Token],
-) -> Read<'t, PartKind>
+) -> Read<'t, Kind>
     ensures { Gives (λ x. (x.0, lexemes x.1.now)) result (kind_by_symbol (constants_of scope.now.constants.now) symbol
         (lexemes tokens.now)) }
 {
@@ -161,18 +161,18 @@ fn by_symbol<'t>(
 
 /// What a part holds, and the tokens behind; `group` are the names before the colon.
 #[tactic(auto, unfolding(crate::specs::DeclarationReading::kind_in))]
-pub(crate) fn kind<'t>(scope: &Scope, group: &[Name], tokens: &'t [Token]) -> Read<'t, PartKind>
+pub(crate) fn kind<'t>(scope: &Scope, group: &[Name], tokens: &'t [Token]) -> Read<'t, Kind>
     ensures { Gives (λ x. (x.0, lexemes x.1.now)) result (kind_in (constants_of scope.now.constants.now)
         (lexemes tokens.now)) }
 {
     match tokens {
         [] => Err(TextFault::Syntax(0)),
         [token, rest @ ..] => match &token.kind {
-            Kind::Symbol(s) => by_symbol(scope, group, *s, token.start, rest),
-            Kind::Number(_) => Err(TextFault::Syntax(token.start)),
-            Kind::Name(_) => Err(TextFault::Syntax(token.start)),
-            Kind::Text(_) => Err(TextFault::Syntax(token.start)),
-            Kind::EndMark => Err(TextFault::Syntax(token.start)),
+            TokenKind::Symbol(s) => by_symbol(scope, group, *s, token.start, rest),
+            TokenKind::Number(_) => Err(TextFault::Syntax(token.start)),
+            TokenKind::Name(_) => Err(TextFault::Syntax(token.start)),
+            TokenKind::Text(_) => Err(TextFault::Syntax(token.start)),
+            TokenKind::EndMark => Err(TextFault::Syntax(token.start)),
         },
     }
 }

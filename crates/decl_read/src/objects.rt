@@ -22,7 +22,7 @@ use body_read::terms::Read;
 use body_read::text_fault::TextFault;
 use decl_core::object::Object;
 use path_tree::name::Name;
-use path_tree::token::{Kind, Symbol, Token};
+use path_tree::token::{Symbol, Token, TokenKind};
 use std::alloc::Global;
 
 /// The most objects of a source.
@@ -106,11 +106,11 @@ fn is_at_end(tokens: &[Token]) -> bool
     match tokens {
         [] => false,
         [token, rest @ ..] => match &token.kind {
-            Kind::EndMark => rest.is_empty(),
-            Kind::Symbol(_) => false,
-            Kind::Number(_) => false,
-            Kind::Name(_) => false,
-            Kind::Text(_) => false,
+            TokenKind::EndMark => rest.is_empty(),
+            TokenKind::Symbol(_) => false,
+            TokenKind::Number(_) => false,
+            TokenKind::Name(_) => false,
+            TokenKind::Text(_) => false,
         },
     }
 }

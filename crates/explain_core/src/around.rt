@@ -1,7 +1,7 @@
 //! What stands around two names of a path.
 
 use note_core::tokens::{begins, find_name, first_tokens, is_symbol, tokens_from};
-use path_tree::token::{Kind, Symbol, Token};
+use path_tree::token::{Symbol, Token, TokenKind};
 
 /// Why a path that names two operations keeps them not apart, with the number of the token in the
 /// path where that stands.
@@ -57,7 +57,7 @@ fn constant_of(object: &[Token], name: &[u8]) -> u32 {
 // A number, or 0 where it is none.
 fn number_of(token: &Token) -> u32 {
     match &token.kind {
-        Kind::Number(n) => *n,
+        TokenKind::Number(n) => *n,
         _ => 0,
     }
 }
@@ -65,7 +65,7 @@ fn number_of(token: &Token) -> u32 {
 // How many a bound lets run.
 fn limit_of(object: &[Token], token: &Token) -> u32 {
     match &token.kind {
-        Kind::Name(name) => constant_of(object, name.as_bytes()),
+        TokenKind::Name(name) => constant_of(object, name.as_bytes()),
         _ => number_of(token),
     }
 }

@@ -19,7 +19,7 @@ use path_tree::lex::fault::LexFault;
 use path_tree::lex::lex;
 use path_tree::name::is_word_byte;
 use path_tree::path_fault::PathFault;
-use path_tree::token::{Kind, Symbol, Token};
+use path_tree::token::{Symbol, Token, TokenKind};
 use std::alloc::{AllocError, Global};
 
 /// The most bytes of a source.
@@ -233,7 +233,7 @@ fn in_objects(fault: DeclFault, before: &[Token], here: &[Token]) -> Said {
 fn text_of<'a>(page: Page<'a>, tokens: &[Token]) -> &'a [u8] {
     match tokens {
         [token, ..] => match &token.kind {
-            Kind::EndMark => b"the end of the file",
+            TokenKind::EndMark => b"the end of the file",
             _ => text_at(page.source, span_of(token)),
         },
         [] => b"",

@@ -7,7 +7,7 @@ use note_core::tokens::{
     begins, ends, ends_before_last, from_last, from_symbol, is_at_name, is_same_word, name_of,
     tokens_from,
 };
-use path_tree::token::{Kind, Symbol, Token};
+use path_tree::token::{Symbol, Token, TokenKind};
 
 // What is asked of the name behind these tokens, where that is known.
 fn asked_by_word(before: &[Token]) -> Option<Said> {
@@ -94,15 +94,15 @@ fn sort_here(before: &[Token], here: &[Token]) -> Option<Sort> {
         return None;
     };
     match &token.kind {
-        Kind::Number(_) => Some(Sort::Integer),
-        Kind::Text(_) => Some(Sort::Text),
-        Kind::Name(name) => sort_of_name(before, name.as_bytes()),
-        Kind::Symbol(s) => match s {
+        TokenKind::Number(_) => Some(Sort::Integer),
+        TokenKind::Text(_) => Some(Sort::Text),
+        TokenKind::Name(name) => sort_of_name(before, name.as_bytes()),
+        TokenKind::Symbol(s) => match s {
             Symbol::Count => Some(Sort::Integer),
             Symbol::First | Symbol::Lookup => sort_of_name(before, name_of(tokens_from(rest, 1))),
             _ => None,
         },
-        Kind::EndMark => None,
+        TokenKind::EndMark => None,
     }
 }
 

@@ -1,11 +1,11 @@
 //! Tokens, and rows of them.
 
-use path_tree::token::{Kind, Symbol, Token, is_same_symbol};
+use path_tree::token::{Symbol, Token, TokenKind, is_same_symbol};
 
 /// Whether a token is this symbol.
 pub fn is_symbol(token: &Token, symbol: Symbol) -> bool {
     match &token.kind {
-        Kind::Symbol(s) => is_same_symbol(*s, symbol),
+        TokenKind::Symbol(s) => is_same_symbol(*s, symbol),
         _ => false,
     }
 }
@@ -13,30 +13,30 @@ pub fn is_symbol(token: &Token, symbol: Symbol) -> bool {
 /// Whether a token is this name, in lower case.
 pub fn is_name(token: &Token, name: &[u8]) -> bool {
     match &token.kind {
-        Kind::Name(n) => n.as_bytes() == name,
+        TokenKind::Name(n) => n.as_bytes() == name,
         _ => false,
     }
 }
 
 /// Whether a token is a name.
 pub fn is_any_name(token: &Token) -> bool {
-    matches!(&token.kind, Kind::Name(_))
+    matches!(&token.kind, TokenKind::Name(_))
 }
 
 /// Whether a token is a number.
 pub fn is_number(token: &Token) -> bool {
-    matches!(&token.kind, Kind::Number(_))
+    matches!(&token.kind, TokenKind::Number(_))
 }
 
 /// Whether the source ends at this token.
 pub fn is_end_mark(token: &Token) -> bool {
-    matches!(&token.kind, Kind::EndMark)
+    matches!(&token.kind, TokenKind::EndMark)
 }
 
 /// Whether a token is a reserved word.
 pub fn is_word(token: &Token) -> bool {
     match &token.kind {
-        Kind::Symbol(s) => matches!(s.text(), [b'a'..=b'z', ..]),
+        TokenKind::Symbol(s) => matches!(s.text(), [b'a'..=b'z', ..]),
         _ => false,
     }
 }
@@ -140,7 +140,7 @@ pub fn find_name(tokens: &[Token], name: &[u8]) -> Option<usize> {
 pub fn name_of(tokens: &[Token]) -> &[u8] {
     match tokens {
         [token, ..] => match &token.kind {
-            Kind::Name(name) => name.as_bytes(),
+            TokenKind::Name(name) => name.as_bytes(),
             _ => b"",
         },
         [] => b"",
@@ -183,12 +183,12 @@ pub fn count_of(tokens: &[Token], symbol: Symbol) -> usize {
 pub fn ends_value(before: &[Token]) -> bool {
     match before {
         [.., token] => match &token.kind {
-            Kind::Symbol(s) => matches!(
+            TokenKind::Symbol(s) => matches!(
                 s,
                 Symbol::CloseParen | Symbol::CloseBracket | Symbol::Integer | Symbol::Text
             ),
-            Kind::Number(_) | Kind::Name(_) | Kind::Text(_) => true,
-            Kind::EndMark => false,
+            TokenKind::Number(_) | TokenKind::Name(_) | TokenKind::Text(_) => true,
+            TokenKind::EndMark => false,
         },
         [] => false,
     }

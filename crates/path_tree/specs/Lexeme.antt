@@ -3,8 +3,8 @@ use Rattle.std.specs.Prelude.{ℕ, Bool, ◌==◌, List, map, codes}
 use Rattle.path_tree.specs.declared.token.Token.{Token}
 use Rattle.path_tree.specs.declared.token.Symbol.{Symbol}
 use Rattle.path_tree.specs.declared.token.Symbol.TheVariants as symbols
-use Rattle.path_tree.specs.declared.token.Kind.{Kind}
-use Rattle.path_tree.specs.declared.token.Kind.TheVariants as kinds
+use Rattle.path_tree.specs.declared.token.TokenKind.{TokenKind}
+use Rattle.path_tree.specs.declared.token.TokenKind.TheVariants as kinds
 
 -- the place of a symbol among the symbols
 abbrev pub symbol_number : Symbol → ℕ
@@ -110,7 +110,7 @@ pub data Lexeme : Type 0 where
   string : List ℕ → Lexeme
   end_mark : Lexeme
 
-abbrev pub lexeme_of : Kind → Lexeme
+abbrev pub lexeme_of : TokenKind → Lexeme
 lexeme_of (kinds.Symbol s) = symbol s
 lexeme_of (kinds.Number n) = number n
 lexeme_of (kinds.Name name) = identifier name

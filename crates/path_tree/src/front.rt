@@ -5,7 +5,7 @@ ghost use Rattle.path_tree.specs.Lexeme.{lexemes};
 ghost use Rattle.path_tree.specs.Reading.{Gives, symbol_at};
 
 use crate::path_fault::PathFault;
-use crate::token::{Kind, Symbol, Token, is_same_symbol};
+use crate::token::{Symbol, Token, TokenKind, is_same_symbol};
 
 /// The byte where the first of these tokens starts; there is one, an end mark at least.
 pub(crate) fn start_of(tokens: &[Token]) -> usize {
@@ -23,15 +23,15 @@ pub(crate) fn after<'t>(tokens: &'t [Token], symbol: Symbol) -> Option<&'t [Toke
     match tokens {
         [] => None,
         [token, rest @ ..] => match &token.kind {
-            Kind::Symbol(s) => if is_same_symbol(*s, symbol) {
+            TokenKind::Symbol(s) => if is_same_symbol(*s, symbol) {
                 Some(rest)
             } else {
                 None
             },
-            Kind::Number(_) => None,
-            Kind::Name(_) => None,
-            Kind::Text(_) => None,
-            Kind::EndMark => None,
+            TokenKind::Number(_) => None,
+            TokenKind::Name(_) => None,
+            TokenKind::Text(_) => None,
+            TokenKind::EndMark => None,
         },
     }
 }

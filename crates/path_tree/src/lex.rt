@@ -23,7 +23,7 @@ use crate::lex::sign::read_sign;
 use crate::lex::text::read_string;
 use crate::lex::word::read_word;
 use crate::name::is_letter;
-use crate::token::{Kind, Token};
+use crate::token::{Token, TokenKind};
 use std::alloc::Global;
 
 /// The most bytes of a source.
@@ -58,7 +58,7 @@ fn scan(alloc: Global, source: &[u8]) -> Result<Vec<Token>, LexFault>
         let start = skip_gap(source, at)?;
         if start == source.len() {
             tokens.push(Token {
-                kind: Kind::EndMark,
+                kind: TokenKind::EndMark,
                 start,
                 end: start,
             })?;
@@ -71,7 +71,7 @@ fn scan(alloc: Global, source: &[u8]) -> Result<Vec<Token>, LexFault>
 }
 
 // The token at a place and its end.
-fn read_token(alloc: Global, source: &[u8], start: usize) -> Result<(Kind, usize), LexFault>
+fn read_token(alloc: Global, source: &[u8], start: usize) -> Result<(TokenKind, usize), LexFault>
     requires within { start < length source.now }
     requires no_blank { IsBlank (slice_index source.now start) → ⊥ }
     requires no_comment { OpensComment source.now start → ⊥ }

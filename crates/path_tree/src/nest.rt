@@ -18,7 +18,7 @@ use crate::node::{Node, OpId};
 use crate::parts::{Parts, list_node, put, sequence_node};
 use crate::path_fault::PathFault;
 use crate::scope::Scope;
-use crate::token::{Kind, Symbol, Token, is_same_symbol};
+use crate::token::{Symbol, Token, TokenKind, is_same_symbol};
 use std::alloc::Global;
 
 /// What was read, and the tokens behind.
@@ -212,14 +212,28 @@ fn item<'t>(
         [token, rest @ ..] => {
             let at = token.start;
             match &token.kind {
-                Kind::Number(n) => bounded(alloc, scope, Spot { said: *n, at }, rest, seen, depth),
-                Kind::Name(name) => {
+                TokenKind::Number(n) => bounded(
+                    alloc,
+                    scope,
+                    Spot { said: *n, at },
+                    rest,
+                    seen,
+                    depth,
+                ),
+                TokenKind::Name(name) => {
                     let said = name.as_bytes();
                     named(alloc, scope, Spot { said, at }, rest, seen, depth)
                 }
-                Kind::Symbol(s) => opened(alloc, scope, Spot { said: *s, at }, rest, seen, depth),
-                Kind::Text(_) => Err(PathFault::Expected(at)),
-                Kind::EndMark => Err(PathFault::Expected(at)),
+                TokenKind::Symbol(s) => opened(
+                    alloc,
+                    scope,
+                    Spot { said: *s, at },
+                    rest,
+                    seen,
+                    depth,
+                ),
+                TokenKind::Text(_) => Err(PathFault::Expected(at)),
+                TokenKind::EndMark => Err(PathFault::Expected(at)),
             }
         }
     }

@@ -154,7 +154,7 @@ impl Symbol {
 
 /// What a token is.
 #[derive(Debug, Drop)]
-pub enum Kind {
+pub enum TokenKind {
     /// A sign or a reserved word.
     Symbol(Symbol),
     /// A number without sign, 0 to 4294967295.
@@ -170,7 +170,7 @@ pub enum Kind {
 /// A token and its span: it stands in its source from byte `start` up to, not including, byte `end`.
 #[derive(Debug, Drop)]
 pub struct Token {
-    pub kind: Kind,
+    pub kind: TokenKind,
     pub start: usize,
     pub end: usize,
 }

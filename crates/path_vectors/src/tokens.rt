@@ -2,7 +2,7 @@
 
 use path_tree::lex::fault::LexFault;
 use path_tree::lex::lex;
-use path_tree::token::{Kind, Token};
+use path_tree::token::{Token, TokenKind};
 use std::alloc::{AllocError, Global};
 use std::process::Abort;
 
@@ -19,17 +19,17 @@ fn number_of(digits: &[u8]) -> u64 {
 // Whether a token is the one that is shown: `#` marks a number, `@` a name, an apostrophe a string and `$` the end.
 fn is_shown(token: &Token, shown: &[u8]) -> bool {
     match &token.kind {
-        Kind::Symbol(symbol) => shown == symbol.text(),
-        Kind::EndMark => shown == b"$".as_slice(),
-        Kind::Number(value) => match shown {
+        TokenKind::Symbol(symbol) => shown == symbol.text(),
+        TokenKind::EndMark => shown == b"$".as_slice(),
+        TokenKind::Number(value) => match shown {
             [b'#', digits @ ..] => number_of(digits) == u64::from(*value),
             _ => false,
         },
-        Kind::Name(name) => match shown {
+        TokenKind::Name(name) => match shown {
             [b'@', bytes @ ..] => bytes == name.as_bytes(),
             _ => false,
         },
-        Kind::Text(content) => match shown {
+        TokenKind::Text(content) => match shown {
             [b'\'', bytes @ ..] => bytes == content.as_slice(),
             _ => false,
         },
@@ -134,7 +134,7 @@ fn strings_have_1000_bytes(rt: HostRuntime) {
             Ok(tokens) => match tokens.as_slice() {
                 [
                     Token {
-                        kind: Kind::Text(content),
+                        kind: TokenKind::Text(content),
                         ..
                     },
                     end,

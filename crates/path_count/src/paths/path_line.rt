@@ -14,7 +14,7 @@ use path_tree::lex::lex;
 use path_tree::name::Name;
 use path_tree::path_fault::PathFault;
 use path_tree::read::parse_path;
-use path_tree::token::{Kind, Symbol, Token};
+use path_tree::token::{Symbol, Token, TokenKind};
 use path_tree::tree::PathTree;
 use std::alloc::{AllocError, Global};
 
@@ -130,7 +130,7 @@ fn fault_behind(rest: &[Token]) -> Option<usize>
 fn is_semicolon(token: &Token) -> bool
     ensures { IsTrue result ↔ (lexeme_of token.now.kind ≡ symbol Semicolon) }
 {
-    matches!(token.kind, Kind::Symbol(Symbol::Semicolon))
+    matches!(token.kind, TokenKind::Symbol(Symbol::Semicolon))
 }
 
 /// Adds what a line is told that is no path.

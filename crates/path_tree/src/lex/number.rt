@@ -7,10 +7,10 @@ ghost use Rattle.path_tree.specs.Lexeme.{lexeme_of};
 ghost use Rattle.path_tree.specs.Tokens.{IsRun, IsToken, IsFaultAt};
 
 use crate::lex::fault::LexFault;
-use crate::token::Kind;
+use crate::token::TokenKind;
 
 /// The number at a place and its end, or `BadNumber` where its value is over 4294967295.
-pub fn read_number(source: &[u8], start: usize) -> Result<(Kind, usize), LexFault>
+pub fn read_number(source: &[u8], start: usize) -> Result<(TokenKind, usize), LexFault>
     requires within { start < length source.now }
     requires digit { IsDigit (slice_index source.now start) }
     ensures { MatchResult result (λ r. IsToken source.now (lexeme_of r.0) start r.1)
@@ -18,7 +18,7 @@ pub fn read_number(source: &[u8], start: usize) -> Result<(Kind, usize), LexFaul
 {
     let end = digits_end(source, start);
     match number_value(&source[start..end]) {
-        Some(value) => Ok((Kind::Number(value), end)),
+        Some(value) => Ok((TokenKind::Number(value), end)),
         None => Err(LexFault::BadNumber(start)),
     }
 }

@@ -9,11 +9,11 @@ ghost use Rattle.path_tree.specs.declared.token.Symbol.{Symbol};
 
 use crate::lex::fault::LexFault;
 use crate::lex::gap::byte_at;
-use crate::token::{Kind, Symbol};
+use crate::token::{Symbol, TokenKind};
 
 /// The longest sign at a place and its end, or `BadByte` where no sign stands. No other token may
 /// begin at the place, and no gap.
-pub fn read_sign(source: &[u8], start: usize) -> Result<(Kind, usize), LexFault>
+pub fn read_sign(source: &[u8], start: usize) -> Result<(TokenKind, usize), LexFault>
     requires within { start < length source.now }
     requires no_blank { IsBlank (slice_index source.now start) → ⊥ }
     requires no_comment { OpensComment source.now start → ⊥ }
@@ -25,10 +25,10 @@ pub fn read_sign(source: &[u8], start: usize) -> Result<(Kind, usize), LexFault>
 {
     let first = source[start];
     if let Some(symbol) = double_sign(first, byte_at(source, start + 1)) {
-        return Ok((Kind::Symbol(symbol), start + 2));
+        return Ok((TokenKind::Symbol(symbol), start + 2));
     }
     match single_sign(first) {
-        Some(symbol) => Ok((Kind::Symbol(symbol), start + 1)),
+        Some(symbol) => Ok((TokenKind::Symbol(symbol), start + 1)),
         None => Err(LexFault::BadByte(start)),
     }
 }

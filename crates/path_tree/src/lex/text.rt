@@ -7,7 +7,7 @@ ghost use Rattle.path_tree.specs.declared.lex.fault.LexFault.TheVariants.{Memory
 
 use crate::lex::fault::LexFault;
 use crate::lex::gap::byte_at;
-use crate::token::Kind;
+use crate::token::TokenKind;
 use std::alloc::Global;
 
 /// The most bytes of a string's content.
@@ -15,7 +15,11 @@ pub const MOST_STRING_BYTES: usize = 1000;
 
 /// The string at a place and its end. `BadByte` is a byte that it may not hold, `OpenString` one
 /// that is not closed on its line or is too long, whichever the reading meets first.
-pub fn read_string(alloc: Global, source: &[u8], start: usize) -> Result<(Kind, usize), LexFault>
+pub fn read_string(
+    alloc: Global,
+    source: &[u8],
+    start: usize,
+) -> Result<(TokenKind, usize), LexFault>
     requires within { start < length source.now }
     requires apostrophe { slice_index source.now start ≡ 39 }
     ensures { MatchResult result (λ r. IsToken source.now (lexeme_of r.0) start r.1)
@@ -25,7 +29,7 @@ pub fn read_string(alloc: Global, source: &[u8], start: usize) -> Result<(Kind, 
     let mut at = start + 1;
     loop {
         if closes_string(source, at) {
-            return Ok((Kind::Text(content), at + 1));
+            return Ok((TokenKind::Text(content), at + 1));
         }
         if ends_line(source, at) {
             return Err(LexFault::OpenString(start));

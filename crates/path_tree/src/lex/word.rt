@@ -11,12 +11,12 @@ ghost use Rattle.path_tree.specs.declared.token.Symbol.{Symbol};
 
 use crate::lex::fault::LexFault;
 use crate::name::{MOST_IDENTIFIER_BYTES, Name, is_word_byte};
-use crate::token::{Kind, Symbol};
+use crate::token::{Symbol, TokenKind};
 use std::alloc::Global;
 
 /// The identifier or reserved word at a place and its end. In a longer one than 64 bytes the 65th is
 /// `BadByte`.
-pub fn read_word(alloc: Global, source: &[u8], start: usize) -> Result<(Kind, usize), LexFault>
+pub fn read_word(alloc: Global, source: &[u8], start: usize) -> Result<(TokenKind, usize), LexFault>
     requires within { start < length source.now }
     requires letter { IsLetter (slice_index source.now start) }
     ensures { MatchResult result (λ r. IsToken source.now (lexeme_of r.0) start r.1)
@@ -28,10 +28,10 @@ pub fn read_word(alloc: Global, source: &[u8], start: usize) -> Result<(Kind, us
     }
     let word = &source[start..end];
     if let Some(symbol) = reserved(word) {
-        return Ok((Kind::Symbol(symbol), end));
+        return Ok((TokenKind::Symbol(symbol), end));
     }
     let name = Name::of_identifier(alloc, word)?;
-    Ok((Kind::Name(name), end))
+    Ok((TokenKind::Name(name), end))
 }
 
 // Where the run of word bytes at a place ends.
