@@ -1,34 +1,44 @@
-//! The texts of `--help`, for someone who meets the program for the first time.
+//! The texts of `--help`, for someone who meets the program for the first time. No line is longer than 80 bytes.
 
 /// What the program is for.
 pub const PROGRAM: &str =
-    "Says which operations of a shared object may run at the same time, by path expressions";
+    "Serves shared records to many programs at once, by rules that none can break";
 
 /// What stands below the list of subcommands.
 pub const PROGRAM_MORE: &str =
-    "A path expression is a rule of use: `path 1:(get, put) end` lets one `get` or `put` run at a time.
-Try `pathserve paths` to play with paths by hand, `pathserve check FILE` on a file of objects,
-`pathserve run FILE SCRIPT` to call one of them, `pathserve audit FILE TRACE` on what such a run left, and
-`pathserve serve FILE DIR PORT` to let many clients call.
-`pathserve SUBCOMMAND --help` says what a subcommand reads and writes, with an example.
+    "An object holds records (arrays, queues and tables, kept in files), and says
+by which operations they are used. Its paths are the rules of use:
+`path 1:(get, put) end` lets one `get` or `put` run at a time. A call waits until
+all paths let it start, and is done as a whole or not at all. What happened is
+kept in a trace, which can be audited.
 
-Exit status: 0 accepted, 1 refused, 2 a wrong command line or a request for help, 3 a read or a write
-failed, 4 out of memory.
+Try `pathserve paths` to play with paths by hand, `pathserve check FILE` on a
+file of objects, `pathserve run FILE SCRIPT` to call one of them,
+`pathserve serve FILE DIR PORT` to let many clients call, and
+`pathserve audit FILE TRACE` on what a run or a server left.
+`pathserve SUBCOMMAND --help` says what a subcommand reads and writes, with an
+example.
+
+Exit status: 0 accepted, done or legal, 1 refused or not legal, 2 a wrong command
+line or a request for help, 3 a read or a write failed, 4 out of memory. A file
+that is not there is a read that failed.
 
 This is pathserve 0.8.0; CHANGELOG.md says what has changed.";
 
 /// What `paths` does.
-pub const PATHS: &str =
-    "Says which operations may start: reads paths, starts and finishes, and answers line by line";
+pub const PATHS: &str = "Plays with paths: says which operations may start, line by line";
 
 /// What `paths` reads and writes.
 pub const PATHS_MORE: &str =
-    "Reads standard input: line 1 names the operations, the next lines give paths, then operations start
-and finish. Writes the answer to each line to standard output before it waits for more.
+    "Reads standard input: line 1 names the operations, the next lines give paths,
+then operations start and finish. Writes the answer to each line to standard
+output before it waits for more.
 
 Example: at most one of `get` and `put` runs at a time.
 
-  $ printf 'ops get put\\npath 1:(get, put) end\\nstart get\\nstart put\\nfinish get\\n' | pathserve paths
+  $ printf 'ops get put\\npath 1:(get, put) end\\n' >two.paths
+  $ printf 'start get\\nstart put\\nfinish get\\n' >>two.paths
+  $ pathserve paths <two.paths
   ops 2
   path 1:(get, put) end
   started get
@@ -38,28 +48,25 @@ Example: at most one of `get` and `put` runs at a time.
 Exit status: 0 each line was answered, 1 a line was refused and ended the run.";
 
 /// What `check` does.
-pub const CHECK: &str =
-    "Checks the objects of a file: do their paths keep apart the operations that conflict?";
+pub const CHECK: &str = "Checks objects: do their paths keep apart what must not overlap?";
 
 /// What the argument of `check` is.
 pub const CHECK_FILE: &str = "The file with the objects, one after the other, at most 65536 bytes";
 
 /// What the flag `--explain` of `check` and `serve` does.
-pub const EXPLAIN: &str =
-    "Says on standard error why FILE, or an object of it, is refused, where, and what would help; nothing else changes";
+pub const EXPLAIN: &str = "Explains on standard error why something is refused";
 
 /// What the flag `--explain` of `run` does.
-pub const RUN_EXPLAIN: &str =
-    "Says on standard error why FILE, or the object, is refused, and which form of line a bad line comes closest to";
+pub const RUN_EXPLAIN: &str = "Explains on standard error a refusal, or a bad line";
 
 /// What the flag `--explain` of `audit` does.
-pub const AUDIT_EXPLAIN: &str =
-    "Says on standard error why FILE, or the object, is refused, and why the first line with a fault is wrong";
+pub const AUDIT_EXPLAIN: &str = "Explains on standard error a refusal, or the first fault";
 
 /// What `check` reads and writes.
 pub const CHECK_MORE: &str =
-    "Reads FILE, and writes a report to standard output: of each object whether it is accepted, and of
-every pair of operations that conflict the path and its node that keep them apart, or the first pair that none does.
+    "Reads FILE, and writes a report to standard output: of each object whether it
+is accepted, and of every pair of operations that conflict the path and its node
+that keep them apart, or the first pair that none does.
 
 Example: `box.pp` holds one object, in which a write excludes each other call.
 
@@ -76,42 +83,46 @@ Example: `box.pp` holds one object, in which a write excludes each other call.
   pair set get path 1 node 0
   1 objects, 0 refused
 
-With `--explain` standard error gets, for a fault of the file and for each object that is refused, FILE:LINE:COLUMN, a
-sentence, the line with a caret under the place, and what would help. Columns count bytes, from 1.
+With `--explain` standard error gets, for a fault of the file and for each object
+that is refused, FILE:LINE:COLUMN, a sentence, the line with a caret under the
+place, and what would help. Columns count bytes, from 1. Nothing else changes.
 
 Exit status: 0 no object is refused, 1 one is, or the file is no file of objects.";
 
 /// What `run` does.
-pub const RUN: &str =
-    "Runs a script on an object of a file: calls, the device steps of their runs, finishes, one line each";
+pub const RUN: &str = "Runs a script of calls on an object of a file, step by step";
 
 /// What the first argument of `run` is.
 pub const RUN_FILE: &str = "The file with the objects, one after the other, at most 65536 bytes";
 
 /// What the second argument of `run` is.
-pub const RUN_SCRIPT: &str =
-    "The file with the script; /dev/stdin, for instance, to type it or to send it by a pipe";
+pub const RUN_SCRIPT: &str = "The file with the script; /dev/stdin to type it or to pipe it in";
 
 /// What `run` reads and writes.
 pub const RUN_MORE: &str =
-    "Reads FILE, and then SCRIPT: its line 1, `object NAME`, says which object of FILE is called, and each further \
-line what
-happens next. Writes the answer to each line to standard output before it waits for more.
+    "Reads FILE, and then SCRIPT: its line 1, `object NAME`, says which object of FILE
+is called, and each further line what happens next. Writes the answer to each
+line to standard output before it waits for more.
 
+  line               what happens                      answer
   call sK OP ARG ..  session K calls an operation      call N, or no FAULT
-  call sK #J OP ..   the same, under key J             call N, or repeat and what became of the call of key J
+  call sK #J OP ..   the same, under key J             call N, or repeat and more
   step N ok          the run of call N makes a step    step N NEED ok
   step N fail        its device fails at that step     step N NEED failed
   steps N            it makes the steps that are left  steps N K
-  finish N           its result is published           done N, done N VALUE, refused N WORD, failed N CAUSE
-  cancel N           call N is called off if it waits  cancel N Cancelled, Running, Ended or Unknown
+  finish N           its result is published           done N, done N VALUE,
+                                                       refused N WORD or
+                                                       failed N CAUSE
+  cancel N           call N is called off if it waits  cancel N Cancelled, Running,
+                                                       Ended or Unknown
   drop sK            session K leaves                  drop sK
   resume sK          session K is back                 resume sK
   show               what the parts hold               PART = VALUE, a line a part
   trace              all that happened so far          its lines
 
-After each answer comes `started N` for each call that could start then. Empty lines, and lines that begin with `#`,
-are skipped.
+After each answer comes `started N` for each call that could start then. Behind
+`repeat` stands what became of the call of that key. Empty lines, and lines that
+begin with `#`, are skipped.
 
 Example: the second `put` has to wait for the first one.
 
@@ -129,41 +140,45 @@ Example: the second `put` has to wait for the first one.
   done 1
   started 2
 
-Where line 1 names no object the answer is `bad line 1`, where FILE lacks it `no object NAME`; a fault of FILE, or a
-refusal of the object, is told as by `check`. A line that says none of the above gives `bad line K`, and ends the \
+Where line 1 names no object the answer is `bad line 1`, where FILE lacks it
+`no object NAME`; a fault of FILE, or a refusal of the object, is told as by
+`check`. A line that says none of the above gives `bad line K`, and ends the
 script.
 
-With `--explain` standard error gets why FILE, or the object, is refused, as from `check --explain`, and of a bad line
-SCRIPT:LINE:COLUMN, what is wrong with it, and the form of line that it comes closest to.
+With `--explain` standard error gets why FILE, or the object, is refused, as from
+`check --explain`, and of a bad line SCRIPT:LINE:COLUMN, what is wrong with it,
+and the form of line that it comes closest to. Nothing else changes.
 
-Exit status: 0 each line was answered, refusals included, 1 there was no object to run on, or a bad line.";
+Exit status: 0 each line was answered, refusals included, 1 there was no object to
+run on, or a bad line.";
 
 /// What `audit` does.
-pub const AUDIT: &str =
-    "Audits a trace: did each call start only when the paths let it, and is each reply right?";
+pub const AUDIT: &str = "Audits a trace: was each start allowed, and is each reply right?";
 
 /// What the first argument of `audit` is.
 pub const AUDIT_FILE: &str = "The file with the objects, one after the other, at most 65536 bytes";
 
 /// What the second argument of `audit` is.
-pub const AUDIT_TRACE: &str =
-    "The file with the trace, as the line `trace` of a script gives it; /dev/stdin, for instance, to send it by a pipe";
+pub const AUDIT_TRACE: &str = "The file with the trace; /dev/stdin to send it by a pipe";
 
 /// What `audit` reads and writes.
 pub const AUDIT_MORE: &str =
-    "Reads FILE, and then TRACE: its line 1, `object NAME`, says which object of FILE it is of, then a line for each \
-part tells what
-it held at first, and each further line tells the start or the end of a call. Writes one line:
+    "Reads FILE, and then TRACE, as a server saves it and as the line `trace` of a
+script gives it: its line 1, `object NAME`, says which object of FILE it is of,
+then a line for each part tells what it held at first, and each further line
+tells the start or the end of a call. Writes one line:
 
-  legal K               each start was allowed by all paths, each reply is that of the calls done one after the other, \
-in the
-                        order of their ends; K calls have ended
+  legal K               each start was allowed by all paths, each reply is that of
+                        the calls done one after the other, in the order of their
+                        ends; K calls have ended
   line N bad            line N is no line of a trace, or has no place there
-  line N breaks path P  line N starts a call that path P does not let start then; the first such path of the object
+  line N breaks path P  line N starts a call that path P does not let start then;
+                        the first such path of the object
   line N wrong reply    line N ends a call with another reply
   line N not running    line N ends a call that does not run
 
-The first line with a fault is told. A call that failed has changed nothing, and is always right.
+The first line with a fault is told. A call that failed has changed nothing, and
+is always right.
 
 Example: a `put` that starts while another one runs.
 
@@ -175,47 +190,53 @@ Example: a `put` that starts while another one runs.
   $ pathserve audit examples/objects/cell.pp two_puts.trace
   line 4 breaks path 1
 
-Where line 1 names no object the answer is `line 1 bad`, where FILE lacks it `no object NAME`; a fault of FILE, or a
-refusal of the object, is told as by `check`.
+Where line 1 names no object the answer is `line 1 bad`, where FILE lacks it
+`no object NAME`; a fault of FILE, or a refusal of the object, is told as by
+`check`.
 
-With `--explain` standard error gets why FILE, or the object, is refused, as from `check --explain`, and of the first \
-line
-with a fault TRACE:LINE:COLUMN and why it is wrong: of a wrong reply which reply the object gives, of a start that
-breaks a path which path, which of its operations are active, and how often each has started and ended.
+With `--explain` standard error gets why FILE, or the object, is refused, as from
+`check --explain`, and of the first line with a fault TRACE:LINE:COLUMN and why it
+is wrong: of a wrong reply which reply the object gives, of a start that breaks a
+path which path, which of its operations are active, and how often each has
+started and ended. Nothing else changes.
 
-Exit status: 0 the trace is legal, 1 it is not, or there was no object to audit it by.";
+Exit status: 0 the trace is legal, 1 it is not, or there was no object to audit it
+by.";
 
 /// What `serve` does.
-pub const SERVE: &str =
-    "Serves the objects of a file to clients on this machine, each call as soon as the paths let it start";
+pub const SERVE: &str = "Serves the objects of a file to many clients on this machine";
 
 /// What the arguments of `serve` are.
 pub const SERVE_FILE: &str = "The file with the objects, each of which `check` has to accept";
 
-pub const SERVE_DIR: &str =
-    "A folder: the values that an earlier run saved there are taken up, and at the end they are saved there";
+pub const SERVE_DIR: &str = "The folder of the values: read at the start, saved at the end";
 
 pub const SERVE_PORT: &str = "The port on 127.0.0.1 at which clients connect, 1 to 65535";
 
-pub const SERVE_SESSIONS: &str = "How many connections are taken in all, 1 to 64";
+pub const SERVE_SESSIONS: &str = "Connections taken in all, 1 to 64";
 
 /// What the flag `--stop-with-input` of `serve` does.
-pub const SERVE_STOP: &str =
-    "Ends in order when standard input ends: what runs is completed, what waits is cancelled, all is saved";
+pub const SERVE_STOP: &str = "Ends in order when standard input ends";
 
 /// What `serve` reads and writes.
 pub const SERVE_MORE: &str =
-    "Writes `listening PORT`, takes N connections, one after the other or at once, and ends when all have ended. Then \
-it saves the
-values of all parts in DIR, with a trace for `pathserve audit`, and writes `NAME entries K` for each object that is \
-saved.
-Where an object is refused, or a saved value is damaged, a line says so, and nothing is served. One server at a
-time has DIR. With --stop-with-input it ends in order when standard input ends; ./pathserve of the repository does that
-on SIGINT, SIGTERM and SIGHUP. A kill loses what was not saved.
+    "Takes up the values that an earlier run saved in DIR, writes `listening PORT`,
+takes N connections, one after the other or at once, and ends when all have
+ended. Then it saves the values of all parts in DIR, with a trace for
+`pathserve audit`, and writes `NAME entries K` for each object that is saved.
+Where an object is refused, or a saved value is damaged, a line says so, and
+nothing is served. One server at a time has DIR.
 
-A client says `open NAME`, `call OP ARG ..`, `cancel N` and `quit`, a line each; docs/SERVING.md has the answers. One \
-that
-said `open NAME as CLIENT` can come back after its connection broke, and ask again for a call: `call #1 OP ARG ..`.
+With --stop-with-input it ends in order when standard input ends: what runs is
+completed, what waits is cancelled, all is saved. ./pathserve of the repository
+does that on SIGINT, SIGTERM and SIGHUP. A kill loses what was not saved.
+
+With --explain standard error gets why FILE, or an object of it, is refused, where,
+and what would help, and why a start failed. Nothing else changes.
+
+A client says `open NAME`, `call OP ARG ..`, `cancel N` and `quit`, a line each;
+docs/SERVING.md has the answers. One that said `open NAME as CLIENT` can come back
+after its connection broke, and ask again for a call: `call #1 OP ARG ..`.
 
 Example: in another terminal, while this one waits.
 
@@ -231,5 +252,5 @@ Example: in another terminal, while this one waits.
   done 2 7
   bye
 
-Exit status: 0 all was served and saved, 1 something was refused or is damaged, 3 a read or write fault, 4 out of \
-memory.";
+Exit status: 0 all was served and saved, 1 something was refused or is damaged,
+3 a read or write fault, 4 out of memory.";

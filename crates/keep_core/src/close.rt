@@ -317,7 +317,8 @@ fn has_all(marks: &mut Marks, name: &Name, opening: &Opening, desk: &Desk, slips
     if !is_same_name(&desk.accepted().object().name, name) {
         return false;
     }
-    if !began_with(desk, opening) {
+    let begun = began_with(desk, opening);
+    if !begun {
         return false;
     }
     marks.have_slips(history, slips)

@@ -3,6 +3,7 @@
 ghost use Rattle.std.specs.Prelude.{◌≡◌, ◌↔◌, IsTrue, List, ℕ, Option};
 ghost use Rattle.talk_core.specs.Written.{IsNoteOf, AreFirst, AreAll, IsAccounted, IsSaid, HasWritten};
 ghost use Rattle.talk_core.specs.Written.{heard_fault as heard_in, told_fault};
+ghost use Rattle.session_core.specs.Causes.{IsCausedBy};
 
 use hear_core::fault::HearFault;
 use office_core::seat::Seat;
@@ -31,14 +32,14 @@ pub struct SessionEnd<W: Drop, H: Drop> {
 
 // Whether a receipt has the number and the reply of a note.
 fn is_note_of(receipt: &Slip, note: &Note) -> bool
-    ensures { IsTrue result → IsNoteOf receipt.now note.now }
+    ensures { IsTrue result ↔ IsNoteOf receipt.now note.now }
 {
     receipt.number() == note.number && receipt.is_reply(&note.reply)
 }
 
 // Whether the notes are those of the first receipts, one by one.
 fn are_first(receipts: &[Slip], notes: &[Note]) -> bool
-    ensures { IsTrue result → AreFirst receipts.now notes.now }
+    ensures { IsTrue result ↔ AreFirst receipts.now notes.now }
 {
     let mut receipts = receipts;
     let mut notes = notes;
@@ -57,14 +58,14 @@ fn are_first(receipts: &[Slip], notes: &[Note]) -> bool
 
 // Whether the notes are those of the receipts, one by one.
 fn are_all(receipts: &[Slip], notes: &[Note]) -> bool
-    ensures { IsTrue result → AreAll receipts.now notes.now }
+    ensures { IsTrue result ↔ AreAll receipts.now notes.now }
 {
     receipts.len() == notes.len() && are_first(receipts, notes)
 }
 
 // Whether the notes are those of the receipts: of all, where all was written, and else of the first.
 fn is_accounted(health: Health, receipts: &[Slip], notes: &[Note]) -> bool
-    ensures { IsTrue result → IsAccounted health receipts.now notes.now }
+    ensures { IsTrue result ↔ IsAccounted health receipts.now notes.now }
 {
     match health {
         Health::Fine => are_all(receipts, notes),
@@ -102,15 +103,18 @@ fn fault_of(accounted: bool, health: Health, heard: Option<HearFault>) -> Option
 }
 
 /// The fault that is told, by the notes of what was written and the receipts: `LogMixed` where a line was said where it
-/// may not stand, or the notes are not those of the receipts, one by one; where not all was written, of the first.
+/// may not stand, or the notes are not those of the receipts, one by one; where not all was written, of the first. Else
+/// `WriteFault` where the writer failed, `Memory` where there was none for a line, and else what was met in reading: no
+/// fault where none was.
 pub fn conclude(
     receipts: &[Slip],
     notes: &[Note],
     health: Health,
     heard: Option<HearFault>,
 ) -> Option<SessionFault>
-    ensures { (start now : Option (List ℕ)) → IsSaid start now health notes.now →
+    ensures written { (start now : Option (List ℕ)) → IsSaid start now health notes.now →
         HasWritten start now receipts.now result }
+    ensures caused { IsCausedBy receipts.now notes.now health heard result }
 {
     let accounted = is_accounted(health, receipts, notes);
     fault_of(accounted, health, heard)

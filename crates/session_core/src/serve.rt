@@ -3,6 +3,8 @@
 ghost use Rattle.std.specs.Prelude.{◌≡◌, ℕ, List, Option};
 ghost use Rattle.talk_core.specs.Truth.{Keeps, AreTrue};
 ghost use Rattle.talk_core.specs.Written.{IsSaid, HasWritten};
+ghost use Rattle.hear_core.specs.declared.fault.HearFault.{HearFault};
+ghost use Rattle.session_core.specs.Causes.{IsCausedBy, IsCaused};
 
 use crate::end::{SessionEnd, conclude};
 use crate::entered::parked;
@@ -51,6 +53,7 @@ fn ended<R: Wait, W: Drop, H: Drop, O: Offices>(
     ensures writer { result.writer ≡ writer }
     ensures written { (start now : Option (List ℕ)) → IsSaid start now health notes.now →
         HasWritten start now worked.receipts.items result.fault }
+    ensures caused { IsCausedBy worked.receipts.items notes.now health worked.fault result.fault }
 {
     let Worked {
         hand,
@@ -122,6 +125,8 @@ fn serve_from<
     ensures kept { Keeps H.agrees hand result.hand }
     ensures told { AreTrue H.agrees result.hand result.receipts.items }
     ensures written { HasWritten J.start (W.contents result.writer) result.receipts.items result.fault }
+    ensures caused { (heard : Option HearFault) ×
+        IsCaused J.start (W.contents result.writer) result.receipts.items heard result.fault }
 {
     let Connection { reader, writer } = connection;
     let (to, from) = match crossbeam_channel::bounded(alloc, 1) {
@@ -179,7 +184,10 @@ fn serve_from<
 /// comes the last line of that call before any other is accepted, and only answers of cancels and `no LineTooLong` in
 /// between; nothing comes behind `bye`. Each call that was accepted has its last line, and those of calls with a receipt
 /// are those of the receipts, one by one. With `Memory` lines may be missing at the end; with `WriteFault` too, and a
-/// front of one more may stand there. Files whose retire failed are tried again later, and left at the end.
+/// front of one more may stand there. A fault is told for its cause alone: `LogMixed` where a line was said where it may
+/// not stand, or the last lines that were said are not those of the receipts; `WriteFault` where the writer failed;
+/// `Memory` where there was none for a line; and else what was met in reading, if anything was. Files whose retire
+/// failed are tried again later, and left at the end.
 pub fn serve_session<
     R: Threads + Wait + Clock + Sync,
     I: Read + Drop + Send,
@@ -198,6 +206,8 @@ pub fn serve_session<
     ensures told { AreTrue H.agrees result.hand result.receipts.items }
     ensures written { HasWritten (W.contents connection.writer) (W.contents result.writer) result.receipts.items
         result.fault }
+    ensures caused { (heard : Option HearFault) × IsCaused (W.contents connection.writer) (W.contents result.writer)
+        result.receipts.items heard result.fault }
 {
     let Connection { reader, writer } = connection;
     serve_from::<Brand, R, UntilBell<'_, I>, W, H, O>(

@@ -1,0 +1,21 @@
+-- Why a session ends with its fault.
+use Rattle.std.specs.Prelude.{◌≡◌, ◌↔◌, IsTrue, ℕ, List, Option, Bool}
+use Rattle.slip_core.specs.Slips.{Told}
+use Rattle.talk_core.specs.declared.note.Note.{Note}
+use Rattle.talk_core.specs.declared.output.Health.{Health}
+use Rattle.talk_core.specs.declared.fault.SessionFault.{SessionFault}
+use Rattle.hear_core.specs.declared.fault.HearFault.{HearFault}
+use Rattle.talk_core.specs.Written.{IsAccounted, IsSaid, told_fault}
+
+-- The fault that is told, by the receipts, the notes of what was said, how the writing went, and what was met in
+-- reading: for notes that are not those of the receipts it is `LogMixed`, and for no others.
+abbrev pub IsCausedBy : List Told → List Note → Health → Option HearFault → Option SessionFault → Type 0
+IsCausedBy receipts notes health heard fault =
+    (accounted : Bool) × (IsTrue accounted ↔ IsAccounted health receipts notes)
+    × (fault ≡ told_fault accounted health heard)
+
+-- the same of a session that had this written: how the writing went, and the notes, are of what was written
+abbrev pub IsCaused : Option (List ℕ) → Option (List ℕ) → List Told → Option HearFault → Option SessionFault → Type 0
+IsCaused start now receipts heard fault =
+    (health : Health) × (notes : List Note) × IsSaid start now health notes
+    × IsCausedBy receipts notes health heard fault
