@@ -46,7 +46,7 @@ pub record IsNamedAt (o : Object) (k : ℕ) (operation : Operation) (name : List
 
 -- the session has left, or has no number from 1 to 1024
 abbrev pub IsGone : Board → ℕ → Type 0
-IsGone b session = (session ≡ 0) ⊎ ((1024 < session) ⊎ (slice_get b.left (session - 1) ≡ Some true))
+IsGone b session = (session ≡ 0) ⊎ ((1024 < session) ⊎ (slice_get b.gone (session - 1) ≡ Some true))
 
 -- no operation has this name
 abbrev pub IsUnknown : Board → List ℕ → Type 0

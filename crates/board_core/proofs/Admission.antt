@@ -106,7 +106,7 @@ none_started b = record {
   object = refl;
   calls = refl;
   history = refl;
-  left = refl;
+  gone = refl;
   opening = refl;
   pins = refl;
 }
@@ -121,7 +121,7 @@ one_started b w ones after h = record {
   object = h.object;
   calls = h.calls;
   history = h.history;
-  left = h.left;
+  gone = h.gone;
   opening = h.opening;
   pins = h.pins;
 }

@@ -24,7 +24,7 @@ abbrev pub most_sessions : ℕ
 most_sessions = 1024
 
 -- The object, the accepted calls in the order of their numbers from 1, what happened in order, its finished calls in
--- order, the calls that wait and those that run, of each session whether it left, and the pins of the parts, each a
+-- order, the calls that wait and those that run, of each session whether it is gone, and the pins of the parts, each a
 -- page list: at the beginning, and the published ones.
 pub record Board : Type 0 where
   pub object : Object
@@ -33,7 +33,7 @@ pub record Board : Type 0 where
   pub history : List Noted
   pub waiting : List WaitingCall
   pub running : List RunningCall
-  pub left : List Bool
+  pub gone : List Bool
   pub opening : List (List Stamp)
   pub pins : List (List Stamp)
 
@@ -82,7 +82,7 @@ opened object pins =
       history = [];
       waiting = [];
       running = [];
-      left = replicate most_sessions false;
+      gone = replicate most_sessions false;
       opening = pins;
       pins = pins;
     }
@@ -109,7 +109,7 @@ taken_at b k r = record b { running = slice_set b.running k (record r { taken = 
 
 -- a session has left
 unfoldable pub marked : Board → ℕ → Board
-marked b session = record b { left = slice_set b.left (session - 1) true }
+marked b session = record b { gone = slice_set b.gone (session - 1) true }
 
 -- of pins, one for each part, those of the parts that an operation reads
 abbrev pub read_pins : Operation → List (List Stamp) → List PartPin

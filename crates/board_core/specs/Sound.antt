@@ -95,7 +95,7 @@ pub record IsPinnedBoard (b : Board) : Type 0 where
   pub each : length b.pins ≡ length b.object.parts.items
   pub opening_each : length b.opening ≡ length b.object.parts.items
   pub long : Every (HasItsPins (length b.object.parts.items)) b.running
-  pub lefts : length b.left ≡ most_sessions
+  pub gone : length b.gone ≡ most_sessions
   pub pinned : Every (IsPinned b.pins) b.running
   pub chained : IsChained b.opening b.history b.pins
   pub entries : Every (λ e. AreOf (kinds_of b.object) e.operation) b.history

@@ -23,7 +23,7 @@ pub record HasStarted (b : Board) (ones : List WaitingCall) (after : Board) : Ty
   pub object : after.object ≡ b.object
   pub calls : after.calls ≡ b.calls
   pub history : after.history ≡ b.history
-  pub left : after.left ≡ b.left
+  pub gone : after.gone ≡ b.gone
   pub opening : after.opening ≡ b.opening
   pub pins : after.pins ≡ b.pins
 

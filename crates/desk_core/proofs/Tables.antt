@@ -35,18 +35,18 @@ pub ended_is : (b : Board) (e : Noted) (trace : List TraceEvent) (history : List
 unfolding ended
 ended_is b e trace history running pins e1 e2 e3 e4 = rw (e1, e2, e3, e4) refl
 
-pub opened_is : {calls : List AcceptedCall} {trace : List TraceEvent} {history : List Noted} {waiting : List WaitingCall} {running : List RunningCall} {left : List Bool} (object : Object) (pins : List (List Stamp))
-    → calls ≡ [] → trace ≡ [] → history ≡ [] → waiting ≡ [] → running ≡ [] → left ≡ replicate most_sessions false
-    → let made : Board = record { object = object; calls = calls; trace = trace; history = history; waiting = waiting; running = running; left = left; opening = pins; pins = pins } in made ≡ opened object pins
+pub opened_is : {calls : List AcceptedCall} {trace : List TraceEvent} {history : List Noted} {waiting : List WaitingCall} {running : List RunningCall} {gone : List Bool} (object : Object) (pins : List (List Stamp))
+    → calls ≡ [] → trace ≡ [] → history ≡ [] → waiting ≡ [] → running ≡ [] → gone ≡ replicate most_sessions false
+    → let made : Board = record { object = object; calls = calls; trace = trace; history = history; waiting = waiting; running = running; gone = gone; opening = pins; pins = pins } in made ≡ opened object pins
 opened_is object pins e1 e2 e3 e4 e5 e6 = rw (e1, e2, e3, e4, e5, e6) refl
 
-pub marked_is : (b : Board) (session : ℕ) (left : List Bool) → left ≡ slice_set b.left (session - 1) true → let made : Board = record b { left = left } in made ≡ marked b session
+pub marked_is : (b : Board) (session : ℕ) (gone : List Bool) → gone ≡ slice_set b.gone (session - 1) true → let made : Board = record b { gone = gone } in made ≡ marked b session
 unfolding marked
-marked_is b session left e = rw e refl
+marked_is b session gone e = rw e refl
 
-pub resumed_is : (b : Board) (session : ℕ) (left : List Bool) → left ≡ slice_set b.left (session - 1) false → let made : Board = record b { left = left } in made ≡ resumed b session
+pub resumed_is : (b : Board) (session : ℕ) (gone : List Bool) → gone ≡ slice_set b.gone (session - 1) false → let made : Board = record b { gone = gone } in made ≡ resumed b session
 unfolding resumed
-resumed_is b session left e = rw e refl
+resumed_is b session gone e = rw e refl
 
 pub released_is : (b : Board) (session : ℕ) (waiting : List WaitingCall) → waiting ≡ filter (λ w. not (w.call.session == session)) b.waiting
     → let made : Board = record b { waiting = waiting } in made ≡ released b session

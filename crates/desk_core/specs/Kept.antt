@@ -51,7 +51,7 @@ board_of d =
       history = d.history.items;
       waiting = d.waiting;
       running = d.running.items;
-      left = d.left.items;
+      gone = d.gone.items;
       opening = d.opening;
       pins = d.pins;
     }

@@ -84,7 +84,7 @@ pub(crate) struct Roster {
     history: Vec<Entry>,
     waiting: Queue,
     running: Vec<Running>,
-    left: Vec<bool>,
+    gone: Vec<bool>,
     opening: Pins,
     pins: Pins,
 }
@@ -290,7 +290,7 @@ impl Roster {
         ensures { IfOk result (λ r. r ≡ opened accepted pins) }
     {
         let counters = counters_of(alloc, accepted.object())?;
-        let left = vec![in alloc; false; MOST_SESSIONS]?;
+        let gone = vec![in alloc; false; MOST_SESSIONS]?;
         let waiting = Queue::new(alloc)?;
         let index = Index::new(alloc)?;
         Ok(Roster {
@@ -304,7 +304,7 @@ impl Roster {
             history: Vec::new(alloc),
             waiting,
             running: Vec::new(alloc),
-            left,
+            gone,
             opening: pins,
             pins,
         })
@@ -420,7 +420,7 @@ impl Roster {
         requires { (0 < session) × (session ≤ 1024) }
         ensures { self.new ≡ marked self.old session }
     {
-        self.left[session as usize - 1] = true;
+        self.gone[session as usize - 1] = true;
     }
 
     // Marks a session as one that has not left.
@@ -428,7 +428,7 @@ impl Roster {
         requires { (0 < session) × (session ≤ 1024) }
         ensures { self.new ≡ resumed self.old session }
     {
-        self.left[session as usize - 1] = false;
+        self.gone[session as usize - 1] = false;
     }
 
     // Ends the running call at this place, publishes new pins, where there are some, and tells its session. Its entry
@@ -477,7 +477,7 @@ impl Roster {
     fn is_gone(&self, session: u32) -> bool
         ensures { IsTrue result ↔ IsGone self.now session }
     {
-        session == 0 || session as usize > MOST_SESSIONS || self.left[session as usize - 1]
+        session == 0 || session as usize > MOST_SESSIONS || self.gone[session as usize - 1]
     }
 
     // Whether a call of the session waits or runs.

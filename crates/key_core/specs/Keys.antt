@@ -51,4 +51,4 @@ KeysStandOnce =
 
 -- a session is back: it no longer counts as one that has left
 unfoldable pub resumed : Board → ℕ → Board
-resumed b session = record b { left = slice_set b.left (session - 1) false }
+resumed b session = record b { gone = slice_set b.gone (session - 1) false }
