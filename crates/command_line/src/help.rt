@@ -6,11 +6,11 @@ pub const PROGRAM: &str =
 
 /// What stands below the list of subcommands.
 pub const PROGRAM_MORE: &str =
-    "An object holds records (arrays, queues and tables, kept in files), and says
-by which operations they are used. Its paths are the rules of use:
-`path 1:(get, put) end` lets one `get` or `put` run at a time. A call waits until
-all paths let it start, and is done as a whole or not at all. What happened is
-kept in a trace, which can be audited.
+    "An object holds records (arrays, queues and tables, kept in files), and says by
+which operations they are used. Its paths are the rules of use:
+`path 1:(get, put) end` lets one `get` or `put` run at a time. A call waits
+until all paths let it start, and is done as a whole or not at all. What
+happened is kept in a trace, which can be audited.
 
 Try `pathserve paths` to play with paths by hand, `pathserve check FILE` on a
 file of objects, `pathserve run FILE SCRIPT` to call one of them,
@@ -19,9 +19,9 @@ file of objects, `pathserve run FILE SCRIPT` to call one of them,
 `pathserve SUBCOMMAND --help` says what a subcommand reads and writes, with an
 example.
 
-Exit status: 0 accepted, done or legal, 1 refused or not legal, 2 a wrong command
-line or a request for help, 3 a read or a write failed, 4 out of memory. A file
-that is not there is a read that failed.
+Exit status: 0 accepted, done or legal, 1 refused or not legal, 2 a wrong
+command line or a request for help, 3 a read or a write failed, 4 out of
+memory. A file that is not there is a read that failed.
 
 This is pathserve 0.8.0; CHANGELOG.md says what has changed.";
 
@@ -83,11 +83,13 @@ Example: `box.pp` holds one object, in which a write excludes each other call.
   pair set get path 1 node 0
   1 objects, 0 refused
 
-With `--explain` standard error gets, for a fault of the file and for each object
-that is refused, FILE:LINE:COLUMN, a sentence, the line with a caret under the
-place, and what would help. Columns count bytes, from 1. Nothing else changes.
+With `--explain` standard error gets, for a fault of the file and for each
+object that is refused, FILE:LINE:COLUMN, a sentence, the line with a caret
+under the place, and what would help. Columns count bytes, from 1. Nothing else
+changes.
 
-Exit status: 0 no object is refused, 1 one is, or the file is no file of objects.";
+Exit status: 0 no object is refused, 1 one is, or the file is no file of
+objects.";
 
 /// What `run` does.
 pub const RUN: &str = "Runs a script of calls on an object of a file, step by step";
@@ -100,24 +102,24 @@ pub const RUN_SCRIPT: &str = "The file with the script; /dev/stdin to type it or
 
 /// What `run` reads and writes.
 pub const RUN_MORE: &str =
-    "Reads FILE, and then SCRIPT: its line 1, `object NAME`, says which object of FILE
-is called, and each further line what happens next. Writes the answer to each
-line to standard output before it waits for more.
+    "Reads FILE, and then SCRIPT: its line 1, `object NAME`, says which object of
+FILE is called, and each further line what happens next. Writes the answer to
+each line to standard output before it waits for more.
 
   line               what happens                      answer
   call sK OP ARG ..  session K calls an operation      call N, or no FAULT
-  call sK #J OP ..   the same, under key J             call N, or repeat and more
+  call sK #J OP ..   the same, under key J             call N, or repeat ..
   step N ok          the run of call N makes a step    step N NEED ok
   step N fail        its device fails at that step     step N NEED failed
   steps N            it makes the steps that are left  steps N K
   finish N           its result is published           done N, done N VALUE,
                                                        refused N WORD or
                                                        failed N CAUSE
-  cancel N           call N is called off if it waits  cancel N Cancelled, Running,
-                                                       Ended or Unknown
+  cancel N           call N is called off if it waits  cancel N Cancelled,
+                                                       Running, Ended or Unknown
   drop sK            session K leaves                  drop sK
   resume sK          session K is back                 resume sK
-  show               what the parts hold               PART = VALUE, a line a part
+  show               what the parts hold               PART = VALUE, each
   trace              all that happened so far          its lines
 
 After each answer comes `started N` for each call that could start then. Behind
@@ -145,12 +147,12 @@ Where line 1 names no object the answer is `bad line 1`, where FILE lacks it
 `check`. A line that says none of the above gives `bad line K`, and ends the
 script.
 
-With `--explain` standard error gets why FILE, or the object, is refused, as from
-`check --explain`, and of a bad line SCRIPT:LINE:COLUMN, what is wrong with it,
-and the form of line that it comes closest to. Nothing else changes.
+With `--explain` standard error gets why FILE, or the object, is refused, as
+from `check --explain`, and of a bad line SCRIPT:LINE:COLUMN, what is wrong
+with it, and the form of line that it comes closest to. Nothing else changes.
 
-Exit status: 0 each line was answered, refusals included, 1 there was no object to
-run on, or a bad line.";
+Exit status: 0 each line was answered, refusals included, 1 there was no object
+to run on, or a bad line.";
 
 /// What `audit` does.
 pub const AUDIT: &str = "Audits a trace: was each start allowed, and is each reply right?";
@@ -168,12 +170,12 @@ script gives it: its line 1, `object NAME`, says which object of FILE it is of,
 then a line for each part tells what it held at first, and each further line
 tells the start or the end of a call. Writes one line:
 
-  legal K               each start was allowed by all paths, each reply is that of
-                        the calls done one after the other, in the order of their
-                        ends; K calls have ended
+  legal K               each start was allowed by all paths, each reply is that
+                        of the calls done one after the other, in the order of
+                        their ends; K calls have ended
   line N bad            line N is no line of a trace, or has no place there
-  line N breaks path P  line N starts a call that path P does not let start then;
-                        the first such path of the object
+  line N breaks path P  line N starts a call that path P does not let start
+                        then; the first such path of the object
   line N wrong reply    line N ends a call with another reply
   line N not running    line N ends a call that does not run
 
@@ -194,14 +196,14 @@ Where line 1 names no object the answer is `line 1 bad`, where FILE lacks it
 `no object NAME`; a fault of FILE, or a refusal of the object, is told as by
 `check`.
 
-With `--explain` standard error gets why FILE, or the object, is refused, as from
-`check --explain`, and of the first line with a fault TRACE:LINE:COLUMN and why it
-is wrong: of a wrong reply which reply the object gives, of a start that breaks a
-path which path, which of its operations are active, and how often each has
-started and ended. Nothing else changes.
+With `--explain` standard error gets why FILE, or the object, is refused, as
+from `check --explain`, and of the first line with a fault TRACE:LINE:COLUMN
+and why it is wrong: of a wrong reply which reply the object gives, of a start
+that breaks a path which path, which of its operations are active, and how
+often each has started and ended. Nothing else changes.
 
-Exit status: 0 the trace is legal, 1 it is not, or there was no object to audit it
-by.";
+Exit status: 0 the trace is legal, 1 it is not, or there was no object to audit
+it by.";
 
 /// What `serve` does.
 pub const SERVE: &str = "Serves the objects of a file to many clients on this machine";
@@ -231,12 +233,13 @@ With --stop-with-input it ends in order when standard input ends: what runs is
 completed, what waits is cancelled, all is saved. ./pathserve of the repository
 does that on SIGINT, SIGTERM and SIGHUP. A kill loses what was not saved.
 
-With --explain standard error gets why FILE, or an object of it, is refused, where,
-and what would help, and why a start failed. Nothing else changes.
+With --explain standard error gets why FILE, or an object of it, is refused,
+where, and what would help, and why a start failed. Nothing else changes.
 
-A client says `open NAME`, `call OP ARG ..`, `cancel N` and `quit`, a line each;
-docs/SERVING.md has the answers. One that said `open NAME as CLIENT` can come back
-after its connection broke, and ask again for a call: `call #1 OP ARG ..`.
+A client says `open NAME`, `call OP ARG ..`, `cancel N` and `quit`, a line
+each; docs/SERVING.md has the answers. One that said `open NAME as CLIENT` can
+come back after its connection broke, and ask again for a call:
+`call #1 OP ARG ..`.
 
 Example: in another terminal, while this one waits.
 
