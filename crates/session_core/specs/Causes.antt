@@ -8,7 +8,8 @@ use Rattle.hear_core.specs.declared.fault.HearFault.{HearFault}
 use Rattle.talk_core.specs.Written.{IsAccounted, IsSaid, told_fault}
 
 -- The fault that is told, by the receipts, the notes of what was said, how the writing went, and what was met in
--- reading: for notes that are not those of the receipts it is `LogMixed`, and for no others.
+-- reading. It is `LogMixed` where the notes are not those of the receipts, or a line stood where it may not, and only
+-- there.
 abbrev pub IsCausedBy : List Told → List Note → Health → Option HearFault → Option SessionFault → Type 0
 IsCausedBy receipts notes health heard fault =
     (accounted : Bool) × (IsTrue accounted ↔ IsAccounted health receipts notes)
