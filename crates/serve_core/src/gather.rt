@@ -1,6 +1,7 @@
 //! What sessions left, by objects.
 
-ghost use Rattle.std.specs.Prelude.{◌≡◌, ◌++◌, [], OnOk, OnErr, IfOk};
+ghost use Rattle.std.specs.Prelude.{◌≡◌, ◌++◌, [], ◌≤◌, All, OnOk, OnErr, IfOk};
+ghost use Rattle.std.specs.Vec.{vec_capacity};
 ghost use Rattle.keep_core.specs.Troubles.{first_of};
 ghost use Rattle.serve_core.specs.Gathers.{noted_by, mixed_by, slips_in, put_in, none_of, Gathers, GathersAll};
 
@@ -29,7 +30,7 @@ pub struct Gathered<H: Hand + Drop> {
 impl<H: Hand + Drop> Gathered<H> {
     // Nothing yet, and room for the seats and the hands of so many sessions.
     fn with_room(alloc: Global, sessions: usize) -> Result<Gathered<H>, AllocError>
-        ensures { IfOk result (λ gathered. gathered.backed ≡ []) }
+        ensures { IfOk result (λ gathered. (gathered.backed ≡ []) × (sessions ≤ vec_capacity gathered.seats)) }
     {
         Ok(Gathered {
             seats: Vec::with_capacity(alloc, sessions)?,
@@ -96,7 +97,8 @@ impl<H: Hand + Drop> Gathering<H> {
     /// Room for the seats and the hands of so many objects and sessions, none of which is there yet, and for a line.
     /// The error is that memory was refused.
     pub fn new(alloc: Global, objects: usize, sessions: usize) -> Result<Gathering<H>, AllocError>
-        ensures { IfOk result (λ gathering. slips_in gathering.all.items ≡ none_of objects) }
+        ensures none { IfOk result (λ gathering. slips_in gathering.all.items ≡ none_of objects) }
+        ensures room { IfOk result (λ gathering. All (λ g. sessions ≤ vec_capacity g.seats) gathering.all.items) }
     {
         let mut all = Vec::new(alloc);
         for _ in 0..objects {
