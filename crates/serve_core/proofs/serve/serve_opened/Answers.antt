@@ -16,7 +16,7 @@ returns-in-Err-tell_port g c = c.in-Err-tell_port.ensures
 
 pub close_all-requires-clause-gathered : goal.close_all-requires-clause-gathered
 close_all-requires-clause-gathered g c =
-    let many = gathered_many c.len.result c.serve_gathered-gathered.result.items c.in-Ok.ensures c.serve_gathered-gathered.ensures in
+    let many = gathered_many c.len.result c.serve_gathered-gathered.result.items c.in-Ok.ensures.none c.serve_gathered-gathered.ensures in
     omega (arith, many, c.len.ensures, c.args.served.offices.ok.0)
 
 pub returns : goal.returns
@@ -26,6 +26,6 @@ returns g c = record {
   listens = c.in-Ok-tell_port.ensures.1;
   gathered = c.serve_gathered-gathered.new.trouble;
   slips = slips_in c.serve_gathered-gathered.result.items;
-  gathers = gathered_as c.len.result _ c.in-Ok.ensures (omega (arith, c.len.ensures, c.args.served.offices.ok.0, length-map c.args.served.offices.items (λ (n : Named). n.name))) c.serve_gathered-gathered.ensures;
+  gathers = gathered_as c.len.result _ c.in-Ok.ensures.none (omega (arith, c.len.ensures, c.args.served.offices.ok.0, length-map c.args.served.offices.items (λ (n : Named). n.name))) c.serve_gathered-gathered.ensures;
   closes = c.close_all.ensures;
 }
