@@ -12,7 +12,7 @@ from served import Told
 
 # How long a client that must hear nothing listens, and how long one that sends what is taken waits for the server to take
 # more, in seconds.
-QUIET, PRESSES = 0.2, 1
+QUIET, PRESSES = 0.3, 1
 RESET = struct.pack("ii", 1, 0)
 # The most bytes that are read at a time for a line, or that are kept of what a server writes.
 MOST_BYTES = 1 << 20
