@@ -18,6 +18,8 @@ mod patience;
 #[cfg(test)]
 mod refused;
 #[cfg(test)]
+mod slow;
+#[cfg(test)]
 mod turns;
 #[cfg(test)]
 mod waiting;
