@@ -1,7 +1,5 @@
 //! Sessions over devices that fail: a file that was not retired is tried again later, and left at the end.
 
-use crate::lines::{ZERO, is_closed};
-use crate::make::{CELL, Pieces, Short, offices};
 use device_core::fuse::FuseHand;
 use device_core::memory::MemHand;
 use device_core::once::OnceHand;
@@ -11,6 +9,8 @@ use hear_core::bell::Bell;
 use session_core::end::SessionEnd;
 use session_core::order::Named;
 use session_core::serve::{Connection, serve_session};
+use session_fakes::offices::{CELL, ZERO, is_closed, offices};
+use session_fakes::streams::{Pieces, Short};
 use std::alloc::Global;
 use std::process::Abort;
 use std::sync::Wait;

@@ -1,21 +1,16 @@
 //! What a session answers, and how it ends.
 
-use crate::make::{CELL, Streams, connected, offices};
 use hear_core::bell::Bell;
 use office_core::office::Office;
-use office_core::seat::Seat;
-use session_core::order::Named;
 use session_core::serve::serve_session;
-use slip_core::slip::Slip;
+use session_fakes::offices::{CELL, ZERO, is_closed, offices};
+use session_fakes::streams::{Streams, connected};
 use std::alloc::Global;
 use std::process::Abort;
 use std::sync::Wait;
 use std::thread::Threads;
 use std::time::Clock;
 use talk_core::fault::SessionFault;
-
-/// The array `[0]`.
-pub const ZERO: &[u8] = b"\x02\x01\x00\x01\x00\x00\x00\x00";
 
 // Lines, and what answers them.
 const ASKED: &[u8] = b"open cell\ncancel 7\ndance\nquit\n";
@@ -33,18 +28,6 @@ const WRONG: &[u8] =
 const WRONG_TOLD: &[u8] =
     b"no BadLine\nno NotOpen\nno NoObject\nno BadLine\nopened cell\nno Opened\nno BadArgs\nno UnknownOp\nno BadLine\n\
         bye\n";
-
-/// Whether the office of an object is closed with this seat and these receipts.
-pub fn is_closed(all: Vec<Named>, seats: Vec<Seat>, receipts: &[Slip]) -> bool {
-    let mut seats = Some(seats);
-    for named in all {
-        let Some(seats) = seats.take() else {
-            return false;
-        };
-        return named.office.close_by_slips(seats, receipts).is_ok();
-    }
-    false
-}
 
 // Plays a session over these lines. It answers whether what was written is a front of what is expected, as long as the
 // writer takes it, whether the fault is this one, and whether the office is closed with the seat and the receipts.

@@ -3,13 +3,13 @@
 //! `gate/refuse_memory` runs each test whose name begins with `refused_` with the first, the second, .. growth refused.
 //! With no growth refused they are happy paths.
 
-use crate::lines::{ZERO, is_closed};
-use crate::make::{CELL, Short, offices_of};
 use device_core::memory::MemHand;
 use hear_core::bell::Bell;
 use session_core::end::SessionEnd;
 use session_core::order::Named;
 use session_core::serve::{Connection, serve_session};
+use session_fakes::offices::{CELL, ZERO, is_closed, offices_of};
+use session_fakes::streams::Short;
 use slip_core::slip::Slip;
 use std::alloc::Global;
 use std::io::{self, Read};

@@ -1,13 +1,13 @@
 //! Lines that are said where they may not stand, and notes that are not those of the receipts.
 
-use crate::lines::ZERO;
-use crate::make::{CELL, Pieces, Short, offices};
 use apply_core::reply::Reply;
 use ask_core::answer::Cancelled;
 use hear_core::bell::Bell;
 use hear_core::fault::HearFault;
 use session_core::end::conclude;
 use session_core::serve::{Connection, serve_session};
+use session_fakes::offices::{CELL, ZERO, offices};
+use session_fakes::streams::{Pieces, Short};
 use session_text::line::{Line, Refusal, Unended};
 use slip_core::slip::Slip;
 use std::alloc::Global;
