@@ -1,4 +1,4 @@
-//! Calls of a session beside one that runs on a slow device.
+//! Calls of a session beside a call that runs on a slow device.
 
 use device_core::memory::MemHand;
 use hand_core::hand::{Hand, HandFault, Pen, Stamp};
@@ -19,7 +19,7 @@ use std::thread;
 use std::thread::Threads;
 use std::time::Clock;
 
-// An object whose calls run one at a time, and each of which reads.
+// An object whose calls run one at a time. Each reads its part.
 const SHOP: &[u8] = b"object shop;
   path 1:(get, put) end;
   var v : array [1] of integer;
@@ -28,10 +28,10 @@ const SHOP: &[u8] = b"object shop;
 end;
 ";
 
-// So often all turns are taken before a device is no slower any more.
+// So often all turns are taken before a device goes on whatever was written.
 const ROUNDS: u32 = 100;
 
-// A hand whose reads count as a line that was written, each of them, and go on only once there are so many lines.
+// A hand that is slow to read: each read counts as a line that was written, and goes on only once there are so many.
 #[derive(Drop)]
 struct SlowHand<H> {
     inner: H,
@@ -102,39 +102,70 @@ impl<H: Hand> Hand for SlowHand<H> {
     }
 }
 
-// What a client says, each of its lines once so many lines were written, and how many have to be before a read of its
-// device goes on.
+// What a client says, each of its lines once so many were written, and how many have to be before a read of its device
+// goes on.
 #[derive(Clone, Copy)]
-struct Client {
+struct Says {
     lines: &'static [(u64, &'static [u8])],
     until: u64,
 }
 
-// What a session wrote, its seat and its receipts, where it had no fault and its device went on in time. Its lines count
-// among those that were `written`, and those that it waits for are `heard`.
-fn served<R: Abort + Threads + Wait + Clock + Sync>(
+// Both sides of a client's connection, and its device.
+#[derive(Drop)]
+struct Client {
+    reader: Gate,
+    writer: Counted,
+    hand: SlowHand<MemHand>,
+}
+
+// A client that says this. Its lines and its device wait for what was `heard`, and what is written to it counts as
+// `written`.
+fn client_of(
+    rt: &impl Abort,
+    alloc: Global,
+    says: Says,
+    hand: MemHand,
+    heard: &Arc<AtomicU64>,
+    written: &Arc<AtomicU64>,
+) -> Client {
+    Client {
+        reader: Gate {
+            lines: says.lines,
+            written: Arc::try_clone(heard).expect(rt, "memory"),
+        },
+        writer: Counted {
+            bytes: Vec::new(alloc),
+            written: Arc::try_clone(written).expect(rt, "memory"),
+        },
+        hand: SlowHand {
+            inner: hand,
+            written: Arc::try_clone(heard).expect(rt, "memory"),
+            until: says.until,
+            in_time: true,
+        },
+    }
+}
+
+// What a session leaves: what it wrote, its seat and its receipts.
+#[derive(Drop)]
+struct Left {
+    bytes: Vec<u8>,
+    seat: Option<Seat>,
+    receipts: Vec<Slip>,
+}
+
+// Serves a client. Nothing is left where there was a fault, or its device did not go on in time.
+fn served<R: Threads + Wait + Clock + Sync>(
     rt: &R,
     alloc: Global,
     all: &Vec<Named>,
-    hand: MemHand,
     client: Client,
-    heard: &Arc<AtomicU64>,
-    written: &Arc<AtomicU64>,
-) -> Option<(Vec<u8>, Option<Seat>, Vec<Slip>)> {
-    let hand = SlowHand {
-        inner: hand,
-        written: Arc::try_clone(heard).expect(rt, "memory"),
-        until: client.until,
-        in_time: true,
-    };
-    let reader = Gate {
-        lines: client.lines,
-        written: Arc::try_clone(heard).expect(rt, "memory"),
-    };
-    let writer = Counted {
-        bytes: Vec::new(alloc),
-        written: Arc::try_clone(written).expect(rt, "memory"),
-    };
+) -> Option<Left> {
+    let Client {
+        reader,
+        writer,
+        hand,
+    } = client;
     let end = serve_session(
         rt,
         alloc,
@@ -146,42 +177,60 @@ fn served<R: Abort + Threads + Wait + Clock + Sync>(
     if end.fault.is_some() || !end.hand.in_time {
         return None;
     }
-    Some((end.writer.bytes, end.seat, end.receipts))
+    Some(Left {
+        bytes: end.writer.bytes,
+        seat: end.seat,
+        receipts: end.receipts,
+    })
 }
 
-// What a client writes beside one whose `get` runs until so many lines were written. Both end, and their receipts are
-// all of the history.
+// Puts the seat and the receipts of a session to these. It answers what the session wrote.
+fn gathered(left: Left, seats: &mut Vec<Seat>, receipts: &mut Vec<Slip>) -> Option<Vec<u8>> {
+    let Left {
+        bytes,
+        seat,
+        receipts: own,
+    } = left;
+    if let Some(seat) = seat {
+        seats.push(seat).ok()?;
+    }
+    for it in own {
+        receipts.push(it).ok()?;
+    }
+    Some(bytes)
+}
+
+const GETS: &[(u64, &[u8])] = &[(0, b"open shop\ncall get\nquit\n")];
+
+const GOT: &[u8] = b"opened shop\naccepted 1\ndone 1 0\nbye\n";
+
+// What a client is told beside one whose `get` runs on a device that goes on once so many lines were written. Both
+// sessions end, and the office is closed with their two receipts.
 fn told_beside<R: Abort + Threads + Wait + Clock + Sync>(
     rt: &R,
     alloc: Global,
-    slow: Client,
-    client: Client,
+    until: u64,
+    says: Says,
 ) -> Vec<u8> {
     let (all, hand) = offices(rt, alloc, SHOP, ZERO);
     let mut copy = MemHand::new(alloc);
     assert!(rt; put(&mut copy, ZERO).is_ok());
     let own = Arc::new(alloc, AtomicU64::new(0)).expect(rt, "memory");
     let count = Arc::new(alloc, AtomicU64::new(0)).expect(rt, "memory");
+    let slow = client_of(rt, alloc, Says { lines: GETS, until }, hand, &count, &own);
+    let other = client_of(rt, alloc, says, copy, &count, &count);
     let (one, other) = thread::join(
         rt,
-        || served(rt, alloc, &all, hand, slow, &count, &own),
-        || served(rt, alloc, &all, copy, client, &count, &count),
+        || served(rt, alloc, &all, slow),
+        || served(rt, alloc, &all, other),
     );
-    let (got, seat, receipts) = one.expect(rt, "a session without a fault");
-    assert!(rt; got.as_slice() == b"opened shop\naccepted 1\ndone 1 0\nbye\n".as_slice());
-    let (bytes, other_seat, others) = other.expect(rt, "a session without a fault");
-    let mut seats = Vec::new(alloc);
-    let mut all_receipts = receipts;
-    for it in others {
-        all_receipts.push(it).expect(rt, "memory");
-    }
-    for it in [seat, other_seat] {
-        if let Some(seat) = it {
-            seats.push(seat).expect(rt, "memory");
-        }
-    }
-    assert!(rt; all_receipts.len() == 2 && is_closed(all, seats, &all_receipts));
-    bytes
+    let (mut seats, mut receipts) = (Vec::new(alloc), Vec::new(alloc));
+    let one = one.expect(rt, "what a session leaves");
+    let got = gathered(one, &mut seats, &mut receipts).expect(rt, "memory");
+    let other = other.expect(rt, "what a session leaves");
+    let told = gathered(other, &mut seats, &mut receipts).expect(rt, "memory");
+    assert!(rt; got.as_slice() == GOT && receipts.len() == 2 && is_closed(all, seats, &receipts));
+    told
 }
 
 const CANCELS: &[(u64, &[u8])] = &[
@@ -196,15 +245,11 @@ const CANCELS: &[(u64, &[u8])] = &[
 #[test]
 fn a_call_behind_a_slow_one_is_cancelled(rt: HostRuntime) {
     let alloc = rt.alloc();
-    let slow = Client {
-        lines: &[(0, b"open shop\ncall get\nquit\n")],
-        until: 6,
-    };
-    let client = Client {
+    let says = Says {
         lines: CANCELS,
         until: 0,
     };
-    let bytes = told_beside(&rt, alloc, slow, client);
+    let bytes = told_beside(&rt, alloc, 6, says);
     let told = bytes.as_slice();
     let early: &[u8] =
         b"opened shop\naccepted 2\ncancelled 2\ncancel 2 Cancelled\naccepted 3\ndone 3\nbye\n";
@@ -213,7 +258,8 @@ fn a_call_behind_a_slow_one_is_cancelled(rt: HostRuntime) {
     assert!(rt; told == early || told == late);
 }
 
-// The answer of `cancel 9` shows that lines are heard while the call waits. It starts then, and counts as a line.
+// That `cancel 9` is answered shows that lines are heard while the call waits. Then the call starts, and counts as a
+// line.
 const RUNS: &[(u64, &[u8])] = &[
     (1, b"open shop\n"),
     (2, b"call put 8\n"),
@@ -222,20 +268,15 @@ const RUNS: &[(u64, &[u8])] = &[
     (7, b"quit\n"),
 ];
 
-// A call that runs on a slow device is not cancelled by its own session, and hears that while it runs.
+// A session that cancels its own call, which runs on a slow device, is told so while that runs.
 #[test]
 fn a_slow_call_is_told_as_running(rt: HostRuntime) {
     let alloc = rt.alloc();
-    let slow = Client {
-        lines: &[(0, b"open shop\ncall get\nquit\n")],
-        until: 4,
-    };
-    let client = Client {
+    let says = Says {
         lines: RUNS,
         until: 6,
     };
-    let bytes = told_beside(&rt, alloc, slow, client);
-    let told: &[u8] =
-        b"opened shop\naccepted 2\ncancel 9 Unknown\ncancel 2 Running\ndone 2\nbye\n";
+    let bytes = told_beside(&rt, alloc, 4, says);
+    let told: &[u8] = b"opened shop\naccepted 2\ncancel 9 Unknown\ncancel 2 Running\ndone 2\nbye\n";
     assert!(rt; bytes.as_slice() == told);
 }
