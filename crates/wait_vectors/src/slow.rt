@@ -166,7 +166,14 @@ fn served<R: Threads + Wait + Clock + Sync>(
         writer,
         hand,
     } = client;
-    let end = serve_session(
+    let SessionEnd {
+        object: _,
+        seat,
+        receipts,
+        writer,
+        hand,
+        fault,
+    } = serve_session(
         rt,
         alloc,
         Connection { reader, writer },
@@ -174,13 +181,14 @@ fn served<R: Threads + Wait + Clock + Sync>(
         all,
         hand,
     );
-    if end.fault.is_some() || !end.hand.in_time {
+    if fault.is_some() || !hand.in_time {
         return None;
     }
+    let Counted { bytes, written: _ } = writer;
     Some(Left {
-        bytes: end.writer.bytes,
-        seat: end.seat,
-        receipts: end.receipts,
+        bytes,
+        seat,
+        receipts,
     })
 }
 
