@@ -102,48 +102,37 @@ impl<H: Hand> Hand for SlowHand<H> {
     }
 }
 
-// What a client says, each of its lines once so many were written, and how many have to be before a read of its device
-// goes on.
-#[derive(Clone, Copy)]
-struct Says {
-    lines: &'static [(u64, &'static [u8])],
+// What is written to a client, and what its device waits for.
+#[derive(Drop)]
+struct Client {
+    writer: Counted,
+    heard: Arc<AtomicU64>,
     until: u64,
 }
 
-// Both sides of a client's connection, and its device.
-#[derive(Drop)]
-struct Client {
-    reader: Gate,
-    writer: Counted,
-    hand: SlowHand<MemHand>,
-}
-
-// A client that says this. Its lines and its device wait for what was `heard`, and what is written to it counts as
-// `written`.
+// A client, with its reader: it says these lines, each once so many were `heard`, and its device goes on once there are
+// so many. What is written to it counts as `written`.
 fn client_of(
     rt: &impl Abort,
     alloc: Global,
-    says: Says,
-    hand: MemHand,
+    lines: &'static [(u64, &'static [u8])],
+    until: u64,
     heard: &Arc<AtomicU64>,
     written: &Arc<AtomicU64>,
-) -> Client {
-    Client {
-        reader: Gate {
-            lines: says.lines,
-            written: Arc::try_clone(heard).expect(rt, "memory"),
-        },
+) -> (Gate, Client) {
+    let reader = Gate {
+        lines,
+        written: Arc::try_clone(heard).expect(rt, "memory"),
+    };
+    let client = Client {
         writer: Counted {
             bytes: Vec::new(alloc),
             written: Arc::try_clone(written).expect(rt, "memory"),
         },
-        hand: SlowHand {
-            inner: hand,
-            written: Arc::try_clone(heard).expect(rt, "memory"),
-            until: says.until,
-            in_time: true,
-        },
-    }
+        heard: Arc::try_clone(heard).expect(rt, "memory"),
+        until,
+    };
+    (reader, client)
 }
 
 // What a session leaves: what it wrote, its seat and its receipts.
@@ -154,18 +143,26 @@ struct Left {
     receipts: Vec<Slip>,
 }
 
-// Serves a client. Nothing is left where there was a fault, or its device did not go on in time.
+// Serves a client over a slow hand. Nothing is left where there was a fault, or the hand did not go on in time.
 fn served<R: Threads + Wait + Clock + Sync>(
     rt: &R,
     alloc: Global,
     all: &Vec<Named>,
+    reader: Gate,
     client: Client,
+    hand: MemHand,
 ) -> Option<Left> {
     let Client {
-        reader,
         writer,
-        hand,
+        heard,
+        until,
     } = client;
+    let hand = SlowHand {
+        inner: hand,
+        written: heard,
+        until,
+        in_time: true,
+    };
     let SessionEnd {
         object: _,
         seat,
@@ -212,26 +209,26 @@ const GETS: &[(u64, &[u8])] = &[(0, b"open shop\ncall get\nquit\n")];
 
 const GOT: &[u8] = b"opened shop\naccepted 1\ndone 1 0\nbye\n";
 
-// What a client is told beside one whose `get` runs on a device that goes on once so many lines were written. Both
-// sessions end, and the office is closed with their two receipts.
-fn told_beside<R: Abort + Threads + Wait + Clock + Sync>(
-    rt: &R,
-    alloc: Global,
-    until: u64,
-    says: Says,
-) -> Vec<u8> {
-    let (all, hand) = offices(rt, alloc, SHOP, ZERO);
+// A hand with the file of a part that is `[0]`, as the hand of its office has it.
+fn copy_of(rt: &impl Abort, alloc: Global) -> MemHand {
     let mut copy = MemHand::new(alloc);
     assert!(rt; put(&mut copy, ZERO).is_ok());
-    let own = Arc::new(alloc, AtomicU64::new(0)).expect(rt, "memory");
-    let count = Arc::new(alloc, AtomicU64::new(0)).expect(rt, "memory");
-    let slow = client_of(rt, alloc, Says { lines: GETS, until }, hand, &count, &own);
-    let other = client_of(rt, alloc, says, copy, &count, &count);
-    let (one, other) = thread::join(
-        rt,
-        || served(rt, alloc, &all, slow),
-        || served(rt, alloc, &all, other),
-    );
+    copy
+}
+
+fn counter(rt: &impl Abort, alloc: Global) -> Arc<AtomicU64> {
+    Arc::new(alloc, AtomicU64::new(0)).expect(rt, "memory")
+}
+
+// What a client was told beside one whose `get` ran on a slow device. Both sessions have ended, and their office is
+// closed with the two receipts.
+fn told_beside(
+    rt: &impl Abort,
+    alloc: Global,
+    all: Vec<Named>,
+    one: Option<Left>,
+    other: Option<Left>,
+) -> Vec<u8> {
     let (mut seats, mut receipts) = (Vec::new(alloc), Vec::new(alloc));
     let one = one.expect(rt, "what a session leaves");
     let got = gathered(one, &mut seats, &mut receipts).expect(rt, "memory");
@@ -253,11 +250,18 @@ const CANCELS: &[(u64, &[u8])] = &[
 #[test]
 fn a_call_behind_a_slow_one_is_cancelled(rt: HostRuntime) {
     let alloc = rt.alloc();
-    let says = Says {
-        lines: CANCELS,
-        until: 0,
-    };
-    let bytes = told_beside(&rt, alloc, 6, says);
+    let (all, hand) = offices(&rt, alloc, SHOP, ZERO);
+    let copy = copy_of(&rt, alloc);
+    let (count, own) = (counter(&rt, alloc), counter(&rt, alloc));
+    let (gets, slow) = client_of(&rt, alloc, GETS, 6, &count, &own);
+    let (lines, client) = client_of(&rt, alloc, CANCELS, 0, &count, &count);
+    let shared = &rt;
+    let (one, other) = thread::join(
+        shared,
+        || served(shared, alloc, &all, gets, slow, hand),
+        || served(shared, alloc, &all, lines, client, copy),
+    );
+    let bytes = told_beside(&rt, alloc, all, one, other);
     let told = bytes.as_slice();
     let early: &[u8] =
         b"opened shop\naccepted 2\ncancelled 2\ncancel 2 Cancelled\naccepted 3\ndone 3\nbye\n";
@@ -280,11 +284,18 @@ const RUNS: &[(u64, &[u8])] = &[
 #[test]
 fn a_slow_call_is_told_as_running(rt: HostRuntime) {
     let alloc = rt.alloc();
-    let says = Says {
-        lines: RUNS,
-        until: 6,
-    };
-    let bytes = told_beside(&rt, alloc, 4, says);
+    let (all, hand) = offices(&rt, alloc, SHOP, ZERO);
+    let copy = copy_of(&rt, alloc);
+    let (count, own) = (counter(&rt, alloc), counter(&rt, alloc));
+    let (gets, slow) = client_of(&rt, alloc, GETS, 4, &count, &own);
+    let (lines, client) = client_of(&rt, alloc, RUNS, 6, &count, &count);
+    let shared = &rt;
+    let (one, other) = thread::join(
+        shared,
+        || served(shared, alloc, &all, gets, slow, hand),
+        || served(shared, alloc, &all, lines, client, copy),
+    );
+    let bytes = told_beside(&rt, alloc, all, one, other);
     let told: &[u8] = b"opened shop\naccepted 2\ncancel 9 Unknown\ncancel 2 Running\ndone 2\nbye\n";
     assert!(rt; bytes.as_slice() == told);
 }
