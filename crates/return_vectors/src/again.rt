@@ -94,7 +94,7 @@ fn visit<R: Threads + Wait + Clock + Sync + Abort, H: Hand + Drop>(
     lines: &[u8],
     streams: Streams,
 ) -> SessionEnd<Short, H> {
-    let connection = connected(rt, alloc, lines, streams);
+    let connection = connected(alloc, lines, streams).expect(rt, "memory");
     serve_session(rt, alloc, connection, &Bell::new(), all, hand)
 }
 
@@ -108,7 +108,7 @@ struct Visited {
 
 // The office of a cell that nobody came to, and the hand that its file is on.
 fn unvisited(rt: &impl Abort, alloc: Global) -> (Visited, MemHand) {
-    let (all, hand) = offices(rt, alloc, CELL, ZERO);
+    let (all, hand) = offices(alloc, CELL, ZERO).expect(rt, "an office");
     let visited = Visited {
         all,
         seats: Vec::new(alloc),

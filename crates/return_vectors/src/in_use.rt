@@ -84,7 +84,7 @@ fn is_out<R: Threads + Wait + Clock + Sync + Abort>(
 #[test]
 fn a_name_is_given_out_once_at_a_time(rt: HostRuntime) {
     let alloc = rt.alloc();
-    let (all, hand) = offices(&rt, alloc, CELL, ZERO);
+    let (all, hand) = offices(alloc, CELL, ZERO).expect(&rt, "an office");
     let name = Name::read(alloc, b"Ann")
         .expect(&rt, "memory")
         .expect(&rt, "a name");
@@ -188,7 +188,7 @@ fn quits<R: Threads + Wait + Clock + Sync>(
 #[test]
 fn a_name_is_in_use_until_the_input_ends(rt: HostRuntime) {
     let alloc = rt.alloc();
-    let (all, hand) = offices(&rt, alloc, BUFFER, EMPTY);
+    let (all, hand) = offices(alloc, BUFFER, EMPTY).expect(&rt, "an office");
     let name = Name::read(alloc, b"ann")
         .expect(&rt, "memory")
         .expect(&rt, "a name");
@@ -299,7 +299,7 @@ fn follows<R: Threads + Wait + Clock + Sync>(
 #[test]
 fn a_call_under_a_key_stands_behind_a_running_one(rt: HostRuntime) {
     let alloc = rt.alloc();
-    let (all, hand) = offices(&rt, alloc, TURNS, ZERO);
+    let (all, hand) = offices(alloc, TURNS, ZERO).expect(&rt, "an office");
     let (bytes, hand) = visit(
         &rt,
         alloc,
@@ -341,7 +341,7 @@ end;
 #[test]
 fn lines_are_sent_before_a_call_that_is_held_back(rt: HostRuntime) {
     let alloc = rt.alloc();
-    let (all, hand) = offices(&rt, alloc, STEPS, ZERO);
+    let (all, hand) = offices(alloc, STEPS, ZERO).expect(&rt, "an office");
     let named = all.first().expect(&rt, "an office");
     let mut seat = named.office.seat(&rt).expect(&rt, "a seat");
     let reader = Pieces {

@@ -14,7 +14,6 @@ use path_tree::name::Name;
 use session_core::order::Named;
 use slip_core::slip::Slip;
 use std::alloc::Global;
-use std::process::Abort;
 
 /// An object with one part, of one number.
 pub const CELL: &[u8] = b"object cell;
@@ -81,19 +80,13 @@ fn inside_of(
 
 /// The office of the object of a text, whose one part is spelled so, and the hand that its file is on, where
 /// there is memory for them.
-pub fn offices_of(alloc: Global, text: &[u8], part: &[u8]) -> Option<(Vec<Named>, MemHand)> {
+pub fn offices(alloc: Global, text: &[u8], part: &[u8]) -> Option<(Vec<Named>, MemHand)> {
     let mut hand = MemHand::new(alloc);
     let (name, inside) = inside_of(alloc, text, part, &mut hand)?;
     let office = Office::open(alloc, inside).ok()?;
     let mut all = Vec::new(alloc);
     all.push(Named { name, office }).ok()?;
     Some((all, hand))
-}
-
-/// The office of the object of a text, whose one part is spelled so, and the hand that its file is on. There has to be
-/// memory for them.
-pub fn offices(rt: &impl Abort, alloc: Global, text: &[u8], part: &[u8]) -> (Vec<Named>, MemHand) {
-    offices_of(alloc, text, part).expect(rt, "an office")
 }
 
 /// Whether the office of an object is closed with this seat and these receipts.

@@ -4,7 +4,6 @@ use session_core::serve::Connection;
 use std::alloc::Global;
 use std::io;
 use std::io::{Read, Write};
-use std::process::Abort;
 use std::sync::Arc;
 use std::sync::atomic::{AtomicU64, Ordering};
 
@@ -79,16 +78,15 @@ impl Streams {
     }
 }
 
-/// A connection over which these lines are read.
+/// A connection over which these lines are read, where there is memory for them.
 pub fn connected(
-    rt: &impl Abort,
     alloc: Global,
     lines: &[u8],
     streams: Streams,
-) -> Connection<Pieces, Short> {
+) -> Option<Connection<Pieces, Short>> {
     let Streams { step, takes, fails } = streams;
     let reader = Pieces {
-        bytes: lines.to_vec(alloc).expect(rt, "memory"),
+        bytes: lines.to_vec(alloc).ok()?,
         at: 0,
         step,
         fails,
@@ -98,7 +96,7 @@ pub fn connected(
         left: takes,
         fails,
     };
-    Connection { reader, writer }
+    Some(Connection { reader, writer })
 }
 
 // After so many turns nobody comes any more.

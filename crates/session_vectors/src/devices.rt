@@ -86,7 +86,7 @@ fn a_file_that_was_not_retired_is_tried_again(rt: HostRuntime) {
     let alloc = rt.alloc();
     for fails in [0, 5] {
         for step in [1, 4096] {
-            let (all, hand) = offices(&rt, alloc, CELL, ZERO);
+            let (all, hand) = offices(alloc, CELL, ZERO).expect(&rt, "an office");
             let hand = OnceHand::new(hand, fails);
             let (told, hand) = played(&rt, alloc, all, hand, step);
             assert!(rt; told.as_slice() == DONE && (hand.failures() == 1) == (fails > 0));
@@ -101,7 +101,7 @@ fn a_file_that_was_not_retired_is_tried_again(rt: HostRuntime) {
 fn a_device_that_fails_for_good_leaves_its_files(rt: HostRuntime) {
     let alloc = rt.alloc();
     for calls in 0..5 {
-        let (all, hand) = offices(&rt, alloc, CELL, ZERO);
+        let (all, hand) = offices(alloc, CELL, ZERO).expect(&rt, "an office");
         let hand = FuseHand::new(hand, calls);
         let (told, hand) = played(&rt, alloc, all, hand, 4096);
         assert!(rt; told.as_slice() == if calls == 4 { ONE_DONE } else { NONE_DONE });

@@ -39,8 +39,8 @@ fn plays<R: Abort + Threads + Wait + Clock + Sync>(
     told: &[u8],
     fault: Option<SessionFault>,
 ) -> bool {
-    let (all, hand) = offices(rt, alloc, CELL, ZERO);
-    let connection = connected(rt, alloc, lines, streams);
+    let (all, hand) = offices(alloc, CELL, ZERO).expect(rt, "an office");
+    let connection = connected(alloc, lines, streams).expect(rt, "memory");
     let end = serve_session(rt, alloc, connection, &Bell::new(), &all, hand);
     let mut seats = Vec::new(alloc);
     if let Some(seat) = end.seat {
@@ -276,7 +276,7 @@ fn fills<R: Abort + Wait>(rt: &R, office: &Office) {
 #[test]
 fn all_seats_are_given_out(rt: HostRuntime) {
     let alloc = rt.alloc();
-    let (all, hand) = offices(&rt, alloc, CELL, ZERO);
+    let (all, hand) = offices(alloc, CELL, ZERO).expect(&rt, "an office");
     let named = all.first().expect(&rt, "an office");
     fills(&rt, &named.office);
     let connection = connected(

@@ -8,7 +8,7 @@ use hear_core::bell::Bell;
 use session_core::end::SessionEnd;
 use session_core::order::Named;
 use session_core::serve::{Connection, serve_session};
-use session_fakes::offices::{CELL, ZERO, is_closed, offices_of};
+use session_fakes::offices::{CELL, ZERO, is_closed, offices};
 use session_fakes::streams::Short;
 use slip_core::slip::Slip;
 use std::alloc::Global;
@@ -21,9 +21,9 @@ use talk_core::fault::SessionFault;
 
 // The office of a cell, where there is memory for it at the first or at the second try.
 fn cell_twice(rt: &impl Abort, alloc: Global) -> (Vec<Named>, MemHand) {
-    match offices_of(alloc, CELL, ZERO) {
+    match offices(alloc, CELL, ZERO) {
         Some(made) => made,
-        None => offices_of(alloc, CELL, ZERO).expect(rt, "an office"),
+        None => offices(alloc, CELL, ZERO).expect(rt, "an office"),
     }
 }
 

@@ -159,7 +159,7 @@ fn lines_that_were_not_sent_are_told(rt: HostRuntime) {
 
 // The receipts of two calls.
 fn two_receipts<R: Abort + Threads + Wait + Clock + Sync>(rt: &R, alloc: Global) -> Vec<Slip> {
-    let (all, hand) = offices(rt, alloc, CELL, ZERO);
+    let (all, hand) = offices(alloc, CELL, ZERO).expect(rt, "an office");
     let reader = Pieces {
         bytes: b"open cell\ncall put 7\ncall get\nquit\n"
             .to_vec(alloc)

@@ -121,7 +121,7 @@ fn other<R: Threads + Wait + Clock + Sync>(
 #[test]
 fn a_client_that_does_not_read_holds_up_nobody(rt: HostRuntime) {
     let alloc = rt.alloc();
-    let (all, hand) = offices(&rt, alloc, TURNS, ZERO);
+    let (all, hand) = offices(alloc, TURNS, ZERO).expect(&rt, "an office");
     let came = Arc::new(alloc, AtomicU64::new(0)).expect(&rt, "memory");
     let others = Arc::new(alloc, AtomicU64::new(0)).expect(&rt, "memory");
     let stuck = Stuck {
@@ -205,7 +205,7 @@ fn stops<R: Abort + Threads + Wait + Clock + Sync>(
     count: u64,
     told: &'static [u8],
 ) {
-    let (all, hand) = offices(rt, alloc, BUFFER, EMPTY);
+    let (all, hand) = offices(alloc, BUFFER, EMPTY).expect(rt, "an office");
     let written = Arc::new(alloc, AtomicU64::new(0)).expect(rt, "memory");
     let writer = Counted {
         bytes: Vec::new(alloc),
@@ -267,7 +267,7 @@ impl Read for Ringing {
 #[test]
 fn what_was_read_before_the_bell_is_sent_ahead(rt: HostRuntime) {
     let alloc = rt.alloc();
-    let (all, hand) = offices(&rt, alloc, BUFFER, EMPTY);
+    let (all, hand) = offices(alloc, BUFFER, EMPTY).expect(&rt, "an office");
     let bell = Arc::new(alloc, Bell::new()).expect(&rt, "memory");
     let reader = Ringing {
         text: b"open buffer\ncall deposit 1\ncancel 1\ncall remove\nquit\n",

@@ -250,7 +250,7 @@ const CANCELS: &[(u64, &[u8])] = &[
 #[test]
 fn a_call_behind_a_slow_one_is_cancelled(rt: HostRuntime) {
     let alloc = rt.alloc();
-    let (all, hand) = offices(&rt, alloc, SHOP, ZERO);
+    let (all, hand) = offices(alloc, SHOP, ZERO).expect(&rt, "an office");
     let copy = copy_of(&rt, alloc);
     let (count, own) = (counter(&rt, alloc), counter(&rt, alloc));
     let (gets, slow) = client_of(&rt, alloc, GETS, 6, &count, &own);
@@ -284,7 +284,7 @@ const RUNS: &[(u64, &[u8])] = &[
 #[test]
 fn a_slow_call_is_told_as_running(rt: HostRuntime) {
     let alloc = rt.alloc();
-    let (all, hand) = offices(&rt, alloc, SHOP, ZERO);
+    let (all, hand) = offices(alloc, SHOP, ZERO).expect(&rt, "an office");
     let copy = copy_of(&rt, alloc);
     let (count, own) = (counter(&rt, alloc), counter(&rt, alloc));
     let (gets, slow) = client_of(&rt, alloc, GETS, 4, &count, &own);

@@ -81,7 +81,7 @@ const CANCELS: &[(u64, &[u8])] = &[
 #[test]
 fn cancel_meets_waiter(rt: HostRuntime) {
     let alloc = rt.alloc();
-    let (all, hand) = offices(&rt, alloc, BUFFER, EMPTY);
+    let (all, hand) = offices(alloc, BUFFER, EMPTY).expect(&rt, "an office");
     let count = Arc::new(alloc, AtomicU64::new(0)).expect(&rt, "memory");
     let shared = &rt;
     let (bytes, goes) = thread::join(
@@ -109,7 +109,7 @@ const QUITS: &[(u64, &[u8])] = &[(0, b"open buffer\ncall remove\nquit\n"), (3, b
 #[test]
 fn quit_waits_for_the_call_before_it(rt: HostRuntime) {
     let alloc = rt.alloc();
-    let (all, hand) = offices(&rt, alloc, BUFFER, EMPTY);
+    let (all, hand) = offices(alloc, BUFFER, EMPTY).expect(&rt, "an office");
     let count = Arc::new(alloc, AtomicU64::new(0)).expect(&rt, "memory");
     let shared = &rt;
     let (bytes, _) = thread::join(
@@ -142,7 +142,7 @@ fn cancels_told<R: Wait>(rt: &R, all: &Vec<Named>, count: &AtomicU64) -> bool {
 #[test]
 fn a_call_that_waits_is_told_meanwhile(rt: HostRuntime) {
     let alloc = rt.alloc();
-    let (all, hand) = offices(&rt, alloc, BUFFER, EMPTY);
+    let (all, hand) = offices(alloc, BUFFER, EMPTY).expect(&rt, "an office");
     let count = Arc::new(alloc, AtomicU64::new(0)).expect(&rt, "memory");
     let shared = &rt;
     let (bytes, is_told) = thread::join(
@@ -161,7 +161,7 @@ fn tells<R: Abort + Threads + Wait + Clock + Sync>(
     lines: &'static [(u64, &'static [u8])],
     told: &[u8],
 ) {
-    let (all, hand) = offices(rt, alloc, BUFFER, EMPTY);
+    let (all, hand) = offices(alloc, BUFFER, EMPTY).expect(rt, "an office");
     let count = Arc::new(alloc, AtomicU64::new(0)).expect(rt, "memory");
     let bytes = written(rt, alloc, &all, hand, lines, &count);
     assert!(rt; bytes.as_slice() == told);
