@@ -279,11 +279,8 @@ fn all_seats_are_given_out(rt: HostRuntime) {
     let (all, hand) = offices(alloc, CELL, ZERO).expect(&rt, "an office");
     let named = all.first().expect(&rt, "an office");
     fills(&rt, &named.office);
-    let connection = connected(
-        &rt,
-        alloc,
-        b"open cell\ncall get\nquit\n",
-        Streams::whole(4096),
+    let connection = connected(alloc, b"open cell\ncall get\nquit\n", Streams::whole(4096)).expect(
+        &rt, "memory",
     );
     let end = serve_session(&rt, alloc, connection, &Bell::new(), &all, hand);
     assert!(rt; end.writer.bytes.as_slice() == b"no Full\nno NotOpen\nbye\n".as_slice());
