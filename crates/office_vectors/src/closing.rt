@@ -1,7 +1,9 @@
 //! When an inside and an office are closed.
 
-use crate::make::{finish, inside, inside_of, page, stuck, whole_call};
-use crate::named::{name, outcome_of};
+use crate::make::{
+    accepted, finish, inside, inside_of, is_parked, is_taken_in, page, seat_of, stuck, whole_call,
+};
+use crate::named::outcome_of;
 use apply_core::reply::Reply;
 use board_core::entry::Entry;
 use board_core::receipt::{NotedOutcome, Receipt};
@@ -11,6 +13,7 @@ use office_core::inside::{CloseFault, CloseRefused, Closed, Inside};
 use office_core::office::Office;
 use office_core::seat::{Seat, Started};
 use page_core::pins::Pins;
+use run_core::outcome::Outcome;
 use run_core::perform::perform;
 use run_core::run::Run;
 use slip_core::room::SlipRoom;
@@ -210,12 +213,55 @@ fn put_and_park<R: Abort + Wait>(
     hand: &mut MemHand,
     bytes: &[u8],
 ) -> Receipt {
-    let mut seat = inside
-        .seat_named(&name(rt, alloc, bytes))
-        .expect(rt, "a seat");
+    let mut seat = seat_of(rt, alloc, inside, bytes);
     let receipt = whole_call(rt, alloc, inside, &mut seat, hand, 7).expect(rt, "a receipt");
-    inside.park(seat).ok().expect(rt, "to park");
+    assert!(rt; is_parked(inside, seat));
     receipt
+}
+
+// What a close without a seat, or with one too many, hands back.
+fn missing(
+    rt: &impl Abort,
+    inside: Inside,
+    seats: Vec<Seat>,
+    receipts: &[Receipt],
+) -> (Inside, Vec<Seat>) {
+    refused(
+        rt,
+        inside.close(seats, receipts),
+        CloseFault::SeatMissing,
+        1,
+    )
+}
+
+// The first seat of another inside, over the same files.
+fn strange(rt: &impl Abort, alloc: Global, pins: Pins) -> Seat {
+    let mut other = inside_of(alloc, pins).expect(rt, "an inside");
+    other.seat().expect(rt, "a seat")
+}
+
+// Whether the last one of two seats is the strange one, which is taken away.
+fn is_last_strange(seats: &mut Vec<Seat>) -> bool {
+    match seats.pop() {
+        Some(twice) => twice.session() == 1 && seats.len() == 1,
+        None => false,
+    }
+}
+
+// A seat of a name that is out is missing where an inside closes. It is parked then.
+fn missing_while_out(
+    rt: &impl Abort,
+    alloc: Global,
+    inside: Inside,
+    seats: Vec<Seat>,
+    receipts: &[Receipt],
+) -> (Inside, Vec<Seat>) {
+    let mut inside = inside;
+    let ann = seat_of(rt, alloc, &mut inside, b"ann");
+    assert!(rt; ann.session() == 1 && ann.count() == 1);
+    let (mut inside, seats) = missing(rt, inside, seats, receipts);
+    assert!(rt; is_parked(&mut inside, ann));
+    (inside, seats)
 }
 
 #[test]
@@ -223,40 +269,19 @@ fn parked_seats_are_counted_where_an_office_closes(rt: HostRuntime) {
     let alloc = rt.alloc();
     let mut hand = MemHand::new(alloc);
     let mut inside = inside(&rt, alloc, &mut hand);
-    let own = one(
-        &rt,
-        alloc,
-        put_and_park(&rt, alloc, &mut inside, &mut hand, b"ann"),
-    );
-    let foreign = one(&rt, alloc, foreign(&rt, alloc));
+    let own = put_and_park(&rt, alloc, &mut inside, &mut hand, b"ann");
+    let own = one(&rt, alloc, own);
     let seat = inside.seat().expect(&rt, "a seat");
     // The seat without a name is missing; then the parked one is out.
-    let (mut inside, mut seats) = refused(
-        &rt,
-        inside.close(Vec::new(alloc), &own),
-        CloseFault::SeatMissing,
-        1,
-    );
+    let (inside, mut seats) = missing(&rt, inside, Vec::new(alloc), &own);
     seats.push(seat).expect(&rt, "memory");
-    let ann = inside
-        .seat_named(&name(&rt, alloc, b"ann"))
-        .expect(&rt, "a seat");
-    assert!(rt; ann.session() == 1 && ann.count() == 1);
-    let (mut inside, mut seats) = refused(
-        &rt,
-        inside.close(seats, &own),
-        CloseFault::SeatMissing,
-        1,
-    );
+    let (inside, mut seats) = missing_while_out(&rt, alloc, inside, seats, &own);
     // A seat that is parked is handed in, too: each session has one seat.
-    inside.park(ann).ok().expect(&rt, "to park");
-    let mut other = inside_of(alloc, inside.desk().pins()).expect(&rt, "an inside");
-    seats
-        .push(other.seat().expect(&rt, "a seat"))
-        .expect(&rt, "memory");
-    let (inside, mut seats) = refused(&rt, inside.close(seats, &own), CloseFault::SeatMissing, 1);
-    let twice = seats.pop().expect(&rt, "a seat");
-    assert!(rt; twice.session() == 1 && seats.len() == 1);
+    let strange = strange(&rt, alloc, inside.desk().pins());
+    seats.push(strange).expect(&rt, "memory");
+    let (inside, mut seats) = missing(&rt, inside, seats, &own);
+    assert!(rt; is_last_strange(&mut seats));
+    let foreign = one(&rt, alloc, foreign(&rt, alloc));
     let why = CloseFault::Mismatch {
         receipt: 0,
         place: 1,
@@ -277,34 +302,30 @@ fn an_office_closes_with_parked_seats_alone(rt: HostRuntime) {
     assert!(rt; is_closed(office.close_by_slips(Vec::new(alloc), &own), pins));
 }
 
+// The outcome of a `get` of this seat.
+fn got<R: Abort + Wait>(
+    rt: &R,
+    alloc: Global,
+    inside: &mut Inside,
+    hand: &mut MemHand,
+    seat: &mut Seat,
+) -> Outcome {
+    let submitted = accepted(rt, inside.submit(seat, "get", &[]).ok());
+    outcome_of(rt, alloc, inside, hand, submitted).expect(rt, "an outcome")
+}
+
 // A call of a name that runs comes before a seat that is missing.
 #[test]
 fn a_running_call_of_a_name_keeps_an_office_open(rt: HostRuntime) {
     let alloc = rt.alloc();
     let mut hand = MemHand::new(alloc);
     let mut inside = inside(&rt, alloc, &mut hand);
-    let mut ann = inside
-        .seat_named(&name(&rt, alloc, b"ann"))
-        .expect(&rt, "a seat");
-    let submitted = inside
-        .submit(&mut ann, "get", &[])
-        .ok()
-        .expect(&rt, "a call");
-    let outcome = outcome_of(&rt, alloc, &mut inside, &mut hand, submitted).expect(
-        &rt,
-        "an outcome",
-    );
-    let (mut inside, seats) = refused(
-        &rt,
-        inside.close(Vec::new(alloc), &[]),
-        CloseFault::Outstanding,
-        0,
-    );
-    inside
-        .complete(&mut ann, outcome)
-        .ok()
-        .expect(&rt, "a receipt");
-    let (mut inside, seats) = refused(&rt, inside.close(seats, &[]), CloseFault::SeatMissing, 1);
-    inside.park(ann).ok().expect(&rt, "to park");
+    let mut ann = seat_of(&rt, alloc, &mut inside, b"ann");
+    let outcome = got(&rt, alloc, &mut inside, &mut hand, &mut ann);
+    let why = CloseFault::Outstanding;
+    let (mut inside, seats) = refused(&rt, inside.close(Vec::new(alloc), &[]), why, 0);
+    assert!(rt; is_taken_in(&mut inside, &mut ann, outcome));
+    let (mut inside, seats) = missing(&rt, inside, seats, &[]);
+    assert!(rt; is_parked(&mut inside, ann));
     assert!(rt; inside.close(seats, &[]).is_ok());
 }

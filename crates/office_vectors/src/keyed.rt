@@ -1,6 +1,6 @@
 //! Calls under a key, in an inside and in an office.
 
-use crate::make::{finish, inside, stuck, whole_call};
+use crate::make::{accepted, finish, inside, is_parked, is_taken_in, seat_of, stuck, whole_call};
 use crate::meeting::meets;
 use crate::named::{is_cancelled, name, outcome_of};
 use apply_core::reply::Reply;
@@ -14,6 +14,7 @@ use office_core::seat::{Seat, Started, Submitted};
 use run_core::perform::perform;
 use run_core::run::Run;
 use std::alloc::Global;
+use std::process::Abort;
 use std::sync::atomic::{AtomicU64, Ordering};
 use std::sync::{Mutex, Wait};
 use std::thread;
@@ -60,50 +61,76 @@ fn is_refused<R: Wait>(rt: &R, answer: Result<Resubmitted, KeyedFault>, why: Key
     }
 }
 
+// A seat's `put 7` under this key, which is new.
+fn put_under(rt: &impl Abort, inside: &mut Inside, seat: &mut Seat, key: u32) -> Submitted {
+    accepted(
+        rt,
+        taken(inside.submit_keyed(seat, key, "put", &[Datum::Integer(7)])),
+    )
+}
+
+// Whether a `put 7` of a seat under key 1, the operation spelled so, is told what became of the call of this number.
+fn is_put_kept<R: Wait>(
+    rt: &R,
+    inside: &mut Inside,
+    seat: &mut Seat,
+    op: &str,
+    number: u32,
+    state: CallState,
+) -> bool {
+    let answer = inside.submit_keyed(seat, 1, op, &[Datum::Integer(7)]);
+    is_kept(rt, answer, number, state)
+}
+
+// A call of bob's waits, and is cancelled, and the key tells of that. The name of the operation may be in any case.
+fn cancels<R: Abort + Wait>(
+    rt: &R,
+    alloc: Global,
+    inside: &mut Inside,
+    hand: &mut MemHand,
+    bob: &mut Seat,
+) {
+    let second = put_under(rt, inside, bob, 1);
+    assert!(rt; second.number() == 2);
+    assert!(rt; is_put_kept(rt, inside, bob, "PUT", 2, CallState::Waiting));
+    inside.cancel(2);
+    assert!(rt; is_put_kept(rt, inside, bob, "put", 2, CallState::Cancelled));
+    assert!(rt; is_cancelled(rt, alloc, inside, hand, second));
+}
+
+// Whether the call of a submission ends.
+fn ends<R: Wait>(
+    rt: &R,
+    alloc: Global,
+    inside: &mut Inside,
+    hand: &mut MemHand,
+    seat: &mut Seat,
+    submitted: Submitted,
+) -> bool {
+    match outcome_of(rt, alloc, inside, hand, submitted) {
+        Some(outcome) => is_taken_in(inside, seat, outcome),
+        None => false,
+    }
+}
+
 #[test]
 fn a_call_under_an_old_key_is_told_what_became_of_it(rt: HostRuntime) {
     let alloc = rt.alloc();
     let mut hand = MemHand::new(alloc);
     let mut inside = inside(&rt, alloc, &mut hand);
-    let mut ann = inside
-        .seat_named(&name(&rt, alloc, b"ann"))
-        .expect(&rt, "a seat");
+    let mut ann = seat_of(&rt, alloc, &mut inside, b"ann");
     let mut bob = inside.seat().expect(&rt, "a seat");
-    let first = taken(inside.submit_keyed(&mut ann, 1, "put", &[Datum::Integer(7)])).expect(
-        &rt, "a call",
-    );
+    let first = put_under(&rt, &mut inside, &mut ann, 1);
     assert!(rt; first.number() == 1 && inside.next_key(&ann) == 2 && inside.next_key(&bob) == 1);
-    let running = inside.submit_keyed(&mut ann, 1, "put", &[Datum::Integer(7)]);
-    assert!(rt; is_kept(&rt, running, 1, CallState::Running));
-    let second = taken(inside.submit_keyed(&mut bob, 1, "put", &[Datum::Integer(7)])).expect(
-        &rt, "a call",
-    );
-    assert!(rt; second.number() == 2);
-    // The name of the operation may be in any case.
-    let waiting = inside.submit_keyed(&mut bob, 1, "PUT", &[Datum::Integer(7)]);
-    assert!(rt; is_kept(&rt, waiting, 2, CallState::Waiting));
-    inside.cancel(2);
-    let cancelled = inside.submit_keyed(&mut bob, 1, "put", &[Datum::Integer(7)]);
-    assert!(rt; is_kept(&rt, cancelled, 2, CallState::Cancelled));
-    let told = is_cancelled(&rt, alloc, &mut inside, &mut hand, second);
-    assert!(rt; told);
-    let outcome = outcome_of(&rt, alloc, &mut inside, &mut hand, first).expect(&rt, "an outcome");
-    inside
-        .complete(&mut ann, outcome)
-        .ok()
-        .expect(&rt, "a receipt");
+    assert!(rt; is_put_kept(&rt, &mut inside, &mut ann, "put", 1, CallState::Running));
+    cancels(&rt, alloc, &mut inside, &mut hand, &mut bob);
+    assert!(rt; ends(&rt, alloc, &mut inside, &mut hand, &mut ann, first));
     let done = CallState::Ended(Reply::Done(None));
-    let ended = inside.submit_keyed(&mut ann, 1, "put", &[Datum::Integer(7)]);
-    assert!(rt; is_kept(&rt, ended, 1, done));
+    assert!(rt; is_put_kept(&rt, &mut inside, &mut ann, "put", 1, done));
     // One more call, and the first key still tells of the first one.
-    let third = taken(inside.submit_keyed(&mut ann, 2, "get", &[])).expect(&rt, "a call");
-    let outcome = outcome_of(&rt, alloc, &mut inside, &mut hand, third).expect(&rt, "an outcome");
-    inside
-        .complete(&mut ann, outcome)
-        .ok()
-        .expect(&rt, "a receipt");
-    let ended = inside.submit_keyed(&mut ann, 1, "put", &[Datum::Integer(7)]);
-    assert!(rt; is_kept(&rt, ended, 1, done));
+    let third = accepted(&rt, taken(inside.submit_keyed(&mut ann, 2, "get", &[])));
+    assert!(rt; ends(&rt, alloc, &mut inside, &mut hand, &mut ann, third));
+    assert!(rt; is_put_kept(&rt, &mut inside, &mut ann, "put", 1, done));
     let seven = CallState::Ended(Reply::Done(Some(Datum::Integer(7))));
     let ended = inside.submit_keyed(&mut ann, 2, "get", &[]);
     assert!(rt; is_kept(&rt, ended, 3, seven) && inside.next_key(&ann) == 3);
@@ -116,7 +143,7 @@ fn a_call_under_a_key_is_refused(rt: HostRuntime) {
     let mut hand = MemHand::new(alloc);
     let mut inside = inside(&rt, alloc, &mut hand);
     let mut seat = inside.seat().expect(&rt, "a seat");
-    whole_call(&rt, alloc, &mut inside, &mut seat, &mut hand, 7).expect(&rt, "a receipt");
+    assert!(rt; whole_call(&rt, alloc, &mut inside, &mut seat, &mut hand, 7).is_some());
     let nothing = inside.submit_keyed(&mut seat, 0, "put", &[Datum::Integer(7)]);
     assert!(rt; is_refused(&rt, nothing, KeyedFault::BadKey));
     let past = inside.submit_keyed(&mut seat, 3, "put", &[Datum::Integer(7)]);
@@ -131,17 +158,10 @@ fn a_call_under_a_key_is_refused(rt: HostRuntime) {
     assert!(rt; is_refused(&rt, unknown, KeyedFault::Submit(SubmitFault::UnknownOp)));
     let bad = inside.submit_keyed(&mut seat, 2, "put", &[]);
     assert!(rt; is_refused(&rt, bad, KeyedFault::Submit(SubmitFault::BadArgs)));
-    let submitted = taken(inside.submit_keyed(&mut seat, 2, "get", &[])).expect(&rt, "a call");
+    let submitted = accepted(&rt, taken(inside.submit_keyed(&mut seat, 2, "get", &[])));
     let busy = inside.submit_keyed(&mut seat, 3, "get", &[]);
     assert!(rt; is_refused(&rt, busy, KeyedFault::Submit(SubmitFault::SessionBusy)));
-    let outcome = outcome_of(&rt, alloc, &mut inside, &mut hand, submitted).expect(
-        &rt,
-        "an outcome",
-    );
-    inside
-        .complete(&mut seat, outcome)
-        .ok()
-        .expect(&rt, "a receipt");
+    assert!(rt; ends(&rt, alloc, &mut inside, &mut hand, &mut seat, submitted));
     assert!(rt; inside.next_key(&seat) == 3);
     inside.leave(seat.session());
     let gone = inside.submit_keyed(&mut seat, 1, "put", &[Datum::Integer(7)]);
@@ -174,8 +194,8 @@ fn a_session_is_back_while_256_calls_run(rt: HostRuntime) {
     let mut inside = inside(&rt, alloc, &mut hand);
     let ann = name(&rt, alloc, b"ann");
     let mut seat = inside.seat_named(&ann).expect(&rt, "a seat");
-    whole_call(&rt, alloc, &mut inside, &mut seat, &mut hand, 7).expect(&rt, "a receipt");
-    inside.park(seat).ok().expect(&rt, "to park");
+    assert!(rt; whole_call(&rt, alloc, &mut inside, &mut seat, &mut hand, 7).is_some());
+    assert!(rt; is_parked(&mut inside, seat));
     assert!(rt; fill(&rt, alloc, &mut inside, &mut hand));
     let mut seat = inside.seat_named(&ann).expect(&rt, "a seat");
     let ended = inside.submit_keyed(&mut seat, 1, "put", &[Datum::Integer(7)]);
@@ -183,7 +203,7 @@ fn a_session_is_back_while_256_calls_run(rt: HostRuntime) {
     let full = inside.submit_keyed(&mut seat, 2, "get", &[]);
     assert!(rt; is_refused(&rt, full, KeyedFault::Submit(SubmitFault::Full)));
     assert!(rt; inside.next_key(&seat) == 2);
-    inside.park(seat).ok().expect(&rt, "to park");
+    assert!(rt; is_parked(&mut inside, seat));
     assert!(rt; inside.desk().runs(2) && inside.desk().runs(257));
 }
 
@@ -240,8 +260,9 @@ fn an_office_parks_and_tells_who_waits(rt: HostRuntime) {
     let second = office.seat_named(&rt, &bob).expect(&rt, "a seat");
     let in_use = office.seat_named(&rt, &ann).err();
     assert!(rt; in_use == Some(NameFault::InUse));
-    let runs = taken(office.submit_keyed(&rt, &mut first, 1, "put", &[Datum::Integer(7)])).expect(
-        &rt, "a call",
+    let runs = accepted(
+        &rt,
+        taken(office.submit_keyed(&rt, &mut first, 1, "put", &[Datum::Integer(7)])),
     );
     let first = match office.park(&rt, first) {
         Ok(()) => panic!(rt; "parked"),
@@ -259,7 +280,7 @@ fn an_office_parks_and_tells_who_waits(rt: HostRuntime) {
     );
     assert!(rt; told && parked);
     let mut first = first;
-    finish(&rt, alloc, &office, &mut first, &mut hand, runs).expect(&rt, "a receipt");
+    assert!(rt; finish(&rt, alloc, &office, &mut first, &mut hand, runs).is_some());
     let second = office.seat_named(&rt, &bob).expect(&rt, "a seat");
     let kept = office.kept(&rt, &second, 1, "put", &[Datum::Integer(7)]);
     let state = CallState::Cancelled;

@@ -10,6 +10,8 @@ use office_core::office::Office;
 use office_core::seat::{Seat, Started, Submitted, Tried};
 use page_core::page_list::PageList;
 use page_core::pins::Pins;
+use path_tree::name::Name;
+use run_core::outcome::Outcome;
 use run_core::perform::perform;
 use run_core::run::Run;
 use std::alloc::Global;
@@ -128,4 +130,30 @@ pub fn finish<R: Wait, H: Hand>(
             None
         }
     }
+}
+
+/// The submission that there has to be.
+pub fn accepted(rt: &impl Abort, answer: Option<Submitted>) -> Submitted {
+    match answer {
+        Some(submitted) => submitted,
+        None => panic!(rt; "no call"),
+    }
+}
+
+/// The seat of the name that these bytes spell.
+pub fn seat_of(rt: &impl Abort, alloc: Global, inside: &mut Inside, bytes: &[u8]) -> Seat {
+    let read = Name::read(alloc, bytes).expect(rt, "memory");
+    inside
+        .seat_named(&read.expect(rt, "a name"))
+        .expect(rt, "a seat")
+}
+
+/// Whether a seat is parked.
+pub fn is_parked(inside: &mut Inside, seat: Seat) -> bool {
+    inside.park(seat).is_ok()
+}
+
+/// Whether an outcome is taken.
+pub fn is_taken_in(inside: &mut Inside, seat: &mut Seat, outcome: Outcome) -> bool {
+    inside.complete(seat, outcome).is_ok()
 }

@@ -1,6 +1,6 @@
 //! Seats that are given out under a name, parked, and given out again.
 
-use crate::make::{inside, stuck, whole_call};
+use crate::make::{accepted, inside, is_parked, is_taken_in, seat_of, stuck, whole_call};
 use apply_core::reply::Reply;
 use ask_core::answer::{CallState, Kept, KeyedFault};
 use device_core::memory::MemHand;
@@ -59,24 +59,18 @@ fn a_parked_seat_is_given_out_again(rt: HostRuntime) {
     let alloc = rt.alloc();
     let mut hand = MemHand::new(alloc);
     let mut inside = inside(&rt, alloc, &mut hand);
-    let mut ann = inside
-        .seat_named(&name(&rt, alloc, b"ann"))
-        .expect(&rt, "a seat");
+    let mut ann = seat_of(&rt, alloc, &mut inside, b"ann");
     assert!(rt; is_seat(&ann, 1, 0, 0) && inside.next_key(&ann) == 1);
-    whole_call(&rt, alloc, &mut inside, &mut ann, &mut hand, 7).expect(&rt, "a receipt");
+    assert!(rt; whole_call(&rt, alloc, &mut inside, &mut ann, &mut hand, 7).is_some());
     assert!(rt; is_seat(&ann, 1, 1, 1) && inside.next_key(&ann) == 2);
-    let bob = inside
-        .seat_named(&name(&rt, alloc, b"bob"))
-        .expect(&rt, "a seat");
+    let bob = seat_of(&rt, alloc, &mut inside, b"bob");
     assert!(rt; is_seat(&bob, 2, 0, 0));
     // The name is that of a seat that is out, in any case.
     let again = inside.seat_named(&name(&rt, alloc, b"ANN")).err();
     assert!(rt; again == Some(NameFault::InUse));
-    inside.park(ann).ok().expect(&rt, "to park");
+    assert!(rt; is_parked(&mut inside, ann));
     assert!(rt; put_kept(&inside, 1, 1) == Err(KeyedFault::Gone));
-    let ann = inside
-        .seat_named(&name(&rt, alloc, b"Ann"))
-        .expect(&rt, "a seat");
+    let ann = seat_of(&rt, alloc, &mut inside, b"Ann");
     assert!(rt; is_seat(&ann, 1, 1, 1) && inside.next_key(&ann) == 2);
     let state = CallState::Ended(Reply::Done(None));
     let kept = Kept { number: 1, state };
@@ -91,11 +85,9 @@ fn a_seat_without_a_name_is_not_parked(rt: HostRuntime) {
     let mut hand = MemHand::new(alloc);
     let mut inside = inside(&rt, alloc, &mut hand);
     let seat = inside.seat().expect(&rt, "a seat");
-    let ann = inside
-        .seat_named(&name(&rt, alloc, b"ann"))
-        .expect(&rt, "a seat");
+    let ann = seat_of(&rt, alloc, &mut inside, b"ann");
     assert!(rt; is_refused(inside.park(seat), 1, ParkFault::Stranger));
-    inside.park(ann).ok().expect(&rt, "to park");
+    assert!(rt; is_parked(&mut inside, ann));
     // The seat that was handed back is lost.
     let why = why_open(inside.close(Vec::new(alloc), &[]));
     assert!(rt; why == Some(CloseFault::SeatMissing));
@@ -142,50 +134,44 @@ pub fn is_cancelled<R: Wait>(
     }
 }
 
+// A seat that is not parked, since its call runs.
+fn still_out(rt: &impl Abort, inside: &mut Inside, seat: Seat) -> Seat {
+    match inside.park(seat) {
+        Ok(()) => panic!(rt; "parked"),
+        Err((seat, fault)) => {
+            assert!(rt; fault == ParkFault::Running);
+            seat
+        }
+    }
+}
+
+// A `put 7` of this seat, which is accepted.
+fn put(rt: &impl Abort, inside: &mut Inside, seat: &mut Seat) -> Submitted {
+    accepted(rt, inside.submit(seat, "put", &[Datum::Integer(7)]).ok())
+}
+
 #[test]
 fn a_seat_is_parked_once_its_call_does_not_run(rt: HostRuntime) {
     let alloc = rt.alloc();
     let mut hand = MemHand::new(alloc);
     let mut inside = inside(&rt, alloc, &mut hand);
-    let mut ann = inside
-        .seat_named(&name(&rt, alloc, b"ann"))
-        .expect(&rt, "a seat");
-    let mut bob = inside
-        .seat_named(&name(&rt, alloc, b"bob"))
-        .expect(&rt, "a seat");
-    let put = &[Datum::Integer(7)];
-    let first = inside
-        .submit(&mut ann, "put", put)
-        .ok()
-        .expect(&rt, "a call");
+    let mut ann = seat_of(&rt, alloc, &mut inside, b"ann");
+    let mut bob = seat_of(&rt, alloc, &mut inside, b"bob");
+    let first = put(&rt, &mut inside, &mut ann);
     let outcome = outcome_of(&rt, alloc, &mut inside, &mut hand, first).expect(&rt, "an outcome");
-    let second = inside
-        .submit(&mut bob, "put", put)
-        .ok()
-        .expect(&rt, "a call");
+    let second = put(&rt, &mut inside, &mut bob);
     assert!(rt; inside.desk().runs(1) && inside.desk().waits(2));
     // A waiting call is cancelled, and its session leaves.
-    inside.park(bob).ok().expect(&rt, "to park");
+    assert!(rt; is_parked(&mut inside, bob));
     let told = is_cancelled(&rt, alloc, &mut inside, &mut hand, second);
     assert!(rt; told && !inside.desk().waits(2));
     assert!(rt; put_kept(&inside, 2, 1) == Err(KeyedFault::Gone));
     // A running call keeps its seat out.
-    let mut ann = match inside.park(ann) {
-        Ok(()) => panic!(rt; "parked"),
-        Err((seat, fault)) => {
-            assert!(rt; fault == ParkFault::Running && inside.desk().runs(1));
-            seat
-        }
-    };
-    inside
-        .complete(&mut ann, outcome)
-        .ok()
-        .expect(&rt, "a receipt");
-    assert!(rt; is_seat(&ann, 1, 1, 1));
-    inside.park(ann).ok().expect(&rt, "to park");
-    let bob = inside
-        .seat_named(&name(&rt, alloc, b"bob"))
-        .expect(&rt, "a seat");
+    let mut ann = still_out(&rt, &mut inside, ann);
+    assert!(rt; inside.desk().runs(1));
+    assert!(rt; is_taken_in(&mut inside, &mut ann, outcome) && is_seat(&ann, 1, 1, 1));
+    assert!(rt; is_parked(&mut inside, ann));
+    let bob = seat_of(&rt, alloc, &mut inside, b"bob");
     let state = CallState::Cancelled;
     assert!(rt;
         is_seat(&bob, 2, 0, 0) && put_kept(&inside, 2, 1) == Ok(Some(Kept { number: 2, state }))
@@ -225,9 +211,7 @@ fn seats_are_full_for_new_names_alone(rt: HostRuntime) {
     let alloc = rt.alloc();
     let mut hand = MemHand::new(alloc);
     let mut inside = inside(&rt, alloc, &mut hand);
-    let ann = inside
-        .seat_named(&name(&rt, alloc, b"ann"))
-        .expect(&rt, "a seat");
+    let ann = seat_of(&rt, alloc, &mut inside, b"ann");
     assert!(rt; seat_and_park(&rt, alloc, &mut inside, 2));
     let full = inside.seat_named(&name(&rt, alloc, b"bob")).err();
     assert!(rt; full == Some(NameFault::SeatsFull) && inside.seat().is_err());
@@ -237,7 +221,7 @@ fn seats_are_full_for_new_names_alone(rt: HostRuntime) {
         .seat_named(&numbered(&rt, alloc, MOST_SESSIONS))
         .expect(&rt, "a seat");
     assert!(rt; is_seat(&last, MOST_SESSIONS, 0, 0));
-    inside.park(last).ok().expect(&rt, "to park");
+    assert!(rt; is_parked(&mut inside, last));
     // All seats but one are parked.
     let (inside, mut seats) = match inside.close(Vec::new(alloc), &[]) {
         Ok(_) => panic!(rt; "closed"),

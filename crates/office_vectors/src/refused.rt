@@ -86,13 +86,16 @@ fn is_taken<R: Wait>(
     }
 }
 
+// Whether an office that gave out no seat is closed.
+fn is_closed(alloc: Global, office: Office) -> bool {
+    office.close(Vec::new(alloc), &[]).is_ok()
+}
+
 #[test]
 fn refused_open_and_submit(rt: HostRuntime) {
     let mut hand = MemHand::new(rt.alloc());
     let pins = pins_twice(&rt, &mut hand);
-    let office = office_twice(&rt, rt.alloc(), pins);
-    let refused = office.close(Vec::new(rt.alloc()), &[]).err();
-    assert!(rt; refused.is_none());
+    assert!(rt; is_closed(rt.alloc(), office_twice(&rt, rt.alloc(), pins)));
     let mut inside = inside_twice(&rt, rt.alloc(), pins);
     let mut seat = inside.seat().expect(&rt, "a seat");
     assert!(rt;
@@ -244,24 +247,39 @@ fn goes_on_fed<R: Wait>(rt: &R, inside: &mut Inside, seat: Seat, own: &Name, new
     kept && inside.park(other).is_ok() && inside.park(seat).is_ok()
 }
 
+// Whether an inside whose seats are all parked is closed.
+fn closes(alloc: Global, inside: Inside) -> bool {
+    inside.close(Vec::new(alloc), &[]).is_ok()
+}
+
+// Goes on as one does without memory, or with it.
+fn goes_on_either_way<R: Wait>(
+    rt: &R,
+    alloc: Global,
+    inside: &mut Inside,
+    seat: Seat,
+    names: [&Name; 2],
+) -> bool {
+    let [own, new] = names;
+    if is_starved(alloc) {
+        goes_on(rt, inside, seat, own, new)
+    } else {
+        goes_on_fed(rt, inside, seat, own, new)
+    }
+}
+
 #[test]
 fn starved_seats_are_parked_and_given_again(rt: HostRuntime) {
     let alloc = rt.alloc();
     let mut hand = MemHand::new(alloc);
     let pins = pins_twice(&rt, &mut hand);
     let mut inside = inside_twice(&rt, alloc, pins);
-    let (own, new) = (
-        name_twice(&rt, alloc, b"ann"),
-        name_twice(&rt, alloc, b"bob"),
-    );
+    let own = name_twice(&rt, alloc, b"ann");
+    let new = name_twice(&rt, alloc, b"bob");
     let mut seat = inside.seat_named(&own).expect(&rt, "a seat");
-    whole_call(&rt, alloc, &mut inside, &mut seat, &mut hand, 7).expect(&rt, "a receipt");
+    assert!(rt; whole_call(&rt, alloc, &mut inside, &mut seat, &mut hand, 7).is_some());
     grow(&rt, alloc, MARK);
-    let goes_on = if is_starved(alloc) {
-        goes_on(&rt, &mut inside, seat, &own, &new)
-    } else {
-        goes_on_fed(&rt, &mut inside, seat, &own, &new)
-    };
+    let goes_on = goes_on_either_way(&rt, alloc, &mut inside, seat, [&own, &new]);
     grow(&rt, alloc, MARK + 1);
-    assert!(rt; goes_on && inside.close(Vec::new(alloc), &[]).is_ok());
+    assert!(rt; goes_on && closes(alloc, inside));
 }
