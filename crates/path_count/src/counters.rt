@@ -109,6 +109,14 @@ impl Counters {
         self.running[at]
     }
 
+    /// Whether other counters have counted the same: of two traces that leave the same counters, what may follow the one
+    /// may follow the other.
+    pub fn leaves_same(&self, other: &Counters) -> bool
+        ensures { IsTrue result ↔ (self.now.words ≡ other.now.words) }
+    {
+        self.words == other.words
+    }
+
     /// Whether 65,536 starts were taken, so that no further one will be.
     pub fn spent(&self) -> bool
         ensures { (n : ℕ) (paths : List Path) (t : List Event) → StandsFor self.now n paths t →
