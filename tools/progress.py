@@ -80,4 +80,5 @@ class Progress:
         lines = [f"{it} {seconds}\n" for it, seconds in self.times.items() if it.removesuffix(TESTS) in known]
         # The next run only can't say how long it may take.
         with contextlib.suppress(OSError):
+            TIMES.parent.mkdir(exist_ok=True)
             ready.write(TIMES, "".join(lines))
