@@ -1,5 +1,5 @@
-{ Stock, and reservations that end by themselves. Time comes from one program that calls `tick`, and then `expire` until
-  it is refused. Each reservation has an id of its own, so that it is made once; at most 1,024 ids are known at a time. }
+{ Stock, and reservations that end by themselves. Time comes from one program that calls `tick`, and then `expire`
+  until it is refused. Each reservation has an id of its own, so that it is made once; at most 1,024 ids are known at a time. }
 object reservations;
   const ttl = 600;
   path 1:(restock, reserve, confirm, release, tick, expire, [available, is_open]) end;
@@ -39,7 +39,8 @@ object reservations;
     if lookup(until, first(order)) > clock[0] then refuse('young');
     if has(item, first(order)) then
     begin
-      store(stock, lookup(item, first(order)), lookup(stock, lookup(item, first(order))) + lookup(amount, first(order)));
+      store(stock, lookup(item, first(order)),
+        lookup(stock, lookup(item, first(order))) + lookup(amount, first(order)));
       erase(item, first(order)); erase(amount, first(order))
     end;
     expire := first(order);
