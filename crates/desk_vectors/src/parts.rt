@@ -6,6 +6,7 @@ use device_core::memory::MemHand;
 use device_core::once::OnceHand;
 use hand_core::hand::Hand;
 use hand_core::shelf::Shelf;
+use page_core::pins::Pins;
 use path_tree::name::Name;
 use std::alloc::Global;
 use std::process::Abort;
@@ -53,6 +54,31 @@ fn queue(rt: &impl Abort, alloc: Global) -> Vec<u8> {
     bytes
 }
 
+// Opens the parts of an object: their pins.
+fn opened<H: Hand>(
+    alloc: Global,
+    object: &Object,
+    shelf: &mut MemShelf,
+    hand: &mut H,
+) -> Result<Pins, OpenFault> {
+    let (pins, _values) = open_parts(alloc, object, shelf, hand)?;
+    Ok(pins)
+}
+
+// Why these pins are not saved.
+fn save_fault<H: Hand>(
+    alloc: Global,
+    object: &Object,
+    pins: &Pins,
+    shelf: &mut MemShelf,
+    hand: &mut H,
+) -> Option<SaveFault> {
+    if pins.len() != object.parts.len() {
+        return None;
+    }
+    save_parts(alloc, object, pins, shelf, hand).err()
+}
+
 // Why the parts of an object are not opened, and why they are not saved on another shelf.
 fn comes_to<H: Hand>(
     alloc: Global,
@@ -61,13 +87,8 @@ fn comes_to<H: Hand>(
     other: &mut MemShelf,
     hand: &mut H,
 ) -> (Option<OpenFault>, Option<SaveFault>) {
-    match open_parts(alloc, object, shelf, hand) {
-        Ok((pins, _)) => {
-            if pins.len() != object.parts.len() {
-                return (None, Some(SaveFault::Memory));
-            }
-            (None, save_parts(alloc, object, &pins, other, hand).err())
-        }
+    match opened(alloc, object, shelf, hand) {
+        Ok(pins) => (None, save_fault(alloc, object, &pins, other, hand)),
         Err(fault) => (Some(fault), None),
     }
 }
