@@ -1,45 +1,25 @@
 //! Parts that go from a shelf to a hand and back.
 
-use decl_core::object::{Object, Part};
+use crate::make::{Bytes, ZERO, accepted};
+use decl_core::object::Object;
 use device_core::mem_shelf::MemShelf;
 use device_core::memory::MemHand;
 use device_core::once::OnceHand;
 use hand_core::hand::Hand;
 use hand_core::shelf::Shelf;
-use path_tree::name::Name;
+use page_core::pins::Pins;
 use std::alloc::Global;
 use std::process::Abort;
 use store_core::open::{OpenFault, open_parts};
 use store_core::save::{SaveFault, save_parts};
-use value_core::kind::{Elem, Kind};
 
-// A part of this name and kind.
-fn part_of(rt: &impl Abort, alloc: Global, name: &[u8], kind: Kind) -> Part {
-    let name = Name::read(alloc, name).expect(rt, "memory");
-    Part {
-        name: name.expect(rt, "a name"),
-        kind,
-    }
-}
-
-// The object `pair` of an array of one integer, `a`, and a queue of texts, `b`.
-fn pair(rt: &impl Abort, alloc: Global) -> Object {
-    let name = Name::read(alloc, b"pair").expect(rt, "memory");
-    let mut parts = Vec::new(alloc);
-    let a = part_of(rt, alloc, b"a", Kind::Array(1, Elem::Integer));
-    parts.push(a).expect(rt, "memory");
-    let b = part_of(rt, alloc, b"b", Kind::Queue(Elem::Text));
-    parts.push(b).expect(rt, "memory");
-    Object {
-        name: name.expect(rt, "a name"),
-        parts,
-        paths: Vec::new(alloc),
-        operations: Vec::new(alloc),
-    }
-}
-
-// The array `[0]`.
-const ZERO: &[u8] = b"\x02\x01\x00\x01\x00\x00\x00\x00";
+// An array of one integer, and a queue of texts.
+const PAIR: Bytes = b"object pair;
+  path 1:(none) end;
+  var a : array [1] of integer; b : queue of text;
+  entry procedure none; begin end;
+end;
+";
 
 // The bytes of a queue of two texts, which are cut into two pages.
 fn queue(rt: &impl Abort, alloc: Global) -> Vec<u8> {
@@ -53,6 +33,31 @@ fn queue(rt: &impl Abort, alloc: Global) -> Vec<u8> {
     bytes
 }
 
+// Opens the parts of an object: their pins.
+fn opened<H: Hand>(
+    alloc: Global,
+    object: &Object,
+    shelf: &mut MemShelf,
+    hand: &mut H,
+) -> Result<Pins, OpenFault> {
+    let (pins, _values) = open_parts(alloc, object, shelf, hand)?;
+    Ok(pins)
+}
+
+// Why these pins are not saved.
+fn save_fault<H: Hand>(
+    alloc: Global,
+    object: &Object,
+    pins: &Pins,
+    shelf: &mut MemShelf,
+    hand: &mut H,
+) -> Option<SaveFault> {
+    if pins.len() != object.parts.len() {
+        return None;
+    }
+    save_parts(alloc, object, pins, shelf, hand).err()
+}
+
 // Why the parts of an object are not opened, and why they are not saved on another shelf.
 fn comes_to<H: Hand>(
     alloc: Global,
@@ -61,13 +66,8 @@ fn comes_to<H: Hand>(
     other: &mut MemShelf,
     hand: &mut H,
 ) -> (Option<OpenFault>, Option<SaveFault>) {
-    match open_parts(alloc, object, shelf, hand) {
-        Ok((pins, _)) => {
-            if pins.len() != object.parts.len() {
-                return (None, Some(SaveFault::Memory));
-            }
-            (None, save_parts(alloc, object, &pins, other, hand).err())
-        }
+    match opened(alloc, object, shelf, hand) {
+        Ok(pins) => (None, save_fault(alloc, object, &pins, other, hand)),
         Err(fault) => (Some(fault), None),
     }
 }
@@ -105,9 +105,9 @@ fn goes_by(rt: &impl Abort, alloc: Global, object: &Object, queue: &[u8], call: 
 // Catches `saving_reads_each_page_twice`, and no case can show it: each call of a hand fails in turn.
 #[test]
 fn a_failing_hand_is_told(rt: HostRuntime) {
-    let object = pair(&rt, rt.alloc());
+    let pair = accepted(&rt, rt.alloc(), PAIR);
     let queue = queue(&rt, rt.alloc());
     for call in 1..14 {
-        assert!(rt; goes_by(&rt, rt.alloc(), &object, &queue, call));
+        assert!(rt; goes_by(&rt, rt.alloc(), pair.object(), &queue, call));
     }
 }
