@@ -74,9 +74,10 @@ def without_bodies(source):
         if piece != "fn" or before[at - 1] == "const":
             continue
         is_visible = bool(blocks and blocks[-1]) or re.search(r"\bpub\s+(?!\()", "".join(kept[start:]))
-        # The signature and the clauses, up to the body or to the end of a function that has none.
-        in_clause = False
-        while at < len(pieces) and (in_clause or pieces[at] not in ("{", ";", "}")):
+        # The signature and the clauses, up to the body or to the end of a function that has none. (In an array's type a `;` is no end.)
+        in_clause, depth = False, 0
+        while at < len(pieces) and (in_clause or depth or pieces[at] not in ("{", ";", "}")):
+            depth += (pieces[at] in "([") - (pieces[at] in ")]")
             if pieces[at] == "{":
                 end = behind(at)
                 kept += pieces[at:end]
