@@ -4,6 +4,8 @@
 #[cfg(test)]
 mod deaf;
 #[cfg(test)]
+mod gone;
+#[cfg(test)]
 mod slow;
 #[cfg(test)]
 mod waiting;
