@@ -2,3 +2,4 @@ pub mod Status
 pub mod ScriptRun
 pub mod AuditRun
 pub mod Laws
+pub mod Telling

@@ -1,11 +1,11 @@
 -- What the program ends with: its exit status, and what it tells where it has no answer.
-use Rattle.std.specs.Prelude.{◌≡◌, ◌==◌, ℕ, ⊤, if◌then◌else◌, List, Option, Some, None, Result, Ok, Err, codes}
+use Rattle.std.specs.Prelude.{◌≡◌, ◌⊎◌, ◌==◌, ℕ, ⊤, if◌then◌else◌, List, Option, Some, None, Result, Ok, Err, codes}
 use Rattle.std.specs.IoError.{error_kind}
 use Rattle.std.specs.declared.io.Error.{Error as IoError}
 use Rattle.std.specs.declared.io.ErrorKind.{ErrorKind as IoKind}
 use Rattle.clap.specs.Values.{kind_of}
 use Rattle.clap.specs.declared.error.Error.{Error as UsageError}
-use Rattle.clap.specs.declared.error.kind.ErrorKind.TheVariants.{OutOfMemory}
+use Rattle.clap.specs.declared.error.kind.ErrorKind.TheVariants as kinds
 use Rattle.answer_core.specs.declared.failure.Failure.{Failure}
 use Rattle.answer_core.specs.declared.failure.Failure.TheVariants as failures
 use Rattle.line_core.specs.declared.machine.LinesFault.{LinesFault}
@@ -60,11 +60,16 @@ IsFault failures.ReadFault = ⊤
 IsFault failures.WriteFault = ⊤
 IsFault failures.Memory = ⊤
 
--- a command line without a request is told as such, but for a want of memory
-abbrev pub IsUsage : UsageError → Failure → Type 0
-IsUsage error failure =
-    (kind_of error ≡ OutOfMemory → failure ≡ failures.Memory)
-    × ((kind_of error ≡ OutOfMemory → ⊥) → failure ≡ failures.Usage error)
+-- words that ask for help, or for the version
+abbrev pub IsShown : UsageError → Type 0
+IsShown error = (kind_of error ≡ kinds.DisplayHelp) ⊎ (kind_of error ≡ kinds.DisplayVersion)
+
+-- what words end with that ask for no command: with status 0 where they ask to be shown something, unless it cannot be
+-- written; else as usage, but for a want of memory
+pub record IsWordsEnd (error : UsageError) (ended : Result ℕ Failure) : Type 0 where
+  pub shown : IsShown error → (ended ≡ Ok 0) ⊎ (ended ≡ Err failures.WriteFault)
+  pub memory : kind_of error ≡ kinds.OutOfMemory → ended ≡ Err failures.Memory
+  pub mistake : (IsShown error → ⊥) → (kind_of error ≡ kinds.OutOfMemory → ⊥) → ended ≡ Err (failures.Usage error)
 
 -- a reader that failed is told as such, but for a want of memory
 abbrev pub IsUnread : IoError → Failure → Type 0

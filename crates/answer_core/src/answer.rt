@@ -1,15 +1,17 @@
 //! The subcommands over any reader and writer: what they write, and the exit status that they end with.
 
-ghost use Rattle.std.specs.Prelude.{◌≡◌, ◌⊎◌, ℕ, List, IfOk, IfErr, IfSome, IsErrOf, None, take};
+ghost use Rattle.std.specs.Prelude.{◌≡◌, ◌⊎◌, ℕ, List, IfOk, IfErr, IfSome, IsErrOf, take};
 ghost use Rattle.std.specs.Io.KnownBytes.{Appends, Consumes, Keeps};
 ghost use Rattle.line_core.specs.declared.machine.LinesEnd.{LinesEnd};
 ghost use Rattle.path_count.specs.Run.{IsRun, IsFront, IsRunSoFar};
 ghost use Rattle.check_core.specs.Report.{IsCheck};
 ghost use Rattle.check_core.specs.declared.report.CheckEnd.{CheckEnd};
 ghost use Rattle.answer_core.specs.Status.{paths_status, check_status, IsFault};
+ghost use Rattle.answer_core.specs.Telling.{IsHinted};
+ghost use Rattle.answer_core.specs.declared.explanation.Telling.TheVariants.{Nothing, Hint};
 ghost use Rattle.answer_core.specs.declared.failure.Failure.TheVariants.{ReadFault, WriteFault, Memory};
 
-use crate::explanation::explained;
+use crate::explanation::{Telling, explained};
 use crate::failure::Failure;
 use crate::source::read_source;
 use check_core::report::{CheckEnd, check_report};
@@ -83,8 +85,8 @@ fn check_text<W: Write>(alloc: Global, source: &[u8], writer: &mut W) -> Result<
 }
 
 /// `pathserve check`: checks the objects of a source, and gives the exit status: 0 where none is refused,
-/// 1 where one is and where the source is no file of objects. Where the name of a file is given, `error` then gets why
-/// its source is refused; what is written to `writer`, and the exit status, are what they are without it.
+/// 1 where one is and where the source is no file of objects. Then `error` gets why the source of the file is refused, as
+/// far as that is to be told; what is written to `writer`, and the exit status, are what they are without it.
 ///
 /// A failure is `ReadFault`, `WriteFault` or `Memory`. A `WriteFault` leaves a front of the report, the others
 /// leave nothing.
@@ -92,7 +94,8 @@ pub fn check_source<R: Read + Drop, W: Write, E: Write>(
     alloc: Global,
     reader: R,
     writer: &mut W,
-    explains: Option<&str>,
+    telling: Telling,
+    file: &str,
     error: &mut E,
 ) -> Result<u8, Failure>
     ensures ended { IfOk result (λ status. IfSome (R.remaining reader) (λ text. (end : CheckEnd) × (written : List ℕ)
@@ -104,12 +107,13 @@ pub fn check_source<R: Read + Drop, W: Write, E: Write>(
         × IsCheck text end whole × Appends (W.contents writer.old) (W.contents writer.new) (take count whole)) }
     ensures unread { IsErrOf result ReadFault → Keeps (W.contents writer.old) (W.contents writer.new) }
     ensures memory { IsErrOf result Memory → Keeps (W.contents writer.old) (W.contents writer.new) }
-    ensures unasked { explains.entry ≡ None → Keeps (E.contents error.old) (E.contents error.new) }
+    ensures unasked { telling.entry ≡ Nothing → Keeps (E.contents error.old) (E.contents error.new) }
+    ensures hint { telling.entry ≡ Hint → IsHinted (E.contents error.old) (E.contents error.new) }
 {
     let source = match read_source(alloc, reader) {
         Ok(source) => source,
         Err(error) => return Err(Failure::from(error)),
     };
     let ended = check_text(alloc, &source, writer);
-    explained(alloc, ended, explains, &source, None, error)
+    explained(alloc, ended, telling, file, &source, None, error)
 }

@@ -1,19 +1,23 @@
 //! Why the program has nothing to answer.
 
 ghost use Rattle.std.specs.Prelude.{◌≡◌};
-ghost use Rattle.answer_core.specs.Status.{exit_status_of};
+ghost use Rattle.std.specs.Io.KnownBytes.{Keeps};
+ghost use Rattle.clap.specs.Values.{kind_of};
+ghost use Rattle.answer_core.specs.Status.{exit_status_of, IsWordsEnd, IsShown};
 
+use crate::answer::ACCEPTED;
 use check_core::report::CheckFault;
 use clap::Error;
 use clap::error::ErrorKind;
 use path_count::paths::PathsFault;
 use std::alloc::AllocError;
+use std::io::Write;
 use std::{fmt, io};
 
 /// Why the program has nothing to answer. As text it is what standard error gets.
 #[derive(Debug, Drop)]
 pub enum Failure {
-    /// The command line asks for no command, or for help.
+    /// The command line asks for no command, and for no help either.
     Usage(Error),
     /// Standard input or a file cannot be read, or standard input has no end.
     ReadFault,
@@ -48,6 +52,31 @@ pub fn exit_status(ended: &Result<u8, Failure>) -> u8
     }
 }
 
+/// What words end the program with that ask for no command: `writer` gets the help, or the version, that they ask for,
+/// and the status is 0.
+///
+/// A failure is `Usage` at a mistake, `WriteFault`, which leaves a front of the text, or `Memory`. At a mistake, and
+/// where memory was refused, `writer` gets nothing.
+#[tactic(
+    auto,
+    using(crate::proofs::Words::shown_end, crate::proofs::Words::memory_end, crate::proofs::Words::mistake_end)
+)]
+pub fn words_end<W: Write>(error: Error, writer: &mut W) -> Result<u8, Failure>
+    ensures ended { IsWordsEnd error result }
+    ensures kept { (IsShown error → ⊥) → Keeps (W.contents writer.old) (W.contents writer.new) }
+{
+    match error.kind() {
+        ErrorKind::DisplayHelp | ErrorKind::DisplayVersion => {
+            match write!(writer, "{error}") {
+                Ok(()) => Ok(ACCEPTED),
+                Err(_) => Err(Failure::WriteFault),
+            }
+        }
+        ErrorKind::OutOfMemory => Err(Failure::Memory),
+        _ => Err(Failure::Usage(error)),
+    }
+}
+
 impl fmt::Display for Failure {
     ghost use Rattle.answer_core.specs.Status.{failure_text};
 
@@ -71,20 +100,6 @@ impl From<AllocError> for Failure {
 
     fn from(_: AllocError) -> Failure {
         Failure::Memory
-    }
-}
-
-impl From<Error> for Failure {
-    ghost use Rattle.answer_core.specs.Status.{IsUsage};
-
-    ghost from_gives = { IsUsage };
-
-    fn from(error: Error) -> Failure {
-        if error.kind() == ErrorKind::OutOfMemory {
-            Failure::Memory
-        } else {
-            Failure::Usage(error)
-        }
     }
 }
 

@@ -8,7 +8,7 @@ ghost use Rattle.answer_core.specs.Status.{script_status, IsFault};
 ghost use Rattle.answer_core.specs.ScriptRun.{IsScriptRun, IsScriptFront};
 
 use crate::answer::{ACCEPTED, REFUSED};
-use crate::explanation::explained_script;
+use crate::explanation::{Telling, explained_script};
 use crate::failure::Failure;
 use exclude_core::analyse::Accepted;
 use line_core::write_whole;
@@ -65,8 +65,8 @@ fn tell<W: Write>(line: &[u8], writer: &mut W) -> Result<u8, Failure>
 /// `pathserve run`: runs a script on the object of a source that its first line names, and gives the exit status: 0
 /// where each line was answered, 1 where there is nothing to run on, or a bad line ended the script.
 ///
-/// Where the name of a file is given, `error` gets why its source, or the object, is refused; what is written to
-/// `writer`, and the exit status, are what they are without it.
+/// Where it is not, `error` gets why the source of the file, or the object, is refused, as far as that is to be told;
+/// what is written to `writer`, and the exit status, are what they are without it.
 ///
 /// A failure is `ReadFault`, `WriteFault` or `Memory`, and leaves a front of the answers. A `ReadFault` leaves those to
 /// all lines that had come whole, but nothing where it came before the first line was whole.
@@ -75,7 +75,8 @@ pub fn answer_script<R: Read, W: Write, E: Write>(
     source: &[u8],
     reader: &mut R,
     writer: &mut W,
-    explains: Option<&str>,
+    telling: Telling,
+    file: &str,
     error: &mut E,
 ) -> Result<u8, Failure>
     ensures ended { IfOk result (λ status. IfSome (R.remaining reader.old) (λ text. (written : List ℕ)
@@ -92,7 +93,7 @@ pub fn answer_script<R: Read, W: Write, E: Write>(
         Ok(Opened::Ready(accepted)) => run_on(alloc, accepted, &head, reader, writer),
         Ok(Opened::Told(line)) => {
             let ended = tell(&line, writer);
-            explained_script(alloc, ended, explains, source, &head, error)
+            explained_script(alloc, ended, telling, file, source, &head, error)
         }
         Err(_) => Err(Failure::Memory),
     }

@@ -1,6 +1,8 @@
 -- What a parse of a command line gives, and when it fails.
-use Rattle.std.proofs.Common.{◌≡◌, ◌∙◌, ◌⊎◌, inl, inr, true, List, [], ap, subst}
-use Rattle.clap.specs.Kinds.{HasKind, IsAmong}
+use Rattle.std.proofs.Common.{◌≡◌, ◌∙◌, inl, inr, true, List, [], ◌∷◌, Result, Ok, Err, ap, subst, sym}
+use Rattle.std.specs.Prelude.{IsErrAnd}
+use Rattle.clap.specs.declared.error.kind.ErrorKind.{ErrorKind}
+use Rattle.clap.specs.Kinds.{HasKind, IsAmong, Kinds, or_else}
 use Rattle.clap.specs.Faults.{fault_of, is_simple_and_free}
 use Rattle.clap.specs.Simple.{HasMatchesOf, app_of}
 use Rattle.clap.specs.declared.builder.command.Command.{Command}
@@ -13,6 +15,7 @@ use Rattle.command_line.specs.declared.request.Request.{Request}
 use Rattle.command_line.specs.Forms.{Text, Verb, Given, Makes, Asks}
 use Rattle.command_line.specs.Commands.{IsMatched, program}
 use Rattle.command_line.proofs.Levels.{rules}
+use Rattle.command_line.proofs.Once.{finds}
 use Rattle.command_line.proofs.Whole.{Found, line_completes, line_sound, simple, simple_and_free}
 
 -- what matches say that words ask for
@@ -38,9 +41,40 @@ module _ (words : List Text) (command : Command) (is : app_of command ≡ progra
   pub asked : (m : ArgMatches) → (is_simple_and_free (app_of command) ≡ true → fault_of (app_of command) words ≡ []) → HasMatchesOf (app_of command) words m → Asked words m
   asked m kinds has = asked_from words m (line_sound words (none_of kinds)) (subst (λ a. HasMatchesOf a words m) is has)
 
+  -- the kinds of an error of the parser are those of the words
+  pub kinds_of : (e : Error) → (is_simple_and_free (app_of command) ≡ true → HasKind (fault_of (app_of command) words) e) → HasKind (fault_of program words) e
+  kinds_of e kinds = subst (λ a. HasKind (fault_of a words) e) is (kinds (ap is_simple_and_free is ∙ simple_and_free))
+
+  pub none_here : (is_simple_and_free (app_of command) ≡ true → fault_of (app_of command) words ≡ []) → fault_of program words ≡ []
+  none_here kinds = none_of kinds
+
+  -- the matches are those of the words that ask for something
+  pub matched_by : (m : ArgMatches) (q : Request) → HasMatchesOf (app_of command) words m → Asks words q → (v : Verb) × (g : Given) × IsMatched v g m × Makes v g q
+  matched_by m q has asks =
+      let f = finds words q asks in
+      let mine = subst (λ a. HasMatchesOf a words m) is has in
+      (f.verb, f.given, (f.rows, (mine simple).1 ∙ f.found, f.holds), f.makes)
+
   pub refused : (e : Error) (q : Request) → (is_simple_and_free (app_of command) ≡ true → HasKind (fault_of (app_of command) words) e) → Asks words q → kind_of e ≡ OutOfMemory
   refused e q kinds asks = go (subst (λ a. HasKind (fault_of a words) e) is (kinds (ap is_simple_and_free is ∙ simple_and_free)))
     where
       go : HasKind (fault_of program words) e → kind_of e ≡ OutOfMemory
       go (inl memory) = memory
       go (inr among) = absurd (subst (λ ks. IsAmong (kind_of e) ks) (line_completes words q asks) among)
+
+-- what is among the first kinds is among them, or else among others
+pub first_kinds : (ks more : Kinds) (e : Error) → HasKind ks e → HasKind (or_else ks more) e
+first_kinds [] more e (inl memory) = inl memory
+first_kinds [] more e (inr among) = absurd among
+first_kinds (k ∷ ks) more e has = has
+
+pub other_kinds : (ks more : Kinds) (e : Error) → ks ≡ [] → HasKind more e → HasKind (or_else ks more) e
+other_kinds ks more e none has = subst (λ x. HasKind (or_else x more) e) (sym none) has
+
+pub only_kind : (k : ErrorKind) (e : Error) → kind_of e ≡ k → HasKind (k ∷ []) e
+only_kind k e is = inr (inl is)
+
+-- `?` passes an error up as it is
+pub passed_and : {T : Type 0} (r : Result T Error) (e : Error) (P : Error → Type 0) → IsErrAnd r (λ y. y ≡ e) → P e → IsErrAnd r P
+passed_and (Ok x) e P is p = absurd is
+passed_and (Err y) e P is p = subst P (sym is) p

@@ -1,18 +1,21 @@
 -- What is read of matches that hold what a subcommand was given.
-use Rattle.std.proofs.Common.{◌≡◌, ◌∙◌, ◌++◌, ◌<◌, ◌≤◌, ◌^◌, cond, Bool, true, false, ℕ, List, [], ◌∷◌, Option, Some, None, Result, Ok, Err, refl, sym, ap, subst, bytes_eq, codes, arith, option_map, Box}
+use Rattle.std.proofs.Common.{◌≡◌, ◌∙◌, ◌<◌, ◌^◌, cond, Bool, true, false, ℕ, List, [], ◌∷◌, Option, Some, None, Result, Ok, Err, refl, sym, ap, subst, bytes_eq, codes, arith, option_map, Box}
 use Rattle.std.specs.Prelude.{unwrap_or}
 use Rattle.std.specs.Box.{box_value}
+use Rattle.std.specs.List.{slice_index_or}
 use Rattle.std.specs.Str.Parse.{ParsesUnsigned}
 use Rattle.clap.specs.Walk.{Row, Text, first_of, one_of, rows_of}
-use Rattle.clap.specs.Matches.{ReadsOne, first_value, found_of, one_text, subcommand_name_of}
-use Rattle.clap.specs.Simple.{subcommand_rows, subcommand_rows_of}
+use Rattle.clap.specs.Matches.{ReadsOne, first_value, one_text, subcommand_name_of}
+use Rattle.clap.specs.Simple.{subcommand_rows}
 use Rattle.clap.specs.Values.{bool_text}
 use Rattle.clap.specs.declared.parser.matches.ArgMatches.{ArgMatches}
 use Rattle.clap.specs.declared.parser.matches.ArgMatches.TheViews.{out-ArgMatches, out-SubCommand}
 use Rattle.clap.specs.declared.parser.matches.SubCommand.{SubCommand}
 use Rattle.clap.specs.declared.parser.matches.Found.{Found}
 use Rattle.clap.proofs.WalkLemmas.{first_value-rows, one_text-rows}
-use Rattle.command_line.specs.Forms.{Verb, paths, check, run, audit, serve, name_of, Given, IsNumber, number_of}
+use Rattle.command_line.specs.Forms.{Verb, paths, check, run, audit, serve, name_of, Given, Makes, IsNumber, number_of}
+use Rattle.command_line.specs.declared.request.Request.{Request}
+use Rattle.command_line.specs.declared.request.Request.TheVariants as requests
 use Rattle.command_line.specs.Commands.{Holds, IsMatched}
 
 pub some_same : {X : Type 0} (x y : X) → Some x ≡ Some y → x ≡ y
@@ -27,6 +30,15 @@ has_text f id t e = first_value-rows f id ∙ e
 
 pub has_one : (f : Found) (id t : Text) → one_of id (rows_of f) ≡ Some t → one_text f id ≡ Some t
 has_one f id t e = one_text-rows f id ∙ e
+
+-- the third of three words
+pub third_is : (a b c x y z : Text) → a ∷ b ∷ c ∷ [] ≡ x ∷ y ∷ z ∷ [] → c ≡ z
+third_is a b c x y z e = ap (λ (ws : List Text). slice_index_or ws 2 []) e
+
+-- the third word of what `serve` asks for is a port
+pub port_made : (g : Given) (q : Request) (a b p : Text) → g.words ≡ a ∷ b ∷ p ∷ [] → Makes serve g q → IsNumber 1 65535 p
+port_made g (requests.Serve s) a b p e m = subst (IsNumber 1 65535) (third_is s.file.now s.folder.now m.0 a b p (sym m.1 ∙ e)) m.2
+port_made g q a b p e m = absurd m
 
 -- whether a flag is there
 pub flag_is : (f : Found) (id : Text) (b r : Bool) → one_of id (rows_of f) ≡ Some (bool_text b)

@@ -1,30 +1,35 @@
 -- The arguments of each subcommand, as the parser has them once it is built.
-use Rattle.std.proofs.Common.{◌≡◌, ◌∙◌, ◌++◌, ◌&&◌, ◌||◌, ◌==◌, ◌⊎◌, inl, inr, cond, not, Bool, true, false, ℕ, zero, suc, List, [], ◌∷◌, length, Option, Some, None, is_some, refl, sym, ap, subst, bytes_eq, codes, arith, option_map, find, ◌≤◌, ◌<◌}
+use Rattle.std.proofs.Common.{◌≡◌, ◌∙◌, ◌++◌, ◌||◌, ◌==◌, ◌⊎◌, inl, inr, cond, Bool, true, false, ℕ, List, [], ◌∷◌, Option, Some, None, refl, bytes_eq, codes, arith, ◌<◌}
 use Rattle.std.specs.Prelude.{⊤}
-use Rattle.std.specs.Option.{option_map_or}
-use Rattle.std.specs.Str.Parse.{IsNumeral, digits_value, without_leading_plus}
 use Rattle.clap.specs.Walk.{Row, Rule, Text, arg_by_id, arg_by_index, arg_by_long, arg_by_short, next_position}
-use Rattle.clap.specs.Simple.{App, Shape, filled, filled_from, help_rule, help_shape, built, built_leaf, new_rule, new_shape}
+use Rattle.clap.specs.Simple.{App, Shape, filled, filled_from, help_rule, version_rule, help_shape, built, built_leaf, new_shape}
 use Rattle.clap.specs.ValueTests.{accepts}
 use Rattle.clap.specs.Values.{reading_of}
 use Rattle.clap.proofs.ValueTestLemmas.{accepts-Accepts, Accepts-accepts}
-use Rattle.clap.specs.declared.builder.action.ArgAction.TheVariants.{Set, SetTrue, Help}
+use Rattle.clap.specs.declared.builder.action.ArgAction.TheVariants.{Set}
 use Rattle.clap.specs.declared.builder.value_parser.ValueParser.{ValueParser}
 use Rattle.clap.specs.declared.builder.value_parser.ValueParser.TheVariants as parsers
 use Rattle.clap.specs.declared.builder.value_parser.Reading.TheVariants.{AsWritten}
 use Rattle.clap.specs.declared.parser.matches.ValueSource.TheVariants.{CommandLine}
-use Rattle.command_line.specs.Forms.{Verb, paths, check, run, audit, serve, name_of, has_explain, has_sessions, Given, Takes, IsNumber, number_of}
-use Rattle.command_line.specs.Commands.{flag_rule, own_rules, port_rule, program, required_rule, sessions_rule}
+use Rattle.command_line.specs.Forms.{Verb, paths, check, run, audit, serve, name_of, Takes, IsNumber}
+use Rattle.command_line.specs.Commands.{flag_rule, own_rules, program, sessions_rule}
 use Rattle.command_line.proofs.Rows.{seen, row_with, seen_new, seen_other}
 
 abbrev pub rules : Verb → List Rule
-rules v = filled_from 1 (own_rules v ++ help_rule ∷ [])
+rules v = filled_from 1 (own_rules v ++ help_rule ∷ version_rule ∷ [])
 
 abbrev pub leaf : Verb → Shape
-leaf v = record (new_shape (name_of v)) { rules = rules v; is_built = true; disable_help_subcommand = true }
+leaf v = record (new_shape (name_of v)) { rules = rules v; is_built = true; disable_help_subcommand = true; has_version = true; propagate_version = true }
 
 abbrev pub top : Shape
-top = record (new_shape (codes "pathserve")) { rules = filled_from 1 (help_rule ∷ []); is_leaf = false; subcommand_required = true; is_built = true }
+top = record (new_shape (codes "pathserve")) {
+  rules = filled_from 1 (help_rule ∷ version_rule ∷ []);
+  is_leaf = false;
+  subcommand_required = true;
+  is_built = true;
+  has_version = true;
+  propagate_version = true;
+}
 
 abbrev pub leaves : List Shape
 leaves = leaf paths ∷ leaf check ∷ leaf run ∷ leaf audit ∷ leaf serve ∷ built_leaf help_shape ∷ []
@@ -65,6 +70,9 @@ sessions_built = filled sessions_rule
 
 abbrev pub help_built : Rule
 help_built = filled help_rule
+
+abbrev pub version_built : Rule
+version_built = filled version_rule
 
 -- the place of the next word
 abbrev pub place_after : List Text → ℕ
@@ -114,6 +122,7 @@ pub record Place (v : Verb) (words : List Text) : Type 0 where
   pub unseen : (rows : List Row) → Places (place_names v) words rows → seen name rows ≡ None
   pub adds : (w : Text) (rows : List Row) → Places (place_names v) words rows → Places (place_names v) (words ++ w ∷ []) (rows ++ text_row name w ∷ [])
   pub no_explain : bytes_eq name (codes "explain") ≡ false
+  pub no_silence : bytes_eq name (codes "no-explain") ≡ false
   pub no_stop : bytes_eq name (codes "stop-with-input") ≡ false
   pub no_sessions : bytes_eq name (codes "sessions") ≡ false
 
@@ -148,6 +157,7 @@ place check [] = inl (record {
   unseen = λ rows h. h.0;
   adds = λ w rows h. (new_row (codes "FILE") w refl rows h.0, tt);
   no_explain = refl;
+  no_silence = refl;
   no_stop = refl;
   no_sessions = refl;
 })
@@ -166,6 +176,7 @@ place run [] = inl (record {
   unseen = λ rows h. h.0;
   adds = λ w rows h. (new_row (codes "FILE") w refl rows h.0, (seen_other (codes "SCRIPT") (text_row (codes "FILE") w) rows refl ∙ h.1.0, tt));
   no_explain = refl;
+  no_silence = refl;
   no_stop = refl;
   no_sessions = refl;
 })
@@ -181,6 +192,7 @@ place run (a ∷ []) = inl (record {
   unseen = λ rows h. h.1.0;
   adds = λ w rows h. (seen_other (codes "FILE") (text_row (codes "SCRIPT") w) rows refl ∙ h.0, (new_row (codes "SCRIPT") w refl rows h.1.0, tt));
   no_explain = refl;
+  no_silence = refl;
   no_stop = refl;
   no_sessions = refl;
 })
@@ -198,6 +210,7 @@ place audit [] = inl (record {
   unseen = λ rows h. h.0;
   adds = λ w rows h. (new_row (codes "FILE") w refl rows h.0, (seen_other (codes "TRACE") (text_row (codes "FILE") w) rows refl ∙ h.1.0, tt));
   no_explain = refl;
+  no_silence = refl;
   no_stop = refl;
   no_sessions = refl;
 })
@@ -213,6 +226,7 @@ place audit (a ∷ []) = inl (record {
   unseen = λ rows h. h.1.0;
   adds = λ w rows h. (seen_other (codes "FILE") (text_row (codes "TRACE") w) rows refl ∙ h.0, (new_row (codes "TRACE") w refl rows h.1.0, tt));
   no_explain = refl;
+  no_silence = refl;
   no_stop = refl;
   no_sessions = refl;
 })
@@ -230,6 +244,7 @@ place serve [] = inl (record {
   unseen = λ rows h. h.0;
   adds = λ w rows h. (new_row (codes "FILE") w refl rows h.0, (seen_other (codes "DIR") (text_row (codes "FILE") w) rows refl ∙ h.1.0, (seen_other (codes "PORT") (text_row (codes "FILE") w) rows refl ∙ h.1.1.0, tt)));
   no_explain = refl;
+  no_silence = refl;
   no_stop = refl;
   no_sessions = refl;
 })
@@ -245,21 +260,23 @@ place serve (a ∷ []) = inl (record {
   unseen = λ rows h. h.1.0;
   adds = λ w rows h. (seen_other (codes "FILE") (text_row (codes "DIR") w) rows refl ∙ h.0, (new_row (codes "DIR") w refl rows h.1.0, (seen_other (codes "PORT") (text_row (codes "DIR") w) rows refl ∙ h.1.1.0, tt)));
   no_explain = refl;
+  no_silence = refl;
   no_stop = refl;
   no_sessions = refl;
 })
 place serve (a ∷ b ∷ []) = inl (record {
   name = codes "PORT";
-  parser = parsers.Unsigned 1 65535;
+  parser = parsers.String;
   indexed = refl;
   by_id = refl;
   next = λ w. refl;
   read = refl;
-  takes = λ w t. number_passes 1 65535 w (omega arith) t;
-  only = λ w e. passes_number 1 65535 w e;
+  takes = λ w t. refl;
+  only = λ w e. tt;
   unseen = λ rows h. h.1.1.0;
   adds = λ w rows h. (seen_other (codes "FILE") (text_row (codes "PORT") w) rows refl ∙ h.0, (seen_other (codes "DIR") (text_row (codes "PORT") w) rows refl ∙ h.1.0, (new_row (codes "PORT") w refl rows h.1.1.0, tt)));
   no_explain = refl;
+  no_silence = refl;
   no_stop = refl;
   no_sessions = refl;
 })
@@ -267,25 +284,38 @@ place serve (a ∷ b ∷ c ∷ more) = inr refl
 
 -- ---- long names
 
+-- what is shown, by which name it is asked for
+abbrev pub shown_rule : Bool → Bool → Option Rule
+shown_rule help version = cond (help || false) (Some help_built) (cond (version || false) (Some version_built) None)
+
+abbrev pub explain_rule : Bool → Bool → Option Rule → Option Rule
+explain_rule explain silence more =
+    cond (explain || false) (Some (flag (codes "explain"))) (cond (silence || false) (Some (flag (codes "no-explain"))) more)
+
 -- the argument of a long name, by which name it is
-abbrev pub long_rule : Verb → Bool → Bool → Bool → Bool → Option Rule
-long_rule paths explain stop sessions help = cond (help || false) (Some help_built) None
-long_rule serve explain stop sessions help =
-    cond (sessions || false) (Some sessions_built) (cond (stop || false) (Some (flag (codes "stop-with-input")))
-    (cond (explain || false) (Some (flag (codes "explain"))) (cond (help || false) (Some help_built) None)))
-long_rule check explain stop sessions help = cond (explain || false) (Some (flag (codes "explain"))) (cond (help || false) (Some help_built) None)
-long_rule run explain stop sessions help = cond (explain || false) (Some (flag (codes "explain"))) (cond (help || false) (Some help_built) None)
-long_rule audit explain stop sessions help = cond (explain || false) (Some (flag (codes "explain"))) (cond (help || false) (Some help_built) None)
+abbrev pub long_rule : Verb → Bool → Bool → Bool → Bool → Option Rule → Option Rule
+long_rule paths explain silence stop sessions more = more
+long_rule serve explain silence stop sessions more =
+    cond (sessions || false) (Some sessions_built) (cond (stop || false) (Some (flag (codes "stop-with-input"))) (explain_rule explain silence more))
+long_rule check explain silence stop sessions more = explain_rule explain silence more
+long_rule run explain silence stop sessions more = explain_rule explain silence more
+long_rule audit explain silence stop sessions more = explain_rule explain silence more
+
+abbrev pub shown_by : Text → Option Rule
+shown_by name = shown_rule (bytes_eq (codes "help") name) (bytes_eq (codes "version") name)
+
+abbrev pub shown_short : ℕ → Option Rule
+shown_short x = shown_rule (104 == x) (86 == x)
 
 pub long_is : (v : Verb) (name : Text) → arg_by_long (rules v) name
-    ≡ long_rule v (bytes_eq (codes "explain") name) (bytes_eq (codes "stop-with-input") name) (bytes_eq (codes "sessions") name) (bytes_eq (codes "help") name)
+    ≡ long_rule v (bytes_eq (codes "explain") name) (bytes_eq (codes "no-explain") name) (bytes_eq (codes "stop-with-input") name) (bytes_eq (codes "sessions") name) (shown_by name)
 long_is paths name = refl
 long_is check name = refl
 long_is run name = refl
 long_is audit name = refl
 long_is serve name = refl
 
-pub short_is : (v : Verb) (x : ℕ) → arg_by_short (rules v) x ≡ cond ((104 == x) || false) (Some help_built) None
+pub short_is : (v : Verb) (x : ℕ) → arg_by_short (rules v) x ≡ shown_short x
 short_is paths x = refl
 short_is check x = refl
 short_is run x = refl

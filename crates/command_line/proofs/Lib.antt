@@ -9,4 +9,5 @@ mod Found
 mod Whole
 mod Making
 mod Once
+mod Shown
 mod Asking

@@ -1,5 +1,5 @@
 -- A command that is made argument by argument.
-use Rattle.std.proofs.Common.{◌≡◌, ◌∙◌, ◌||◌, Bool, false, ap, ap₂}
+use Rattle.std.proofs.Common.{◌≡◌, ◌∙◌, ◌||◌, false, ap, ap₂}
 use Rattle.clap.specs.Built.{AddsArg, AddsSubcommand}
 use Rattle.clap.specs.Simple.{App, app_of, with_rule, with_subcommand}
 use Rattle.clap.specs.Walk.{Rule, rule_of}
@@ -16,3 +16,7 @@ with_arg old new a r app added local rule is = (added.shape local ∙ ap₂ with
 
 pub with_sub : (old sub new : Command) (app below : App) → AddsSubcommand old sub new → IsMade sub below → app_of old ≡ app → app_of new ≡ with_subcommand app below.top
 with_sub old sub new app below added made is = added.shape made.1 ∙ ap₂ with_subcommand is (ap (λ (a : App). a.top) made.0)
+
+-- another name changes neither
+pub named_made : (old new : Command) (app : App) → (app_of new ≡ app_of old) × ((out-Command new).has_globals ≡ (out-Command old).has_globals) → IsMade old app → IsMade new app
+named_made old new app same is = (same.0 ∙ is.0, same.1 ∙ is.1)

@@ -1,18 +1,17 @@
 -- Words ask for one thing at most.
-use Rattle.std.proofs.Common.{◌≡◌, ◌∙◌, Bool, true, false, ℕ, List, [], ◌∷◌, Option, Some, None, refl, sym, ap, ap₂, subst, codes, bytes_eq}
-use Rattle.std.specs.Prelude.{⊤}
+use Rattle.std.proofs.Common.{◌≡◌, ◌∙◌, Bool, true, false, ℕ, List, [], ◌∷◌, Some, refl, sym, ap, ap₂, subst, codes, bytes_eq}
 use Rattle.std.specs.List.{slice_index_or}
-use Rattle.clap.specs.Walk.{Row, Text, first_of, one_of, rows_after, stop_after}
-use Rattle.clap.specs.Simple.{entered, subcommand_of}
+use Rattle.clap.specs.Walk.{Row, Text, first_of, one_of, rows_after}
+use Rattle.clap.specs.Simple.{subcommand_of}
 use Rattle.clap.specs.Values.{bool_text}
 use Rattle.command_line.specs.declared.request.Request.{Request}
 use Rattle.command_line.specs.declared.request.Request.TheVariants as requests
-use Rattle.command_line.specs.Forms.{Verb, paths, check, run, audit, serve, name_of, Given, nothing, Gives, IsNumber, number_of, sessions_of, Makes, Asks}
-use Rattle.command_line.specs.Commands.{Holds, program}
+use Rattle.command_line.specs.Forms.{Verb, paths, check, run, audit, serve, name_of, Given, number_of, explain_of, Makes, Asks}
+use Rattle.command_line.specs.Commands.{Holds, HoldsExplain, program}
 use Rattle.command_line.specs.Laws.{IsSame, AsksOnce}
 use Rattle.command_line.proofs.Found.{same_verb, some_same}
-use Rattle.command_line.proofs.Levels.{rules, top, whole}
-use Rattle.command_line.proofs.Whole.{level_holds, full_from, found_is, names}
+use Rattle.command_line.proofs.Levels.{rules}
+use Rattle.command_line.proofs.Whole.{level_holds, full_from, found_is}
 
 module _ (rows : List Row) where
   same_first : (id a b : Text) → first_of id rows ≡ Some a → first_of id rows ≡ Some b → a ≡ b
@@ -34,60 +33,64 @@ word_at k ws = slice_index_or ws k []
 same_at : (k : ℕ) (ws us vs xs : List Text) → ws ≡ us → vs ≡ xs → word_at k us ≡ word_at k xs → word_at k ws ≡ word_at k vs
 same_at k ws us vs xs e f same = ap (word_at k) e ∙ same ∙ sym (ap (word_at k) f)
 
+-- what is said of explanations
+same_explain : (g h : Given) (rows : List Row) → HoldsExplain g rows → HoldsExplain h rows → explain_of g.explains g.silent ≡ explain_of h.explains h.silent
+same_explain g h rows a b = ap₂ explain_of (bools g.explains h.explains (same_one rows (codes "explain") _ _ a.0 b.0)) (bools g.silent h.silent (same_one rows (codes "no-explain") _ _ a.1 b.1))
+
 same_made : (v : Verb) (g h : Given) (rows : List Row) (p q : Request) → Holds v g rows → Holds v h rows → Makes v g p → Makes v h q → IsSame p q
 same_made paths g h rows requests.Paths requests.Paths a b m n = tt
 same_made paths g h rows requests.Paths q a b m n = absurd n
 same_made paths g h rows p q a b m n = absurd m
-same_made check g h rows (requests.Check file explains) (requests.Check file2 explains2) a b m n = (
+same_made check g h rows (requests.Check file explain) (requests.Check file2 explain2) a b m n = (
   same_at 0 (file.now ∷ []) (a.0 ∷ []) (file2.now ∷ []) (b.0 ∷ []) (sym m.0 ∙ a.1) (sym n.0 ∙ b.1) (same_first rows (codes "FILE") a.0 b.0 a.2 b.2),
-  sym m.1 ∙ bools g.explains h.explains (same_one rows (codes "explain") _ _ a.3 b.3) ∙ n.1,
+  m.1 ∙ same_explain g h rows a.3 b.3 ∙ sym n.1,
 )
-same_made check g h rows (requests.Check file explains) q a b m n = absurd n
+same_made check g h rows (requests.Check file explain) q a b m n = absurd n
 same_made check g h rows p q a b m n = absurd m
-same_made run g h rows (requests.Run file script explains) (requests.Run file2 script2 explains2) a b m n =
+same_made run g h rows (requests.Run file script explain) (requests.Run file2 script2 explain2) a b m n =
     let first = same_first rows (codes "FILE") a.0 b.0 a.3 b.3 in
     let second = same_first rows (codes "SCRIPT") a.1 b.1 a.4 b.4 in (
       same_at 0 (file.now ∷ script.now ∷ []) (a.0 ∷ a.1 ∷ []) (file2.now ∷ script2.now ∷ []) (b.0 ∷ b.1 ∷ []) (sym m.0 ∙ a.2) (sym n.0 ∙ b.2) first,
       same_at 1 (file.now ∷ script.now ∷ []) (a.0 ∷ a.1 ∷ []) (file2.now ∷ script2.now ∷ []) (b.0 ∷ b.1 ∷ []) (sym m.0 ∙ a.2) (sym n.0 ∙ b.2) second,
-      sym m.1 ∙ bools g.explains h.explains (same_one rows (codes "explain") _ _ a.5 b.5) ∙ n.1,
+      m.1 ∙ same_explain g h rows a.5 b.5 ∙ sym n.1,
     )
-same_made run g h rows (requests.Run file script explains) q a b m n = absurd n
+same_made run g h rows (requests.Run file script explain) q a b m n = absurd n
 same_made run g h rows p q a b m n = absurd m
-same_made audit g h rows (requests.Audit file trace explains) (requests.Audit file2 trace2 explains2) a b m n =
+same_made audit g h rows (requests.Audit file trace explain) (requests.Audit file2 trace2 explain2) a b m n =
     let first = same_first rows (codes "FILE") a.0 b.0 a.3 b.3 in
     let second = same_first rows (codes "TRACE") a.1 b.1 a.4 b.4 in (
       same_at 0 (file.now ∷ trace.now ∷ []) (a.0 ∷ a.1 ∷ []) (file2.now ∷ trace2.now ∷ []) (b.0 ∷ b.1 ∷ []) (sym m.0 ∙ a.2) (sym n.0 ∙ b.2) first,
       same_at 1 (file.now ∷ trace.now ∷ []) (a.0 ∷ a.1 ∷ []) (file2.now ∷ trace2.now ∷ []) (b.0 ∷ b.1 ∷ []) (sym m.0 ∙ a.2) (sym n.0 ∙ b.2) second,
-      sym m.1 ∙ bools g.explains h.explains (same_one rows (codes "explain") _ _ a.5 b.5) ∙ n.1,
+      m.1 ∙ same_explain g h rows a.5 b.5 ∙ sym n.1,
     )
-same_made audit g h rows (requests.Audit file trace explains) q a b m n = absurd n
+same_made audit g h rows (requests.Audit file trace explain) q a b m n = absurd n
 same_made audit g h rows p q a b m n = absurd m
 same_made serve g h rows (requests.Serve s) (requests.Serve t) a b m n =
     let first = same_first rows (codes "FILE") a.0 b.0 a.5 b.5 in
     let second = same_first rows (codes "DIR") a.1 b.1 a.6 b.6 in
-    let third = same_one rows (codes "PORT") a.2 b.2 a.7 b.7 in
+    let third = same_first rows (codes "PORT") a.2 b.2 a.7 b.7 in
     let mine = same_at 2 (s.file.now ∷ s.folder.now ∷ m.0 ∷ []) (a.0 ∷ a.1 ∷ a.2 ∷ []) (t.file.now ∷ t.folder.now ∷ n.0 ∷ []) (b.0 ∷ b.1 ∷ b.2 ∷ []) (sym m.1 ∙ a.4) (sym n.1 ∙ b.4) third in
-    let counts = same_one rows (codes "sessions") a.3 b.3 a.9 b.9 in (
+    let counts = same_one rows (codes "sessions") a.3 b.3 a.8 b.8 in (
       same_at 0 (s.file.now ∷ s.folder.now ∷ m.0 ∷ []) (a.0 ∷ a.1 ∷ a.2 ∷ []) (t.file.now ∷ t.folder.now ∷ n.0 ∷ []) (b.0 ∷ b.1 ∷ b.2 ∷ []) (sym m.1 ∙ a.4) (sym n.1 ∙ b.4) first,
       same_at 1 (s.file.now ∷ s.folder.now ∷ m.0 ∷ []) (a.0 ∷ a.1 ∷ a.2 ∷ []) (t.file.now ∷ t.folder.now ∷ n.0 ∷ []) (b.0 ∷ b.1 ∷ b.2 ∷ []) (sym m.1 ∙ a.4) (sym n.1 ∙ b.4) second,
-      m.2 ∙ ap number_of mine ∙ sym n.2,
-      m.3 ∙ a.11 ∙ ap number_of counts ∙ sym b.11 ∙ sym n.3,
-      sym m.4 ∙ bools g.stops h.stops (same_one rows (codes "stop-with-input") _ _ a.12 b.12) ∙ n.4,
-      sym m.5 ∙ bools g.explains h.explains (same_one rows (codes "explain") _ _ a.13 b.13) ∙ n.5,
+      m.3 ∙ ap number_of mine ∙ sym n.3,
+      m.4 ∙ a.10 ∙ ap number_of counts ∙ sym b.10 ∙ sym n.4,
+      sym m.5 ∙ bools g.stops h.stops (same_one rows (codes "stop-with-input") _ _ a.11 b.11) ∙ n.5,
+      m.6 ∙ same_explain g h rows a.12 b.12 ∙ sym n.6,
     )
 same_made serve g h rows (requests.Serve s) q a b m n = absurd n
 same_made serve g h rows p q a b m n = absurd m
 
 -- what words ask for is what the walk finds in them
-record Finds (words : List Text) (q : Request) : Type 0 where
-  verb : Verb
-  given : Given
-  rows : List Row
-  found : subcommand_of program words ≡ Some (name_of verb, rows)
-  holds : Holds verb given rows
-  makes : Makes verb given q
+pub record Finds (words : List Text) (q : Request) : Type 0 where
+  pub verb : Verb
+  pub given : Given
+  pub rows : List Row
+  pub found : subcommand_of program words ≡ Some (name_of verb, rows)
+  pub holds : Holds verb given rows
+  pub makes : Makes verb given q
 
-finds : (words : List Text) (q : Request) → Asks words q → Finds words q
+pub finds : (words : List Text) (q : Request) → Asks words q → Finds words q
 finds words q a = record {
   verb = a.verb;
   given = a.given;

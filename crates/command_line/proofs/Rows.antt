@@ -1,8 +1,7 @@
 -- What is found under a name, as uses and defaults are added.
-use Rattle.std.proofs.Common.{◌≡◌, ◌∙◌, ◌++◌, ◌&&◌, ◌||◌, cond, not, Bool, true, false, List, [], ◌∷◌, Option, Some, None, is_some, find, fold, refl, sym, ap, subst, bytes_eq, arith, ℕ, suc, length}
+use Rattle.std.proofs.Common.{◌≡◌, ◌∙◌, ◌++◌, ◌&&◌, ◌||◌, cond, not, Bool, true, false, List, [], ◌∷◌, Option, Some, None, is_some, find, fold, refl, sym, ap, subst, bytes_eq, arith, suc, length}
 use Rattle.std.proofs.lemmas.Bool.{ne_eqb}
 use Rattle.std.specs.Option.{option_or}
-use Rattle.std.specs.List.{list_any}
 use Rattle.std.proofs.lemmas.List.{append-nil}
 use Rattle.std.proofs.lemmas.List.Folds.{find-append}
 use Rattle.std.proofs.lemmas.Slice.Eq.{bytes_eq-Decides}

@@ -1,23 +1,20 @@
 -- What words give a subcommand is what the walk over them finds.
-use Rattle.std.proofs.Common.{◌≡◌, ◌∙◌, ◌++◌, ◌&&◌, ◌||◌, ◌==◌, ◌⊎◌, inl, inr, cond, not, Bool, true, false, ℕ, zero, suc, List, [], ◌∷◌, length, Option, Some, None, is_some, refl, sym, ap, subst, bytes_eq, codes, arith, option_map, fold, IsUtf8, All}
-use Rattle.std.specs.Prelude.{⊤, unwrap_or}
-use Rattle.std.proofs.lemmas.Slice.Eq.{bytes_eq-Decides}
-use Rattle.clap.specs.Lexer.{long_of, name_and_value, short_of}
-use Rattle.clap.specs.Walk.{Held, Row, Rule, Text, Waiting, Walk, idle, option, arg_by_id, arg_by_index, arg_by_long, arg_by_short, has_row, is_pending, reacted, settled, settled_rows, subcommand_met, takes_several, to_positional, used, value, walked}
+use Rattle.std.proofs.Common.{◌≡◌, ◌∙◌, ◌++◌, ◌&&◌, ◌||◌, cond, not, Bool, true, false, ℕ, List, [], ◌∷◌, Option, Some, None, is_some, refl, sym, ap, subst, codes, arith, option_map}
+use Rattle.std.specs.Prelude.{unwrap_or}
+use Rattle.clap.specs.Walk.{Held, Row, Text, Walk, idle, has_row, settled_rows}
 use Rattle.clap.specs.Kinds.{Kinds as Faults, or_else}
-use Rattle.clap.specs.Faults.{bundle_fault, long_fault, react_fault, settle_fault, short_fault, step_fault, turn_fault, use_fault, walk_fault, positional_fault, stray_fault}
+use Rattle.clap.specs.Faults.{settle_fault, use_fault}
 use Rattle.clap.specs.ValueTests.{accepts}
-use Rattle.clap.specs.Values.{reading_of, refused_kind}
+use Rattle.clap.specs.Values.{refused_kind}
 use Rattle.clap.specs.declared.error.kind.ErrorKind.TheVariants as kinds
 use Rattle.clap.specs.declared.builder.value_parser.ValueParser.{ValueParser}
 use Rattle.clap.specs.declared.builder.value_parser.ValueParser.TheVariants as parsers
-use Rattle.clap.specs.declared.builder.value_parser.Reading.{Reading}
 use Rattle.clap.specs.declared.builder.value_parser.Reading.TheVariants.{AsWritten}
 use Rattle.clap.specs.declared.parser.matches.ValueSource.TheVariants.{CommandLine}
-use Rattle.command_line.specs.Forms.{Verb, paths, check, run, audit, serve, has_explain, has_sessions, is_bare, Given, Takes, IsNumber, number_of, Gives, ends, word, explain, stop, sessions, joined, hyphens as ends_flags}
-use Rattle.command_line.proofs.Rows.{seen, row_with, seen_new, seen_other, used_new, no_row, any_found}
-use Rattle.command_line.proofs.Turns.{some_fault, first_of, then_of, neither, stands, bare_fault, bare_after, long_first, short_first, bundle_first}
-use Rattle.command_line.proofs.Levels.{rules, leaf, place_rule, place_after, place_names, text_row, Places, AreOthers, places_kept, Place, place, number_passes, passes_number, flag, sessions_built, help_built, long_rule, long_is, short_is}
+use Rattle.command_line.specs.Forms.{Verb, paths, check, run, audit, serve, Given, Takes, IsNumber}
+use Rattle.command_line.proofs.Rows.{seen, row_with, seen_new, seen_other, no_row, any_found}
+use Rattle.command_line.proofs.Turns.{some_fault, first_of, then_of, neither}
+use Rattle.command_line.proofs.Levels.{rules, place_rule, place_names, text_row, Places, AreOthers, places_kept, Place, number_passes, passes_number, flag, sessions_built}
 
 -- what is held between two words
 abbrev pub held : List Row → Option (Text × List Text) → Held
@@ -39,18 +36,13 @@ flag_row name = row_with CommandLine name AsWritten (codes "true" ∷ [])
 abbrev pub flag_seen : Text → Bool → Option Row
 flag_seen name b = cond b (Some (flag_row name)) None
 
--- the numbers among the words are in their ranges
-abbrev pub AreFit : Verb → List Text → Type 0
-AreFit serve (a ∷ b ∷ c ∷ []) = IsNumber 1 65535 c
-AreFit v ws = ⊤
-
 -- the rows hold what was given so far
 pub record Holding (v : Verb) (g : Given) (rows : List Row) : Type 0 where
   pub places : Places (place_names v) g.words rows
   pub explains : seen (codes "explain") rows ≡ flag_seen (codes "explain") g.explains
+  pub silent : seen (codes "no-explain") rows ≡ flag_seen (codes "no-explain") g.silent
   pub stops : seen (codes "stop-with-input") rows ≡ flag_seen (codes "stop-with-input") g.stops
   pub sessions : seen (codes "sessions") rows ≡ option_map (text_row (codes "sessions")) g.sessions
-  pub port : AreFit v g.words
   pub number : (n : Text) → g.sessions ≡ Some n → IsNumber 1 64 n
 
 pub record Stands (v : Verb) (g : Given) (rows : List Row) (p : Option (Text × List Text)) : Type 0 where
@@ -138,6 +130,16 @@ module _ (v : Verb) (g : Given) (rows : List Row) (h : Holding v g rows) where
       go audit = (refl, (refl, tt))
       go serve = (refl, (refl, (refl, tt)))
 
+  others_silence : AreOthers (codes "no-explain") (place_names v)
+  others_silence = go v
+    where
+      go : (v : Verb) → AreOthers (codes "no-explain") (place_names v)
+      go paths = tt
+      go check = (refl, tt)
+      go run = (refl, (refl, tt))
+      go audit = (refl, (refl, tt))
+      go serve = (refl, (refl, (refl, tt)))
+
   others_stop : AreOthers (codes "stop-with-input") (place_names v)
   others_stop = go v
     where
@@ -162,9 +164,19 @@ module _ (v : Verb) (g : Given) (rows : List Row) (h : Holding v g rows) where
   holds_explain off = record {
     places = places_kept (place_names v) g.words rows (flag_row (codes "explain")) others_explain h.places;
     explains = seen_new (codes "explain") (flag_row (codes "explain")) rows refl (h.explains ∙ ap (flag_seen (codes "explain")) off);
+    silent = seen_other (codes "no-explain") (flag_row (codes "explain")) rows refl ∙ h.silent;
     stops = seen_other (codes "stop-with-input") (flag_row (codes "explain")) rows refl ∙ h.stops;
     sessions = seen_other (codes "sessions") (flag_row (codes "explain")) rows refl ∙ h.sessions;
-    port = h.port;
+    number = h.number;
+  }
+
+  pub holds_silence : g.silent ≡ false → Holding v (record g { silent = true }) (rows ++ flag_row (codes "no-explain") ∷ [])
+  holds_silence off = record {
+    places = places_kept (place_names v) g.words rows (flag_row (codes "no-explain")) others_silence h.places;
+    explains = seen_other (codes "explain") (flag_row (codes "no-explain")) rows refl ∙ h.explains;
+    silent = seen_new (codes "no-explain") (flag_row (codes "no-explain")) rows refl (h.silent ∙ ap (flag_seen (codes "no-explain")) off);
+    stops = seen_other (codes "stop-with-input") (flag_row (codes "no-explain")) rows refl ∙ h.stops;
+    sessions = seen_other (codes "sessions") (flag_row (codes "no-explain")) rows refl ∙ h.sessions;
     number = h.number;
   }
 
@@ -172,9 +184,9 @@ module _ (v : Verb) (g : Given) (rows : List Row) (h : Holding v g rows) where
   holds_stop off = record {
     places = places_kept (place_names v) g.words rows (flag_row (codes "stop-with-input")) others_stop h.places;
     explains = seen_other (codes "explain") (flag_row (codes "stop-with-input")) rows refl ∙ h.explains;
+    silent = seen_other (codes "no-explain") (flag_row (codes "stop-with-input")) rows refl ∙ h.silent;
     stops = seen_new (codes "stop-with-input") (flag_row (codes "stop-with-input")) rows refl (h.stops ∙ ap (flag_seen (codes "stop-with-input")) off);
     sessions = seen_other (codes "sessions") (flag_row (codes "stop-with-input")) rows refl ∙ h.sessions;
-    port = h.port;
     number = h.number;
   }
 
@@ -182,31 +194,21 @@ module _ (v : Verb) (g : Given) (rows : List Row) (h : Holding v g rows) where
   holds_sessions n off is = record {
     places = places_kept (place_names v) g.words rows (text_row (codes "sessions") n) others_sessions h.places;
     explains = seen_other (codes "explain") (text_row (codes "sessions") n) rows refl ∙ h.explains;
+    silent = seen_other (codes "no-explain") (text_row (codes "sessions") n) rows refl ∙ h.silent;
     stops = seen_other (codes "stop-with-input") (text_row (codes "sessions") n) rows refl ∙ h.stops;
     sessions = seen_new (codes "sessions") (text_row (codes "sessions") n) rows refl (h.sessions ∙ ap (option_map (text_row (codes "sessions"))) off);
-    port = h.port;
     number = λ m e. subst (IsNumber 1 64) (some_same n m e) is;
   }
     where
       some_same : (n m : Text) → Some n ≡ Some m → n ≡ m
       some_same n m e = ap (λ (o : Option Text). unwrap_or o n) e
 
-  fit_more : (v : Verb) (ws : List Text) (w : Text) → Takes v ws w → AreFit v (ws ++ w ∷ [])
-  fit_more paths ws w t = tt
-  fit_more check ws w t = tt
-  fit_more run ws w t = tt
-  fit_more audit ws w t = tt
-  fit_more serve [] w t = tt
-  fit_more serve (a ∷ []) w t = tt
-  fit_more serve (a ∷ b ∷ []) w t = t
-  fit_more serve (a ∷ b ∷ c ∷ more) w t = absurd t
-
   pub holds_word : (p : Place v g.words) (w : Text) → Takes v g.words w → Holding v (record g { words = g.words ++ w ∷ [] }) (rows ++ text_row p.name w ∷ [])
   holds_word p w t = record {
     places = p.adds w rows h.places;
     explains = seen_other (codes "explain") (text_row p.name w) rows p.no_explain ∙ h.explains;
+    silent = seen_other (codes "no-explain") (text_row p.name w) rows p.no_silence ∙ h.silent;
     stops = seen_other (codes "stop-with-input") (text_row p.name w) rows p.no_stop ∙ h.stops;
     sessions = seen_other (codes "sessions") (text_row p.name w) rows p.no_sessions ∙ h.sessions;
-    port = fit_more v g.words w t;
     number = h.number;
   }

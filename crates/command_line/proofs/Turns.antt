@@ -1,15 +1,13 @@
 -- What the walk over words does with one word, and when it fails.
-use Rattle.std.proofs.Common.{◌≡◌, ◌∙◌, ◌++◌, ◌&&◌, ◌||◌, ◌==◌, cond, not, Bool, true, false, ℕ, zero, suc, List, [], ◌∷◌, length, Option, Some, None, is_some, refl, sym, ap, subst, bytes_eq, codes, IsUtf8, fold, slice_get, find, option_map}
+use Rattle.std.proofs.Common.{◌≡◌, ◌∙◌, cond, Bool, false, ℕ, suc, List, [], ◌∷◌, length, Option, Some, None, refl, sym, ap, bytes_eq, slice_get}
 use Rattle.std.specs.Option.{option_map_or}
 use Rattle.std.specs.Str.{chars}
-use Rattle.clap.specs.Lexer.{long_of, name_and_value, short_of}
-use Rattle.clap.specs.Walk.{Held, Names, Row, Rule, Step, Text, Waiting, Walk, idle, option, arg_by_id, arg_by_index, arg_by_long, arg_by_short, is_pending, Outcome, after_flag, bundle, plain, long_or_other, long_word, plain_word, reacted, settled, settled_rows, short_or_plain, subcommand_met, subcommand_or_other, after_step, takes_several, takes_values, to_positional, trailing, value, walked, word_met}
-use Rattle.clap.specs.Simple.{App, Shape, filled, filled_from, help_rule, new_shape}
+use Rattle.clap.specs.Lexer.{long_of, short_of}
+use Rattle.clap.specs.Walk.{Held, Names, Rule, Step, Text, Waiting, Walk, idle, option, arg_by_index, arg_by_long, arg_by_short, Outcome, after_flag, bundle, plain, long_or_other, long_word, plain_word, short_or_plain, subcommand_met, subcommand_or_other, after_step, to_positional, trailing, value, walked, word_met}
+use Rattle.clap.specs.Simple.{Shape}
 use Rattle.clap.specs.Kinds.{Kinds as Faults, or_else}
-use Rattle.clap.specs.Faults.{bundle_fault, bundle_step_fault, flag_word_fault, flags_fault, long_fault, other_fault, positional_fault, react_fault, settle_fault, short_fault, step_fault, stray_fault, turn_fault, use_fault, walk_fault, word_fault}
+use Rattle.clap.specs.Faults.{bundle_fault, bundle_step_fault, flag_word_fault, flags_fault, long_fault, other_fault, short_fault, step_fault, turn_fault, word_fault}
 use Rattle.clap.specs.declared.error.kind.ErrorKind.{ErrorKind}
-use Rattle.clap.specs.declared.error.kind.ErrorKind.TheVariants as kinds
-use Rattle.command_line.specs.Forms.{Verb, is_bare}
 use Rattle.clap.proofs.FaultLemmas.{fault_ends}
 use Rattle.clap.proofs.WalkLemmas.{bundle_ends}
 use Rattle.command_line.proofs.Sorts.{BareWord, dashes}

@@ -1,26 +1,23 @@
 -- A walk over words does not fail exactly where they give something, and finds that.
-use Rattle.std.proofs.Common.{◌≡◌, ◌∙◌, ◌++◌, ◌&&◌, ◌||◌, ◌==◌, ◌⊎◌, inl, inr, cond, not, Bool, true, false, ℕ, zero, suc, List, [], ◌∷◌, length, Option, Some, None, is_some, refl, sym, ap, subst, bytes_eq, codes, option_map, fold, slice_get, ap₂}
+use Rattle.std.proofs.Common.{◌≡◌, ◌∙◌, ◌++◌, ◌&&◌, ◌==◌, inl, inr, cond, not, Bool, true, false, ℕ, List, [], ◌∷◌, Option, Some, None, refl, sym, ap, subst, bytes_eq, codes, option_map, fold, slice_get, ap₂}
 use Rattle.std.specs.Prelude.{⊤, unwrap_or}
 use Rattle.std.specs.Option.{option_map_or}
 use Rattle.std.specs.Str.{chars}
-use Rattle.std.proofs.lemmas.Slice.Eq.{bytes_eq-Decides}
 use Rattle.clap.specs.Lexer.{long_of, name_and_value, short_of}
-use Rattle.clap.specs.Walk.{Held, Row, Rule, Text, Waiting, Walk, idle, option, arg_by_id, arg_by_index, arg_by_long, arg_by_short, has_row, is_pending, positional_held, pushed, settled, subcommand_met, takes_several, to_positional, used, used_by_id, value, walked, with_values, without}
+use Rattle.clap.specs.Walk.{Held, Row, Text, Waiting, Walk, idle, option, arg_by_index, is_pending, positional_held, pushed, settled, subcommand_met, takes_several, to_positional, used, used_by_id, value, walked}
 use Rattle.clap.specs.Values.{reading_of}
 use Rattle.clap.specs.Kinds.{Kinds as Faults, or_else}
-use Rattle.clap.specs.Faults.{bundle_fault, long_fault, positional_fault, settle_fault, short_fault, step_fault, stray_fault, turn_fault, use_fault, walk_fault}
-use Rattle.clap.specs.declared.error.kind.ErrorKind.TheVariants as kinds
-use Rattle.clap.specs.declared.builder.value_parser.Reading.{Reading}
+use Rattle.clap.specs.Faults.{positional_fault, settle_fault, short_fault, step_fault, stray_fault, turn_fault, use_fault, walk_fault}
 use Rattle.clap.specs.declared.builder.value_parser.Reading.TheVariants.{AsWritten}
 use Rattle.clap.specs.declared.parser.matches.ValueSource.TheVariants.{CommandLine}
 use Rattle.clap.proofs.LexerLemmas.{name_and_value-at}
-use Rattle.command_line.specs.Forms.{Verb, paths, check, run, audit, serve, has_explain, has_sessions, is_bare, Given, Takes, IsNumber, Gives, ends, word, explain, stop, sessions, joined, hyphens as ends_flags}
+use Rattle.command_line.specs.Forms.{Verb, paths, check, run, audit, serve, has_explain, has_sessions, is_bare, Given, Takes, IsNumber, Gives, ends, word, explain, silence, stop, sessions, joined, hyphens as ends_flags}
 use Rattle.command_line.proofs.Rows.{seen, row_with, used_new}
-use Rattle.command_line.proofs.Sorts.{Kind, bare, hyphens, long, short, kind, bare_word, dashes, Cut, whole, parts, cut, sessions_lacks}
+use Rattle.command_line.proofs.Sorts.{bare, hyphens, long, short, kind, bare_word, dashes, Cut, whole, parts, cut, sessions_lacks}
 use Rattle.command_line.proofs.Turns.{some_fault, first_of, then_of, neither, stands, bare_fault, bare_after, long_first, long_turn, long_after, short_first, bundle_first, value_fault, value_after}
-use Rattle.command_line.proofs.Levels.{rules, leaf, place_rule, place_after, place_names, text_row, Place, place, flag, sessions_built, help_built, short_is}
-use Rattle.command_line.proofs.Steps.{held, at, rows_now, settle, flag_row, flag_seen, Holding, Stands, and_false, or_false, word_use, word_accepted, sessions_use, sessions_used, flag_use, flag_used, not_given, no_number, holds_explain, holds_stop, holds_sessions, holds_word}
-use Rattle.command_line.proofs.Uses.{Passes, is_explain, is_stop, is_joined, is_spaced, passes, short_fails}
+use Rattle.command_line.proofs.Levels.{rules, leaf, place_rule, place_after, text_row, Place, place, flag, sessions_built, short_is}
+use Rattle.command_line.proofs.Steps.{held, at, rows_now, settle, flag_seen, Holding, Stands, and_false, or_false, word_use, word_accepted, sessions_use, sessions_used, flag_use, flag_used, not_given, no_number, holds_explain, holds_silence, holds_stop, holds_sessions, holds_word}
+use Rattle.command_line.proofs.Uses.{Passes, is_explain, is_silence, is_stop, is_joined, is_spaced, passes, short_fails}
 
 abbrev pub end_of : Verb → Walk → List Text → Held
 end_of v w ws = (fold (walked (rules v) []) w ws).held
@@ -60,7 +57,7 @@ module _ (v : Verb) (words : List Text) (p : Place v words) (rows : List Row) (q
   step_is = ap (λ a. option_map_or (λ a. positional_fault (rules v) false a (held rows q)) a (stray_fault (leaf v))) p.indexed
       ∙ ap (λ b. cond b [] (settle v rows q)) (several (held rows q))
 
-  word_turn : (free : Bool) (w : Text) → (free ≡ true → is_bare w ≡ true) → turn_fault (leaf v) [] (at free (place_after words) (held rows q)) w ≡ settle v rows q
+  pub word_turn : (free : Bool) (w : Text) → (free ≡ true → is_bare w ≡ true) → turn_fault (leaf v) [] (at free (place_after words) (held rows q)) w ≡ settle v rows q
   word_turn true w is = bare_fault (leaf v) [] (place_after words) (held rows q) w (bare_word w (is refl)) refl refl ∙ step_is
   word_turn false w is = step_is
 
@@ -76,7 +73,7 @@ module _ (v : Verb) (words : List Text) (p : Place v words) (rows : List Row) (q
       λ i. record { held = kept i; waiting = idle; position = place_next i; is_trailing = closed i; stopped = None } in
       ap (λ a. to_positional (rules v) a w (at free (place_after words) (held rows q)) (held rows q)) p.indexed ∙ made
 
-  word_after : (free : Bool) (w : Text) → (free ≡ true → is_bare w ≡ true) → walked (rules v) [] (at free (place_after words) (held rows q)) w
+  pub word_after : (free : Bool) (w : Text) → (free ≡ true → is_bare w ≡ true) → walked (rules v) [] (at free (place_after words) (held rows q)) w
       ≡ at free (place_after (words ++ w ∷ [])) (held (rows_now v rows q) (Some (p.name, w ∷ [])))
   unfolding walked
   word_after true w is = bare_after (leaf v) [] (place_after words) (held rows q) w (bare_word w (is refl)) refl refl ∙ goes_to true w
@@ -92,7 +89,7 @@ module _ (v : Verb) (words : List Text) (p : Place v words) (rows : List Row) (q
       ∙ used_new p.name (reading_of p.parser) (w ∷ []) now none
       ∙ ap (λ r. now ++ row_with CommandLine p.name r (w ∷ []) ∷ []) p.read
 
-word_stands : (v : Verb) (g : Given) (rows : List Row) (q : Option (Text × List Text)) (p : Place v g.words) (w : Text) → Stands v g rows q → Takes v g.words w
+pub word_stands : (v : Verb) (g : Given) (rows : List Row) (q : Option (Text × List Text)) (p : Place v g.words) (w : Text) → Stands v g rows q → Takes v g.words w
     → Stands v (record g { words = g.words ++ w ∷ [] }) (rows_now v rows q) (Some (p.name, w ∷ []))
 word_stands v g rows q p w st takes =
     let none = p.unseen (rows_now v rows q) st.holds.places in record {
@@ -113,7 +110,7 @@ hyphens_after v k h = refl
 -- ---- flags
 
 module _ (k : ℕ) (rows : List Row) (q : Option (Text × List Text)) where
-  explain_turn : (v : Verb) → has_explain v ≡ true → turn_fault (leaf v) [] (at true k (held rows q)) (codes "--explain")
+  pub explain_turn : (v : Verb) → has_explain v ≡ true → turn_fault (leaf v) [] (at true k (held rows q)) (codes "--explain")
       ≡ or_else (or_else (settle v rows q) (use_fault false (flag (codes "explain")) [] (rows_now v rows q))) []
   explain_turn paths has = absurd (clash has)
     where
@@ -124,7 +121,7 @@ module _ (k : ℕ) (rows : List Row) (q : Option (Text × List Text)) where
   explain_turn audit has = long_turn (leaf audit) [] k (held rows q) idle (codes "--explain") refl refl (codes "explain", None) refl
   explain_turn serve has = long_turn (leaf serve) [] k (held rows q) idle (codes "--explain") refl refl (codes "explain", None) refl
 
-  explain_after : (v : Verb) → has_explain v ≡ true → walked (rules v) [] (at true k (held rows q)) (codes "--explain")
+  pub explain_after : (v : Verb) → has_explain v ≡ true → walked (rules v) [] (at true k (held rows q)) (codes "--explain")
       ≡ at true k (held (used (flag (codes "explain")) [] (rows_now v rows q)) None)
   explain_after paths has = absurd (clash has)
     where
@@ -134,6 +131,28 @@ module _ (k : ℕ) (rows : List Row) (q : Option (Text × List Text)) where
   explain_after run has = long_after (leaf run) [] k (held rows q) idle (codes "--explain") refl refl (codes "explain", None) refl
   explain_after audit has = long_after (leaf audit) [] k (held rows q) idle (codes "--explain") refl refl (codes "explain", None) refl
   explain_after serve has = long_after (leaf serve) [] k (held rows q) idle (codes "--explain") refl refl (codes "explain", None) refl
+
+  pub silence_turn : (v : Verb) → has_explain v ≡ true → turn_fault (leaf v) [] (at true k (held rows q)) (codes "--no-explain")
+      ≡ or_else (or_else (settle v rows q) (use_fault false (flag (codes "no-explain")) [] (rows_now v rows q))) []
+  silence_turn paths has = absurd (clash has)
+    where
+      clash : false ≡ true → ⊥
+      clash x = cc
+  silence_turn check has = long_turn (leaf check) [] k (held rows q) idle (codes "--no-explain") refl refl (codes "no-explain", None) refl
+  silence_turn run has = long_turn (leaf run) [] k (held rows q) idle (codes "--no-explain") refl refl (codes "no-explain", None) refl
+  silence_turn audit has = long_turn (leaf audit) [] k (held rows q) idle (codes "--no-explain") refl refl (codes "no-explain", None) refl
+  silence_turn serve has = long_turn (leaf serve) [] k (held rows q) idle (codes "--no-explain") refl refl (codes "no-explain", None) refl
+
+  pub silence_after : (v : Verb) → has_explain v ≡ true → walked (rules v) [] (at true k (held rows q)) (codes "--no-explain")
+      ≡ at true k (held (used (flag (codes "no-explain")) [] (rows_now v rows q)) None)
+  silence_after paths has = absurd (clash has)
+    where
+      clash : false ≡ true → ⊥
+      clash x = cc
+  silence_after check has = long_after (leaf check) [] k (held rows q) idle (codes "--no-explain") refl refl (codes "no-explain", None) refl
+  silence_after run has = long_after (leaf run) [] k (held rows q) idle (codes "--no-explain") refl refl (codes "no-explain", None) refl
+  silence_after audit has = long_after (leaf audit) [] k (held rows q) idle (codes "--no-explain") refl refl (codes "no-explain", None) refl
+  silence_after serve has = long_after (leaf serve) [] k (held rows q) idle (codes "--no-explain") refl refl (codes "no-explain", None) refl
 
   stop_turn : turn_fault (leaf serve) [] (at true k (held rows q)) (codes "--stop-with-input")
       ≡ or_else (or_else (settle serve rows q) (use_fault false (flag (codes "stop-with-input")) [] (rows_now serve rows q))) []
@@ -155,7 +174,7 @@ module _ (k : ℕ) (rows : List Row) (q : Option (Text × List Text)) where
   joined_after n = long_after (leaf serve) [] k (held rows q) idle (codes "--sessions=" ++ n) refl refl (codes "sessions", Some n) (joined_long n)
 
   -- the option that waits for its value
-  abbrev waits : Verb → Walk
+  abbrev pub waits : Verb → Walk
   waits v = record { held = held (rows_now v rows q) (Some (codes "sessions", [])); waiting = option (codes "sessions"); position = k; is_trailing = false; stopped = None }
 
   spaced_turn : turn_fault (leaf serve) [] (at true k (held rows q)) (codes "--sessions") ≡ or_else (settle serve rows q) []
@@ -172,7 +191,7 @@ module _ (k : ℕ) (rows : List Row) (q : Option (Text × List Text)) where
 
 -- ---- what stands after a flag
 
-explain_stands : (v : Verb) (g : Given) (rows : List Row) (q : Option (Text × List Text)) → Stands v g rows q → g.explains ≡ false
+pub explain_stands : (v : Verb) (g : Given) (rows : List Row) (q : Option (Text × List Text)) → Stands v g rows q → g.explains ≡ false
     → Stands v (record g { explains = true }) (used (flag (codes "explain")) [] (rows_now v rows q)) None
 explain_stands v g rows q st off =
     let none : seen (codes "explain") (rows_now v rows q) ≡ None = st.holds.explains ∙ ap (flag_seen (codes "explain")) off in record {
@@ -181,7 +200,16 @@ explain_stands v g rows q st off =
           (holds_explain v g (rows_now v rows q) st.holds off);
     }
 
-stop_stands : (v : Verb) (g : Given) (rows : List Row) (q : Option (Text × List Text)) → Stands v g rows q → g.stops ≡ false
+pub silence_stands : (v : Verb) (g : Given) (rows : List Row) (q : Option (Text × List Text)) → Stands v g rows q → g.silent ≡ false
+    → Stands v (record g { silent = true }) (used (flag (codes "no-explain")) [] (rows_now v rows q)) None
+silence_stands v g rows q st off =
+    let none : seen (codes "no-explain") (rows_now v rows q) ≡ None = st.holds.silent ∙ ap (flag_seen (codes "no-explain")) off in record {
+      valid = refl;
+      holds = subst (Holding v (record g { silent = true })) (sym (used_new (codes "no-explain") AsWritten (codes "true" ∷ []) (rows_now v rows q) none))
+          (holds_silence v g (rows_now v rows q) st.holds off);
+    }
+
+pub stop_stands : (v : Verb) (g : Given) (rows : List Row) (q : Option (Text × List Text)) → Stands v g rows q → g.stops ≡ false
     → Stands v (record g { stops = true }) (used (flag (codes "stop-with-input")) [] (rows_now v rows q)) None
 stop_stands v g rows q st off =
     let none : seen (codes "stop-with-input") (rows_now v rows q) ≡ None = st.holds.stops ∙ ap (flag_seen (codes "stop-with-input")) off in record {
@@ -219,7 +247,7 @@ one_more : (v : Verb) (W W2 : Walk) (w : Text) (ws : List Text) (after : Given) 
 one_more v W W2 w ws after turn goes rest =
     (back_tail v W w ws turn (ap (λ x. tail_fault v x ws) goes ∙ rest.0), subst (λ x. Ended v after (end_of v x ws)) (sym goes) rest.1)
 
-none_left : (v : Verb) (w : Text) (words : List Text) → Takes v words w → arg_by_index (rules v) (place_after words) ≡ None → ⊥
+pub none_left : (v : Verb) (w : Text) (words : List Text) → Takes v words w → arg_by_index (rules v) (place_after words) ≡ None → ⊥
 none_left paths w [] t e = t
 none_left paths w (a ∷ more) t e = t
 none_left check w [] t e = cc
@@ -258,34 +286,34 @@ module _ (v : Verb) (has : has_sessions v ≡ true) (g : Given) (rows : List Row
   abbrev k : ℕ
   k = place_after g.words
 
-  stop_turns : turn_fault (leaf v) [] (at true k (held rows q)) (codes "--stop-with-input")
+  pub stop_turns : turn_fault (leaf v) [] (at true k (held rows q)) (codes "--stop-with-input")
       ≡ or_else (or_else (settle v rows q) (use_fault false (flag (codes "stop-with-input")) [] (rows_now v rows q))) []
   stop_turns = of_serve (λ v. turn_fault (leaf v) [] (at true k (held rows q)) (codes "--stop-with-input")
       ≡ or_else (or_else (settle v rows q) (use_fault false (flag (codes "stop-with-input")) [] (rows_now v rows q))) []) v has (stop_turn k rows q)
 
-  stop_goes : walked (rules v) [] (at true k (held rows q)) (codes "--stop-with-input") ≡ at true k (held (used (flag (codes "stop-with-input")) [] (rows_now v rows q)) None)
+  pub stop_goes : walked (rules v) [] (at true k (held rows q)) (codes "--stop-with-input") ≡ at true k (held (used (flag (codes "stop-with-input")) [] (rows_now v rows q)) None)
   stop_goes = of_serve (λ v. walked (rules v) [] (at true k (held rows q)) (codes "--stop-with-input") ≡ at true k (held (used (flag (codes "stop-with-input")) [] (rows_now v rows q)) None))
       v has (stop_after k rows q)
 
-  joined_turns : (n : Text) → turn_fault (leaf v) [] (at true k (held rows q)) (codes "--sessions=" ++ n)
+  pub joined_turns : (n : Text) → turn_fault (leaf v) [] (at true k (held rows q)) (codes "--sessions=" ++ n)
       ≡ or_else (or_else (settle v rows q) (use_fault false sessions_built (n ∷ []) (rows_now v rows q))) []
   joined_turns n = of_serve (λ v. turn_fault (leaf v) [] (at true k (held rows q)) (codes "--sessions=" ++ n)
       ≡ or_else (or_else (settle v rows q) (use_fault false sessions_built (n ∷ []) (rows_now v rows q))) []) v has (joined_turn k rows q n)
 
-  joined_goes : (n : Text) → walked (rules v) [] (at true k (held rows q)) (codes "--sessions=" ++ n) ≡ at true k (held (used sessions_built (n ∷ []) (rows_now v rows q)) None)
+  pub joined_goes : (n : Text) → walked (rules v) [] (at true k (held rows q)) (codes "--sessions=" ++ n) ≡ at true k (held (used sessions_built (n ∷ []) (rows_now v rows q)) None)
   joined_goes n = of_serve (λ v. walked (rules v) [] (at true k (held rows q)) (codes "--sessions=" ++ n) ≡ at true k (held (used sessions_built (n ∷ []) (rows_now v rows q)) None))
       v has (joined_after k rows q n)
 
-  spaced_turns : turn_fault (leaf v) [] (at true k (held rows q)) (codes "--sessions") ≡ or_else (settle v rows q) []
+  pub spaced_turns : turn_fault (leaf v) [] (at true k (held rows q)) (codes "--sessions") ≡ or_else (settle v rows q) []
   spaced_turns = of_serve (λ v. turn_fault (leaf v) [] (at true k (held rows q)) (codes "--sessions") ≡ or_else (settle v rows q) []) v has (spaced_turn k rows q)
 
-  spaced_goes : walked (rules v) [] (at true k (held rows q)) (codes "--sessions") ≡ waits k rows q v
+  pub spaced_goes : walked (rules v) [] (at true k (held rows q)) (codes "--sessions") ≡ waits k rows q v
   spaced_goes = of_serve (λ v. walked (rules v) [] (at true k (held rows q)) (codes "--sessions") ≡ waits k rows q v) v has (spaced_after k rows q)
 
-  given_turns : (n : Text) → is_bare n ≡ true → turn_fault (leaf v) [] (waits k rows q v) n ≡ []
+  pub given_turns : (n : Text) → is_bare n ≡ true → turn_fault (leaf v) [] (waits k rows q v) n ≡ []
   given_turns n is = of_serve (λ v. turn_fault (leaf v) [] (waits k rows q v) n ≡ []) v has (given_turn k rows q n is)
 
-  given_goes : (n : Text) → is_bare n ≡ true → walked (rules v) [] (waits k rows q v) n ≡ at true k (held (rows_now v rows q) (Some (codes "sessions", n ∷ [])))
+  pub given_goes : (n : Text) → is_bare n ≡ true → walked (rules v) [] (waits k rows q v) n ≡ at true k (held (rows_now v rows q) (Some (codes "sessions", n ∷ [])))
   given_goes n is = of_serve (λ v. walked (rules v) [] (waits k rows q v) n ≡ at true k (held (rows_now v rows q) (Some (codes "sessions", n ∷ [])))) v has (given_after k rows q n is)
 
   -- the option does not do without a value
@@ -299,11 +327,11 @@ module _ (v : Verb) (has : has_sessions v ≡ true) (g : Given) (rows : List Row
     no_sessions_row : seen (codes "sessions") (rows_now v rows q) ≡ None
     no_sessions_row = st.holds.sessions ∙ ap (option_map (text_row (codes "sessions"))) off
 
-    joined_then : Stands v (record g { sessions = Some n }) (used sessions_built (n ∷ []) (rows_now v rows q)) None
+    pub joined_then : Stands v (record g { sessions = Some n }) (used sessions_built (n ∷ []) (rows_now v rows q)) None
     joined_then = of_serve (λ v. Stands v g rows q → Stands v (record g { sessions = Some n }) (used sessions_built (n ∷ []) (rows_now v rows q)) None) v has
         (λ st. joined_stands g rows q st n off is) st
 
-    given_then : Stands v (record g { sessions = Some n }) (rows_now v rows q) (Some (codes "sessions", n ∷ []))
+    pub given_then : Stands v (record g { sessions = Some n }) (rows_now v rows q) (Some (codes "sessions", n ∷ []))
     given_then = of_serve (λ v. Stands v g rows q → Stands v (record g { sessions = Some n }) (rows_now v rows q) (Some (codes "sessions", n ∷ []))) v has
         (λ st. given_stands g rows q st n off is) st
 
@@ -324,6 +352,13 @@ completes v free g ws after (explain x y w more is has off rest) rows q st =
     ∙ neither _ _ (neither _ _ st.valid (flag_use (codes "explain") (rows_now v rows q) none)) refl)
     (ap (λ x. walked (rules v) [] (at true (place_after g.words) (held rows q)) x) is ∙ explain_after (place_after g.words) rows q v has)
     (completes v true (record g { explains = true }) more after rest (used (flag (codes "explain")) [] (rows_now v rows q)) None (explain_stands v g rows q st off))
+completes v free g ws after (silence x y w more is has off rest) rows q st =
+    let none : seen (codes "no-explain") (rows_now v rows q) ≡ None = st.holds.silent ∙ ap (flag_seen (codes "no-explain")) off in
+    one_more v (at true (place_after g.words) (held rows q)) (at true (place_after g.words) (held (used (flag (codes "no-explain")) [] (rows_now v rows q)) None)) w more after
+    (ap (λ x. turn_fault (leaf v) [] (at true (place_after g.words) (held rows q)) x) is ∙ silence_turn (place_after g.words) rows q v has
+    ∙ neither _ _ (neither _ _ st.valid (flag_use (codes "no-explain") (rows_now v rows q) none)) refl)
+    (ap (λ x. walked (rules v) [] (at true (place_after g.words) (held rows q)) x) is ∙ silence_after (place_after g.words) rows q v has)
+    (completes v true (record g { silent = true }) more after rest (used (flag (codes "no-explain")) [] (rows_now v rows q)) None (silence_stands v g rows q st off))
 completes v free g ws after (stop x y w more is has off rest) rows q st =
     let none : seen (codes "stop-with-input") (rows_now v rows q) ≡ None = st.holds.stops ∙ ap (flag_seen (codes "stop-with-input")) off in
     one_more v (at true (place_after g.words) (held rows q)) (at true (place_after g.words) (held (used (flag (codes "stop-with-input")) [] (rows_now v rows q)) None)) w more after
@@ -372,11 +407,12 @@ short_absurd : (v : Verb) (k : ℕ) (rows : List Row) (q : Option (Text × List 
 short_absurd v k rows q waiting w x xs ch none char two no_long has e =
     let bundled = short_first (leaf v) [] k (held rows q) waiting w none two (x ∷ xs) no_long has e in
     let first = bundle_first (rules v) false x xs (held rows q) ch refl char bundled in
-    short_fails (rules v) (held rows q) (104 == ch) first.0 first.1
+    short_fails (rules v) (held rows q) (104 == ch) (86 == ch) first.0 first.1
     (ap (λ o. short_fault (rules v) false o first.0 (held rows q) first.1) (sym (short_is v ch)) ∙ first.2)
 
 pub settle_of : (v : Verb) (rows : List Row) (q : Option (Text × List Text)) (name : Text) (o : Option Text) → Passes (rules v) (held rows q) v name o → settle v rows q ≡ []
 settle_of v rows q name o (is_explain has is none ok works) = ok
+settle_of v rows q name o (is_silence has is none ok works) = ok
 settle_of v rows q name o (is_stop has is none ok works) = ok
 settle_of v rows q name o (is_joined n has is none ok works) = ok
 settle_of v rows q name o (is_spaced has is none ok) = ok
@@ -455,6 +491,15 @@ module _ (v : Verb) (g : Given) (rows : List Row) (q : Option (Text × List Text
       let found = rest true (record g { explains = true }) (used (flag (codes "explain")) [] (rows_now v rows q)) None (explain_stands v g rows q st off) later in
       (found.0, explain g found.0 w ws is has off found.1, ended_back (here true) _ w ws found.0 goes found.2)
 
+  sound_silence : (w : Text) (ws : List Text) → w ≡ codes "--no-explain" → has_explain v ≡ true → use_fault false (flag (codes "no-explain")) [] (rows_now v rows q) ≡ []
+      → tail_fault v (here true) (w ∷ ws) ≡ [] → Rest v ws → Sound v true g (w ∷ ws) rows q
+  sound_silence w ws is has works e rest =
+      let off = not_given v g (rows_now v rows q) st.holds (codes "no-explain") g.silent st.holds.silent (flag_used (codes "no-explain") (rows_now v rows q) works) in
+      let goes = ap (λ x. walked (rules v) [] (here true) x) is ∙ silence_after (place_after g.words) rows q v has in
+      let later = follows true (at true (place_after g.words) (held (used (flag (codes "no-explain")) [] (rows_now v rows q)) None)) w ws goes e in
+      let found = rest true (record g { silent = true }) (used (flag (codes "no-explain")) [] (rows_now v rows q)) None (silence_stands v g rows q st off) later in
+      (found.0, silence g found.0 w ws is has off found.1, ended_back (here true) _ w ws found.0 goes found.2)
+
   sound_stop : (w : Text) (ws : List Text) → w ≡ codes "--stop-with-input" → has_sessions v ≡ true → use_fault false (flag (codes "stop-with-input")) [] (rows_now v rows q) ≡ []
       → tail_fault v (here true) (w ∷ ws) ≡ [] → Rest v ws → Sound v true g (w ∷ ws) rows q
   sound_stop w ws is has works e rest =
@@ -531,6 +576,7 @@ module _ (v : Verb) (g : Given) (rows : List Row) (q : Option (Text × List Text
 
       alone : (name : Text) (o : Option Text) → t ≡ name → None ≡ o → Passes (rules v) (held rows q) v name o → Sound v true g (w ∷ ws) rows q
       alone name o is_name is_none (is_explain has_it named none ok works) = sound_explain w ws (is ∙ ap (λ (x : Text). 45 ∷ 45 ∷ x) (is_name ∙ named)) has_it works e rest
+      alone name o is_name is_none (is_silence has_it named none ok works) = sound_silence w ws (is ∙ ap (λ (x : Text). 45 ∷ 45 ∷ x) (is_name ∙ named)) has_it works e rest
       alone name o is_name is_none (is_stop has_it named none ok works) = sound_stop w ws (is ∙ ap (λ (x : Text). 45 ∷ 45 ∷ x) (is_name ∙ named)) has_it works e rest
       alone name o is_name is_none (is_joined n has_it named some ok works) = absurd (nothing (is_none ∙ some))
         where
@@ -540,6 +586,10 @@ module _ (v : Verb) (g : Given) (rows : List Row) (q : Option (Text × List Text
 
       paired : (name sign_text : Text) (o : Option Text) → t ≡ name ++ 61 ∷ sign_text → Some sign_text ≡ o → Passes (rules v) (held rows q) v name o → Sound v true g (w ∷ ws) rows q
       paired name sign_text o is_cut is_value (is_explain has_it named none ok works) = absurd (nothing (is_value ∙ none))
+        where
+          nothing : Some sign_text ≡ None → ⊥
+          nothing x = cc
+      paired name sign_text o is_cut is_value (is_silence has_it named none ok works) = absurd (nothing (is_value ∙ none))
         where
           nothing : Some sign_text ≡ None → ⊥
           nothing x = cc

@@ -1,20 +1,20 @@
 -- What the parser makes of a whole command line is what its words ask for.
-use Rattle.std.proofs.Common.{◌≡◌, ◌∙◌, ◌++◌, ◌&&◌, ◌||◌, ◌==◌, ◌⊎◌, inl, inr, cond, not, Bool, true, false, ℕ, zero, suc, List, [], ◌∷◌, length, Option, Some, None, is_some, refl, sym, ap, ap₂, subst, bytes_eq, codes, option_map, option_and_then, fold, find, drop, slice_get}
+use Rattle.std.proofs.Common.{◌≡◌, ◌∙◌, ◌&&◌, ◌||◌, ◌==◌, cond, not, Bool, true, false, ℕ, List, [], ◌∷◌, Option, Some, None, is_some, refl, sym, ap, ap₂, subst, bytes_eq, codes, option_map, option_and_then, fold, slice_get}
 use Rattle.std.specs.Prelude.{⊤}
 use Rattle.std.specs.Option.{option_map_or, option_or}
 use Rattle.std.specs.List.{list_all, list_any}
 use Rattle.std.proofs.lemmas.Slice.Eq.{bytes_eq-Decides}
-use Rattle.clap.specs.Lexer.{long_of, name_and_value, short_of}
-use Rattle.clap.specs.Walk.{Held, Names, Row, Rule, Text, Walk, idle, answers_to, arg_by_index, arg_by_long, arg_by_short, finished, first_of as first_in, has_row, is_empty, nothing_held, one_of, row_text, rows_after, settled, stop_after, subcommand_met, value, walk, walk_from, walked, with_default}
-use Rattle.clap.specs.Simple.{App, Shape, argument_words, built, entered, is_simple, label_of, names_of, rows_at, subcommand_of}
+use Rattle.clap.specs.Lexer.{name_and_value}
+use Rattle.clap.specs.Walk.{Held, Names, Row, Rule, Text, Walk, idle, arg_by_index, arg_by_long, arg_by_short, finished, first_of as first_in, has_row, is_empty, nothing_held, one_of, row_text, rows_after, settled, stop_after, subcommand_met, value, walk, walk_from, walked, with_default}
+use Rattle.clap.specs.Simple.{entered, is_simple, names_of, subcommand_of}
 use Rattle.clap.specs.Takes.{is_given}
 use Rattle.clap.specs.Values.{bool_text}
 use Rattle.clap.specs.Facts.{explicit_source}
-use Rattle.clap.specs.Kinds.{Kinds as Faults, or_else}
-use Rattle.clap.specs.Faults.{bundle_fault, built_fault, check_fault, default_fault, defaults_fault, entered_fault, fault_of, given_default_fault, is_simple_and_free, level_fault, long_fault, settle_fault, short_fault, step_fault, stray_fault, turn_fault, walk_fault}
+use Rattle.clap.specs.Kinds.{Kinds as Faults}
+use Rattle.clap.specs.Faults.{built_fault, check_fault, default_fault, defaults_fault, entered_fault, fault_of, given_default_fault, is_simple_and_free, level_fault, long_fault, settle_fault, short_fault, step_fault, turn_fault, walk_fault}
 use Rattle.clap.specs.declared.error.kind.ErrorKind.TheVariants as kinds
 use Rattle.clap.specs.declared.builder.value_parser.Reading.TheVariants.{AsWritten}
-use Rattle.clap.specs.declared.parser.matches.ValueSource.TheVariants.{DefaultValue, CommandLine}
+use Rattle.clap.specs.declared.parser.matches.ValueSource.TheVariants.{DefaultValue}
 use Rattle.clap.proofs.WalkLemmas.{both, walk_stopped}
 use Rattle.clap.proofs.FaultLemmas.{stopped_fault}
 use Rattle.command_line.specs.Forms.{Verb, paths, check, run, audit, serve, name_of, Given, nothing, Gives, IsNumber, number_of, sessions_of, Makes, Asks}
@@ -22,12 +22,12 @@ use Rattle.command_line.specs.Commands.{Holds, program}
 use Rattle.command_line.specs.declared.request.Request.{Request}
 use Rattle.command_line.specs.declared.request.Request.TheVariants as requests
 use Rattle.command_line.proofs.Rows.{seen, row_with, seen_at_end, default_seen}
-use Rattle.command_line.proofs.Sorts.{Kind, bare, hyphens, long, short, kind, bare_word, dashes}
+use Rattle.command_line.proofs.Sorts.{bare, hyphens, long, short, kind, bare_word, dashes}
 use Rattle.command_line.proofs.Turns.{some_fault, first_of, then_of, neither, stands, bare_fault, long_first, short_first, bundle_first}
-use Rattle.command_line.proofs.Levels.{rules, leaf, top, leaves, whole, built_is, place_names, text_row, Places, number_passes, passes_number, help_built}
-use Rattle.command_line.proofs.Steps.{held, at, rows_now, flag_row, flag_seen, AreFit, Holding, Stands}
-use Rattle.command_line.proofs.Uses.{by_help, short_fails}
-use Rattle.command_line.proofs.Walks.{Ended, completes, sound, tail_fault, end_of}
+use Rattle.command_line.proofs.Levels.{rules, leaf, top, whole, place_names, text_row, Places, passes_number, shown_by, shown_rule, shown_short}
+use Rattle.command_line.proofs.Steps.{held, at, rows_now, flag_seen, Holding, Stands}
+use Rattle.command_line.proofs.Uses.{by_shown, short_fails}
+use Rattle.command_line.proofs.Walks.{completes, sound, tail_fault}
 
 clash : false ≡ true → ⊥
 clash x = cc
@@ -145,28 +145,28 @@ sessions_last g R h = go g.sessions refl
     )
 
 -- what lacks nothing holds what was given
-holds_all : (v : Verb) (g : Given) (ws : List Text) (R : List Row) → g.words ≡ ws → Places (place_names v) ws R → AreFit v ws → Holding v g R → lacks v (last v R) ≡ false
+holds_all : (v : Verb) (g : Given) (ws : List Text) (R : List Row) → g.words ≡ ws → Places (place_names v) ws R → Holding v g R → lacks v (last v R) ≡ false
     → IsFull v ws × Holds v g (last v R)
-holds_all paths g [] R e places port h none = (tt, tt)
-holds_all paths g (a ∷ more) R e places port h none = absurd places
-holds_all check g [] R e places port h none = absurd (lacks_this _ _ (missing_last check R FILE refl places.0) none)
-holds_all check g (a ∷ []) R e places port h none =
-    (tt, (a, e, word_last check R FILE a places.0, flag_last check R (codes "explain") g.explains refl h.explains))
-holds_all check g (a ∷ b ∷ more) R e places port h none = absurd places.1
-holds_all run g [] R e places port h none = absurd (lacks_this _ _ (missing_last run R FILE refl places.0) none)
-holds_all run g (a ∷ []) R e places port h none = absurd (lacks_this _ _ (missing_last run R (codes "SCRIPT") refl places.1.0) (lacks_later _ _ none))
-holds_all run g (a ∷ b ∷ []) R e places port h none =
-    (tt, (a, b, e, word_last run R FILE a places.0, word_last run R (codes "SCRIPT") b places.1.0, flag_last run R (codes "explain") g.explains refl h.explains))
-holds_all run g (a ∷ b ∷ c ∷ more) R e places port h none = absurd places.1.1
-holds_all audit g [] R e places port h none = absurd (lacks_this _ _ (missing_last audit R FILE refl places.0) none)
-holds_all audit g (a ∷ []) R e places port h none = absurd (lacks_this _ _ (missing_last audit R (codes "TRACE") refl places.1.0) (lacks_later _ _ none))
-holds_all audit g (a ∷ b ∷ []) R e places port h none =
-    (tt, (a, b, e, word_last audit R FILE a places.0, word_last audit R (codes "TRACE") b places.1.0, flag_last audit R (codes "explain") g.explains refl h.explains))
-holds_all audit g (a ∷ b ∷ c ∷ more) R e places port h none = absurd places.1.1
-holds_all serve g [] R e places port h none = absurd (lacks_this _ _ (missing_last serve R FILE refl places.0) none)
-holds_all serve g (a ∷ []) R e places port h none = absurd (lacks_this _ _ (missing_last serve R (codes "DIR") refl places.1.0) (lacks_later _ _ none))
-holds_all serve g (a ∷ b ∷ []) R e places port h none = absurd (lacks_this _ _ (missing_last serve R (codes "PORT") refl places.1.1.0) (lacks_later _ _ (lacks_later _ _ none)))
-holds_all serve g (a ∷ b ∷ c ∷ []) R e places port h none =
+holds_all paths g [] R e places h none = (tt, tt)
+holds_all paths g (a ∷ more) R e places h none = absurd places
+holds_all check g [] R e places h none = absurd (lacks_this _ _ (missing_last check R FILE refl places.0) none)
+holds_all check g (a ∷ []) R e places h none =
+    (tt, (a, e, word_last check R FILE a places.0, (flag_last check R (codes "explain") g.explains refl h.explains, flag_last check R (codes "no-explain") g.silent refl h.silent)))
+holds_all check g (a ∷ b ∷ more) R e places h none = absurd places.1
+holds_all run g [] R e places h none = absurd (lacks_this _ _ (missing_last run R FILE refl places.0) none)
+holds_all run g (a ∷ []) R e places h none = absurd (lacks_this _ _ (missing_last run R (codes "SCRIPT") refl places.1.0) (lacks_later _ _ none))
+holds_all run g (a ∷ b ∷ []) R e places h none =
+    (tt, (a, b, e, word_last run R FILE a places.0, word_last run R (codes "SCRIPT") b places.1.0, (flag_last run R (codes "explain") g.explains refl h.explains, flag_last run R (codes "no-explain") g.silent refl h.silent)))
+holds_all run g (a ∷ b ∷ c ∷ more) R e places h none = absurd places.1.1
+holds_all audit g [] R e places h none = absurd (lacks_this _ _ (missing_last audit R FILE refl places.0) none)
+holds_all audit g (a ∷ []) R e places h none = absurd (lacks_this _ _ (missing_last audit R (codes "TRACE") refl places.1.0) (lacks_later _ _ none))
+holds_all audit g (a ∷ b ∷ []) R e places h none =
+    (tt, (a, b, e, word_last audit R FILE a places.0, word_last audit R (codes "TRACE") b places.1.0, (flag_last audit R (codes "explain") g.explains refl h.explains, flag_last audit R (codes "no-explain") g.silent refl h.silent)))
+holds_all audit g (a ∷ b ∷ c ∷ more) R e places h none = absurd places.1.1
+holds_all serve g [] R e places h none = absurd (lacks_this _ _ (missing_last serve R FILE refl places.0) none)
+holds_all serve g (a ∷ []) R e places h none = absurd (lacks_this _ _ (missing_last serve R (codes "DIR") refl places.1.0) (lacks_later _ _ none))
+holds_all serve g (a ∷ b ∷ []) R e places h none = absurd (lacks_this _ _ (missing_last serve R (codes "PORT") refl places.1.1.0) (lacks_later _ _ (lacks_later _ _ none)))
+holds_all serve g (a ∷ b ∷ c ∷ []) R e places h none =
     let s = sessions_last g R h in (
       tt,
       (
@@ -177,16 +177,15 @@ holds_all serve g (a ∷ b ∷ c ∷ []) R e places port h none =
         e,
         word_last serve R FILE a places.0,
         word_last serve R (codes "DIR") b places.1.0,
-        one_last serve R (codes "PORT") c places.1.1.0,
-        port,
+        word_last serve R (codes "PORT") c places.1.1.0,
         s.1,
         s.2,
         s.3,
         flag_last serve R (codes "stop-with-input") g.stops refl h.stops,
-        flag_last serve R (codes "explain") g.explains refl h.explains,
+        (flag_last serve R (codes "explain") g.explains refl h.explains, flag_last serve R (codes "no-explain") g.silent refl h.silent),
       ),
     )
-holds_all serve g (a ∷ b ∷ c ∷ d ∷ more) R e places port h none = absurd places.1.1.1
+holds_all serve g (a ∷ b ∷ c ∷ d ∷ more) R e places h none = absurd places.1.1.1
 
 full_lacks_none : (v : Verb) (ws : List Text) (R : List Row) → Places (place_names v) ws R → IsFull v ws → lacks v (last v R) ≡ false
 full_lacks_none paths ws R places full = refl
@@ -212,10 +211,10 @@ full_lacks_none serve (a ∷ b ∷ c ∷ d ∷ more) R places full = absurd full
 
 -- ---- one subcommand
 
-nothing_stands : (v : Verb) → Stands v nothing [] None
+pub nothing_stands : (v : Verb) → Stands v nothing [] None
 nothing_stands v = record {
   valid = refl;
-  holds = record { places = none_placed v; explains = refl; stops = refl; sessions = refl; port = fit v; number = λ n e. absurd (none_some n e) };
+  holds = record { places = none_placed v; explains = refl; silent = refl; stops = refl; sessions = refl; number = λ n e. absurd (none_some n e) };
 }
   where
     none_some : (n : Text) → None ≡ Some n → ⊥
@@ -228,14 +227,7 @@ nothing_stands v = record {
     none_placed audit = (refl, (refl, tt))
     none_placed serve = (refl, (refl, (refl, tt)))
 
-    fit : (v : Verb) → AreFit v []
-    fit paths = tt
-    fit check = tt
-    fit run = tt
-    fit audit = tt
-    fit serve = tt
-
-abbrev start : Walk
+abbrev pub start : Walk
 start = walk_from nothing_held
 
 module _ (v : Verb) (ws : List Text) where
@@ -269,7 +261,7 @@ module _ (v : Verb) (ws : List Text) where
       let R = rows_now v done.rows done.pending in
       let none = full_lacks_none v g.words R done.stands.holds.places full in
       subst (λ h. Holds v g (finished (rules v) h)) (sym done.is)
-      (holds_all v g g.words R refl done.stands.holds.places done.stands.holds.port done.stands.holds none).1
+      (holds_all v g g.words R refl done.stands.holds.places done.stands.holds none).1
 
   pub level_sound : level_fault (leaf v) [] nothing_held ws false [] ≡ []
       → (g : Given) × Gives v true nothing ws g × IsFull v g.words × Holds v g (rows_after (rules v) [] ws)
@@ -278,7 +270,7 @@ module _ (v : Verb) (ws : List Text) where
       let found = sound v ws true nothing [] None (nothing_stands v) parts.0 in
       let R = rows_now v found.2.rows found.2.pending in
       let none = lacks_none v (last v R) (ap (λ h. check_fault (leaf v) (finished (rules v) h) false) (sym found.2.is) ∙ parts.1) in
-      let held_all = holds_all v found.0 found.0.words R refl found.2.stands.holds.places found.2.stands.holds.port found.2.stands.holds none in
+      let held_all = holds_all v found.0 found.0.words R refl found.2.stands.holds.places found.2.stands.holds none in
       (found.0, found.1, held_all.0, subst (λ h. Holds v found.0 (finished (rules v) h)) (sym found.2.is) held_all.1)
 
 -- ---- the whole line
@@ -304,7 +296,7 @@ verb_after serve = refl
 verb_walk : (v : Verb) (ws : List Text) → walk top.rules names nothing_held (name_of v ∷ ws) ≡ record start { stopped = Some (name_of v, ws) }
 verb_walk v ws = ap (λ w. fold (walked top.rules names) w ws) (verb_after v) ∙ sym (walk_stopped top.rules names start (name_of v) [] ws)
 
-verb_walks : (v : Verb) (ws : List Text) → walk_fault top names start (name_of v ∷ ws) ≡ []
+pub verb_walks : (v : Verb) (ws : List Text) → walk_fault top names start (name_of v ∷ ws) ≡ []
 unfolding walk_fault
 verb_walks v ws = neither _ _ (verb_turn v) (ap (λ w. walk_fault top names w ws) (verb_after v) ∙ stopped_fault top names start (name_of v, []) ws)
 
@@ -335,7 +327,7 @@ module _ (v : Verb) (ws : List Text) where
   held_is : (walk top.rules names nothing_held line).held ≡ nothing_held
   held_is = ap (λ (w : Walk). w.held) (verb_walk v ws)
 
-  whole_is : built_fault whole nothing_held line ≡ level_fault top names nothing_held line true (level_fault (leaf v) [] nothing_held ws false [])
+  pub whole_is : built_fault whole nothing_held line ≡ level_fault top names nothing_held line true (level_fault (leaf v) [] nothing_held ws false [])
   whole_is = ap (λ stop. level_fault top names nothing_held line (is_some (entered whole stop)) (entered_fault whole stop)) stop_is
       ∙ ap (λ o. level_fault top names nothing_held line (is_some o) (entered_fault whole (Some (name_of v, ws)))) (entered_is v ws)
       ∙ ap (level_fault top names nothing_held line true) (below_is v ws)
@@ -379,14 +371,14 @@ first w = go (bytes_eq (codes "paths") w) (bytes_eq (codes "check") w) (bytes_eq
     go false false false false false true p q r s t u m = help (is (codes "help") u)
     go false false false false false false p q r s t u m = other m
 
-top_help : (name : Text) → arg_by_long top.rules name ≡ cond (bytes_eq (codes "help") name || false) (Some help_built) None
-top_help name = refl
+top_shown : (name : Text) → arg_by_long top.rules name ≡ shown_by name
+top_shown name = refl
 
-top_short : (x : ℕ) → arg_by_short top.rules x ≡ cond ((104 == x) || false) (Some help_built) None
+top_short : (x : ℕ) → arg_by_short top.rules x ≡ shown_short x
 top_short x = refl
 
-help_fails : (b : Bool) (o : Option Text) (h : Held) → long_fault top.rules false (cond (b || false) (Some help_built) None) o h ≡ [] → ⊥
-help_fails b o h e = by_help top.rules h paths [] o b e
+shown_fails : (a b : Bool) (o : Option Text) (h : Held) → long_fault top.rules false (shown_rule a b) o h ≡ [] → ⊥
+shown_fails a b o h e = by_shown top.rules h paths [] o a b e
 
 no_index : (k : ℕ) → arg_by_index top.rules k ≡ None
 no_index k = refl
@@ -429,13 +421,13 @@ checked_none ws w is none e =
 no_subcommand : (w : Text) (ws : List Text) → subcommand_met names idle w ≡ None → built_fault whole nothing_held (w ∷ ws) ≡ [] → ⊥
 no_subcommand w ws none e = elim (kind w) [
   | bare is word_is ↦ stray 1 nothing_held (sym (bare_fault top names 1 nothing_held w (bare_word w is) refl none) ∙ turn_none w ws none e)
-  | long t is two has ↦ help_fails (bytes_eq (codes "help") (name_and_value t).0) (name_and_value t).1 nothing_held
-      (ap (λ o. long_fault top.rules false o (name_and_value t).1 nothing_held) (sym (top_help (name_and_value t).0))
+  | long t is two has ↦ shown_fails (bytes_eq (codes "help") (name_and_value t).0) (bytes_eq (codes "version") (name_and_value t).0) (name_and_value t).1 nothing_held
+      (ap (λ o. long_fault top.rules false o (name_and_value t).1 nothing_held) (sym (top_shown (name_and_value t).0))
       ∙ long_first top names 1 nothing_held idle w none two (name_and_value t) has (turn_none w ws none e))
   | short x xs ch is two no_long has char ↦
       let bundled = short_first top names 1 nothing_held idle w none two (x ∷ xs) no_long has (turn_none w ws none e) in
       let got = bundle_first top.rules false x xs nothing_held ch refl char bundled in
-      short_fails top.rules nothing_held (104 == ch) got.0 got.1 (ap (λ o. short_fault top.rules false o got.0 nothing_held got.1) (sym (top_short ch)) ∙ got.2)
+      short_fails top.rules nothing_held (104 == ch) (86 == ch) got.0 got.1 (ap (λ o. short_fault top.rules false o got.0 nothing_held got.1) (sym (top_short ch)) ∙ got.2)
   | hyphens is ↦
       let goes : walked top.rules names start w ≡ behind = ap (λ x. walked top.rules names start x) is ∙ hyphens_go in
       let ends = behind_fails ws (ap (λ x. walk_fault top names x ws) (sym goes) ∙ later w ws none e) in
@@ -489,11 +481,11 @@ line_sound (p ∷ rest) e =
 
 pub full_from : (v : Verb) (g : Given) (q : Request) → Makes v g q → IsFull v g.words
 full_from paths g q m = tt
-full_from check g (requests.Check file explains) m = subst (IsFull check) (sym m.0) tt
+full_from check g (requests.Check file when) m = subst (IsFull check) (sym m.0) tt
 full_from check g q m = absurd m
-full_from run g (requests.Run file script explains) m = subst (IsFull run) (sym m.0) tt
+full_from run g (requests.Run file script when) m = subst (IsFull run) (sym m.0) tt
 full_from run g q m = absurd m
-full_from audit g (requests.Audit file trace explains) m = subst (IsFull audit) (sym m.0) tt
+full_from audit g (requests.Audit file trace when) m = subst (IsFull audit) (sym m.0) tt
 full_from audit g q m = absurd m
 full_from serve g (requests.Serve s) m = subst (IsFull serve) (sym m.1) tt
 full_from serve g q m = absurd m

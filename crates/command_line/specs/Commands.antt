@@ -1,10 +1,13 @@
 -- What the parser knows of the program: its subcommands with their arguments, and what it finds in words.
-use Rattle.std.specs.Prelude.{◌≡◌, ◌++◌, ⊤, ℕ, Bool, true, false, List, [], ◌∷◌, Option, Some, None, codes}
+use Rattle.std.specs.Prelude.{◌≡◌, ⊤, true, List, [], ◌∷◌, Some, codes}
 use Rattle.clap.specs.Walk.{Row, Rule, first_of, one_of}
+use Rattle.clap.specs.Faults.{fault_of}
+use Rattle.clap.specs.Kinds.{Kinds, or_else}
 use Rattle.clap.specs.Values.{bool_text}
 use Rattle.clap.specs.Simple.{App, new_app, new_rule, on_top, subcommand_rows_of, with_rule, with_subcommand}
 use Rattle.clap.specs.declared.builder.action.ArgAction.TheVariants.{SetTrue}
 use Rattle.clap.specs.declared.builder.value_parser.ValueParser.TheVariants as parsers
+use Rattle.clap.specs.declared.error.kind.ErrorKind.TheVariants as kinds
 use Rattle.clap.specs.declared.parser.matches.ArgMatches.{ArgMatches}
 use Rattle.command_line.specs.Forms.{Text, Verb, paths, check, run, audit, serve, name_of, Given, IsNumber, number_of}
 use Rattle.command_line.specs.Forms.{sessions_of}
@@ -12,9 +15,6 @@ use Rattle.command_line.specs.Forms.{sessions_of}
 -- a word that has to be there
 abbrev pub required_rule : Text → Rule
 required_rule name = record (new_rule name) { required = true }
-
-abbrev pub port_rule : Rule
-port_rule = record (required_rule (codes "PORT")) { parser = Some (parsers.Unsigned 1 65535) }
 
 abbrev pub flag_rule : Text → Rule
 flag_rule name = record (new_rule name) { long = Some name; action = Some SetTrue }
@@ -27,15 +27,19 @@ sessions_rule = record (new_rule (codes "sessions")) {
   parser = Some (parsers.Unsigned 1 64);
 }
 
+-- whether a refusal is explained
+abbrev pub explain_rules : List Rule
+explain_rules = flag_rule (codes "explain") ∷ flag_rule (codes "no-explain") ∷ []
+
 -- the arguments of a subcommand
 abbrev pub own_rules : Verb → List Rule
 own_rules paths = []
-own_rules check = required_rule (codes "FILE") ∷ flag_rule (codes "explain") ∷ []
-own_rules run = required_rule (codes "FILE") ∷ required_rule (codes "SCRIPT") ∷ flag_rule (codes "explain") ∷ []
-own_rules audit = required_rule (codes "FILE") ∷ required_rule (codes "TRACE") ∷ flag_rule (codes "explain") ∷ []
+own_rules check = required_rule (codes "FILE") ∷ explain_rules
+own_rules run = required_rule (codes "FILE") ∷ required_rule (codes "SCRIPT") ∷ explain_rules
+own_rules audit = required_rule (codes "FILE") ∷ required_rule (codes "TRACE") ∷ explain_rules
 own_rules serve =
-    required_rule (codes "FILE") ∷ required_rule (codes "DIR") ∷ port_rule ∷ sessions_rule
-    ∷ flag_rule (codes "stop-with-input") ∷ flag_rule (codes "explain") ∷ []
+    required_rule (codes "FILE") ∷ required_rule (codes "DIR") ∷ required_rule (codes "PORT") ∷ sessions_rule
+    ∷ flag_rule (codes "stop-with-input") ∷ explain_rules
 
 abbrev pub with_rules : App → List Rule → App
 with_rules a [] = a
@@ -46,27 +50,37 @@ app_for v = with_rules (new_app (name_of v)) (own_rules v)
 
 abbrev pub program : App
 program = with_subcommand (with_subcommand (with_subcommand (with_subcommand (with_subcommand
-    (on_top (λ s. record s { subcommand_required = true }) (new_app (codes "pathserve")))
+    (on_top (λ s. record s { subcommand_required = true; has_version = true; propagate_version = true })
+    (new_app (codes "pathserve")))
     (app_for paths).top) (app_for check).top) (app_for run).top) (app_for audit).top) (app_for serve).top
+
+-- the flags about explanations, as what is found has them
+abbrev pub HoldsExplain : Given → List Row → Type 0
+HoldsExplain g rows =
+    (one_of (codes "explain") rows ≡ Some (bool_text g.explains))
+    × (one_of (codes "no-explain") rows ≡ Some (bool_text g.silent))
 
 -- what is found holds what a subcommand was given, each word under its name
 abbrev pub Holds : Verb → Given → List Row → Type 0
 Holds paths g rows = ⊤
 Holds check g rows = (file : Text) × (g.words ≡ file ∷ []) × (first_of (codes "FILE") rows ≡ Some file)
-    × (one_of (codes "explain") rows ≡ Some (bool_text g.explains))
+    × HoldsExplain g rows
 Holds run g rows = (file script : Text) × (g.words ≡ file ∷ script ∷ []) × (first_of (codes "FILE") rows ≡ Some file)
-    × (first_of (codes "SCRIPT") rows ≡ Some script) × (one_of (codes "explain") rows ≡ Some (bool_text g.explains))
+    × (first_of (codes "SCRIPT") rows ≡ Some script) × HoldsExplain g rows
 Holds audit g rows = (file trace : Text) × (g.words ≡ file ∷ trace ∷ []) × (first_of (codes "FILE") rows ≡ Some file)
-    × (first_of (codes "TRACE") rows ≡ Some trace) × (one_of (codes "explain") rows ≡ Some (bool_text g.explains))
+    × (first_of (codes "TRACE") rows ≡ Some trace) × HoldsExplain g rows
 Holds serve g rows =
     (file folder port sessions : Text) × (g.words ≡ file ∷ folder ∷ port ∷ [])
     × (first_of (codes "FILE") rows ≡ Some file)
-    × (first_of (codes "DIR") rows ≡ Some folder) × (one_of (codes "PORT") rows ≡ Some port) × IsNumber 1 65535 port
+    × (first_of (codes "DIR") rows ≡ Some folder) × (first_of (codes "PORT") rows ≡ Some port)
     × (one_of (codes "sessions") rows ≡ Some sessions) × IsNumber 1 64 sessions
     × (sessions_of g.sessions ≡ number_of sessions)
-    × (one_of (codes "stop-with-input") rows ≡ Some (bool_text g.stops)) × (one_of (codes "explain") rows
-    ≡ Some (bool_text g.explains))
+    × (one_of (codes "stop-with-input") rows ≡ Some (bool_text g.stops)) × HoldsExplain g rows
 
 -- the matches are those of a subcommand that was given this
 abbrev pub IsMatched : Verb → Given → ArgMatches → Type 0
 IsMatched v g m = (rows : List Row) × (subcommand_rows_of m ≡ Some (name_of v, rows)) × Holds v g rows
+
+-- the kinds of error that words may give: those of the parser, and where it takes them that of a PORT that is none
+abbrev pub faults : List Text → Kinds
+faults words = or_else (fault_of program words) (kinds.ValueValidation ∷ [])

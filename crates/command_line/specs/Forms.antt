@@ -1,8 +1,13 @@
 -- What the words of a command line ask for.
 use Rattle.std.specs.Prelude.{◌≡◌, ◌≤◌, ◌++◌, ◌||◌, ⊤, ℕ, ◌==◌, Bool, true, false, not, List, [], ◌∷◌, length, Option}
 use Rattle.std.specs.Prelude.{Some, None, codes}
-use Rattle.std.specs.Str.{chars}
+use Rattle.std.specs.List.{list_all}
+use Rattle.std.specs.Str.{bytes_eq, chars}
 use Rattle.std.specs.Str.Parse.{IsNumeral, digits_value, without_leading_plus}
+use Rattle.clap.specs.declared.error.kind.ErrorKind.{ErrorKind}
+use Rattle.clap.specs.declared.error.kind.ErrorKind.TheVariants as kinds
+use Rattle.command_line.specs.declared.request.Explain.{Explain}
+use Rattle.command_line.specs.declared.request.Explain.TheVariants as explain_cases
 use Rattle.command_line.specs.declared.request.Request.{Request}
 use Rattle.command_line.specs.declared.request.Request.TheVariants as requests
 
@@ -24,7 +29,7 @@ name_of run = codes "run"
 name_of audit = codes "audit"
 name_of serve = codes "serve"
 
--- which have the flag `--explain`
+-- which have the flags `--explain` and `--no-explain`
 abbrev pub has_explain : Verb → Bool
 has_explain paths = false
 has_explain v = true
@@ -44,7 +49,7 @@ pub record IsNumber (low high : ℕ) (text : Text) : Type 0 where
   pub above : low ≤ number_of text
   pub below : number_of text ≤ high
 
--- behind these words a subcommand takes this one: FILE of `check`, FILE SCRIPT of `run`, FILE TRACE of `audit`,
+-- behind these words a subcommand takes one more: FILE of `check`, FILE SCRIPT of `run`, FILE TRACE of `audit`,
 -- FILE DIR PORT of `serve`
 abbrev pub Takes : Verb → List Text → Text → Type 0
 Takes check [] w = ⊤
@@ -54,7 +59,7 @@ Takes audit [] w = ⊤
 Takes audit (file ∷ []) w = ⊤
 Takes serve [] w = ⊤
 Takes serve (file ∷ []) w = ⊤
-Takes serve (file ∷ folder ∷ []) w = IsNumber 1 65535 w
+Takes serve (file ∷ folder ∷ []) w = ⊤
 Takes v words w = ⊥
 
 -- a word that is no flag: it does not begin with a hyphen (45), or no character stands behind the hyphen
@@ -66,11 +71,12 @@ is_bare (b ∷ more) = not (b == 45) || length (chars more) == 0
 pub record Given : Type 0 where
   pub words : List Text
   pub explains : Bool
+  pub silent : Bool
   pub stops : Bool
   pub sessions : Option Text
 
 abbrev pub nothing : Given
-nothing = record { words = []; explains = false; stops = false; sessions = None }
+nothing = record { words = []; explains = false; silent = false; stops = false; sessions = None }
 
 -- the words behind the name of a subcommand, each with what it adds to what was given before; no flag is given twice,
 -- and `--` ends the flags: `free` is whether they may come
@@ -82,6 +88,9 @@ pub data Gives (v : Verb) : Bool → Given → List Text → Given → Type 0 wh
   explain : (g after : Given) (w : Text) (ws : List Text) → w ≡ codes "--explain" → has_explain v ≡ true →
       g.explains ≡ false
       → Gives v true (record g { explains = true }) ws after → Gives v true g (w ∷ ws) after
+  silence : (g after : Given) (w : Text) (ws : List Text) → w ≡ codes "--no-explain" → has_explain v ≡ true →
+      g.silent ≡ false
+      → Gives v true (record g { silent = true }) ws after → Gives v true g (w ∷ ws) after
   stop : (g after : Given) (w : Text) (ws : List Text) → w ≡ codes "--stop-with-input" → has_sessions v ≡ true →
       g.stops ≡ false
       → Gives v true (record g { stops = true }) ws after → Gives v true g (w ∷ ws) after
@@ -99,15 +108,24 @@ abbrev pub sessions_of : Option Text → ℕ
 sessions_of None = 16
 sessions_of (Some n) = number_of n
 
--- the table: what a subcommand asks for with all that it was given
+-- when a refusal is explained: never with `--no-explain`, else always with `--explain`, and else at a terminal
+abbrev pub explain_of : Bool → Bool → Explain
+explain_of explains true = explain_cases.Never
+explain_of true false = explain_cases.Always
+explain_of false false = explain_cases.AtTerminal
+
+-- the table: what a subcommand asks for with all that it was given. PORT is a number from 1 to 65535
 abbrev pub Makes : Verb → Given → Request → Type 0
 Makes paths g requests.Paths = ⊤
-Makes check g (requests.Check file explains) = (g.words ≡ file.now ∷ []) × (g.explains ≡ explains)
-Makes run g (requests.Run file script explains) = (g.words ≡ file.now ∷ script.now ∷ []) × (g.explains ≡ explains)
-Makes audit g (requests.Audit file trace explains) = (g.words ≡ file.now ∷ trace.now ∷ []) × (g.explains ≡ explains)
+Makes check g (requests.Check file when) = (g.words ≡ file.now ∷ []) × (when ≡ explain_of g.explains g.silent)
+Makes run g (requests.Run file script when) =
+    (g.words ≡ file.now ∷ script.now ∷ []) × (when ≡ explain_of g.explains g.silent)
+Makes audit g (requests.Audit file trace when) =
+    (g.words ≡ file.now ∷ trace.now ∷ []) × (when ≡ explain_of g.explains g.silent)
 Makes serve g (requests.Serve s) =
-    (port : Text) × (g.words ≡ s.file.now ∷ s.folder.now ∷ port ∷ []) × (s.port ≡ number_of port)
-    × (s.sessions ≡ sessions_of g.sessions) × (g.stops ≡ s.stops) × (g.explains ≡ s.explains)
+    (port : Text) × (g.words ≡ s.file.now ∷ s.folder.now ∷ port ∷ []) × IsNumber 1 65535 port
+    × (s.port ≡ number_of port) × (s.sessions ≡ sessions_of g.sessions) × (g.stops ≡ s.stops)
+    × (s.explain ≡ explain_of g.explains g.silent)
 Makes v g q = ⊥
 
 -- these words, the first of which names the program, ask for this
@@ -119,3 +137,28 @@ pub record Asks (words : List Text) (q : Request) : Type 0 where
   pub are : words ≡ program ∷ name_of verb ∷ rest
   pub gives : Gives verb true nothing rest given
   pub makes : Makes verb given q
+
+-- what words may ask to be shown
+pub data Topic : Type 0 where
+  help : Topic
+  version : Topic
+
+abbrev pub word_for : Topic → Text
+word_for help = codes "--help"
+word_for version = codes "--version"
+
+-- the kind of what is given then
+abbrev pub kind_for : Topic → ErrorKind
+kind_for help = kinds.DisplayHelp
+kind_for version = kinds.DisplayVersion
+
+-- no word is `--`
+abbrev pub has_no_hyphens : List Text → Bool
+has_no_hyphens words = list_all (λ w. not (bytes_eq w (codes "--"))) words
+
+-- these words ask to be shown something: of the program, or of a subcommand behind words that it takes
+pub data Shows (words : List Text) (t : Topic) : Type 0 where
+  of_program : (program : Text) (more : List Text) → words ≡ program ∷ word_for t ∷ more → Shows words t
+  of_verb : (program : Text) (v : Verb) (front more : List Text) (g : Given) →
+      words ≡ program ∷ name_of v ∷ (front ++ word_for t ∷ more) → Gives v true nothing front g →
+      has_no_hyphens front ≡ true → Shows words t

@@ -7,14 +7,14 @@ use Rattle.command_line.specs.Forms.{Text, Asks}
 -- two requests are one: they name the same, spelled alike
 abbrev pub IsSame : Request → Request → Type 0
 IsSame requests.Paths requests.Paths = ⊤
-IsSame (requests.Check file explains) (requests.Check file2 explains2) = (file.now ≡ file2.now) × (explains ≡ explains2)
-IsSame (requests.Run file script explains) (requests.Run file2 script2 explains2) =
-    (file.now ≡ file2.now) × (script.now ≡ script2.now) × (explains ≡ explains2)
-IsSame (requests.Audit file trace explains) (requests.Audit file2 trace2 explains2) =
-    (file.now ≡ file2.now) × (trace.now ≡ trace2.now) × (explains ≡ explains2)
+IsSame (requests.Check file explain) (requests.Check file2 explain2) = (file.now ≡ file2.now) × (explain ≡ explain2)
+IsSame (requests.Run file script explain) (requests.Run file2 script2 explain2) =
+    (file.now ≡ file2.now) × (script.now ≡ script2.now) × (explain ≡ explain2)
+IsSame (requests.Audit file trace explain) (requests.Audit file2 trace2 explain2) =
+    (file.now ≡ file2.now) × (trace.now ≡ trace2.now) × (explain ≡ explain2)
 IsSame (requests.Serve s) (requests.Serve t) =
     (s.file.now ≡ t.file.now) × (s.folder.now ≡ t.folder.now) × (s.port ≡ t.port) × (s.sessions ≡ t.sessions)
-    × (s.stops ≡ t.stops) × (s.explains ≡ t.explains)
+    × (s.stops ≡ t.stops) × (s.explain ≡ t.explain)
 IsSame p q = ⊥
 
 -- words ask for one thing at most

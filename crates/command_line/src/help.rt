@@ -1,5 +1,10 @@
 //! The texts of `--help`, for someone who meets the program for the first time. No line is longer than 80 bytes.
 
+/// The name of the program, and its version.
+pub const NAME: &str = "pathserve";
+
+pub const VERSION: &str = "0.8.0";
+
 /// What the program is for.
 pub const PROGRAM: &str =
     "Serves shared records to many programs at once, by rules that none can break";
@@ -19,8 +24,8 @@ file of objects, `pathserve run FILE SCRIPT` to call one of them,
 `pathserve SUBCOMMAND --help` says what a subcommand reads and writes, with an
 example.
 
-Exit status: 0 accepted, done or legal, 1 refused or not legal, 2 a wrong
-command line or a request for help, 3 a read or a write failed, 4 out of
+Exit status: 0 accepted, done or legal, and help that was asked for, 1 refused
+or not legal, 2 a wrong command line, 3 a read or a write failed, 4 out of
 memory. A file that is not there is a read that failed.
 
 This is pathserve 0.8.0; CHANGELOG.md says what has changed.";
@@ -56,6 +61,9 @@ pub const CHECK_FILE: &str = "The file with the objects, one after the other, at
 /// What the flag `--explain` of `check` and `serve` does.
 pub const EXPLAIN: &str = "Explains on standard error why something is refused";
 
+/// What the flag `--no-explain` does.
+pub const SILENCE: &str = "Explains nothing, at a terminal either";
+
 /// What the flag `--explain` of `run` does.
 pub const RUN_EXPLAIN: &str = "Explains on standard error a refusal, or a bad line";
 
@@ -83,10 +91,11 @@ Example: `box.pp` holds one object, in which a write excludes each other call.
   pair set get path 1 node 0
   1 objects, 0 refused
 
-With `--explain` standard error gets, for a fault of the file and for each
-object that is refused, FILE:LINE:COLUMN, a sentence, the line with a caret
-under the place, and what would help. Columns count bytes, from 1. Nothing else
-changes.
+With `--explain`, and where standard error is a terminal, standard error gets,
+for a fault of the file and for each object that is refused, FILE:LINE:COLUMN, a
+sentence, the line with a caret under the place, and what would help. Columns
+count bytes, from 1. Elsewhere it gets the line `--explain tells more`, and with
+`--no-explain` nothing. Nothing else changes.
 
 Exit status: 0 no object is refused, 1 one is, or the file is no file of
 objects.";
@@ -147,9 +156,11 @@ Where line 1 names no object the answer is `bad line 1`, where FILE lacks it
 `check`. A line that says none of the above gives `bad line K`, and ends the
 script.
 
-With `--explain` standard error gets why FILE, or the object, is refused, as
-from `check --explain`, and of a bad line SCRIPT:LINE:COLUMN, what is wrong
-with it, and the form of line that it comes closest to. Nothing else changes.
+With `--explain`, and where standard error is a terminal, standard error gets
+why FILE, or the object, is refused, as from `check`; of a bad line
+SCRIPT:LINE:COLUMN, what is wrong with it, and the form of line that it comes
+closest to; and of the first 16 calls that the object does not take
+(`no UnknownOp`, `no BadArgs`) what it would take. Nothing else changes.
 
 Exit status: 0 each line was answered, refusals included, 1 there was no object
 to run on, or a bad line.";
@@ -196,11 +207,11 @@ Where line 1 names no object the answer is `line 1 bad`, where FILE lacks it
 `no object NAME`; a fault of FILE, or a refusal of the object, is told as by
 `check`.
 
-With `--explain` standard error gets why FILE, or the object, is refused, as
-from `check --explain`, and of the first line with a fault TRACE:LINE:COLUMN
-and why it is wrong: of a wrong reply which reply the object gives, of a start
-that breaks a path which path, which of its operations are active, and how
-often each has started and ended. Nothing else changes.
+With `--explain`, and where standard error is a terminal, standard error gets
+why FILE, or the object, is refused, as from `check`, and of the first line with
+a fault TRACE:LINE:COLUMN and why it is wrong: of a wrong reply which reply the
+object gives, of a start that breaks a path which path, which of its operations
+are active, and how often each has started and ended. Nothing else changes.
 
 Exit status: 0 the trace is legal, 1 it is not, or there was no object to audit
 it by.";
@@ -216,6 +227,12 @@ pub const SERVE_DIR: &str = "The folder of the values: read at the start, saved 
 pub const SERVE_PORT: &str = "The port on 127.0.0.1 at which clients connect, 1 to 65535";
 
 pub const SERVE_SESSIONS: &str = "Connections taken in all, 1 to 64";
+
+/// What is said of a word that should be a port.
+pub const PORT_IS: &str = "PORT is the third word, 1 to 65535";
+
+/// How `serve` is called.
+pub const SERVE_USAGE: &str = "pathserve serve [OPTIONS] <FILE> <DIR> <PORT>";
 
 /// What the flag `--stop-with-input` of `serve` does.
 pub const SERVE_STOP: &str = "Ends in order when standard input ends";
@@ -233,8 +250,9 @@ With --stop-with-input it ends in order when standard input ends: what runs is
 completed, what waits is cancelled, all is saved. ./pathserve of the repository
 does that on SIGINT, SIGTERM and SIGHUP. A kill loses what was not saved.
 
-With --explain standard error gets why FILE, or an object of it, is refused,
-where, and what would help, and why a start failed. Nothing else changes.
+With --explain, and where standard error is a terminal, standard error gets why
+FILE, or an object of it, is refused, where, and what would help. Nothing else
+changes. Why a start failed is always told.
 
 A client says `open NAME`, `call OP ARG ..`, `cancel N` and `quit`, a line
 each; docs/SERVING.md has the answers. One that said `open NAME as CLIENT` can

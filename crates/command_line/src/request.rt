@@ -1,35 +1,49 @@
 //! The command line.
 
-ghost use Rattle.std.specs.Prelude.{◌≡◌, false, map, codes, IfOk, IfErr, Some};
+ghost use Rattle.std.specs.Prelude.{◌≡◌, ◌⊎◌, false, map, codes, IfOk, IfErr, IsErrAnd, IfSome, None, Some};
 ghost use Rattle.clap.specs.Matches.{first_value, found_of, one_text};
 ghost use Rattle.clap.specs.Simple.{app_of};
 ghost use Rattle.clap.specs.declared.builder.command.Command.TheViews.{out-Command};
 ghost use Rattle.clap.specs.declared.error.kind.ErrorKind.TheVariants.{OutOfMemory};
 ghost use Rattle.clap.specs.Walk.{rows_of, rule_of};
+ghost use Rattle.clap.specs.Kinds.{HasKind};
 ghost use Rattle.clap.specs.Values.{bool_text, kind_of};
-ghost use Rattle.command_line.specs.Forms.{Asks, Given, Makes, number_of, Verb, paths, check as check_verb};
-ghost use Rattle.command_line.specs.Forms.{run as run_verb, audit as audit_verb, serve as serve_verb};
-ghost use Rattle.command_line.specs.Commands.{Holds, IsMatched, app_for, flag_rule, port_rule, program, required_rule};
-ghost use Rattle.command_line.specs.Commands.{sessions_rule};
+ghost use Rattle.command_line.specs.Forms.{Asks, Given, IsNumber, Makes, number_of, Verb, paths, check as check_verb};
+ghost use Rattle.command_line.specs.Forms.{run as run_verb, audit as audit_verb, serve as serve_verb, explain_of};
+ghost use Rattle.command_line.specs.Forms.{Shows, Text, Topic, kind_for};
+ghost use Rattle.command_line.specs.Commands.{Holds, HoldsExplain, IsMatched, app_for, faults, flag_rule, program};
+ghost use Rattle.command_line.specs.Commands.{required_rule, sessions_rule};
 
 use crate::help;
 use clap::builder::ValueParser;
+use clap::error::ErrorKind;
 use clap::{Arg, ArgAction, ArgMatches, Command, Error};
 use std::alloc::{AllocError, Global};
+
+/// When standard error gets why something is refused.
+#[derive(Clone, Copy, Debug, PartialEq, Eq)]
+pub enum Explain {
+    /// With `--explain`.
+    Always,
+    /// With `--no-explain`, whatever else is given.
+    Never,
+    /// With neither: where a person reads standard error.
+    AtTerminal,
+}
 
 /// What a command line asks for.
 #[derive(Clone, Copy)]
 pub enum Request<'a> {
     /// `pathserve paths`.
     Paths,
-    /// `pathserve check FILE`, with the path of the file, and whether a refusal is explained.
-    Check(&'a str, bool),
-    /// `pathserve run FILE SCRIPT`, with the paths of the two, and whether a refusal of the source, and a bad
-    /// line, are explained.
-    Run(&'a str, &'a str, bool),
-    /// `pathserve audit FILE TRACE`, with the paths of the two, and whether a refusal of the source, and a fault of the
+    /// `pathserve check FILE`, with the path of the file, and when a refusal is explained.
+    Check(&'a str, Explain),
+    /// `pathserve run FILE SCRIPT`, with the paths of the two, and when a refusal of the source, and a line of the
+    /// script, are explained.
+    Run(&'a str, &'a str, Explain),
+    /// `pathserve audit FILE TRACE`, with the paths of the two, and when a refusal of the source, and a fault of the
     /// trace, are explained.
-    Audit(&'a str, &'a str, bool),
+    Audit(&'a str, &'a str, Explain),
     /// `pathserve serve FILE DIR PORT --sessions N`.
     Serve(Serving<'a>),
 }
@@ -46,8 +60,8 @@ pub struct Serving<'a> {
     pub sessions: usize,
     /// Whether it stops with the end of standard input.
     pub stops: bool,
-    /// Whether a refusal of the source, or a failed start, is explained.
-    pub explains: bool,
+    /// When a refusal of the source is explained.
+    pub explain: Explain,
 }
 
 // The number of connections that are taken where the command line names none, and the most.
@@ -72,6 +86,17 @@ fn explain_flag<'a>(alloc: Global, help: &'a str) -> Arg<'a>
         .long("explain")
         .action(ArgAction::SetTrue)
         .help(help)
+}
+
+// The flag `--no-explain`.
+fn silence_flag<'a>(alloc: Global) -> Arg<'a>
+    ensures rule { rule_of result ≡ flag_rule (codes "no-explain") }
+    ensures local { result.global ≡ false }
+{
+    Arg::new(alloc, "no-explain")
+        .long("no-explain")
+        .action(ArgAction::SetTrue)
+        .help(help::SILENCE)
 }
 
 // The flag `--stop-with-input`.
@@ -102,7 +127,8 @@ fn check_command<'a>(alloc: Global) -> Result<Command<'a>, AllocError>
         .about(help::CHECK)
         .after_help(help::CHECK_MORE)
         .arg(required(alloc, "FILE", help::CHECK_FILE))?
-        .arg(explain_flag(alloc, help::EXPLAIN))
+        .arg(explain_flag(alloc, help::EXPLAIN))?
+        .arg(silence_flag(alloc))
 }
 
 // `pathserve run`.
@@ -114,7 +140,8 @@ fn run_command<'a>(alloc: Global) -> Result<Command<'a>, AllocError>
         .after_help(help::RUN_MORE)
         .arg(required(alloc, "FILE", help::RUN_FILE))?
         .arg(required(alloc, "SCRIPT", help::RUN_SCRIPT))?
-        .arg(explain_flag(alloc, help::RUN_EXPLAIN))
+        .arg(explain_flag(alloc, help::RUN_EXPLAIN))?
+        .arg(silence_flag(alloc))
 }
 
 // `pathserve audit`.
@@ -126,15 +153,8 @@ fn audit_command<'a>(alloc: Global) -> Result<Command<'a>, AllocError>
         .after_help(help::AUDIT_MORE)
         .arg(required(alloc, "FILE", help::AUDIT_FILE))?
         .arg(required(alloc, "TRACE", help::AUDIT_TRACE))?
-        .arg(explain_flag(alloc, help::AUDIT_EXPLAIN))
-}
-
-// The argument `PORT`.
-fn port_argument<'a>(alloc: Global) -> Arg<'a>
-    ensures rule { rule_of result ≡ port_rule }
-    ensures local { result.global ≡ false }
-{
-    required(alloc, "PORT", help::SERVE_PORT).value_parser(ValueParser::unsigned(1, 65_535))
+        .arg(explain_flag(alloc, help::AUDIT_EXPLAIN))?
+        .arg(silence_flag(alloc))
 }
 
 // The option `--sessions`.
@@ -157,27 +177,39 @@ fn serve_command<'a>(alloc: Global) -> Result<Command<'a>, AllocError>
     Command::new(alloc, "serve")
         .about(help::SERVE)
         .after_help(help::SERVE_MORE)
+        .override_usage(help::SERVE_USAGE)
         .arg(required(alloc, "FILE", help::SERVE_FILE))?
         .arg(required(alloc, "DIR", help::SERVE_DIR))?
-        .arg(port_argument(alloc))?
+        .arg(required(alloc, "PORT", help::SERVE_PORT))?
         .arg(sessions_option(alloc))?
         .arg(stop_flag(alloc))?
-        .arg(explain_flag(alloc, help::EXPLAIN))
+        .arg(explain_flag(alloc, help::EXPLAIN))?
+        .arg(silence_flag(alloc))
+}
+
+// A subcommand, which has the name of the program where it tells its version.
+fn named<'a>(command: Command<'a>) -> Result<Command<'a>, AllocError>
+    ensures { IfOk result (λ c. (app_of c ≡ app_of command.entry)
+        × ((out-Command c).has_globals ≡ (out-Command command.entry).has_globals)) }
+{
+    command.display_name(help::NAME)
 }
 
 // The commands of the program.
 fn command<'a>(alloc: Global) -> Result<Command<'a>, AllocError>
     ensures { IfOk result (λ c. app_of c ≡ program) }
 {
-    Command::new(alloc, "pathserve")
+    Command::new(alloc, help::NAME)
+        .version(help::VERSION)
+        .propagate_version(true)
         .about(help::PROGRAM)
         .after_help(help::PROGRAM_MORE)
         .subcommand_required(true)
-        .subcommand(paths_command(alloc))?
-        .subcommand(check_command(alloc)?)?
-        .subcommand(run_command(alloc)?)?
-        .subcommand(audit_command(alloc)?)?
-        .subcommand(serve_command(alloc)?)
+        .subcommand(named(paths_command(alloc))?)?
+        .subcommand(named(check_command(alloc)?)?)?
+        .subcommand(named(run_command(alloc)?)?)?
+        .subcommand(named(audit_command(alloc)?)?)?
+        .subcommand(named(serve_command(alloc)?)?)
 }
 
 // The word under this name.
@@ -191,12 +223,33 @@ fn word_of<'a>(matches: &ArgMatches<'a>, name: &str) -> &'a str
     }
 }
 
+// When a refusal is explained, by whether the two flags are there.
+fn explain_by(explains: bool, is_silent: bool) -> Explain
+    ensures { result ≡ explain_of explains is_silent }
+{
+    if is_silent {
+        Explain::Never
+    } else if explains {
+        Explain::Always
+    } else {
+        Explain::AtTerminal
+    }
+}
+
+// When a refusal is explained.
+fn explain_in(matches: &ArgMatches<'_>) -> Explain
+    ensures { (g : Given) → HoldsExplain g (rows_of (found_of matches.now)) →
+        result ≡ explain_of g.explains g.silent }
+{
+    explain_by(matches.get_flag("explain"), matches.get_flag("no-explain"))
+}
+
 // What the words of `check` ask for.
 fn check_request<'a>(check: &ArgMatches<'a>) -> Request<'a>
     requires { (g : Given) × Holds check_verb g (rows_of (found_of check.now)) }
     ensures { (g : Given) → Holds check_verb g (rows_of (found_of check.now)) → Makes check_verb g result }
 {
-    Request::Check(word_of(check, "FILE"), check.get_flag("explain"))
+    Request::Check(word_of(check, "FILE"), explain_in(check))
 }
 
 // What the words of `run` ask for.
@@ -207,7 +260,7 @@ fn run_request<'a>(run: &ArgMatches<'a>) -> Request<'a>
     Request::Run(
         word_of(run, "FILE"),
         word_of(run, "SCRIPT"),
-        run.get_flag("explain"),
+        explain_in(run),
     )
 }
 
@@ -219,18 +272,18 @@ fn audit_request<'a>(audit: &ArgMatches<'a>) -> Request<'a>
     Request::Audit(
         word_of(audit, "FILE"),
         word_of(audit, "TRACE"),
-        audit.get_flag("explain"),
+        explain_in(audit),
     )
 }
 
-// The port.
-fn port_of(serve: &ArgMatches<'_>) -> u16
-    requires { (g : Given) × Holds serve_verb g (rows_of (found_of serve.now)) }
-    ensures { (text : _) → one_text (found_of serve.now) (codes "PORT") ≡ Some text → result ≡ number_of text }
+// The port that a word is, if it is one.
+fn port_in(word: &str) -> Option<u16>
+    ensures some { IfSome result (λ port. IsNumber 1 65535 word.now × (port ≡ number_of word.now)) }
+    ensures none { result ≡ None → IsNumber 1 65535 word.now → ⊥ }
 {
-    match serve.get_one("PORT") {
-        Some(port) => port,
-        None => unreachable!(),
+    match word.parse::<u16>() {
+        Ok(port) if port > 0 => Some(port),
+        _ => None,
     }
 }
 
@@ -245,49 +298,84 @@ fn sessions_in(serve: &ArgMatches<'_>) -> u8
     }
 }
 
-// What the words of `serve` ask for.
-fn serve_request<'a>(serve: &ArgMatches<'a>) -> Request<'a>
+// What the words of `serve` ask for, whose third one is this port.
+fn served<'a>(serve: &ArgMatches<'a>, port: u16) -> Request<'a>
     requires { (g : Given) × Holds serve_verb g (rows_of (found_of serve.now)) }
-    ensures { (g : Given) → Holds serve_verb g (rows_of (found_of serve.now)) → Makes serve_verb g result }
+    ensures { (g : Given) → Holds serve_verb g (rows_of (found_of serve.now)) → (word : Text) →
+        first_value (found_of serve.now) (codes "PORT") ≡ Some word → IsNumber 1 65535 word →
+        port ≡ number_of word → Makes serve_verb g result }
 {
     Request::Serve(Serving {
         file: word_of(serve, "FILE"),
         folder: word_of(serve, "DIR"),
-        port: port_of(serve),
+        port,
         sessions: usize::from(sessions_in(serve)),
         stops: serve.get_flag("stop-with-input"),
-        explains: serve.get_flag("explain"),
+        explain: explain_in(serve),
     })
 }
 
-// What the words ask for in which this was found.
-fn matched_request<'a>(matches: &ArgMatches<'a>) -> Request<'a>
+// What the words of `serve` ask for, or the word that should be a port.
+fn serve_request<'a>(serve: &ArgMatches<'a>) -> Result<Request<'a>, &'a str>
+    requires { (g : Given) × Holds serve_verb g (rows_of (found_of serve.now)) }
+    ensures asked { IfOk result (λ q. (g : Given) → Holds serve_verb g (rows_of (found_of serve.now)) →
+        Makes serve_verb g q) }
+    ensures other { IfErr result (λ _. (g : Given) → Holds serve_verb g (rows_of (found_of serve.now)) → (q : _) →
+        Makes serve_verb g q → ⊥) }
+{
+    let word = word_of(serve, "PORT");
+    match port_in(word) {
+        Some(port) => Ok(served(serve, port)),
+        None => Err(word),
+    }
+}
+
+// What the words ask for in which this was found, or the word that should be a port.
+fn matched_request<'a>(matches: &ArgMatches<'a>) -> Result<Request<'a>, &'a str>
     requires { (v : Verb) × (g : Given) × IsMatched v g matches.now }
-    ensures { (v : Verb) (g : Given) → IsMatched v g matches.now → Makes v g result }
+    ensures asked { IfOk result (λ q. (v : Verb) (g : Given) → IsMatched v g matches.now → Makes v g q) }
+    ensures other { IfErr result (λ _. (v : Verb) (g : Given) → IsMatched v g matches.now → (q : _) →
+        Makes v g q → ⊥) }
 {
     if let Some(check) = matches.subcommand_matches("check") {
-        return check_request(check);
+        return Ok(check_request(check));
     }
     if let Some(run) = matches.subcommand_matches("run") {
-        return run_request(run);
+        return Ok(run_request(run));
     }
     if let Some(audit) = matches.subcommand_matches("audit") {
-        return audit_request(audit);
+        return Ok(audit_request(audit));
     }
     if let Some(serve) = matches.subcommand_matches("serve") {
         return serve_request(serve);
     }
-    Request::Paths
+    Ok(Request::Paths)
+}
+
+// The error of a word that should be a port.
+fn no_port(alloc: Global, word: &str) -> Result<Error, AllocError>
+    ensures { IfOk result (λ e. kind_of e ≡ ErrorKind.ValueValidation) }
+{
+    let text = format!(in alloc; "invalid value '{word}' for '<PORT>': {}", help::PORT_IS)?;
+    serve_command(alloc)?.error(ErrorKind::ValueValidation, text.as_str())
 }
 
 /// What these words, the first of which names the program, ask for.
 ///
-/// An error is a mistake in them or a request for help, with the text to print, or a want of memory.
+/// An error is a mistake in them or a request for help or the version, with the text to print, or a want of memory. Its
+/// kind is one that the parser gives such words, and where the parser takes them `ValueValidation`: PORT is no number
+/// from 1 to 65535. Words that ask for help or the version before any mistake give that.
 pub fn request_of<'a>(alloc: Global, words: &'a [&'a str]) -> Result<Request<'a>, Error>
     ensures asked { IfOk result (λ q. Asks (map (λ w. w.now) words.now) q) }
     ensures refused { IfErr result (λ e. (q : Request) → Asks (map (λ w. w.now) words.now) q →
         kind_of e ≡ OutOfMemory) }
+    ensures kinds { IfErr result (λ e. HasKind (faults (map (λ w. w.now) words.now)) e) }
+    ensures shown { (t : Topic) → Shows (map (λ w. w.now) words.now) t →
+        IsErrAnd result (λ e. (kind_of e ≡ OutOfMemory) ⊎ (kind_of e ≡ kind_for t)) }
 {
     let matches = command(alloc)?.try_get_matches_from(words)?;
-    Ok(matched_request(&matches))
+    match matched_request(&matches) {
+        Ok(request) => Ok(request),
+        Err(word) => Err(no_port(alloc, word)?),
+    }
 }

@@ -2,6 +2,7 @@
 
 use crate::in_path::{bad_byte_in_path, ends_in_path, expected};
 use crate::kinds::{ends_in_constants, no_sum};
+use crate::operations::{bare_declaration, no_entry};
 use crate::syntax::misplaced;
 use crate::wrong::{past_limit, unknown, wrong_kind};
 use decl_read::fault::DeclFault;
@@ -12,7 +13,7 @@ use note_core::page::{Page, push_note, push_said};
 use note_core::said::{Said, Words, say};
 use note_core::span::{Span, behind, front, span_of, text_at};
 use note_core::tokens::{
-    begins, count_before, ends, find_name, first_tokens, from_last, is_at_name, is_symbol, last,
+    begins, count_before, ends, ends_before_last, find_name, first_tokens, from_last, is_at_name, is_symbol, last,
     name_of, section, tokens_from,
 };
 use path_tree::lex::fault::LexFault;
@@ -25,12 +26,22 @@ use std::alloc::{AllocError, Global};
 /// The most bytes of a source.
 const MOST_BYTES: usize = 65_536;
 
+// Whether these tokens end in the first number of a size.
+fn is_in_size(before: &[Token]) -> bool {
+    let size = from_last(before, Symbol::Array);
+    begins(size, Symbol::Array) && ends_before_last(size, Symbol::OpenBracket) && size.len() == 3
+}
+
 // What is said of a full stop, behind these tokens.
 fn full_stop(before: &[Token], behind: &[u8]) -> Said {
     match behind {
         [b'0'..=b'9', ..] => say(
             "`.` is not a sign of the language",
             "there are no fractions: integers are 0 to 4294967295",
+        ),
+        [b'.', ..] if is_in_size(before) => say(
+            "an array has no first index: its elements are counted from 0",
+            "between `[` and `]` stands how many it has: `array [10]` has the elements 0 to 9",
         ),
         [b'A'..=b'Z', ..] | [b'a'..=b'z', ..] => if is_at_name(last(before)) {
             say(
@@ -121,6 +132,10 @@ fn bad_bytes(before: &[Token], here: &[u8]) -> Said {
         ),
         [b'/', b'*', ..] => say(
             "`/*` does not begin a comment",
+            "a comment stands between `{` and `}`, or between `(*` and `*)`",
+        ),
+        [b'#', ..] => say(
+            "`%` does not begin a comment",
             "a comment stands between `{` and `}`, or between `(*` and `*)`",
         ),
         [byte, behind @ ..] => if is_sign(*byte) && ends_in_path(before) {
@@ -316,6 +331,32 @@ fn push_earlier(
     }
 }
 
+// Where the operation that a path names is declared, where `entry` is missing before it; else nothing.
+fn bare_operation<'t>(
+    all: &'t [Token],
+    fault: DeclFault,
+    before: &[Token],
+    here: &[Token],
+) -> &'t [Token] {
+    match fault {
+        DeclFault::Path(PathFault::UnknownName(_)) => {
+            bare_declaration(object_at(all, before), name_of(here))
+        }
+        _ => &[],
+    }
+}
+
+// Adds that `entry` is missing before an operation.
+fn push_bare(out: &mut Vec<u8>, page: Page<'_>, bare: &[Token]) -> Result<(), AllocError> {
+    let words = Words {
+        first: text_of(page, bare),
+        second: text_of(page, tokens_from(bare, 1)),
+        third: b"",
+        fourth: b"",
+    };
+    push_said(out, page, first_span(bare, 0), no_entry(), words)
+}
+
 // Adds what is said of a fault at a token.
 fn push_at_token(
     out: &mut Vec<u8>,
@@ -332,13 +373,13 @@ fn push_at_token(
         third: b"",
         fourth: b"",
     };
-    push_said(
-        out,
-        page,
-        first_span(here, at),
-        in_objects(fault, before, here),
-        words,
-    )?;
+    let said = in_objects(fault, before, here);
+    let bare = bare_operation(page.tokens, fault, before, here);
+    if !bare.is_empty() {
+        push_note(out, page, first_span(here, at), said.sentence, words)?;
+        return push_bare(out, page, bare);
+    }
+    push_said(out, page, first_span(here, at), said, words)?;
     let found = match fault {
         DeclFault::UnknownName(_) | DeclFault::Path(PathFault::UnknownName(_)) => {
             alike(object_at(page.tokens, before), name_of(here))

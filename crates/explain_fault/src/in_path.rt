@@ -1,5 +1,6 @@
 //! What is said of a token that a path has not in its place.
 
+use crate::syntax::opens_section;
 use note_core::said::{Said, say};
 use note_core::tokens::{
     begins, count_of, ends, ends_number, ends_value, from_last, is_any_name, is_at_end, is_at_word,
@@ -86,6 +87,12 @@ fn unclosed(before: &[Token], here: &[Token]) -> Said {
         return say(
             "the path ends, and a `(` or a `[` of it is not closed",
             "write the `)` or the `]` before this `end`",
+        );
+    }
+    if opens_section(here) {
+        return say(
+            "before `%` the path is not closed: its `end` is missing",
+            "a path is closed by `end;`, as in `path 1:(get, put) end;`",
         );
     }
     if is_at_word(here) && !begins(here, Symbol::End) {

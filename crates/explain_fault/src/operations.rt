@@ -120,13 +120,30 @@ pub(crate) fn without_entry(before: &[Token], here: &[Token]) -> Option<Said> {
     if within(before) == Standing::Outside
         && (begins(here, Symbol::Procedure) || begins(here, Symbol::Function))
     {
-        Some(say(
-            "before `%` the word `entry` is missing",
-            "an operation is declared as in `entry procedure hit; begin .. end;`",
-        ))
+        Some(no_entry())
     } else {
         None
     }
+}
+
+/// What is said of a `procedure` or a `function` that stands without `entry`.
+pub(crate) fn no_entry() -> Said {
+    say(
+        "before `%` the word `entry` is missing",
+        "an operation is declared as in `entry procedure hit; begin .. end;`",
+    )
+}
+
+/// Where these tokens declare an operation of this name without `entry`: from the word before its name on.
+pub(crate) fn bare_declaration<'t>(tokens: &'t [Token], name: &[u8]) -> &'t [Token] {
+    let mut has_entry = false;
+    for (count, token) in tokens.iter().enumerate() {
+        if begins_operation(token) && !has_entry && name_of(tokens_from(tokens, count + 1)) == name {
+            return tokens_from(tokens, count);
+        }
+        has_entry = is_symbol(token, Symbol::Entry);
+    }
+    &[]
 }
 
 // Whether the last of some tokens begins a statement.

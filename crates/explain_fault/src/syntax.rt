@@ -96,7 +96,30 @@ fn by_sign(before: &[Token], here: &[Token]) -> Said {
     if begins(here, Symbol::Has) {
         return has_no_value();
     }
+    if let Some(said) = without_value(before, here) {
+        return said;
+    }
     by_name(before, here)
+}
+
+// What is said of a statement that stands where a value is put somewhere.
+fn without_value(before: &[Token], here: &[Token]) -> Option<Said> {
+    if !ends(before, Symbol::Assign) {
+        return None;
+    }
+    if begins(here, Symbol::Take) {
+        return Some(say(
+            "`take` gives no value: it removes the first element",
+            "read that one first, as in `f := first(q); take(q)`",
+        ));
+    }
+    if begins(here, Symbol::Append) || begins(here, Symbol::Store) || begins(here, Symbol::Erase) {
+        return Some(say(
+            "`%` gives no value: it changes a part",
+            "it is a statement of its own, behind a `;`",
+        ));
+    }
+    None
 }
 
 // Whether a name has to follow these tokens.
@@ -141,8 +164,8 @@ fn by_name(before: &[Token], here: &[Token]) -> Said {
     by_semicolon(before, here)
 }
 
-// Whether a section of an object begins here.
-fn opens_section(here: &[Token]) -> bool {
+/// Whether a section of an object begins here.
+pub(crate) fn opens_section(here: &[Token]) -> bool {
     begins(here, Symbol::Const)
         || begins(here, Symbol::Path)
         || begins(here, Symbol::Var)

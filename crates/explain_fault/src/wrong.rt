@@ -142,6 +142,37 @@ fn no_value(before: &[Token], here: &[Token]) -> Option<Said> {
     }
 }
 
+// What stands behind the value that begins here.
+fn behind_value(here: &[Token]) -> &[Token] {
+    if begins(here, Symbol::First) || begins(here, Symbol::Lookup) {
+        tokens_from(from_symbol(here, Symbol::CloseParen, 0), 1)
+    } else if begins(tokens_from(here, 1), Symbol::OpenBracket) {
+        tokens_from(from_symbol(here, Symbol::CloseBracket, 0), 1)
+    } else {
+        tokens_from(here, 1)
+    }
+}
+
+// Whether a `+` stands before the value that begins here, or behind it.
+fn is_added(before: &[Token], here: &[Token]) -> bool {
+    ends(before, Symbol::Plus) || begins(behind_value(here), Symbol::Plus)
+}
+
+fn no_joining() -> Said {
+    say(
+        "a text stands here, and `+` adds integers alone",
+        "nothing joins two texts: keep each of them in a part, and let the caller join them",
+    )
+}
+
+fn no_integer() -> Said {
+    say(
+        "a text stands here where an integer is due",
+        "`+`, `-`, `<`, `<=`, `>`, `>=` and an index take integers; an element has the kind of its part, a reply that \
+            of its function",
+    )
+}
+
 // What is said of an expression of the wrong kind.
 fn wrong_sort(before: &[Token], here: &[Token]) -> Said {
     if let Some(said) = no_value(before, here) {
@@ -153,11 +184,11 @@ fn wrong_sort(before: &[Token], here: &[Token]) -> Said {
             "keys are texts; an element has the kind of its part, a reply that of its function; `=` and `<>` compare \
                 two of one kind",
         ),
-        Some(Sort::Text) => say(
-            "a text stands here where an integer is due",
-            "`+`, `-`, `<`, `<=`, `>`, `>=` and an index take integers; an element has the kind of its part, a reply \
-                that of its function",
-        ),
+        Some(Sort::Text) => if is_added(before, here) {
+            no_joining()
+        } else {
+            no_integer()
+        },
         None => say(
             "this expression is of the wrong kind",
             "it is an integer where a text is due, or a text where an integer is due",

@@ -1,45 +1,70 @@
 //! A reader that keeps what it gives.
 
 use std::alloc::Global;
-use std::io::{self, Read};
+use std::io::{self, ErrorKind, Read};
 
-/// A reader that hands on what another one gives, and keeps a copy of it as long as there is memory for that.
+/// A reader that hands on what another one gives, and keeps a copy of its first bytes as long as there is memory for
+/// that, and why a read failed last.
 #[derive(Drop)]
 pub struct Kept<R> {
     inner: R,
+    most: usize,
     copy: Option<Vec<u8>>,
+    fault: Option<ErrorKind>,
 }
 
-// A copy with these bytes behind it, unless memory was refused.
-fn with_more(copy: Option<Vec<u8>>, bytes: &[u8]) -> Option<Vec<u8>> {
+// A copy with these bytes behind it, as far as it has room for them, unless memory was refused.
+fn with_more(copy: Option<Vec<u8>>, most: usize, bytes: &[u8]) -> Option<Vec<u8>> {
     let mut copy = copy?;
-    match copy.extend_from_slice(bytes) {
+    let room = most.saturating_sub(copy.len());
+    let fit = if bytes.len() > room {
+        &bytes[..room]
+    } else {
+        bytes
+    };
+    match copy.extend_from_slice(fit) {
         Ok(()) => Some(copy),
         Err(_) => None,
     }
 }
 
 impl<R: Read + Drop> Kept<R> {
-    /// A reader over another one, of which nothing has been read. It keeps nothing where that is not asked for.
-    pub fn new(alloc: Global, inner: R, keeps: bool) -> Kept<R> {
-        let copy = if keeps { Some(Vec::new(alloc)) } else { None };
-        Kept { inner, copy }
+    /// A reader over another one, of which nothing has been read. It keeps so many bytes.
+    pub fn new(alloc: Global, inner: R, most: usize) -> Kept<R> {
+        Kept {
+            inner,
+            most,
+            copy: Some(Vec::new(alloc)),
+            fault: None,
+        }
     }
 
-    /// What was read, unless it is not kept, or memory for it was refused.
+    /// The first bytes that were read, unless memory for them was refused.
     pub fn text(&self) -> Option<&[u8]> {
         match &self.copy {
             Some(copy) => Some(copy),
             None => None,
         }
     }
+
+    /// Why a read failed last.
+    pub fn fault(&self) -> Option<ErrorKind> {
+        self.fault
+    }
 }
 
 impl<R: Read> Read for Kept<R> {
     fn read(&mut self, buf: &mut [u8]) -> io::Result<usize> {
-        let count = self.inner.read(buf)?;
-        let copy = self.copy.take();
-        self.copy = with_more(copy, &buf[..count]);
-        Ok(count)
+        match self.inner.read(buf) {
+            Ok(count) => {
+                let copy = self.copy.take();
+                self.copy = with_more(copy, self.most, &buf[..count]);
+                Ok(count)
+            }
+            Err(error) => {
+                self.fault = Some(error.kind());
+                Err(error)
+            }
+        }
     }
 }

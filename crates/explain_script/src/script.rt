@@ -1,5 +1,6 @@
-//! The line that ended a script.
+//! The line that ended a script, and the calls before it that its object does not take.
 
+use crate::called::push_called;
 use crate::forms::{Closest, wrong_in_line};
 use decl_core::object::Object;
 use explain_line::files::Files;
@@ -11,16 +12,34 @@ use note_core::page::{Page, push_help};
 use note_core::span::Span;
 use script_open::head::named_object;
 use script_open::open::{Opened, open_script};
-use script_text::said::{is_skipped, read_line};
+use script_text::said::{Said, is_skipped, read_line};
 use std::alloc::{AllocError, Global};
 
-// Whether a line ends a script: it is not skipped, and says nothing.
-fn ends_script(alloc: Global, line: &[u8]) -> Result<bool, AllocError> {
+// Of so many calls that are not taken it is said why.
+const MOST_TOLD: usize = 16;
+
+// What a line does, as far as it is told.
+#[derive(Clone, Copy)]
+enum Does {
+    // It ends the script: it is not skipped, and says nothing.
+    Ends,
+    // It calls the operation that is the word of this number, from 0.
+    Calls(usize),
+    Other,
+}
+
+// What a line does.
+fn done_by(alloc: Global, line: &[u8]) -> Result<Does, AllocError> {
     if is_skipped(line) {
-        return Ok(false);
+        return Ok(Does::Other);
     }
     let said = read_line(alloc, line)?;
-    Ok(said.is_none())
+    match &said {
+        None => Ok(Does::Ends),
+        Some(Said::Call(_, _, _)) => Ok(Does::Calls(2)),
+        Some(Said::CallKey(_, _, _, _)) => Ok(Does::Calls(3)),
+        Some(_) => Ok(Does::Other),
+    }
 }
 
 // Adds the form of line that a line comes closest to.
@@ -35,27 +54,23 @@ fn push_closest(out: &mut Vec<u8>, closest: Closest) -> Result<(), AllocError> {
     }
 }
 
-// Adds what is wrong with the line that begins at this byte.
+// Adds what is wrong with the line that stands there.
 fn push_line(
     alloc: Global,
     out: &mut Vec<u8>,
     page: Page<'_>,
     object: &Object,
-    line: &[u8],
-    start: usize,
+    line: Span,
 ) -> Result<(), AllocError> {
-    let line = Span {
-        start,
-        end: start.saturating_add(line.len()),
-    };
     let words = words_at(alloc, page.source, line)?;
     let (finding, closest) = wrong_in_line(&words, object);
     push_finding(alloc, out, page, finding)?;
     push_closest(out, closest)
 }
 
-// Adds what is wrong with the first line behind line 1 that ends the script.
-fn push_first(
+// Adds what is wrong with the first calls behind line 1 that the object does not take, and with the line that ends the
+// script.
+fn push_lines(
     alloc: Global,
     out: &mut Vec<u8>,
     page: Page<'_>,
@@ -66,21 +81,34 @@ fn push_first(
         Some((_, rest)) => rest,
         None => return Ok(()),
     };
+    let mut told: usize = 0;
     for _ in 0..text.len() {
         let Some((line, behind)) = next_line(rest) else {
             return Ok(());
         };
-        if ends_script(alloc, line)? {
-            let start = text.len().saturating_sub(rest.len());
-            return push_line(alloc, out, page, object, line, start);
+        let start = text.len().saturating_sub(rest.len());
+        let place = Span {
+            start,
+            end: start.saturating_add(line.len()),
+        };
+        match done_by(alloc, line)? {
+            Does::Ends => return push_line(alloc, out, page, object, place),
+            Does::Calls(number) => if told < MOST_TOLD
+                && push_called(alloc, out, page, object, place, number)?
+            {
+                told = told.saturating_add(1);
+            },
+            Does::Other => {}
         }
         rest = behind;
     }
     Ok(())
 }
 
-/// What a person is told of the line that ended a script, or of a first line that names no object of the source. It is
-/// empty where the script did not end so, and where the source, or the object, is refused: `explain` tells why.
+/// What a person is told of the line that ended a script, if one did, and of the first 16 calls before it that are of no
+/// operation of the object, or have other arguments than it takes; or of a first line that names no object of the
+/// source. It is empty where there is nothing of that, and where the source, or the object, is refused: `explain` tells
+/// why.
 pub fn explain_script(
     alloc: Global,
     files: Files<'_>,
@@ -96,7 +124,7 @@ pub fn explain_script(
     match named_object(alloc, text)? {
         None => push_unnamed(alloc, &mut out, page)?,
         Some(name) => match open_script(alloc, source, text)? {
-            Opened::Ready(accepted) => push_first(alloc, &mut out, page, accepted.object())?,
+            Opened::Ready(accepted) => push_lines(alloc, &mut out, page, accepted.object())?,
             Opened::Told(_) => push_lacking(alloc, &mut out, page, files, source, &name)?,
         },
     }

@@ -6,43 +6,46 @@
 //! `pathserve run FILE SCRIPT` runs a script of calls, device steps and finishes on an object of a file.
 //! `pathserve audit FILE TRACE` says whether a trace of an object of a file is legal, or which line of it is not.
 //! `pathserve serve FILE DIR PORT` serves the objects of a file to clients on this machine.
-//! With `--explain` standard error gets why a source, an object of it, a line of a script or a trace is refused;
-//! nothing else changes by it.
-//! Exit statuses: 0 accepted, 1 refused, 2 usage (a request for help too), 3 read or write fault,
-//! 4 out of memory.
+//! With `--explain`, and where standard error is a terminal, standard error gets why a source, an object of it, a line of
+//! a script or a trace is refused; `--no-explain` leaves that out. Nothing else changes by it.
+//! Exit statuses: 0 accepted, and help that was asked for, 1 refused, 2 usage, 3 read or write fault, 4 out of memory.
+//! Standard error gets what could not be read, before the line `read fault`.
 //!
 //! `answer` says what they do over any reader and writer, and `failure` what the program ends with
 //! where it has no answer. What stands here hands them the command line and the streams.
 #![tactic(auto)]
 
+mod lack;
 mod serve;
-mod start;
 
 use ahead_core::ahead::AheadHand;
 use answer_core::answer::{answer_lines, check_source};
 use answer_core::audit::audit_trace;
-use answer_core::explanation::{explained_audit, explained_run};
-use answer_core::failure::{Failure, exit_status};
+use answer_core::explanation::{Telling, explained_audit, explained_run};
+use answer_core::failure::{Failure, exit_status, words_end};
 use answer_core::script::answer_script;
 use answer_core::source::read_source;
-use command_line::request::{Request, Serving, request_of};
+use command_line::request::{Explain, Request, Serving, request_of};
 use explain_line::files::Files;
 use explain_line::kept::Kept;
+use lack::{Lack, Lacking, Need, tell_lack};
 use serve::{Source, place_of, serve_objects};
 use serve_core::gate::Gate;
 use serve_core::serve::Place;
-use start::{Names, Need, NotStarted, tell_lack};
 use std::alloc::AllocError;
 use std::fs::{File, TryLockError};
-use std::io::{ErrorKind, Read};
+use std::io::{ErrorKind, IsTerminal, Read};
 use std::net::{Ipv4Addr, TcpListener};
 use std::process::ExitCode;
 use std::sync::Arc;
 use std::{env, io, thread};
 
+/// Of a trace whose object may be refused so many bytes are kept, where its faults are not told: the line that names it.
+const HEAD_BYTES: usize = 4_096;
+
 // What a server starts with.
 struct Started {
-    source: Vec<u8>,
+    source: Source,
     place: Place<AheadHand<HostRuntime>>,
     gate: Arc<Gate>,
     // The folder, which no other server has as long as this is open.
@@ -53,15 +56,14 @@ struct Started {
 enum Prepared {
     // All, with the exit status.
     Ended(u8),
-    // A server is to run: whether it stops with standard input, and, where a refusal is to be explained, the
-    // names of what it needs.
-    Serves(Started, bool, Option<Names>),
+    // A server is to run: whether it stops with standard input.
+    Serves(Started, bool),
 }
 
 fn main(rt: HostRuntime) -> ExitCode {
     let ended = match prepare(&rt) {
         Ok(Prepared::Ended(status)) => Ok(status),
-        Ok(Prepared::Serves(started, stops, names)) => {
+        Ok(Prepared::Serves(started, stops)) => {
             let Started {
                 source,
                 place,
@@ -76,10 +78,6 @@ fn main(rt: HostRuntime) -> ExitCode {
                 ).is_ok(),
                 Ok(_) => true,
                 Err(_) => false,
-            };
-            let source = Source {
-                text: source,
-                names,
             };
             let ended = if is_watched {
                 serve_objects(
@@ -105,22 +103,43 @@ fn main(rt: HostRuntime) -> ExitCode {
     ExitCode::from(exit_status(&ended))
 }
 
-// Takes the folder for this server alone.
-fn lock_folder(rt: &HostRuntime, folder: &str) -> Result<File, NotStarted> {
-    let lock = match File::open(rt, folder) {
-        Ok(lock) => lock,
-        Err(error) => return Err(NotStarted::of(Need::Folder, error)),
+// Opens a folder, if it is one.
+fn open_folder(rt: &HostRuntime, folder: &str) -> Result<File, Lacking> {
+    let opened = match File::open(rt, folder) {
+        Ok(opened) => opened,
+        Err(error) => return Err(Lacking::of(Need::Folder, error)),
     };
-    match lock.try_lock() {
-        Ok(()) => Ok(lock),
-        Err(TryLockError::WouldBlock) => Err(NotStarted::lacks(Need::Lock)),
-        Err(TryLockError::Error(error)) => Err(NotStarted::of(Need::Folder, error)),
+    match opened.metadata() {
+        Ok(about) if about.is_dir() => Ok(opened),
+        Ok(_) => Err(Lacking::at(Need::Folder, ErrorKind::NotADirectory)),
+        Err(error) => Err(Lacking::of(Need::Folder, error)),
     }
 }
 
-// The source of a server.
-fn source_of(rt: &HostRuntime, path: &str) -> io::Result<Vec<u8>> {
-    read_source(rt.alloc(), File::open(rt, path)?)
+// Takes the folder for this server alone.
+fn lock_folder(rt: &HostRuntime, folder: &str) -> Result<File, Lacking> {
+    let lock = open_folder(rt, folder)?;
+    match lock.try_lock() {
+        Ok(()) => Ok(lock),
+        Err(TryLockError::WouldBlock) => Err(Lacking::at(Need::Lock, ErrorKind::Other)),
+        Err(TryLockError::Error(error)) => Err(Lacking::of(Need::Folder, error)),
+    }
+}
+
+// Opens a file.
+fn open_file(rt: &HostRuntime, path: &str) -> Result<File, Lacking> {
+    match File::open(rt, path) {
+        Ok(file) => Ok(file),
+        Err(error) => Err(Lacking::of(Need::File, error)),
+    }
+}
+
+// The source that a file has.
+fn source_at(rt: &HostRuntime, path: &str) -> Result<Vec<u8>, Lacking> {
+    match read_source(rt.alloc(), open_file(rt, path)?) {
+        Ok(source) => Ok(source),
+        Err(error) => Err(Lacking::of(Need::File, error)),
+    }
 }
 
 // A gate at a port, for so many connections.
@@ -140,25 +159,28 @@ fn shared(rt: &HostRuntime, gate: Gate) -> Result<Arc<Gate>, AllocError> {
 }
 
 // Takes what a server needs, in this order: the source, the folder, the port.
-fn take_needs(rt: &HostRuntime, asked: Serving<'_>) -> Result<Started, NotStarted> {
-    let source = match source_of(rt, asked.file) {
-        Ok(source) => source,
-        Err(error) => return Err(NotStarted::of(Need::File, error)),
-    };
+fn take_needs(rt: &HostRuntime, asked: Serving<'_>) -> Result<Started, Lacking> {
+    let text = source_at(rt, asked.file)?;
     let lock = lock_folder(rt, asked.folder)?;
     let gate = match gate_at(rt, asked.port, asked.sessions) {
         Ok(gate) => gate,
-        Err(error) => return Err(NotStarted::of(Need::Port, error)),
+        Err(error) => return Err(Lacking::of(Need::Port(asked.port), error)),
     };
     let place = match place_of(rt, asked.folder, asked.sessions) {
         Ok(place) => place,
-        Err(Failure::ReadFault) => return Err(NotStarted::lacks(Need::Folder)),
-        Err(failure) => return Err(NotStarted {
+        Err(Failure::ReadFault) => return Err(Lacking::at(Need::Folder, ErrorKind::Other)),
+        Err(failure) => return Err(Lacking {
             failure,
-            need: None,
+            lack: None,
         }),
     };
     let gate = shared(rt, gate)?;
+    let source = Source {
+        text,
+        telling: telling_of(rt, asked.explain),
+        file: String::from_str(rt.alloc(), asked.file)?,
+        folder: String::from_str(rt.alloc(), asked.folder)?,
+    };
     Ok(Started {
         source,
         place,
@@ -185,29 +207,68 @@ fn stop_with_input(rt: HostRuntime, gate: &Gate) {
     gate.stop();
 }
 
-// The names of what a server needs.
-fn names_of(rt: &HostRuntime, asked: Serving<'_>) -> Result<Names, AllocError> {
-    Ok(Names {
-        file: String::from_str(rt.alloc(), asked.file)?,
-        folder: String::from_str(rt.alloc(), asked.folder)?,
-        port: asked.port,
-    })
+// How much is told of why something is refused.
+fn telling_of(rt: &HostRuntime, when: Explain) -> Telling {
+    match when {
+        Explain::Always => Telling::Whole,
+        Explain::Never => Telling::Nothing,
+        Explain::AtTerminal => {
+            if rt.stderr().is_terminal() {
+                Telling::Whole
+            } else {
+                Telling::Hint
+            }
+        }
+    }
 }
 
-// Prepares a server. Where it lacks something standard error gets what it is, if that is to be explained.
+// How many bytes of a script, or of a trace, are kept to tell of it.
+fn kept_bytes(telling: Telling) -> usize {
+    match telling {
+        Telling::Whole => usize::MAX,
+        Telling::Hint => HEAD_BYTES,
+        Telling::Nothing => 0,
+    }
+}
+
+// Tells what is lacking, by its name, and gives what the program ends with.
+fn told(rt: &HostRuntime, lacking: Lacking, name: &str) -> Failure {
+    let Lacking { failure, lack } = lacking;
+    tell_lack(rt.alloc(), lack, name, &mut rt.stderr());
+    failure
+}
+
+// Hands on what a command ended with; where it could not read this to its end that is told.
+fn told_unread<R: Read + Drop>(
+    rt: &HostRuntime,
+    ended: Result<u8, Failure>,
+    need: Need,
+    name: &str,
+    kept: &Kept<R>,
+) -> Result<u8, Failure> {
+    if let Err(Failure::ReadFault) = &ended {
+        let lack = Lack {
+            need,
+            cause: kept.fault().unwrap_or(ErrorKind::Other),
+        };
+        tell_lack(rt.alloc(), Some(lack), name, &mut rt.stderr());
+    }
+    ended
+}
+
+// Prepares a server. Where it lacks something that is told.
 fn prepare_server(rt: &HostRuntime, asked: Serving<'_>) -> Result<Prepared, Failure> {
-    let names = if asked.explains {
-        Some(names_of(rt, asked)?)
-    } else {
-        None
-    };
     match take_needs(rt, asked) {
-        Ok(started) => Ok(Prepared::Serves(started, asked.stops, names)),
-        Err(NotStarted { failure, need }) => {
-            if let Some(names) = &names {
-                tell_lack(rt.alloc(), need, names, &mut rt.stderr());
-            }
-            Err(failure)
+        Ok(started) => Ok(Prepared::Serves(started, asked.stops)),
+        Err(lacking) => {
+            let name = match &lacking.lack {
+                Some(Lack {
+                    need: Need::File,
+                    ..
+                }) => asked.file,
+                _ => asked.folder,
+            };
+            Err(told(rt, lacking, name))
         }
     }
 }
@@ -216,64 +277,115 @@ fn prepare_server(rt: &HostRuntime, asked: Serving<'_>) -> Result<Prepared, Fail
 fn prepare(rt: &HostRuntime) -> Result<Prepared, Failure> {
     let words: Vec<String> = env::args(rt)?.collect(rt.alloc())?;
     let words: Vec<&str> = words.iter().map(|word| word.as_str()).collect(rt.alloc())?;
-    match request_of(rt.alloc(), words.as_slice())? {
-        Request::Serve(asked) => prepare_server(rt, asked),
-        request => {
-            let status = run(rt, request)?;
-            Ok(Prepared::Ended(status))
-        }
+    let ended = match request_of(rt.alloc(), words.as_slice()) {
+        Ok(Request::Serve(asked)) => return prepare_server(rt, asked),
+        Ok(request) => run(rt, request),
+        Err(error) => words_end(error, &mut io::writer(rt)),
+    };
+    match ended {
+        Ok(status) => Ok(Prepared::Ended(status)),
+        Err(failure) => Err(failure),
     }
 }
 
-// The name of a file, where a refusal is to be explained.
-fn named<'a>(path: &'a str, explains: bool) -> Option<&'a str> {
-    if explains { Some(path) } else { None }
+// `pathserve paths`.
+fn run_paths(rt: &HostRuntime) -> Result<u8, Failure> {
+    let mut kept = Kept::new(rt.alloc(), rt.stdin(), 0);
+    let ended = answer_lines(rt.alloc(), &mut kept, &mut io::writer(rt));
+    told_unread(rt, ended, Need::Input, "", &kept)
+}
+
+// `pathserve check`.
+fn run_check(rt: &HostRuntime, path: &str, when: Explain) -> Result<u8, Failure> {
+    let file = match open_file(rt, path) {
+        Ok(file) => file,
+        Err(lacking) => return Err(told(rt, lacking, path)),
+    };
+    let mut kept = Kept::new(rt.alloc(), file, 0);
+    let ended = check_source(
+        rt.alloc(),
+        &mut kept,
+        &mut io::writer(rt),
+        telling_of(rt, when),
+        path,
+        &mut rt.stderr(),
+    );
+    told_unread(rt, ended, Need::File, path, &kept)
+}
+
+// What `run` and `audit` read: a source, and a second file.
+#[derive(Drop)]
+struct Inputs {
+    source: Vec<u8>,
+    kept: Kept<File>,
+}
+
+// Reads the source, and opens the second file. Where one lacks that is told.
+fn inputs_of(rt: &HostRuntime, files: Files<'_>, telling: Telling) -> Result<Inputs, Failure> {
+    let source = match source_at(rt, files.source) {
+        Ok(source) => source,
+        Err(lacking) => return Err(told(rt, lacking, files.source)),
+    };
+    match open_file(rt, files.text) {
+        Ok(file) => Ok(Inputs {
+            source,
+            kept: Kept::new(rt.alloc(), file, kept_bytes(telling)),
+        }),
+        Err(lacking) => Err(told(rt, lacking, files.text)),
+    }
+}
+
+// `pathserve run`.
+fn run_script(rt: &HostRuntime, files: Files<'_>, when: Explain) -> Result<u8, Failure> {
+    let telling = telling_of(rt, when);
+    let Inputs { source, mut kept } = inputs_of(rt, files, telling)?;
+    let ended = answer_script(
+        rt.alloc(),
+        &source,
+        &mut kept,
+        &mut io::writer(rt),
+        telling,
+        files.source,
+        &mut rt.stderr(),
+    );
+    let ended = told_unread(rt, ended, Need::File, files.text, &kept);
+    let text = kept.text();
+    explained_run(
+        rt.alloc(),
+        ended,
+        telling,
+        files,
+        &source,
+        text,
+        &mut rt.stderr(),
+    )
+}
+
+// `pathserve audit`.
+fn run_audit(rt: &HostRuntime, files: Files<'_>, when: Explain) -> Result<u8, Failure> {
+    let telling = telling_of(rt, when);
+    let Inputs { source, mut kept } = inputs_of(rt, files, telling)?;
+    let ended = audit_trace(rt.alloc(), &source, &mut kept, &mut io::writer(rt));
+    let ended = told_unread(rt, ended, Need::File, files.text, &kept);
+    let text = kept.text();
+    explained_audit(
+        rt.alloc(),
+        ended,
+        telling,
+        files,
+        &source,
+        text,
+        &mut rt.stderr(),
+    )
 }
 
 // Does what is asked for, and gives the exit status.
 fn run(rt: &HostRuntime, request: Request<'_>) -> Result<u8, Failure> {
-    let mut writer = io::writer(rt);
     match request {
-        Request::Paths => answer_lines(rt.alloc(), &mut rt.stdin(), &mut writer),
-        Request::Check(path, explains) => {
-            let file = File::open(rt, path)?;
-            check_source(
-                rt.alloc(),
-                file,
-                &mut writer,
-                named(path, explains),
-                &mut rt.stderr(),
-            )
-        }
-        Request::Run(path, script, explains) => {
-            let source = read_source(rt.alloc(), File::open(rt, path)?)?;
-            let mut kept = Kept::new(rt.alloc(), File::open(rt, script)?, explains);
-            let ended = answer_script(
-                rt.alloc(),
-                &source,
-                &mut kept,
-                &mut writer,
-                named(path, explains),
-                &mut rt.stderr(),
-            );
-            let files = Files {
-                source: path,
-                text: script,
-            };
-            let text = kept.text();
-            explained_run(rt.alloc(), ended, files, &source, text, &mut rt.stderr())
-        }
-        Request::Audit(path, trace, explains) => {
-            let source = read_source(rt.alloc(), File::open(rt, path)?)?;
-            let mut kept = Kept::new(rt.alloc(), File::open(rt, trace)?, explains);
-            let ended = audit_trace(rt.alloc(), &source, &mut kept, &mut writer);
-            let files = Files {
-                source: path,
-                text: trace,
-            };
-            let text = kept.text();
-            explained_audit(rt.alloc(), ended, files, &source, text, &mut rt.stderr())
-        }
+        Request::Paths => run_paths(rt),
+        Request::Check(path, when) => run_check(rt, path, when),
+        Request::Run(source, text, when) => run_script(rt, Files { source, text }, when),
+        Request::Audit(source, text, when) => run_audit(rt, Files { source, text }, when),
         // `prepare` has it.
         Request::Serve(_) => Ok(0),
     }

@@ -3,11 +3,11 @@
 ghost use Rattle.std.specs.Prelude.{◌≡◌, IfOk};
 ghost use Rattle.std.specs.Arc.{arc_value};
 
-use crate::start::{Names, Need, tell_lack};
+use crate::lack::{Lack, Need, tell_lack};
 use ahead_core::ahead::{AheadHand, Ends};
 use ahead_core::sealed::Sealed;
 use answer_core::answer::{ACCEPTED, REFUSED};
-use answer_core::explanation::explained;
+use answer_core::explanation::{Telling, explained};
 use answer_core::failure::Failure;
 use device_core::dir::DirHand;
 use device_core::numbers::Numbers;
@@ -18,7 +18,7 @@ use line_core::LinesFault;
 use serve_core::gate::Gate;
 use serve_core::serve::{Place, ServeEnd, serve_on};
 use std::alloc::AllocError;
-use std::io::Write;
+use std::io::{ErrorKind, Write};
 use std::os::unix::fs::FileExt;
 use std::rt::Files;
 use std::sync::{Arc, Wait};
@@ -82,25 +82,31 @@ fn status_of_serve(end: ServeEnd) -> Result<u8, Failure> {
 }
 
 // What was lacking where a server ended so.
-fn lacking(ended: &Result<ServeEnd, LinesFault>) -> Option<Need> {
+fn lack_of(ended: &Result<ServeEnd, LinesFault>) -> Option<Lack> {
     match ended {
-        Ok(ServeEnd::Unopened) => Some(Need::Parts),
+        Ok(ServeEnd::Unopened) => Some(Lack {
+            need: Need::Parts,
+            cause: ErrorKind::Other,
+        }),
         _ => None,
     }
 }
 
-/// The text of a source and, where a refusal is to be explained, the names of what a server needs.
+/// The text of a source, how much is told of it where it is refused, and the names of its file and of the folder of the
+/// values, as the command line has them.
 #[derive(Drop)]
 pub struct Source {
     pub text: Vec<u8>,
-    pub names: Option<Names>,
+    pub telling: Telling,
+    pub file: String,
+    pub folder: String,
 }
 
 /// `pathserve serve`: serves the objects of a source to a connection at the gate for each hand, over the parts in a
 /// folder, and gives the exit status: 0 where each object was served, closed and saved, 1 where a line says what was
 /// refused, damaged or mixed.
 ///
-/// Where names are given, `error` gets why the source is refused, or why the server did not start.
+/// `error` gets why the source is refused, as far as that is to be told, and why the server did not start.
 ///
 /// A failure is `ReadFault`, `WriteFault` or `Memory`, the first that was met. What did not hang on it was still done.
 pub fn serve_objects<
@@ -120,16 +126,18 @@ where
     R::File: FileExt,
 {
     let ended = serve_on(rt, &source.text, place, gate, writer, error);
-    if let Some(names) = &source.names {
-        tell_lack(rt.alloc(), lacking(&ended), names, error);
-    }
+    tell_lack(rt.alloc(), lack_of(&ended), source.folder.as_str(), error);
     let ended = match ended {
         Ok(end) => status_of_serve(end),
         Err(fault) => Err(Failure::from(fault)),
     };
-    let file = match &source.names {
-        Some(names) => Some(names.file.as_str()),
-        None => None,
-    };
-    explained(rt.alloc(), ended, file, &source.text, None, error)
+    explained(
+        rt.alloc(),
+        ended,
+        source.telling,
+        source.file.as_str(),
+        &source.text,
+        None,
+        error,
+    )
 }

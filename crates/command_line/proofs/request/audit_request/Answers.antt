@@ -1,6 +1,6 @@
-use Rattle.std.proofs.Common.{◌≡◌, ◌∙◌, ℕ, List, [], ◌∷◌, ap₂, codes}
+use Rattle.std.proofs.Common.{◌∙◌, ℕ, List, [], ◌∷◌, ap₂, codes}
 use Rattle.clap.specs.Matches.{found_of}
-use Rattle.command_line.proofs.Found.{flag_is, has_text, text_is}
+use Rattle.command_line.proofs.Found.{has_text, text_is}
 use Rattle.command_line.proofs.request.audit_request.Goals as goal
 
 pub word_of-requires : goal.word_of-requires
@@ -13,5 +13,5 @@ pub returns : goal.returns
 returns c = λ g h.
     let f = found_of c.args.audit.now in (
       h.2 ∙ ap₂ (λ (t u : List ℕ). t ∷ u ∷ []) (text_is f (codes "FILE") h.0 _ h.3 c.word_of.ensures) (text_is f (codes "TRACE") h.1 _ h.4 c.word_of-2.ensures),
-      flag_is f (codes "explain") g.explains c.get_flag.result h.5 c.get_flag.ensures.value c.get_flag.ensures.other,
+      c.explain_in.ensures g h.5,
     )

@@ -1,4 +1,4 @@
-use Rattle.std.proofs.Common.{◌≡◌, ◌∙◌, ap, codes}
+use Rattle.std.proofs.Common.{◌∙◌, ap, codes}
 use Rattle.std.proofs.lemmas.Result.{IfOk-weaker}
 use Rattle.clap.specs.Simple.{app_of_fields, new_app}
 use Rattle.clap.specs.declared.builder.command.Command.{Command}
@@ -8,13 +8,14 @@ use Rattle.command_line.proofs.request.serve_command.Goals as goal
 
 pub returns : goal.returns
 returns c =
-    let zero : IsMade c.after_help.result (new_app (codes "serve")) = (
-      ap app_of_fields c.after_help.ensures ∙ ap app_of_fields c.about.ensures ∙ c.new.ensures.app,
-      ap (λ (f : Command-F Command). f.has_globals) c.after_help.ensures ∙ ap (λ (f : Command-F Command). f.has_globals) c.about.ensures ∙ c.new.ensures.local,
+    let zero : IsMade c.override_usage.result (new_app (codes "serve")) = (
+      ap app_of_fields c.override_usage.ensures ∙ ap app_of_fields c.after_help.ensures ∙ ap app_of_fields c.about.ensures ∙ c.new.ensures.app,
+      ap (λ (f : Command-F Command). f.has_globals) c.override_usage.ensures ∙ ap (λ (f : Command-F Command). f.has_globals) c.after_help.ensures ∙ ap (λ (f : Command-F Command). f.has_globals) c.about.ensures ∙ c.new.ensures.local,
     ) in
     let one = with_arg _ c.in_ok-arg.field-0 _ _ _ c.in_ok-arg.ensures c.required.ensures.local c.required.ensures.rule zero in
     let two = with_arg _ c.in_ok-arg-2.field-0 _ _ _ c.in_ok-arg-2.ensures c.required-2.ensures.local c.required-2.ensures.rule one in
-    let three = with_arg _ c.in_ok-arg-3.field-0 _ _ _ c.in_ok-arg-3.ensures c.port_argument.ensures.local c.port_argument.ensures.rule two in
+    let three = with_arg _ c.in_ok-arg-3.field-0 _ _ _ c.in_ok-arg-3.ensures c.required-3.ensures.local c.required-3.ensures.rule two in
     let four = with_arg _ c.in_ok-arg-4.field-0 _ _ _ c.in_ok-arg-4.ensures c.sessions_option.ensures.local c.sessions_option.ensures.rule three in
     let five = with_arg _ c.in_ok-arg-5.field-0 _ _ _ c.in_ok-arg-5.ensures c.stop_flag.ensures.local c.stop_flag.ensures.rule four in
-    IfOk-weaker c.arg-6.result _ _ (λ r h. with_arg _ r _ _ _ h c.explain_flag.ensures.local c.explain_flag.ensures.rule five) c.arg-6.ensures
+    let six = with_arg _ c.in_ok-arg-6.field-0 _ _ _ c.in_ok-arg-6.ensures c.explain_flag.ensures.local c.explain_flag.ensures.rule five in
+    IfOk-weaker c.arg-7.result _ _ (λ r h. with_arg _ r _ _ _ h c.silence_flag.ensures.local c.silence_flag.ensures.rule six) c.arg-7.ensures

@@ -1,22 +1,16 @@
-use Rattle.std.proofs.Common.{◌≡◌, ◌∙◌, ℕ, List, [], ◌∷◌, ap₂, codes, rules, sym}
+use Rattle.std.proofs.Common.{codes, subst}
 use Rattle.clap.specs.Matches.{found_of}
-use Rattle.command_line.proofs.Found.{flag_is, has_one, has_text, text_is}
+use Rattle.command_line.specs.Forms.{IsNumber}
+use Rattle.command_line.proofs.Found.{has_text, port_made, text_is}
 use Rattle.command_line.proofs.request.serve_request.Goals as goal
 
-pub word_of-requires : goal.word_of-requires
-word_of-requires c = (c.requires.1.0, has_text (found_of c.args.serve.now) (codes "FILE") c.requires.1.0 c.requires.1.5)
+pub word_of-word-requires : goal.word_of-word-requires
+word_of-word-requires c = (c.requires.1.2, has_text (found_of c.args.serve.now) (codes "PORT") c.requires.1.2 c.requires.1.7)
 
-pub word_of-requires-2 : goal.word_of-requires-2
-word_of-requires-2 c = (c.requires.1.1, has_text (found_of c.args.serve.now) (codes "DIR") c.requires.1.1 c.requires.1.6)
+pub returns-in-Some-clause-asked : goal.returns-in-Some-clause-asked
+returns-in-Some-clause-asked c = λ g h. c.served.ensures g h c.word_of-word.result.now c.word_of-word.ensures c.in-Some.ensures.some.0 c.in-Some.ensures.some.1
 
-pub returns : goal.returns
-returns c = λ g h.
-    let f = found_of c.args.serve.now in
-    let same : c.from.result ≡ c.sessions_in.result = search rules in (
-      h.2,
-      h.4 ∙ ap₂ (λ (t u : List ℕ). t ∷ u ∷ h.2 ∷ []) (text_is f (codes "FILE") h.0 _ h.5 c.word_of.ensures) (text_is f (codes "DIR") h.1 _ h.6 c.word_of-2.ensures),
-      c.port_of.ensures h.2 (has_one f (codes "PORT") h.2 h.7),
-      same ∙ c.sessions_in.ensures h.3 (has_one f (codes "sessions") h.3 h.9) ∙ sym h.11,
-      flag_is f (codes "stop-with-input") g.stops c.get_flag.result h.12 c.get_flag.ensures.value c.get_flag.ensures.other,
-      flag_is f (codes "explain") g.explains c.get_flag-2.result h.13 c.get_flag-2.ensures.value c.get_flag-2.ensures.other,
-    )
+pub returns-in-None-clause-other : goal.returns-in-None-clause-other
+returns-in-None-clause-other c = λ g h q m.
+    c.port_in.ensures.none c.in-None.is
+    (subst (IsNumber 1 65535) (text_is (found_of c.args.serve.now) (codes "PORT") h.2 c.word_of-word.result.now h.7 c.word_of-word.ensures) (port_made g q h.0 h.1 h.2 h.4 m))

@@ -1,0 +1,9 @@
+use Rattle.std.proofs.Common.{ap}
+use Rattle.std.proofs.lemmas.Result.{IfOk-weaker}
+use Rattle.clap.specs.Simple.{app_of_fields}
+use Rattle.clap.specs.declared.builder.command.Command.{Command}
+use Rattle.clap.specs.declared.builder.command.Command.TheOpen.{Command-F}
+use Rattle.command_line.proofs.request.named.Goals as goal
+
+pub returns : goal.returns
+returns c = IfOk-weaker c.display_name.result _ _ (λ r h. (ap app_of_fields h.0, ap (λ (f : Command-F Command). f.has_globals) h.0)) c.display_name.ensures
