@@ -10,8 +10,8 @@ LINE = re.compile(
     r" of (?:(\w+)::)?(\w+)(?: by loop (\w+))?"
 )
 # A goal that the prover left open: the functions of which one has it, and what its name says: the sort of clause, the
-# label, and the names among which the callee is, or the loop.
-Goal = collections.namedtuple("Goal", "functions kind label names")
+# label, and the names among which the callee is, or the loop; and the whole name.
+Goal = collections.namedtuple("Goal", "functions kind label names goal")
 # What stands in the name of a goal for each sort. The first that is there counts.
 SORTS = (
     ("requires", r"(?:^|-)requires(?:-|$)"),
@@ -92,7 +92,7 @@ def goals(said, sources):
         kind = next((kind for kind, sort in SORTS if re.search(sort, name)), "")
         label = name.rpartition("-clause-")[2] if "-clause-" in name else ""
         names = parts[: parts.index("requires")] if kind == "requires" else parts if kind == "loop" else ()
-        found.append(Goal(frozenset(functions), kind, label, tuple(names)))
+        found.append(Goal(frozenset(functions), kind, label, tuple(names), name))
     return found
 
 
