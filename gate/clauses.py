@@ -17,8 +17,8 @@ SORTS = (
     ("requires", r"(?:^|-)requires(?:-|$)"),
     ("invariant", r"(?:^|-)invariant_of-"),
     ("ensures", r"(?:^|-)returns(?:-|$)"),
-    ("loop", r"-(?:init|preserved)(?:-clause-\w+)?$"),
-    ("measure", r"-smaller$|(?:^|-)decreases-"),
+    ("loop", r"-(?:init|preserved)(?:-|$)"),
+    ("measure", r"-smaller(?:-|$)|(?:^|-)decreases-"),
     ("overflow", r"(?:^|-)overflow_\w+-"),
     ("division", r"(?:^|-)nonzero_\w+-"),
     ("bounds", r"(?:^|-)(?:slice_|offset_)?bounds-"),
@@ -122,8 +122,8 @@ def offered(found, holder, source):
         return Clause("ensures", found.label or (written[0] if written else ""), holder, function, "")
     if found.kind == "loop":
         written = labels(source, function)
-        rest = [it for it in found.names if it not in ("loop", "init", "preserved", "clause", found.label)]
-        return Clause("ensures", written[0] if written else "", holder, function, rest[-1] if rest else "loop")
+        loop = re.split(r"-(?:init|preserved)(?:-|$)", found.goal)[0].split("-")[-1]
+        return Clause("ensures", written[0] if written else "", holder, function, loop)
     if found.kind == "requires":
         return Clause("requires", found.label, "", found.names[0] if found.names else function, "")
     if found.kind == "invariant":
