@@ -1,0 +1,11 @@
+pub mod Beginning
+pub mod Fixed
+pub mod Forms
+pub mod Joining
+pub mod Kept
+pub mod Leaving
+pub mod Listing
+pub mod Numbering
+pub mod Opening
+pub mod Settling
+pub mod Written

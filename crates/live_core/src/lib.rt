@@ -1,0 +1,21 @@
+//! One object that is kept: one value in one hand.
+//!
+//! A call that is taken and may start is started, done and ended in one step, and behind it each waiting call that may
+//! start then, in the order of their numbers. Nothing runs between two steps, so each moment is one at which the object
+//! may be stopped and begun again: an epoch ends with the contents, the calls that wait and what the paths have
+//! counted, and the next one begins with them (`live::Live::behind`).
+//!
+//! The type `live::Live` keeps by itself that there is a history behind it (`specs/Hall.antt`, `IsHeld`): every prefix
+//! of its starts and ends satisfies every path, each reply is that of the sequential object, it leads to the contents
+//! now, no call runs, and no waiting call may start. `specs/Settles.antt` says what one step does, `specs/Answers.antt`
+//! which calls are refused. `lines` writes the lines of the calls that ran; `laws` says that they are those of the
+//! trace.
+#![tactic(auto)]
+
+mod body;
+pub mod call;
+pub mod hall;
+pub mod laws;
+pub mod lines;
+pub mod live;
+mod waiting;
