@@ -103,6 +103,18 @@ fn a_write_fails_at_each_byte(rt: HostRuntime) {
     }
 }
 
+// No case can show it: a read fails, and what had come of a line is not done.
+#[test]
+fn a_read_fails(rt: HostRuntime) {
+    let fails = Streams {
+        step: 7,
+        takes: 4096,
+        fails: true,
+    };
+    let fault = Some(SessionFault::ReadFault);
+    assert!(rt; plays(&rt, rt.alloc(), b"open cell\ndan", fails, b"opened cell\n", fault));
+}
+
 // A line of so many letters, and `quit`.
 fn letters(rt: &impl Abort, alloc: Global, count: usize) -> Vec<u8> {
     let mut line = Vec::new(alloc);
