@@ -8,7 +8,8 @@ what else the machine does; the medians, and how much longer a call takes under 
 the ratios of two runs that followed each other. The same of the processor time that a call takes of the server, on which other work
 of the machine tells less. Then the memory that is resident after 48,000 calls of 16 connections; with --before
 also that of an earlier program, which knows no keys. And how long `open NAME as CLIENT` takes where so many names are there as a
-server has connections. The folders are made where TMPDIR says; it needs `cc`. The load runs on the same machine. It is no part of the
+server has connections. The program is the one that
+./pathserve runs, or FILE. The folders are made where TMPDIR says; it needs `cc`. The load runs on the same machine. It is no part of the
 gate.
 """
 import argparse
@@ -18,11 +19,14 @@ import re
 import socket
 import statistics
 import subprocess
+import sys
 import tempfile
 import time
 
-TOP = pathlib.Path(__file__).resolve().parent.parent
-PROGRAM = TOP / "crates" / "pathserve" / "out" / "pathserve"
+sys.dont_write_bytecode = True
+sys.path.insert(0, str(pathlib.Path(__file__).resolve().parent.parent / "tools"))
+from ready import given_words, program  # noqa: E402
+
 CELL = """object cell;
   path 1:([get], put) end;
   var v : array [1] of integer;
@@ -164,11 +168,11 @@ def opening(options):
 
 def main():
     asks = argparse.ArgumentParser(description=__doc__, formatter_class=argparse.RawDescriptionHelpFormatter)
-    asks.add_argument("--program", default=PROGRAM, metavar="FILE")
     asks.add_argument("--before", metavar="FILE")
     asks.add_argument("--runs", type=int, default=7, metavar="N")
     asks.add_argument("--calls", type=int, default=16_000, metavar="N")
-    options = asks.parse_args()
+    options = asks.parse_args(given_words())
+    options.program = program()
     with tempfile.TemporaryDirectory() as folder:
         load = pathlib.Path(folder) / "load"
         subprocess.run(["cc", "-O2", "-pthread", "-o", load, pathlib.Path(__file__).parent / "load.c"], check=True)

@@ -1,12 +1,12 @@
 #!/usr/bin/env python3
 """Measures `pathserve run` on a script of 65,536 calls of `cell` (call, steps, finish), sent over a pipe.
 
-usage: bench/script.py [RUNS]
+usage: bench/script.py [--program FILE] [RUNS]
 
 Per run: microseconds a call after 1, 30,000 and 60,000 calls of history, in bulk (1,000 calls are sent, and all their answers
 read) and in turn (each line is sent once the answer to the one before it was read); seconds for all 65,536 calls in one
 piece of input; and the most memory that was resident. Then a call more, which has to be refused as HistoryFull. The program
-is crates/pathserve/out/pathserve: `tools/prove` builds it. It is no part of the gate.
+is the one that ./pathserve runs, or FILE. It is no part of the gate.
 """
 import os
 import pathlib
@@ -15,8 +15,10 @@ import sys
 import threading
 import time
 
-TOP = pathlib.Path(__file__).resolve().parent.parent
-PROGRAM = TOP / "crates" / "pathserve" / "out" / "pathserve"
+sys.dont_write_bytecode = True
+sys.path.insert(0, str(pathlib.Path(__file__).resolve().parent.parent / "tools"))
+from ready import TOP, given_words, program  # noqa: E402
+
 OBJECTS = TOP / "examples" / "objects" / "cell.pp"
 CALLS = 65_536
 AT_ONCE = 1_000
@@ -40,7 +42,7 @@ class Script:
     """The program on a script that is sent bit by bit."""
 
     def __init__(self):
-        words = [PROGRAM, "run", OBJECTS, "/dev/stdin"]
+        words = [program(), "run", OBJECTS, "/dev/stdin"]
         self.process = subprocess.Popen(words, stdin=subprocess.PIPE, stdout=subprocess.PIPE, bufsize=0)
         self.process.stdin.write(b"object cell\n")
         self.next = 1
@@ -110,8 +112,6 @@ def measure():
 
 def main(words):
     runs = int(words[0]) if words else 3
-    if not PROGRAM.exists():
-        raise SystemExit(f"there is no {PROGRAM.relative_to(TOP)}: tools/prove builds it")
     heads = [f"{way} at {history}" for history in HISTORIES for way in ("bulk", "turn")]
     print("microseconds a call:", ", ".join(heads), "| seconds for all | MB")
     for _ in range(runs):
@@ -120,4 +120,4 @@ def main(words):
 
 
 if __name__ == "__main__":
-    main(sys.argv[1:])
+    main(given_words())

@@ -13,7 +13,7 @@ connection, its latency. Of an operation X
   held    = held by put    + (latency of X - latency of put)
 
 A row a case: calls a second as measured (the median of the runs, and the least and the most) and by the model, and the ratio. The
-program is crates/pathserve/out/pathserve unless another is named; N calls a case, 16,000 where it is not given, but 3,000 a connection
+program is the one that ./pathserve runs, or FILE; N calls a case, 16,000 where it is not given, but 3,000 a connection
 at most; 9 runs. The folders are made where TMPDIR says. It needs `cc`. The load runs on the same machine, so the figures are of
 both. --rows prints the rows as bench/README.md has them. It is no part of the gate.
 """
@@ -23,10 +23,13 @@ import pathlib
 import socket
 import statistics
 import subprocess
+import sys
 import tempfile
 
-TOP = pathlib.Path(__file__).resolve().parent.parent
-PROGRAM = TOP / "crates" / "pathserve" / "out" / "pathserve"
+sys.dont_write_bytecode = True
+sys.path.insert(0, str(pathlib.Path(__file__).resolve().parent.parent / "tools"))
+from ready import TOP, given_words, program  # noqa: E402
+
 CELL = """object {name};
   path {path} end;
   var v : array [1] of integer;
@@ -183,11 +186,10 @@ def print_rows(found, numbers, taken):
 
 def main():
     parser = argparse.ArgumentParser(description=__doc__, formatter_class=argparse.RawDescriptionHelpFormatter)
-    parser.add_argument("--program", type=pathlib.Path, default=PROGRAM)
     parser.add_argument("--calls", type=int, default=16_000)
     parser.add_argument("--runs", type=int, default=9)
     parser.add_argument("--rows", action="store_true")
-    args = parser.parse_args()
+    args = parser.parse_args(given_words())
     with tempfile.TemporaryDirectory() as folder:
         load = pathlib.Path(folder) / "load"
         subprocess.run(["cc", "-O2", "-pthread", "-o", load, TOP / "bench" / "load.c"], check=True)
@@ -195,7 +197,7 @@ def main():
         runs = {it: [] for it in CASES}
         for _ in range(args.runs):
             for case in CASES:
-                runs[case].append(ran(args.program, load, case, args.calls))
+                runs[case].append(ran(program(), load, case, args.calls))
     found = {case: Measured(some) for case, some in runs.items()}
     numbers, taken = Numbers(found), {*ALONE.values(), OVERLAP, TURNS}
     (print_rows if args.rows else print_table)(found, numbers, taken)

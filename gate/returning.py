@@ -11,8 +11,9 @@ import threading
 import time
 
 from drawn_objects import OBJECTS
-from served import PROGRAM, TOP, Told, free_port, traced_wrongly
+from served import TOP, Told, free_port, traced_wrongly
 from slow_world import written
+from tried import program
 
 # How long an answer, and the end of a server, may take, in seconds.
 SECONDS = 20
@@ -48,7 +49,7 @@ class Served:
         self.objects = pathlib.Path(self.kept.name) / "objects"
         self.objects.write_text(source, encoding="ascii")
         self.port, self.all_told = free_port(), []
-        words = [PROGRAM, "serve", self.objects, self.place, str(self.port), "--sessions", str(sessions), *more]
+        words = [program(), "serve", self.objects, self.place, str(self.port), "--sessions", str(sessions), *more]
         pipes = {"stdin": subprocess.PIPE, "stdout": subprocess.PIPE, "stderr": subprocess.PIPE}
         self.ran = subprocess.Popen(words, text=True, **pipes)
         check(self.ran.stdout.readline(), f"listening {self.port}\n")

@@ -1,4 +1,4 @@
-"""What the tools share that serve objects: the program, a port, and what a trace says beside what clients were told."""
+"""What the tools share that serve objects: a port, and what a trace says beside what clients were told."""
 import pathlib
 import random
 import re
@@ -6,8 +6,8 @@ import signal
 import subprocess
 import threading
 
-TOP = pathlib.Path(__file__).resolve().parent.parent
-PROGRAM = TOP / "crates" / "pathserve" / "out" / "pathserve"
+from tried import TOP, program
+
 SECONDS = 60
 LAST_LINE = re.compile(r"(done|refused|failed|cancelled) (\d+)(?: (.*))?")
 OPENED = re.compile(r"opened (\w+)(?: next (\d+))?")
@@ -91,7 +91,7 @@ def ended_calls(trace):
 
 def audited(objects, trace):
     """What `pathserve audit` says of a trace."""
-    words = [PROGRAM, "audit", objects, trace]
+    words = [program(), "audit", objects, trace]
     return subprocess.run(words, capture_output=True, text=True, check=False, timeout=SECONDS).stdout
 
 

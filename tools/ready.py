@@ -1,4 +1,4 @@
-"""Which program ./pathserve runs, what it was built from, and what the tools that build it have in common.
+"""Which program ./pathserve runs, what it was built from, and what the tools that build it or try it have in common.
 
 Two programs may stand in out/: out/proved/pathserve, which tools/prove proved and built, and out/unproved/pathserve,
 which tools/make_ready built without the proof. Beside each stands pathserve.sources, with the digest of the sources
@@ -9,6 +9,7 @@ chosen: where it prints the same, ./pathserve runs that program and reads no sou
 import contextlib
 import errno
 import fcntl
+import functools
 import hashlib
 import os
 import pathlib
@@ -26,6 +27,8 @@ OUT = TOP / "out"
 ROOMS = pathlib.Path(os.environ.get("TMPDIR") or "/tmp")
 PROVED, UNPROVED = "proved", "unproved"
 PROGRAM = "pathserve"
+# The word of a tool's command line before the file of the program that it is to try.
+FLAG = "--program"
 # The exit status where there is no program to run: none of the program's own.
 NO_PROGRAM = 70
 FULL = "No space left on device"
@@ -166,6 +169,33 @@ def choose():
                     write(OUT / f"{kind}.look", before)
             return kind
     return None
+
+
+def given_words():
+    """The words of this tool's command line but `--program FILE`, which `program` heeds."""
+    words = sys.argv[1:]
+    if FLAG in words[:-1]:
+        at = words.index(FLAG)
+        del words[at : at + 2]
+    return words
+
+
+@functools.cache
+def program():
+    """The program that this tool tries: FILE where its command line has `--program FILE`, or else the one that ./pathserve
+    runs, which is built first where none stands. Where there is none this tool ends."""
+    words = sys.argv[1:]
+    if FLAG in words[:-1]:
+        file = pathlib.Path(words[words.index(FLAG) + 1]).absolute()
+    else:
+        made = subprocess.run([TOP / "tools" / "make_ready"], stdin=subprocess.DEVNULL, stdout=subprocess.PIPE, text=True)
+        if made.returncode:
+            sys.exit(NO_PROGRAM)
+        file = pathlib.Path(made.stdout.rstrip("\n"))
+    if not os.access(file, os.X_OK):
+        say(f"there is no program {file}")
+        sys.exit(NO_PROGRAM)
+    return file
 
 
 @contextlib.contextmanager

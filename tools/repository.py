@@ -1,6 +1,8 @@
 """What the tools know of the repository: its crates, what each stands on, and the digests of their files."""
+import collections
 import functools
 import hashlib
+import itertools
 import os
 import pathlib
 import re
@@ -132,32 +134,133 @@ def interface(folder):
     return {it: text for it, text in {**sources, **specs}.items() if text}
 
 
+def functions_apart(source):
+    """A source of an interface without its functions, and these as names and texts. Methods of traits and of their impls stay, and so
+    do constant functions."""
+    pieces, rest, found, header, blocks, at = PIECE.findall(source), [], [], [], [], 0
+    while at < len(pieces):
+        piece = pieces[at]
+        if piece == "fn" and "const" not in header and not (blocks and blocks[-1]):
+            end = next(it for it in range(at, len(pieces)) if pieces[it : it + 2] == ["{", "}"]) + 2
+            found.append((next(it for it in pieces[at + 1 :] if not it.isspace()), "".join(header + pieces[at:end])))
+            header, at = [], end
+            continue
+        header.append(piece)
+        at += 1
+        if piece in ("{", "}", ";"):
+            text = "".join(header)
+            if piece == "{":
+                blocks.append(bool(re.search(r"\btrait\b|\bimpl\b.*\bfor\b", text, re.S)))
+            elif piece == "}" and blocks:
+                blocks.pop()
+            rest.append(text)
+            header = []
+    return "".join([*rest, *header]), found
+
+
+WORD = re.compile(r"[\w']+")
+# Words that are joined to a path, with those in the braces at its end.
+PATH = re.compile(r"[\w']+(?:\s*(?:::|\.)\s*[\w']+)*(?:\s*(?:::|\.)\s*\{[^{}]*\})?")
+DECLARED = re.compile(r"\b(?:struct|enum|trait|type|union) (\w+)")
+IMPL_HEAD = re.compile(r"\bimpl\b[^{;]*\{")
+# A part of what a crate above may read: a function of a file, or the rest of it, whose `function` is empty. Beside its text all its
+# words, those of its paths (each, and each with one before it; alone in a pair a word that stands outside of paths, too), the types
+# and traits that it declares, and the words of the heads of its impls.
+Part = collections.namedtuple("Part", "crate path function text words named types heads")
+
+
+def meant(path, text):
+    """A text without what means nothing: the list of modules, and the lines of a file of antt that are comments."""
+    if path.suffix == ".rt":
+        return re.sub(r"\b(?:pub(?:\(\w+\))? )?mod \w+;", "", text)
+    rows = (it for it in text.split("\n") if not re.match(r"\s*--( |$)", it))
+    return "\n".join(it for it in rows if path.name != "Lib.antt" or not re.fullmatch(r"\s*(pub )?mod \w+\s*", it))
+
+
+def part_of(crate, path, function, text):
+    named = set()
+    for words in map(WORD.findall, PATH.findall(text)):
+        named.update(words if len(words) > 1 else [(words[0],)], itertools.combinations(words, 2))
+    is_source = path.suffix == ".rt"
+    types = frozenset(DECLARED.findall(text) if is_source else ())
+    heads = frozenset(word for it in IMPL_HEAD.findall(text) if is_source for word in WORD.findall(it))
+    return Part(crate, path, function, text, frozenset(WORD.findall(text)), frozenset(named), types, heads)
+
+
 @functools.cache
 def parts_above(folder):
-    """The interface of the crate in this folder, as names and texts in order."""
-    return sorted((str(it), text) for it, text in interface(folder).items())
+    """The parts of the interface of the crate in this folder."""
+    found = []
+    for path, text in sorted(interface(folder).items()):
+        rest, functions = functions_apart(meant(path, text)) if path.suffix == ".rt" else (meant(path, text), [])
+        found += [part_of(folder.name, path, *it) for it in [("", rest), *functions]]
+    return found
+
+
+def parts_named(top, lines, name, folders):
+    """The parts of the crates below that a crate's files name, and that these name again, in order, and all words of its own files."""
+    texts = []
+    for file in (it for folder in folders for it in files(top / "crates" / name / folder)):
+        text = file.read_text(encoding="utf-8")
+        source = "".join(it for it in PIECE.findall(text) if not it.startswith("//")) if file.suffix == ".rt" else text
+        texts.append(source if file.suffix == ".edit" else meant(file, source))
+    own = part_of(name, pathlib.Path("src/lib.rt"), "", "\n".join(texts))
+    there = [it for crate in below(lines, name) for it in parts_above(top / "crates" / crate)]
+    found, named, types, fresh = {}, set(), set(), [own]
+
+    def is_named(part, by):
+        module = part.path.parent.name if part.path.stem == "mod" else part.path.stem
+        is_root = part.path.name in ("Lib.antt", "lib.rt", "main.rt")
+        if part.crate == by.crate:
+            return is_root or module in by.named
+        is_bare = (part.crate,) in by.named and module in by.named
+        return part.crate in by.words and (is_root or (part.crate, module) in by.named or is_bare)
+
+    while fresh:
+        more = []
+        for it in there:
+            place = it.crate, it.path
+            if it.function and place in named and it.function in own.words and it not in found:
+                more.append(it)
+            elif not it.function and place not in named and (it.heads & types or any(is_named(it, by) for by in fresh)):
+                more.append(it)
+                named.add(place)
+                types |= it.types
+        found.update(dict.fromkeys(more))
+        fresh = more
+    return [it for it in there if it in found], own.words
 
 
 def digest(top, lines, name, kit, *more):
-    """The sha256 of all on which it hangs whether a body of this crate is proved: the kit's logic, the lines in crates.txt of the crate and
-    of each below it, the crate's files, those of its folders `more` too, and of each crate below its interface."""
+    """The sha256 of all on which it hangs whether a body of this crate is refused: the kit's logic, the crate's files, those of its
+    folders `more` too, and of the crates below it what these files name, and what that names, and so on; of their lines in
+    crates.txt the names of the crates with what stands beside these, and what the crate's own files name of its own line.
+
+    A wrong body is refused since it breaks a clause. Whether it does hangs on what the clause means, and what is known of each call:
+    on the words of the crate's own files, and what these are declared to be. (Which lemmas there are does not count: no lemma proves
+    what is false.) No file can use a thing of another one without a path with the name of its crate, and of its module, or from
+    where another file with both hands it on. So a file below counts where a text that counts has such a path (or the crate's name
+    outside of paths, as for a name that is made of it, and the module's in some path); the root of a crate where it has the
+    crate's name; and where a file that counts declares a type or a trait, each file counts in which the head of
+    an impl has that name, since methods are found by their types alone. A function is called by its name, and known by its
+    contract: it counts where its file does and its name stands in the crate's own files. Names are compared as words,
+    wherever they come from, so too much counts rather than too little."""
     summed = hashlib.sha256()
 
     def add(part):
         summed.update(b"%d:" % len(part) + part)
 
+    found, words = parts_named(top, lines, name, (*PARTS, *more))
     add(kit.encode())
-    for crate in sorted([*below(lines, name), name]):
-        add(lines[crate].encode())
-        folder = top / "crates" / crate
-        if crate == name:
-            for file in (it for part in (*PARTS, *more) for it in files(folder / part)):
-                add(os.fsencode(file.relative_to(top)))
-                add(file.read_bytes())
-        else:
-            for path, text in parts_above(folder):
-                add(path.encode())
-                add(text.encode())
+    for file in (it for part in (*PARTS, *more) for it in files(top / "crates" / name / part)):
+        add(os.fsencode(file.relative_to(top)))
+        add(file.read_bytes())
+    for crate in sorted({it.crate for it in found} | {name}):
+        head, _, rest = lines[crate].partition(":")
+        add(" ".join([head, *(sorted({*WORD.findall(rest)} & words) if crate == name else ())]).encode())
+    for it in found:
+        add(f"{it.crate} {it.path} {it.function}".encode())
+        add(it.text.encode())
     return summed.hexdigest()
 
 

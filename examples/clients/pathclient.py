@@ -13,7 +13,9 @@ Object is one session: its calls are done one after the other, also where severa
 calls are to overlap take an Object each.
 
 A call waits until the paths of the object let it start, which may be never. `book.call("number_of", "ada", within=5)`
-has it cancelled where it still waits after 5 seconds. `call` is also for operations whose names a method here has.
+has it cancelled where it still waits after 5 seconds, and ends 2 seconds later at the latest, whatever the server does:
+a server that says nothing is Lost. `call` is also for operations whose names a method here has. `book.close()` in
+another thread ends a call that has not ended: it is Lost.
 
 What can come in place of a reply is told by the exceptions below, which are all a CallError. Where a connection was
 lost, the next call makes a new one.
@@ -25,6 +27,7 @@ the connection breaks the Object comes back, and asks again under the key: a cal
 done a second time. Without a name a new connection is a new session, and no call is sent a second time: the server
 cannot tell a call that was sent again from a second one.
 """
+import contextlib
 import re
 import socket
 import threading
@@ -35,13 +38,16 @@ NAME = re.compile(r"[A-Za-z][A-Za-z0-9_]{0,63}", re.ASCII)
 LONGEST = 4096
 # How often a call is asked again whose connection breaks each time.
 TRIES = 10
+# How long a server may take to answer `cancel` and `quit`, in seconds.
+ANSWERS = 2
 
 
 class CallError(Exception):
-    """There is no reply. The call has changed nothing, unless this is Lost."""
+    """There is no reply. The call has changed nothing, unless this is Lost. `word` says why; the text of the exception
+    says of which call, too."""
 
-    def __init__(self, word=""):
-        super().__init__(word)
+    def __init__(self, word="", call=""):
+        super().__init__(f"{word}: {call}" if word and call else word or call)
         self.word = word
 
 
@@ -65,7 +71,7 @@ class Rejected(CallError):
 
 
 class NoServer(CallError):
-    """No server answered here, so nothing was called."""
+    """No server answered here, or it took no further client, so nothing was called."""
 
 
 class Lost(CallError):
@@ -95,7 +101,7 @@ def read(text):
 def named(name):
     """A name, as long as it is one."""
     if not NAME.fullmatch(name):
-        raise ValueError(f"{name!r} is no name")
+        raise ValueError(f"{name!r} is no name: a letter, and then at most 63 letters, digits and `_`")
     return name
 
 
@@ -109,40 +115,46 @@ class Object:
         self._opens = f"open {named(name)}" + (f" as {named(client)}" if client is not None else "")
         # The key of the next call, in a session with a name.
         self._key = None if client is None else 0
-        self._socket, self._rest, self._lock = None, b"", threading.Lock()
+        self._socket, self._rest, self._lock, self._closing = None, b"", threading.Lock(), False
         with self._lock:
             self._connect()
 
     # A connection, and its lines.
 
-    def _connect(self):
+    def _connect(self, latest=None):
+        """Opens the object on a new connection, by this time where it is given."""
         end = time.monotonic() + self._wait
+        end = end if latest is None else min(end, latest)
+        place = f"{self._place[0]}:{self._place[1]}"
         while True:
             try:
                 self._socket, self._rest = socket.create_connection(self._place, timeout=max(self._wait, 1)), b""
                 self._socket.setsockopt(socket.IPPROTO_TCP, socket.TCP_NODELAY, 1)
                 answer = self._opened(end)
-                break
-            except (OSError, Lost) as error:
-                self._drop()
-                if time.monotonic() >= end:
-                    raise NoServer(f"no server answers at {self._place[0]}:{self._place[1]}") from error
-                time.sleep(0.1)
+                if answer is not None:
+                    break
+                why = f"the server at {place} says nothing: it may have as many clients as it takes"
+            except (OSError, Lost):
+                why = f"no server answers at {place}"
+            self._drop()
+            if self._closing:
+                raise Lost("closed")
+            if time.monotonic() >= end:
+                raise NoServer(why)
+            time.sleep(0.1)
         if not answer.startswith("opened "):
             self._drop()
-            raise Rejected(answer.removeprefix("no "))
+            raise Rejected(answer.removeprefix("no "), self._opens)
         if self._key is not None:
             self._key = int(answer.rpartition(" next ")[2])
 
     def _opened(self, end):
-        """The answer to `open`. While a session of this name has not ended, it is said again over the same
-        connection."""
+        """The answer to `open`, or None where none came. While a session of this name has not ended, it is said again
+        over the same connection."""
         while True:
             self._send(self._opens)
             # A server that has taken all its connections leaves this one unanswered.
             answer = self._line(max(end, time.monotonic() + 1))
-            if answer is None:
-                raise Lost("no answer")
             if answer != "no InUse" or time.monotonic() >= end:
                 return answer
             time.sleep(0.02)
@@ -177,10 +189,17 @@ class Object:
         line, _, self._rest = self._rest.partition(b"\n")
         return line.decode("ascii", "replace")
 
-    def _ask(self, line):
+    def _ask(self, line, end=None):
         """Sends a line and gives the next one."""
         self._send(line)
-        return self._line()
+        return self._answer(end)
+
+    def _answer(self, end):
+        """The next line, which has to come by this time."""
+        line = self._line(end)
+        if line is None:
+            raise Lost("the server says nothing")
+        return line
 
     # Calls.
 
@@ -188,35 +207,42 @@ class Object:
         """Calls an operation, and waits until the call has ended: for its reply, or for what is raised in place of
         it."""
         text = " ".join([named(operation), *map(written, arguments)])
-        with self._lock:
+        end = None if within is None else time.monotonic() + within
+        if not self._lock.acquire(timeout=-1 if within is None else max(within, 0)):
+            # Calls of other threads were before it all the time.
+            raise Cancelled("", text)
+        try:
+            if self._closing:
+                raise Lost("closed", text)
             if self._socket is None:
-                self._connect()
-            try:
-                return self._done(f"call {text}", within) if self._key is None else self._kept(text, within)
-            except (Refused, Failed, Cancelled, Rejected):
-                raise
-            except BaseException:
-                # The connection is lost, or in the middle of a call, as where Ctrl-C was pressed.
-                self._drop()
-                raise
+                self._connect(end)
+            return self._done(f"call {text}", end) if self._key is None else self._kept(text, end)
+        except (Refused, Failed, Cancelled, Rejected):
+            raise
+        except BaseException:
+            # The connection is lost, or in the middle of a call, as where Ctrl-C was pressed.
+            self._drop()
+            raise
+        finally:
+            self._lock.release()
 
-    def _kept(self, text, within):
+    def _kept(self, text, end):
         """Calls under the next key. Where the connection breaks, it comes back and asks again under the same key."""
         key, is_known, tries = self._key, False, 0
         while True:
             tries += 1
             try:
-                return self._done(f"call #{key} {text}", within)
+                return self._done(f"call #{key} {text}", end)
             except Rejected as error:
                 if is_known:
                     raise Lost(f"the server has the call, and wrote no {error.word}") from error
                 raise
             except Lost as error:
-                if tries == TRIES:
+                if tries == TRIES or self._closing or end is not None and time.monotonic() >= end:
                     raise
                 self._drop()
                 try:
-                    self._connect()
+                    self._connect(end)
                 except (NoServer, Rejected):
                     raise error from None
                 # Either the server has the call, or all that were before it. (Where there is none before it, a server
@@ -225,18 +251,19 @@ class Object:
                 if not is_known and not self._key == key > 1:
                     raise Lost("the server may have been started anew") from error
 
-    def _done(self, line, within):
-        end = None if within is None else time.monotonic() + within
-        answer = self._ask(line)
+    def _done(self, line, end):
+        """The reply of a call that is to be cancelled where it still waits at this time."""
+        last_end = None if end is None else end + ANSWERS
+        answer = self._ask(line, last_end)
         if answer.startswith("repeat "):
-            return self._reply(answer.removeprefix("repeat "))
+            return self._reply(answer.removeprefix("repeat "), line)
         kind, number, *_ = answer.split(" ") + [""]
         if kind != "accepted":
             if answer == "no LineTooLong":
                 self._drop()
             if kind != "no":
                 raise Lost(f"the server wrote {answer!r}")
-            raise Rejected(number)
+            raise Rejected(number, line.partition(" ")[2])
         if self._key is not None:
             self._key += 1
         last = self._line(end)
@@ -244,20 +271,20 @@ class Object:
             self._send(f"cancel {number}")
             # The call may have begun, or ended, in the meantime: its last line comes in any case, before or after the
             # other.
-            lines = [self._line(), self._line()]
+            lines = [self._answer(last_end), self._answer(last_end)]
             last = next((it for it in lines if not it.startswith("cancel ")), "")
         if last.split(" ")[1:2] != [number]:
             raise Lost(f"the server wrote {last!r}")
-        return self._reply(last)
+        return self._reply(last, line)
 
-    def _reply(self, last):
-        """What the last line of a call says."""
+    def _reply(self, last, line):
+        """What the last line of this call says."""
         kind, _, *rest = last.split(" ", 2) + ["", ""]
         if kind not in ("done", *ENDS):
             raise Lost(f"the server wrote {last!r}")
         if kind == "done":
             return read(rest[0]) if rest[0] else None
-        raise ENDS[kind](rest[0])
+        raise ENDS[kind](rest[0], line.partition(" ")[2])
 
     def __getattr__(self, operation):
         if not NAME.fullmatch(operation):
@@ -265,14 +292,21 @@ class Object:
         return lambda *arguments, **options: self.call(operation, *arguments, **options)
 
     def close(self):
-        """Leaves the object. Where the server is gone, that is no fault."""
-        with self._lock:
+        """Leaves the object. A call of another thread that has not ended is Lost. Where the server is gone, that is no
+        fault."""
+        if not self._lock.acquire(blocking=False):
+            self._closing = True
+            with contextlib.suppress(OSError, AttributeError):
+                self._socket.shutdown(socket.SHUT_RDWR)
+            self._lock.acquire()
+        try:
             if self._socket is not None:
-                try:
-                    self._ask("quit")
-                except Lost:
-                    pass
+                with contextlib.suppress(Lost):
+                    self._ask("quit", time.monotonic() + ANSWERS)
                 self._drop()
+        finally:
+            self._closing = False
+            self._lock.release()
 
     def __enter__(self):
         return self

@@ -2,8 +2,7 @@
 //! to nobody, which of them are given back when all are to be retired, what the published files hold then, and what the
 //! call that waited reads.
 
-use crate::desks::are_files;
-use crate::make::{Bytes, CELL, ZERO, accepted, desk_of, outcome_of, receipt_of};
+use crate::make::{Bytes, CELL, ZERO, accepted, desk_of, outcome_of, pinned, receipt_of};
 use apply_core::reply::{Failure, Reply};
 use board_core::receipt::Receipt;
 use desk_core::desk::Desk;
@@ -83,6 +82,16 @@ fn receipt_beside<H: Hand>(
     Some(receipt)
 }
 
+// Whether the files of these numbers stand here, in this order.
+fn are_files(stamps: &[Stamp], want: &[u64]) -> bool {
+    for (stamp, number) in stamps.iter().zip(want) {
+        if stamp.number != *number {
+            return false;
+        }
+    }
+    stamps.len() == want.len()
+}
+
 // Whether the files that a receipt leaves to nobody are those of these numbers, and those that are given back when they
 // are to be retired are the files of those.
 fn gives_back<H: Hand>(hand: &mut H, receipt: Receipt, free: &[u64], left: &[u64]) -> bool {
@@ -123,6 +132,8 @@ const OF_CELL: [Row; 6] = [
 
 const NINE: Bytes = b"\x02\x01\x00\x01\x00\x00\x00\x09";
 
+// Catches `body_always_wants_memory` and `retire_all_retires_nothing`, and no case can show which files are free: a `put`
+// on a device that fails at each of its calls in turn.
 #[test]
 fn a_device_fails_each_call_of_a_cell_in_turn(rt: HostRuntime) {
     let alloc = rt.alloc();
@@ -149,6 +160,7 @@ fn fails_for_good(alloc: Global, desk: &mut Desk, hand: &mut FuseHand<MemHand>) 
     }
 }
 
+// No case can show it: on a device that fails for good after so many calls the published file stays as it was.
 #[test]
 fn a_device_that_failed_for_good_holds_what_was_published(rt: HostRuntime) {
     let alloc = rt.alloc();
@@ -190,6 +202,8 @@ fn spelled(rt: &impl Abort, alloc: Global, ends: u8) -> Vec<u8> {
     bytes
 }
 
+// Catches `retire_all_gives_nothing_back`, and no case can show which files are free: `both` on a device that fails at
+// each of its calls in turn.
 #[test]
 fn a_device_fails_each_call_of_a_part_of_five_pages_in_turn(rt: HostRuntime) {
     let alloc = rt.alloc();
@@ -280,6 +294,38 @@ fn is_as_before(desk: &Desk) -> bool {
     }
 }
 
+// Bytes that spell no array of one integer: one less, one more, and those of the first format.
+const DAMAGED_CELLS: [Bytes; 3] = [
+    b"\x02\x01\x00\x01\x00\x00\x00",
+    b"\x02\x01\x00\x01\x00\x00\x00\x00\x00",
+    b"\x01\x01\x00\x01\x00\x00\x00\x00",
+];
+
+// Whether `get` of a cell whose file has these bytes fails, and its pin stays.
+fn is_damaged(rt: &impl Abort, alloc: Global, bytes: Bytes) -> bool {
+    let mut hand = MemHand::new(alloc);
+    let pins = pinned(rt, &mut hand, &[bytes]);
+    let mut desk = desk_of(rt, alloc, CELL, pins);
+    let Some(receipt) = receipt_of(alloc, &mut desk, &mut hand, "get", &[]) else {
+        return false;
+    };
+    let is_told = *receipt.noted.reply() == DAMAGED && receipt.free.is_empty();
+    match desk.pins().get(0) {
+        Some(list) => is_told && are_files(list.stamps(), &[1]),
+        None => false,
+    }
+}
+
+// No case can show it: a pin that no shelf gave, of a file with a byte too few or too many, or of the first format.
+#[test]
+fn a_pin_of_other_bytes_fails_the_call(rt: HostRuntime) {
+    for bytes in DAMAGED_CELLS {
+        assert!(rt; is_damaged(&rt, rt.alloc(), bytes));
+    }
+}
+
+// No case can show it: pins that no shelf gave, of a first page that is no array's, of a last page that is too long, and
+// of a file that is not there, each told where it is read.
 #[test]
 fn damage_is_told_where_it_is_read(rt: HostRuntime) {
     let alloc = rt.alloc();

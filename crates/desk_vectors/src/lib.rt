@@ -1,21 +1,13 @@
-//! Desks, over the public calls of `desk_core`.
+//! Desks and runs, over the public calls of `desk_core`, `run_core` and `store_core`, where no case shows it: devices
+//! that fail at one call, files that are to be retired, pins that no shelf gave, and outcomes of other desks. Above
+//! each test stands the edit of `wrong-by-test/` that it catches, or what no case can show.
 #![tactic(auto)]
 
 #[cfg(test)]
-mod desks;
+mod at_once;
 #[cfg(test)]
 mod devices;
 #[cfg(test)]
-mod keys;
-#[cfg(test)]
 mod make;
 #[cfg(test)]
-mod parts;
-#[cfg(test)]
-mod refusals;
-#[cfg(test)]
-mod refused;
-#[cfg(test)]
 mod strangers;
-#[cfg(test)]
-mod threads;

@@ -19,15 +19,8 @@ use value_core::datum::Datum;
 /// The bytes of a part.
 pub type Bytes = &'static [u8];
 
-/// The arrays `[0]` and `[7]`.
+/// The array `[0]`.
 pub const ZERO: Bytes = b"\x02\x01\x00\x01\x00\x00\x00\x00";
-
-pub const SEVEN: Bytes = b"\x02\x01\x00\x01\x00\x00\x00\x07";
-
-/// The arrays `[0]` and `[7]` in the first format.
-pub const FIRST_ZERO: Bytes = b"\x01\x01\x00\x01\x00\x00\x00\x00";
-
-pub const FIRST_SEVEN: Bytes = b"\x01\x01\x00\x01\x00\x00\x00\x07";
 
 /// An object with one part.
 pub const CELL: Bytes = b"object cell;

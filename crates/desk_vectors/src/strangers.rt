@@ -77,6 +77,7 @@ fn is_strange(rt: &impl Abort, alloc: Global, hand: &mut MemHand, called: Called
     number == Ok(1) && hands_back(&mut desk, outcome)
 }
 
+// No case can show it: a session hands in the outcomes of its own calls alone.
 #[test]
 fn a_call_is_told_by_its_number_declaration_arguments_and_pins(rt: HostRuntime) {
     let mut hand = MemHand::new(rt.alloc());

@@ -99,7 +99,8 @@ impl<R: Files + AllocGlobal> DirShelf<R> {
         Ok(Some(bytes))
     }
 
-    // Writes the bytes beside what is there, and only when they lie on the disk puts them in its place.
+    // Writes the bytes beside what is there, and only when they lie on the disk puts them in its place. It answers when
+    // the folder lies on the disk, too: before that, a loss of power can bring back what was there.
     fn store_file(&self, name: &[u8], bytes: &[u8]) -> Result<(), HandFault> {
         let (ending, fresh_ending) = self.kept.endings();
         let fresh = self.path(name, fresh_ending)?;
@@ -109,7 +110,7 @@ impl<R: Files + AllocGlobal> DirShelf<R> {
             Err(error) => Err(error),
         };
         match stored {
-            Ok(()) => Ok(()),
+            Ok(()) => self.sync_folder().map_err(fault_of),
             Err(error) => {
                 // Nobody reads what was begun, and the disk may be full.
                 let _ = fs::remove_file(&self.rt, fresh.as_str());
@@ -124,15 +125,20 @@ impl<R: Files + AllocGlobal> DirShelf<R> {
         file.write_all(bytes)?;
         file.sync_all()
     }
+
+    // Returns when the names of the folder's files lie on the disk.
+    fn sync_folder(&self) -> io::Result<()> {
+        File::open(&self.rt, self.folder.as_str())?.sync_all()
+    }
 }
 
 /// Each refusal of the system is `HandFault::Memory` where it wanted memory, and else `HandFault::Device`.
 ///
 /// - Another name than the ones above fails by `Device`, and no file is touched.
 /// - `load` answers `None` where the file is not there.
-/// - `store` writes another file first (`Kept`), has it go to the disk, and then renames it. Where the write fails,
-///   what
-///   was there stays; where the renaming fails, either is there. The other file is removed then.
+/// - `store` writes another file first (`Kept`), has it go to the disk, renames it, and then has the folder go to the
+///   disk. Where the write fails, what was there stays; where the renaming fails, either is there. The other file is
+///   removed then. Where the folder does not go to the disk, the new bytes are there, and after a loss of power either.
 impl<R: Files + AllocGlobal> Shelf for DirShelf<R> {
     // No clause can say what a folder holds.
     ghost holds = { λ s papers. ⊥ };

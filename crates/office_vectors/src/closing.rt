@@ -1,9 +1,6 @@
-//! When an inside and an office are closed.
+//! When an office is closed.
 
-use crate::make::{
-    accepted, finish, inside, inside_of, is_parked, is_taken_in, page, seat_of, stuck, whole_call,
-};
-use crate::named::outcome_of;
+use crate::make::{office_of, pins, put_whole, stuck};
 use apply_core::reply::Reply;
 use board_core::entry::Entry;
 use board_core::receipt::{NotedOutcome, Receipt};
@@ -13,7 +10,6 @@ use office_core::inside::{CloseFault, CloseRefused, Closed, Inside};
 use office_core::office::Office;
 use office_core::seat::{Seat, Started};
 use page_core::pins::Pins;
-use run_core::outcome::Outcome;
 use run_core::perform::perform;
 use run_core::run::Run;
 use slip_core::room::SlipRoom;
@@ -23,13 +19,14 @@ use std::process::Abort;
 use std::sync::Wait;
 use value_core::datum::Datum;
 
-// The inside that a refused close hands back, with so many entries, and its seats.
+// The office of the inside that a refused close hands back, which has so many entries, and its seats.
 fn refused(
     rt: &impl Abort,
+    alloc: Global,
     answer: Result<Closed, CloseRefused>,
     why: CloseFault,
     entries: usize,
-) -> (Inside, Vec<Seat>) {
+) -> (Office, Vec<Seat>) {
     match answer {
         Ok(_) => panic!(rt; "closed"),
         Err(refused) => {
@@ -39,8 +36,16 @@ fn refused(
                 seats,
                 why: _,
             } = refused;
-            (inside, seats)
+            (Office::open(alloc, inside).expect(rt, "memory"), seats)
         }
+    }
+}
+
+// The file of the one page of the one part of a cell.
+fn page(pins: &Pins) -> Option<Stamp> {
+    match pins.get(0)?.stamps() {
+        [stamp] => Some(*stamp),
+        _ => None,
     }
 }
 
@@ -52,8 +57,8 @@ fn page_read(entry: &Entry) -> Option<Stamp> {
     }
 }
 
-// Whether this is the closed desk of a cell that had these pins, with one entry that read by them.
-fn is_closed(answer: Result<Closed, CloseRefused>, pins: Pins) -> bool {
+// Whether this is the closed desk of a cell that had this file, with one entry that read it.
+fn is_closed(answer: Result<Closed, CloseRefused>, file: Option<Stamp>) -> bool {
     let Ok(closed) = answer else {
         return false;
     };
@@ -63,74 +68,78 @@ fn is_closed(answer: Result<Closed, CloseRefused>, pins: Pins) -> bool {
     };
     let is_cell = desk.accepted().object().name.is_spelled_by(b"cell");
     let opening = desk.opening_pins();
-    let file = page(&pins);
     is_cell && file.is_some() && page(&opening) == file && page_read(entry) == file
 }
 
-// A receipt of a `put 8` at place 1 of another inside.
+// A receipt of a `put 8` at place 1 of another office.
 fn foreign<R: Abort + Wait>(rt: &R, alloc: Global) -> Receipt {
     let mut hand = MemHand::new(alloc);
-    let mut other = inside(rt, alloc, &mut hand);
-    let mut seat = other.seat().expect(rt, "a seat");
-    whole_call(rt, alloc, &mut other, &mut seat, &mut hand, 8).expect(rt, "a receipt")
+    let other = office_of(rt, alloc, pins(rt, &mut hand));
+    let mut seat = other.seat(rt).expect(rt, "a seat");
+    put_whole(rt, alloc, &other, &mut seat, &mut hand, 8).expect(rt, "a receipt")
 }
 
-fn one(rt: &impl Abort, alloc: Global, receipt: Receipt) -> Vec<Receipt> {
+fn one<T: Drop>(rt: &impl Abort, alloc: Global, it: T) -> Vec<T> {
     let mut all = Vec::new(alloc);
-    all.push(receipt).expect(rt, "memory");
+    all.push(it).expect(rt, "memory");
     all
 }
 
 // The slip of a receipt of a `put` of this value.
-fn slip(rt: &impl Abort, alloc: Global, receipt: Receipt, value: u32) -> Vec<Slip> {
-    let mut inside = SlipRoom::new(alloc);
-    inside.make(&[Datum::Integer(value)]).expect(rt, "memory");
+fn slip(rt: &impl Abort, alloc: Global, receipt: Receipt, value: u32) -> Slip {
+    let mut room = SlipRoom::new(alloc);
+    room.make(&[Datum::Integer(value)]).expect(rt, "memory");
     let Receipt {
         place,
         noted: NotedOutcome { session, outcome },
         free: _,
     } = receipt;
-    let slip = inside.slip(place, session, outcome).expect(rt, "a slip");
+    let slip = room.slip(place, session, outcome).expect(rt, "a slip");
     assert!(rt; slip.place() == 1 && slip.number() == 1 && slip.reply() == Reply::Done(None));
-    let mut all = Vec::new(alloc);
-    all.push(slip).expect(rt, "memory");
-    all
+    slip
 }
 
+const MISMATCH: CloseFault = CloseFault::Mismatch {
+    receipt: 0,
+    place: 1,
+};
+
+// No case can show it: no program closes an office without its seat, with the receipt of another one, or with receipts.
 #[test]
 fn an_office_closes_with_its_seat_and_its_receipt(rt: HostRuntime) {
     let alloc = rt.alloc();
     let mut hand = MemHand::new(alloc);
-    let mut inside = inside(&rt, alloc, &mut hand);
-    let pins = inside.desk().pins();
-    let mut seat = inside.seat().expect(&rt, "a seat");
-    let own = whole_call(&rt, alloc, &mut inside, &mut seat, &mut hand, 7).expect(&rt, "a receipt");
-    let foreign = one(&rt, alloc, foreign(&rt, alloc));
+    let opening = pins(&rt, &mut hand);
+    let office = office_of(&rt, alloc, opening);
+    let mut seat = office.seat(&rt).expect(&rt, "a seat");
+    let own = put_whole(&rt, alloc, &office, &mut seat, &mut hand, 7).expect(&rt, "a receipt");
     let own = one(&rt, alloc, own);
-    let why = CloseFault::SeatMissing;
-    let (inside, mut seats) = refused(&rt, inside.close(Vec::new(alloc), &[]), why, 1);
+    let foreign = one(&rt, alloc, foreign(&rt, alloc));
+    let missing = office.close(Vec::new(alloc), &[]);
+    let (office, mut seats) = refused(&rt, alloc, missing, CloseFault::SeatMissing, 1);
     seats.push(seat).expect(&rt, "memory");
-    let why = CloseFault::Mismatch {
-        receipt: 0,
-        place: 1,
-    };
-    let (inside, seats) = refused(&rt, inside.close(seats, &foreign), why, 1);
-    assert!(rt; is_closed(inside.close(seats, &own), pins));
+    let (office, seats) = refused(&rt, alloc, office.close(seats, &foreign), MISMATCH, 1);
+    assert!(rt; is_closed(office.close(seats, &own), page(&opening)));
 }
 
-// Makes a call of `put` in an office from beginning to end.
-fn put<R: Wait>(
-    rt: &R,
-    alloc: Global,
-    office: &Office,
-    seat: &mut Seat,
-    hand: &mut MemHand,
-    value: u32,
-) -> Option<Receipt> {
-    let submitted = office
-        .submit(rt, seat, "put", &[Datum::Integer(value)])
-        .ok()?;
-    finish(rt, alloc, office, seat, hand, submitted)
+// No case can show it: no program closes an office without its seat, or with the slip of another one.
+#[test]
+fn an_office_closes_with_its_seat_and_its_slip(rt: HostRuntime) {
+    let alloc = rt.alloc();
+    let mut hand = MemHand::new(alloc);
+    let opening = pins(&rt, &mut hand);
+    let office = office_of(&rt, alloc, opening);
+    let mut seat = office.seat(&rt).expect(&rt, "a seat");
+    let own = put_whole(&rt, alloc, &office, &mut seat, &mut hand, 7).expect(&rt, "a receipt");
+    let own = one(&rt, alloc, slip(&rt, alloc, own, 7));
+    let foreign = foreign(&rt, alloc);
+    let foreign = one(&rt, alloc, slip(&rt, alloc, foreign, 8));
+    let missing = office.close_by_slips(Vec::new(alloc), &[]);
+    let (office, mut seats) = refused(&rt, alloc, missing, CloseFault::SeatMissing, 1);
+    seats.push(seat).expect(&rt, "memory");
+    let mixed = office.close_by_slips(seats, &foreign);
+    let (office, seats) = refused(&rt, alloc, mixed, MISMATCH, 1);
+    assert!(rt; is_closed(office.close_by_slips(seats, &own), page(&opening)));
 }
 
 // Whether a submission of one office is a stranger in another one, and starts in its own.
@@ -164,168 +173,20 @@ fn is_stranger<R: Wait>(
     }
 }
 
-#[test]
-fn an_office_closes_with_its_seat_and_its_slip(rt: HostRuntime) {
-    let alloc = rt.alloc();
-    let mut hand = MemHand::new(alloc);
-    let inside = inside(&rt, alloc, &mut hand);
-    let pins = inside.desk().pins();
-    let office = Office::open(alloc, inside).expect(&rt, "memory");
-    let mut seat = office.seat(&rt).expect(&rt, "a seat");
-    let own = put(&rt, alloc, &office, &mut seat, &mut hand, 7).expect(&rt, "a receipt");
-    let foreign = slip(&rt, alloc, foreign(&rt, alloc), 8);
-    let own = slip(&rt, alloc, own, 7);
-    let why = CloseFault::SeatMissing;
-    let (inside, mut seats) = refused(&rt, office.close_by_slips(Vec::new(alloc), &[]), why, 1);
-    seats.push(seat).expect(&rt, "memory");
-    let why = CloseFault::Mismatch {
-        receipt: 0,
-        place: 1,
-    };
-    let office = Office::open(alloc, inside).expect(&rt, "memory");
-    let (inside, seats) = refused(&rt, office.close_by_slips(seats, &foreign), why, 1);
-    let office = Office::open(alloc, inside).expect(&rt, "memory");
-    assert!(rt; is_closed(office.close_by_slips(seats, &own), pins));
-}
-
+// No case can show it: no program takes a submission to another office, or closes one while a call runs.
 #[test]
 fn a_call_that_runs_keeps_an_office_open(rt: HostRuntime) {
     let alloc = rt.alloc();
     let mut hand = MemHand::new(alloc);
-    let first = Office::open(alloc, inside(&rt, alloc, &mut hand)).expect(&rt, "memory");
-    let other = Office::open(alloc, inside(&rt, alloc, &mut hand)).expect(&rt, "memory");
+    let first = office_of(&rt, alloc, pins(&rt, &mut hand));
+    let other = office_of(&rt, alloc, pins(&rt, &mut hand));
     let mut seat = first.seat(&rt).expect(&rt, "a seat");
     assert!(rt; is_stranger(&rt, alloc, &first, &other, &mut seat, &mut hand));
-    let (inside, seats) = refused(
-        &rt,
-        first.close(Vec::new(alloc), &[]),
-        CloseFault::Outstanding,
-        0,
-    );
-    assert!(rt; inside.desk().runs(1) && seats.is_empty());
-}
-
-// Parks the seat of a name behind a `put 7`, and answers the receipt.
-fn put_and_park<R: Abort + Wait>(
-    rt: &R,
-    alloc: Global,
-    inside: &mut Inside,
-    hand: &mut MemHand,
-    bytes: &[u8],
-) -> Receipt {
-    let mut seat = seat_of(rt, alloc, inside, bytes);
-    let receipt = whole_call(rt, alloc, inside, &mut seat, hand, 7).expect(rt, "a receipt");
-    assert!(rt; is_parked(inside, seat));
-    receipt
-}
-
-// What a close without a seat, or with one too many, hands back.
-fn missing(
-    rt: &impl Abort,
-    inside: Inside,
-    seats: Vec<Seat>,
-    receipts: &[Receipt],
-) -> (Inside, Vec<Seat>) {
-    refused(
-        rt,
-        inside.close(seats, receipts),
-        CloseFault::SeatMissing,
-        1,
-    )
-}
-
-// The first seat of another inside, over the same files.
-fn strange(rt: &impl Abort, alloc: Global, pins: Pins) -> Seat {
-    let mut other = inside_of(alloc, pins).expect(rt, "an inside");
-    other.seat().expect(rt, "a seat")
-}
-
-// Whether the last one of two seats is the strange one, which is taken away.
-fn is_last_strange(seats: &mut Vec<Seat>) -> bool {
-    match seats.pop() {
-        Some(twice) => twice.session() == 1 && seats.len() == 1,
-        None => false,
+    match first.close(Vec::new(alloc), &[]) {
+        Ok(_) => panic!(rt; "closed"),
+        Err(refused) => {
+            let inside: &Inside = &refused.inside;
+            assert!(rt; refused.why == CloseFault::Outstanding && inside.desk().runs(1));
+        }
     }
-}
-
-// A seat of a name that is out is missing where an inside closes. It is parked then.
-fn missing_while_out(
-    rt: &impl Abort,
-    alloc: Global,
-    inside: Inside,
-    seats: Vec<Seat>,
-    receipts: &[Receipt],
-) -> (Inside, Vec<Seat>) {
-    let mut inside = inside;
-    let ann = seat_of(rt, alloc, &mut inside, b"ann");
-    assert!(rt; ann.session() == 1 && ann.count() == 1);
-    let (mut inside, seats) = missing(rt, inside, seats, receipts);
-    assert!(rt; is_parked(&mut inside, ann));
-    (inside, seats)
-}
-
-#[test]
-fn parked_seats_are_counted_where_an_office_closes(rt: HostRuntime) {
-    let alloc = rt.alloc();
-    let mut hand = MemHand::new(alloc);
-    let mut inside = inside(&rt, alloc, &mut hand);
-    let own = put_and_park(&rt, alloc, &mut inside, &mut hand, b"ann");
-    let own = one(&rt, alloc, own);
-    let seat = inside.seat().expect(&rt, "a seat");
-    // The seat without a name is missing; then the parked one is out.
-    let (inside, mut seats) = missing(&rt, inside, Vec::new(alloc), &own);
-    seats.push(seat).expect(&rt, "memory");
-    let (inside, mut seats) = missing_while_out(&rt, alloc, inside, seats, &own);
-    // A seat that is parked is handed in, too: each session has one seat.
-    let strange = strange(&rt, alloc, inside.desk().pins());
-    seats.push(strange).expect(&rt, "memory");
-    let (inside, mut seats) = missing(&rt, inside, seats, &own);
-    assert!(rt; is_last_strange(&mut seats));
-    let foreign = one(&rt, alloc, foreign(&rt, alloc));
-    let why = CloseFault::Mismatch {
-        receipt: 0,
-        place: 1,
-    };
-    let (inside, seats) = refused(&rt, inside.close(seats, &foreign), why, 1);
-    assert!(rt; inside.close(seats, &own).is_ok());
-}
-
-#[test]
-fn an_office_closes_with_parked_seats_alone(rt: HostRuntime) {
-    let alloc = rt.alloc();
-    let mut hand = MemHand::new(alloc);
-    let mut inside = inside(&rt, alloc, &mut hand);
-    let pins = inside.desk().pins();
-    let receipt = put_and_park(&rt, alloc, &mut inside, &mut hand, b"ann");
-    let own = slip(&rt, alloc, receipt, 7);
-    let office = Office::open(alloc, inside).expect(&rt, "memory");
-    assert!(rt; is_closed(office.close_by_slips(Vec::new(alloc), &own), pins));
-}
-
-// The outcome of a `get` of this seat.
-fn got<R: Abort + Wait>(
-    rt: &R,
-    alloc: Global,
-    inside: &mut Inside,
-    hand: &mut MemHand,
-    seat: &mut Seat,
-) -> Outcome {
-    let submitted = accepted(rt, inside.submit(seat, "get", &[]).ok());
-    outcome_of(rt, alloc, inside, hand, submitted).expect(rt, "an outcome")
-}
-
-// A call of a name that runs comes before a seat that is missing.
-#[test]
-fn a_running_call_of_a_name_keeps_an_office_open(rt: HostRuntime) {
-    let alloc = rt.alloc();
-    let mut hand = MemHand::new(alloc);
-    let mut inside = inside(&rt, alloc, &mut hand);
-    let mut ann = seat_of(&rt, alloc, &mut inside, b"ann");
-    let outcome = got(&rt, alloc, &mut inside, &mut hand, &mut ann);
-    let why = CloseFault::Outstanding;
-    let (mut inside, seats) = refused(&rt, inside.close(Vec::new(alloc), &[]), why, 0);
-    assert!(rt; is_taken_in(&mut inside, &mut ann, outcome));
-    let (mut inside, seats) = missing(&rt, inside, seats, &[]);
-    assert!(rt; is_parked(&mut inside, ann));
-    assert!(rt; inside.close(seats, &[]).is_ok());
 }

@@ -1,10 +1,9 @@
-//! Rooms and offices, over the public calls of `office_core`.
+//! Offices, over the public calls of `office_core`: calls that no program makes, seats of names, and threads. Above each
+//! test stands the edit of `wrong-by-test/` that it catches, or what no case can show.
 #![tactic(auto)]
 
 #[cfg(test)]
 mod closing;
-#[cfg(test)]
-mod keyed;
 #[cfg(test)]
 mod make;
 #[cfg(test)]
@@ -13,5 +12,3 @@ mod many;
 mod meeting;
 #[cfg(test)]
 mod named;
-#[cfg(test)]
-mod refused;

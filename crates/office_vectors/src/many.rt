@@ -1,6 +1,6 @@
 //! 64 threads that call, cancel and leave at random.
 
-use crate::make::{inside, stuck};
+use crate::make::{office_of, pins, stuck};
 use apply_core::reply::Reply;
 use ask_core::answer::SubmitFault;
 use board_core::entry::Entry;
@@ -223,11 +223,12 @@ fn is_right(closed: &Closed, receipts: usize) -> bool {
     history.len() == receipts && keeps_path(desk) && is_sequential(history)
 }
 
+// Catches `nobody_is_woken`.
 #[test]
 fn many_threads_close(rt: HostRuntime) {
     let alloc = rt.alloc();
     let mut files = MemHand::new(alloc);
-    let office = Office::open(alloc, inside(&rt, alloc, &mut files)).expect(&rt, "memory");
+    let office = office_of(&rt, alloc, pins(&rt, &mut files));
     let hand = Mutex::new(files);
     let all = thread::map_indices(
         &rt,

@@ -1,6 +1,6 @@
 //! Two bodies that run at once.
 
-use crate::make::{finish, inside, page, pins, stuck};
+use crate::make::{finish, office_of, pins, stuck};
 use device_core::memory::MemHand;
 use office_core::office::Office;
 use office_core::seat::Started;
@@ -14,8 +14,8 @@ use std::thread;
 // After so many turns nobody comes any more.
 const MOST_TURNS: u64 = 100_000_000;
 
-/// Turns until the word has this value, and tells whether it had it in time.
-pub fn meets(word: &AtomicU64, value: u64) -> bool {
+// Turns until the word has this value, and tells whether it had it in time.
+fn meets(word: &AtomicU64, value: u64) -> bool {
     for _ in 0..MOST_TURNS {
         if word.load(Ordering::SeqCst) == value {
             return true;
@@ -70,16 +70,15 @@ fn second<R: Wait>(
     met && receipt.is_some()
 }
 
+// Catches `lock_held_while_body_runs`.
 #[test]
 fn two_gets_meet(rt: HostRuntime) {
     let alloc = rt.alloc();
     let mut one = MemHand::new(alloc);
     let mut two = MemHand::new(alloc);
-    let inside = inside(&rt, alloc, &mut one);
-    let same = pins(&mut two).expect(&rt, "memory");
-    let there = inside.desk().pins();
-    assert!(rt; page(&same).is_some() && page(&same) == page(&there));
-    let office = Office::open(alloc, inside).expect(&rt, "memory");
+    let office = office_of(&rt, alloc, pins(&rt, &mut one));
+    // Both hands have the file of the part, under one number.
+    let _same = pins(&rt, &mut two);
     let word = AtomicU64::new(0);
     let (first, second) = thread::join(
         &rt,

@@ -1,3 +1,4 @@
+pub mod Calling
 pub mod Cuts
 pub mod ListBytes
 pub mod PageRows

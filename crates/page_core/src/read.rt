@@ -5,8 +5,9 @@ ghost use Rattle.std.specs.Prelude.{drop};
 ghost use Rattle.std.specs.Result.{IsErr, IsErrOf};
 ghost use Rattle.hand_core.specs.declared.hand.Stamp.{Stamp as AStamp};
 ghost use Rattle.hand_core.specs.Device.{Assignment, FaultCause, Shows, Always, AreServed};
-ghost use Rattle.hand_core.specs.Made.{reads, IsDeviceErr};
+ghost use Rattle.hand_core.specs.Made.{Made, reads, IsDeviceErr};
 ghost use Rattle.page_core.specs.Bytes.{list_bytes, AreWhole, IsPage};
+ghost use Rattle.page_core.specs.Calls.{AreMade, ReadInOrder};
 
 use hand_core::hand::{Hand, HandFault, Stamp};
 
@@ -30,8 +31,7 @@ fn read_end<H: Hand>(
     ensures works { (n : ℕ) → H.works_for hand.old (n + 1) → H.works_for hand.new n }
     ensures in_order { H.works_for hand.old 1 → H.serves hand.old page.now → IsDeviceErr result → ⊥ }
     ensures fails { H.fails hand.old → IsDeviceErr result }
-    ensures makes { (b : List ℕ) × (answer : Result (Unit {0}) HandFault)
-        × H.makes hand.old (reads page.now 0 b answer) hand.new }
+    ensures makes { (b : List ℕ) × H.makes hand.old (reads page.now 0 b result) hand.new }
     ensures rises { H.failed hand.old < H.failed hand.new → IsDeviceErr result }
     ensures counted { H.failed hand.old ≤ H.failed hand.new }
     ensures cause { IfErr result (λ e. FaultCause (H.failed hand.old) (H.failed hand.new) e) }
@@ -55,8 +55,7 @@ pub fn read_page<H: Hand>(hand: &mut H, page: &Stamp, got: &mut Vec<u8>) -> Resu
     // Where memory for the bytes is refused no call is made.
     ensures fails { H.fails hand.old → IsErr result }
     ensures makes { (IsErrOf result HandFault.Memory × (hand.new ≡ hand.old))
-        ⊎ ((b : List ℕ) × (answer : Result (Unit {0}) HandFault)
-        × H.makes hand.old (reads page.now 0 b answer) hand.new) }
+        ⊎ ((b : List ℕ) × H.makes hand.old (reads page.now 0 b result) hand.new) }
     ensures rises { H.failed hand.old < H.failed hand.new → IsDeviceErr result }
     ensures counted { H.failed hand.old ≤ H.failed hand.new }
     ensures cause { IfErr result (λ e. FaultCause (H.failed hand.old) (H.failed hand.new) e) }
@@ -81,6 +80,10 @@ pub fn read_list<H: Hand>(hand: &mut H, pages: &[Stamp], got: &mut Vec<u8>) -> R
     // What was read are the bytes of the list, and it is whole.
     ensures found { OnOk result ((bytes : List ℕ) × (got.new.items ≡ got.old.items ++ bytes)
         × ((a : Assignment) → H.agrees hand.new a → (list_bytes a pages.now ≡ Some bytes) × AreWhole a pages.now)) }
+    // It reads the pages in order, each once, up to one that fails, or for whose bytes memory is refused.
+    ensures makes { (calls : List Made) × AreMade H.makes hand.old calls hand.new × ReadInOrder pages.now calls }
+    // No file is begun.
+    ensures earlier { (n : ℕ) (b : List ℕ) → H.pending hand.new n b → H.pending hand.old n b }
     // What could be read can be read, and a device that is in order and can read the list does not fail.
     ensures serves { (s : AStamp) → H.serves hand.old s → H.serves hand.new s }
     ensures works { Always (H.works_for hand.old) → Always (H.works_for hand.new) }

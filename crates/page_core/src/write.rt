@@ -1,11 +1,12 @@
 //! Pages that are written at once.
 
-ghost use Rattle.std.specs.Prelude.{◌≡◌, ◌+◌, ◌<◌, ◌≤◌, ◌++◌, ◌∷◌, [], List, Some, None, IfOk, IfErr, length};
+ghost use Rattle.std.specs.Prelude.{◌≡◌, ◌≢◌, ℕ, ◌+◌, ◌<◌, ◌≤◌, ◌++◌, ◌∷◌, [], List, Some, None, IfOk, IfErr, length};
 ghost use Rattle.std.specs.Prelude.{vec_capacity, slice_set};
 ghost use Rattle.hand_core.specs.declared.hand.HandFault.TheVariants as faults;
 ghost use Rattle.hand_core.specs.declared.hand.Stamp.{Stamp as AStamp};
-ghost use Rattle.hand_core.specs.Device.{Assignment, FaultCause, Holds, Failed as DeviceFailed};
-ghost use Rattle.hand_core.specs.Made.{IsDeviceErr};
+ghost use Rattle.hand_core.specs.Device.{Assignment, FaultCause, Holds, Always, AreServed, Failed as DeviceFailed};
+ghost use Rattle.hand_core.specs.Made.{Made, IsDeviceErr};
+ghost use Rattle.page_core.specs.Calls.{AreMade, WritesFile, WritesPages};
 ghost use Rattle.page_core.specs.Renewed.{AreSealed, ArePlaces, with_sealed};
 
 use crate::plan::PageWrite;
@@ -15,6 +16,13 @@ use hand_core::hand::{Hand, HandFault, Stamp};
 fn write_file<H: Hand>(hand: &mut H, bytes: &[u8]) -> Result<Stamp, HandFault>
     ensures kept { (a : Assignment) → H.agrees hand.new a → H.agrees hand.old a }
     ensures holds { IfOk result (λ s. (a : Assignment) → H.agrees hand.new a → Holds a s bytes.now) }
+    ensures makes { (calls : List Made) × AreMade H.makes hand.old calls hand.new × WritesFile bytes.now calls result }
+    ensures earlier { (a : Assignment) → H.agrees hand.new a → (n : ℕ) (b : List ℕ) → H.pending hand.new n b →
+        H.pending hand.old n b }
+    ensures serves { (s : AStamp) → H.serves hand.old s → H.serves hand.new s }
+    ensures served { IfOk result (λ s. H.serves hand.new s) }
+    ensures works { Always (H.works_for hand.old) → Always (H.works_for hand.new) }
+    ensures in_order { Always (H.works_for hand.old) → IsDeviceErr result → ⊥ }
     ensures rises { H.failed hand.old < H.failed hand.new → IsDeviceErr result }
     ensures counted { H.failed hand.old ≤ H.failed hand.new }
     ensures cause { IfErr result (λ e. FaultCause (H.failed hand.old) (H.failed hand.new) e) }
@@ -62,6 +70,17 @@ pub fn write_pages<H: Hand>(
     ensures sealed { (more : List AStamp) × (result.0.items ≡ sealed.items ++ more)
         × ((a : Assignment) → H.agrees hand.new a → AreSealed a writes.now more) }
     ensures all { result.1 ≡ None → length result.0.items ≡ length sealed.items + length writes.now }
+    // It writes the pages in order, each by one call of a kind, up to one that fails, and tells all that it sealed.
+    ensures makes { (calls : List Made) × (more : List AStamp) × (result.0.items ≡ sealed.items ++ more)
+        × AreMade H.makes hand.old calls hand.new × WritesPages writes.now calls more result.1 }
+    // No file is left open.
+    ensures earlier { (a : Assignment) → H.agrees hand.new a → (n : ℕ) (b : List ℕ) → H.pending hand.new n b →
+        H.pending hand.old n b }
+    // What could be read can be read, and so can what it sealed; a device that is in order does not fail.
+    ensures serves { (s : AStamp) → H.serves hand.old s → H.serves hand.new s }
+    ensures served { AreServed (H.serves hand.old) sealed.items → AreServed (H.serves hand.new) result.0.items }
+    ensures works { Always (H.works_for hand.old) → Always (H.works_for hand.new) }
+    ensures in_order { Always (H.works_for hand.old) → result.1 ≢ Some faults.Device }
     ensures rises { H.failed hand.old < H.failed hand.new → result.1 ≡ Some faults.Device }
     ensures counted { H.failed hand.old ≤ H.failed hand.new }
     ensures cause { result.1 ≡ Some faults.Device → DeviceFailed (H.failed hand.old) (H.failed hand.new) }

@@ -3,6 +3,7 @@ pub mod Fronts
 pub mod Inside
 pub mod Leading
 pub mod Paging
+pub mod MadeAtOnce
 pub mod Pens
 pub mod SameRuns
 pub mod Serving

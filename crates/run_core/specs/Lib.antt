@@ -1,3 +1,4 @@
+pub mod AtOnce
 pub mod Calling
 pub mod Outcomes
 pub mod Phases

@@ -51,9 +51,9 @@ run_work run = work_in run.phase
 abbrev pub run_place : Run → Place
 run_place run = place_in run.phase
 
--- what a step of this run did to a hand
-abbrev pub RunMakes : {H : Type 0} → (H → Made → H → Type 0) → Run → Option Reply → H → H → Type 0
-RunMakes makes run ending old new = StepMakes makes (run_call run) run.phase ending old new
+-- what a step of this run did to a hand, and what it left of the run: how it has ended, and what it has sealed
+abbrev pub RunMakes : {H : Type 0} → (H → Made → H → Type 0) → Run → Option Reply → List Stamp → H → H → Type 0
+RunMakes makes run ending sealed old new = StepMakes makes (run_call run) run.phase ending sealed old new
 
 -- what was appended to the run's pen, if it has one, is what the run appended
 abbrev pub PenHolds : (ℕ → List ℕ → Type 0) → Run → Type 0

@@ -69,7 +69,8 @@ pub(crate) fn advance<H: Hand>(
     ensures rises { H.failed hand.old < H.failed hand.new → ending_of result.0 ≡ Some (replies.Failed failures.Device) }
     ensures released { (n : ℕ) → pen_in phase ≡ Some n → pen_in result.0 ≢ Some n →
         IsFree (H.agrees hand.new) (H.pending hand.new) n }
-    ensures makes { StepMakes H.makes (task_call task.now) phase (ending_of result.0) hand.old hand.new }
+    ensures makes { StepMakes H.makes (task_call task.now) phase (ending_of result.0) (sealed_in result.0)
+        hand.old hand.new }
     ensures counted { H.failed hand.old ≤ H.failed hand.new }
     ensures cause { ending_of result.0 ≡ Some (replies.Failed failures.Device) →
         (ending_of phase ≡ Some (replies.Failed failures.Device))

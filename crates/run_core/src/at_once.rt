@@ -1,15 +1,17 @@
 //! A call that is run at once.
 
-ghost use Rattle.std.specs.Prelude.{◌≡◌, ◌≢◌, ◌+◌, ◌<◌, ◌≤◌, [], ℕ, length, Some, None, OnOk, IfOk};
+ghost use Rattle.std.specs.Prelude.{◌≡◌, ◌≢◌, ◌+◌, ◌<◌, ◌≤◌, [], ℕ, List, length, Some, None, OnOk, IfOk};
 ghost use Rattle.std.specs.Result.{IsErrOf};
 ghost use Rattle.std.specs.Arc.{arc_value};
 ghost use Rattle.decl_core.specs.Bodies.{body_of};
 ghost use Rattle.decl_core.specs.Touched.{Reads};
 ghost use Rattle.hand_core.specs.declared.hand.HandFault.TheVariants as faults;
-ghost use Rattle.hand_core.specs.Device.{Assignment, Failed as DeviceFailed};
-ghost use Rattle.hand_core.specs.Made.{IsDeviceErr};
+ghost use Rattle.hand_core.specs.declared.hand.Stamp.{Stamp};
+ghost use Rattle.hand_core.specs.Device.{Assignment, Always, Failed as DeviceFailed};
+ghost use Rattle.hand_core.specs.Made.{Made, IsDeviceErr};
 ghost use Rattle.apply_core.specs.declared.reply.Failure.TheVariants as failures;
 ghost use Rattle.apply_core.specs.declared.reply.Reply.TheVariants as replies;
+ghost use Rattle.page_core.specs.Calls.{AreMade, WritesPages};
 ghost use Rattle.page_core.specs.PartPins.{pin_at, pins_by};
 ghost use Rattle.page_core.specs.Renewed.{with_sealed, AreSealed};
 ghost use Rattle.judge_core.specs.Given.{IsDone, IsDamaged};
@@ -24,7 +26,9 @@ ghost use Rattle.call_core.specs.Tickets.{ticket_call};
 ghost use Rattle.call_core.specs.Truths.{IsTrueOf, PinHolds, PinsAreWhole};
 ghost use Rattle.run_core.specs.Outcomes.{outcome_call, outcome_reply, outcome_sealed, outcome_news, outcome_gone};
 ghost use Rattle.run_core.specs.Outcomes.{outcome_pins, IsFresh};
+ghost use Rattle.run_core.specs.AtOnce.{ReadsPart, ReadsParts, ReadsMore, WritesAll, GoesOn, RunsAtOnce};
 ghost use Rattle.run_core.specs.Phases.{IsRenewedBy};
+ghost use Rattle.run_core.specs.Steps.{PageIsServed, PinsServed, AreServed};
 
 use crate::ending::{failure, nothing, outcome_of};
 use crate::outcome::Outcome;
@@ -59,6 +63,13 @@ fn read_bytes<H: Hand>(
     ensures kept { (a : Assignment) → H.agrees hand.new a → H.agrees hand.old a }
     ensures found { OnOk result ((a : Assignment) → H.agrees hand.new a →
         IsPartRead a (task_call task.now) part 0 got.new.items) }
+    ensures makes { (calls : List Made) × AreMade H.makes hand.old calls hand.new
+        × ReadsPart (task_call task.now) part calls }
+    ensures earlier { (n : ℕ) (b : List ℕ) → H.pending hand.new n b → H.pending hand.old n b }
+    ensures serves { (s : Stamp) → H.serves hand.old s → H.serves hand.new s }
+    ensures works { Always (H.works_for hand.old) → Always (H.works_for hand.new) }
+    ensures in_order { Always (H.works_for hand.old) →
+        ((page : ℕ) → PageIsServed (H.serves hand.old) (task_call task.now) part page) → IsDeviceErr result → ⊥ }
     ensures rises { H.failed hand.old < H.failed hand.new → IsDeviceErr result }
     ensures counted { H.failed hand.old ≤ H.failed hand.new }
     ensures cause { IsErrOf result HandFault.Device → DeviceFailed (H.failed hand.old) (H.failed hand.new) }
@@ -96,6 +107,14 @@ fn read_part<H: Hand>(
     ensures damaged { IsErrOf result Failure.Damaged → (a : Assignment) → H.agrees hand.new a →
         PinsAreWhole a (task_call task.now) → IsDamaged (PinHolds a task.now.pins) (arc_value task.now.operation) }
     ensures long { OnOk result (length seen.new.read.items ≡ part + 1) }
+    ensures makes { (calls : List Made) × AreMade H.makes hand.old calls hand.new
+        × ReadsPart (task_call task.now) part calls }
+    ensures earlier { (n : ℕ) (b : List ℕ) → H.pending hand.new n b → H.pending hand.old n b }
+    ensures serves { (s : Stamp) → H.serves hand.old s → H.serves hand.new s }
+    ensures works { Always (H.works_for hand.old) → Always (H.works_for hand.new) }
+    ensures in_order { Always (H.works_for hand.old) →
+        ((page : ℕ) → PageIsServed (H.serves hand.old) (task_call task.now) part page) →
+        IsErrOf result Failure.Device → ⊥ }
     ensures rises { H.failed hand.old < H.failed hand.new → IsErrOf result Failure.Device }
     ensures counted { H.failed hand.old ≤ H.failed hand.new }
     ensures cause { IsErrOf result Failure.Device → DeviceFailed (H.failed hand.old) (H.failed hand.new) }
@@ -130,6 +149,13 @@ fn read_from<H: Hand>(
     ensures places { OnOk result ((p : ℕ) → Reads (body_of (arc_value task.now.operation)).statements p → from ≤ p →
         p < length seen.new.read.items) }
     ensures grows { OnOk result (length seen.old.read.items ≤ length seen.new.read.items) }
+    ensures makes { (calls : List Made) × AreMade H.makes hand.old calls hand.new
+        × ReadsParts (task_call task.now) from calls }
+    ensures earlier { (n : ℕ) (b : List ℕ) → H.pending hand.new n b → H.pending hand.old n b }
+    ensures serves { (s : Stamp) → H.serves hand.old s → H.serves hand.new s }
+    ensures works { Always (H.works_for hand.old) → Always (H.works_for hand.new) }
+    ensures in_order { Always (H.works_for hand.old) → PinsServed (H.serves hand.old) (task_call task.now) →
+        IsErrOf result Failure.Device → ⊥ }
     ensures rises { H.failed hand.old < H.failed hand.new → IsErrOf result Failure.Device }
     ensures counted { H.failed hand.old ≤ H.failed hand.new }
     ensures cause { IsErrOf result Failure.Device → DeviceFailed (H.failed hand.old) (H.failed hand.new) }
@@ -166,6 +192,13 @@ fn judged<H: Hand>(
     ensures over { IfOk result (λ verdict. (p k : ℕ) → verdict ≢ verdicts.Needs p k) }
     ensures writes { IfOk result (OnlyWrites (arc_value task.now.operation)) }
     ensures reads { OnOk result (HasReads (arc_value task.now.operation) seen.new.read.items) }
+    ensures makes { (calls : List Made) × AreMade H.makes hand.old calls hand.new
+        × ReadsMore (task_call task.now) seen.old.known calls }
+    ensures earlier { (n : ℕ) (b : List ℕ) → H.pending hand.new n b → H.pending hand.old n b }
+    ensures serves { (s : Stamp) → H.serves hand.old s → H.serves hand.new s }
+    ensures works { Always (H.works_for hand.old) → Always (H.works_for hand.new) }
+    ensures in_order { Always (H.works_for hand.old) → PinsServed (H.serves hand.old) (task_call task.now) →
+        IsDeviceErr result → ⊥ }
     ensures rises { H.failed hand.old < H.failed hand.new → IsDeviceErr result }
     ensures counted { H.failed hand.old ≤ H.failed hand.new }
     ensures cause { IsErrOf result HandFault.Device → DeviceFailed (H.failed hand.old) (H.failed hand.new) }
@@ -195,6 +228,14 @@ fn write_all<H: Hand>(hand: &mut H, pages: PagePlan) -> (Leaving, Option<HandFau
     ensures gone { result.0.gone.items ≡ pages.gone.items }
     ensures sealed { (a : Assignment) → H.agrees hand.new a → AreSealed a pages.writes.items result.0.sealed.items }
     ensures all { result.1 ≡ None → length result.0.sealed.items ≡ length pages.writes.items }
+    ensures makes { (calls : List Made) × AreMade H.makes hand.old calls hand.new
+        × WritesPages pages.writes.items calls result.0.sealed.items result.1 }
+    ensures earlier { (a : Assignment) → H.agrees hand.new a → (n : ℕ) (b : List ℕ) → H.pending hand.new n b →
+        H.pending hand.old n b }
+    ensures serves { (s : Stamp) → H.serves hand.old s → H.serves hand.new s }
+    ensures works { Always (H.works_for hand.old) → Always (H.works_for hand.new) }
+    ensures written { AreServed (H.serves hand.new) result.0.sealed.items }
+    ensures in_order { Always (H.works_for hand.old) → result.1 ≢ Some faults.Device }
     ensures rises { H.failed hand.old < H.failed hand.new → result.1 ≡ Some faults.Device }
     ensures counted { H.failed hand.old ≤ H.failed hand.new }
     ensures cause { result.1 ≡ Some faults.Device → DeviceFailed (H.failed hand.old) (H.failed hand.new) }
@@ -259,6 +300,14 @@ fn written<H: Hand>(
         (AreChangesOf seen.now.known (arc_value task.operation) seen.now.read.items (PinHolds a task.pins)
         changes.now) → IsRenewedBy a (outcome_call result) (outcome_reply result) (outcome_sealed result)
         (outcome_news result) (outcome_gone result) }
+    ensures makes { (calls : List Made) × AreMade H.makes hand.old calls hand.new
+        × WritesAll (outcome_reply result) (outcome_sealed result) calls }
+    ensures earlier { (a : Assignment) → H.agrees hand.new a → (n : ℕ) (b : List ℕ) → H.pending hand.new n b →
+        H.pending hand.old n b }
+    ensures serves { (s : Stamp) → H.serves hand.old s → H.serves hand.new s }
+    ensures works { Always (H.works_for hand.old) → Always (H.works_for hand.new) }
+    ensures written { AreServed (H.serves hand.new) (outcome_sealed result) }
+    ensures in_order { Always (H.works_for hand.old) → outcome_reply result ≢ replies.Failed failures.Device }
     ensures rises { H.failed hand.old < H.failed hand.new → outcome_reply result ≡ replies.Failed failures.Device }
     ensures counted { H.failed hand.old ≤ H.failed hand.new }
     ensures cause { outcome_reply result ≡ replies.Failed failures.Device →
@@ -299,6 +348,15 @@ fn run_read<H: Hand>(alloc: Global, hand: &mut H, task: Task, seen: Seen) -> Out
         IsSeen a (task_call task) seen.known seen.read.items →
         IsRenewedBy a (outcome_call result) (outcome_reply result) (outcome_sealed result) (outcome_news result)
         (outcome_gone result) }
+    ensures makes { (calls : List Made) × AreMade H.makes hand.old calls hand.new
+        × GoesOn (task_call task) seen.known (outcome_reply result) (outcome_sealed result) calls }
+    ensures earlier { (a : Assignment) → H.agrees hand.new a → (n : ℕ) (b : List ℕ) → H.pending hand.new n b →
+        H.pending hand.old n b }
+    ensures serves { (s : Stamp) → H.serves hand.old s → H.serves hand.new s }
+    ensures works { Always (H.works_for hand.old) → Always (H.works_for hand.new) }
+    ensures written { AreServed (H.serves hand.new) (outcome_sealed result) }
+    ensures in_order { Always (H.works_for hand.old) → PinsServed (H.serves hand.old) (task_call task) →
+        outcome_reply result ≢ replies.Failed failures.Device }
     ensures rises { H.failed hand.old < H.failed hand.new → outcome_reply result ≡ replies.Failed failures.Device }
     ensures counted { H.failed hand.old ≤ H.failed hand.new }
     ensures cause { outcome_reply result ≡ replies.Failed failures.Device →
@@ -338,6 +396,21 @@ pub fn run_at_once<H: Hand>(alloc: Global, ticket: Ticket, hand: &mut H) -> Outc
     ensures renewed { (a : Assignment) → H.agrees hand.new a → PinsAreWhole a (outcome_call result) →
         IsRenewedBy a (outcome_call result) (outcome_reply result) (outcome_sealed result) (outcome_news result)
         (outcome_gone result) }
+    // It reads the pages of its parts in order, then those that its body comes to, and then it writes the pages that its
+    // body changed, up to a call that fails. It tells each file that it seals, also where it fails.
+    ensures makes { (calls : List Made) × AreMade H.makes hand.old calls hand.new
+        × RunsAtOnce (ticket_call ticket) (outcome_reply result) (outcome_sealed result) calls }
+    // No file is left open.
+    ensures earlier { (a : Assignment) → H.agrees hand.new a → (n : ℕ) (b : List ℕ) → H.pending hand.new n b →
+        H.pending hand.old n b }
+    // What could be read can be read, and the device stays in order.
+    ensures serves { (s : Stamp) → H.serves hand.old s → H.serves hand.new s }
+    ensures works { Always (H.works_for hand.old) → Always (H.works_for hand.new) }
+    // What it has sealed can be read.
+    ensures written { AreServed (H.serves hand.new) (outcome_sealed result) }
+    // On a device that is in order and can read the pins of the call, it does not fail for the device.
+    ensures in_order { Always (H.works_for hand.old) → PinsServed (H.serves hand.old) (ticket_call ticket) →
+        outcome_reply result ≢ replies.Failed failures.Device }
     // Where the device failed in these calls, so did the call, and it fails for the device only there.
     ensures rises { H.failed hand.old < H.failed hand.new → outcome_reply result ≡ replies.Failed failures.Device }
     ensures counted { H.failed hand.old ≤ H.failed hand.new }

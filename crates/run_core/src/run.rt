@@ -130,8 +130,9 @@ impl Run {
         ensures pen { PenHolds (H.pending hand.old) self.old → PenHolds (H.pending hand.new) self.new }
         // Where it stands after the step, by the rule of steps.
         ensures steps { Follows (run_call self.old) (run_place self.old) (run_place self.new) }
-        // It makes the call that `next` names, and no other.
-        ensures makes { RunMakes H.makes self.old (run_ending self.new) hand.old hand.new }
+        // It makes the call that `next` names, and no other. Where that fails the run fails for its fault, and each
+        // file that it seals is told.
+        ensures makes { RunMakes H.makes self.old (run_ending self.new) (run_sealed self.new) hand.old hand.new }
         // The number of a file that it begins is that of no other file that is being written, and what was appended to
         // those stays.
         ensures unused { (n : ℕ) → run_pen self.new ≡ Some n →

@@ -67,7 +67,7 @@ pub(crate) fn create_step<H: Hand>(alloc: Global, hand: &mut H, plan: Plan) -> P
     ensures written { AreServed (H.serves hand.old) plan.pages.sealed.items →
         AreServed (H.serves hand.new) (sealed_in result) }
     ensures unused { (n : ℕ) → pen_in result ≡ Some n → IsFree (H.agrees hand.new) (H.pending hand.old) n }
-    ensures makes { MakesCreate H.makes hand.old hand.new }
+    ensures makes { MakesCreate H.makes (ending_of result) hand.old hand.new }
     ensures others { (n : ℕ) (b : List ℕ) → H.pending hand.old n b → H.pending hand.new n b }
     ensures earlier { (n : ℕ) (b : List ℕ) → H.pending hand.new n b →
         H.pending hand.old n b ⊎ (pen_in result ≡ Some n) }
@@ -107,7 +107,7 @@ pub(crate) fn append_step<H: Hand>(alloc: Global, hand: &mut H, plan: Plan, pen:
     ensures fails { H.fails hand.old → ending_of result ≡ Some (replies.Failed failures.Device) }
     ensures rises { H.failed hand.old < H.failed hand.new → ending_of result ≡ Some (replies.Failed failures.Device) }
     ensures released { pen_in result ≢ Some pen.number → IsFree (H.agrees hand.new) (H.pending hand.new) pen.number }
-    ensures makes { MakesAppend H.makes pen.number hand.old hand.new }
+    ensures makes { MakesAppend H.makes pen.number (ending_of result) hand.old hand.new }
     ensures counted { H.failed hand.old ≤ H.failed hand.new }
     ensures cause { ending_of result ≡ Some (replies.Failed failures.Device) →
         DeviceFailed (H.failed hand.old) (H.failed hand.new) }
@@ -142,7 +142,8 @@ pub(crate) fn seal_step<H: Hand>(alloc: Global, hand: &mut H, plan: Plan, pen: P
     ensures fails { H.fails hand.old → ending_of result ≡ Some (replies.Failed failures.Device) }
     ensures rises { H.failed hand.old < H.failed hand.new → ending_of result ≡ Some (replies.Failed failures.Device) }
     ensures released { IsFree (H.agrees hand.new) (H.pending hand.new) pen.number }
-    ensures makes { MakesSeal H.makes pen hand.old hand.new }
+    ensures makes { MakesSeal H.makes pen plan.pages.sealed.items (ending_of result) (sealed_in result) hand.old
+        hand.new }
     ensures counted { H.failed hand.old ≤ H.failed hand.new }
     ensures cause { ending_of result ≡ Some (replies.Failed failures.Device) →
         DeviceFailed (H.failed hand.old) (H.failed hand.new) }

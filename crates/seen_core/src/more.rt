@@ -41,8 +41,7 @@ fn read_into<H: Hand>(
     ensures works { (n : ℕ) → H.works_for hand.old (n + 1) → H.works_for hand.new n }
     ensures in_order { H.works_for hand.old 1 → H.serves hand.old stamp.now → IsDeviceErr result → ⊥ }
     ensures fails { H.fails hand.old → IsDeviceErr result }
-    ensures makes { (b : List ℕ) × (answer : Result (Unit {0}) HandFault)
-        × H.makes hand.old (reads stamp.now 0 b answer) hand.new }
+    ensures makes { (b : List ℕ) × H.makes hand.old (reads stamp.now 0 b result) hand.new }
     ensures rises { H.failed hand.old < H.failed hand.new → IsDeviceErr result }
     ensures counted { H.failed hand.old ≤ H.failed hand.new }
     ensures cause { IfErr result (λ e. FaultCause (H.failed hand.old) (H.failed hand.new) e) }
@@ -74,8 +73,7 @@ fn read_at<H: Hand>(
     ensures in_order { H.works_for hand.old 1 → H.serves hand.old stamp.now → IsDeviceErr result → ⊥ }
     ensures fails { H.fails hand.old → IsErr result }
     ensures makes { (IsErrOf result HandFault.Memory × (hand.new ≡ hand.old))
-        ⊎ ((b : List ℕ) × (answer : Result (Unit {0}) HandFault)
-        × H.makes hand.old (reads stamp.now 0 b answer) hand.new) }
+        ⊎ ((b : List ℕ) × H.makes hand.old (reads stamp.now 0 b result) hand.new) }
     ensures rises { H.failed hand.old < H.failed hand.new → IsDeviceErr result }
     ensures counted { H.failed hand.old ≤ H.failed hand.new }
     ensures cause { IfErr result (λ e. FaultCause (H.failed hand.old) (H.failed hand.new) e) }
@@ -119,8 +117,7 @@ pub fn read_more<H: Hand>(
     ensures in_order { H.works_for hand.old 1 → H.serves hand.old stamp.now → IsDeviceErr result → ⊥ }
     ensures fails { H.fails hand.old → IsErr result }
     ensures makes { (IsErrOf result HandFault.Memory × (hand.new ≡ hand.old))
-        ⊎ ((b : List ℕ) × (answer : Result (Unit {0}) HandFault)
-        × H.makes hand.old (reads stamp.now 0 b answer) hand.new) }
+        ⊎ ((b : List ℕ) × H.makes hand.old (reads stamp.now 0 b result) hand.new) }
     ensures rises { H.failed hand.old < H.failed hand.new → IsDeviceErr result }
     ensures counted { H.failed hand.old ≤ H.failed hand.new }
     ensures cause { IfErr result (λ e. FaultCause (H.failed hand.old) (H.failed hand.new) e) }

@@ -49,6 +49,7 @@ fn is_shut<R: Net<Listener = TcpListener, Stream = TcpStream>>(rt: &R, gate: &Ga
     gives_none && client(rt, gate).is_err() && !gate.shut()
 }
 
+// Catches `gate_admits_any_number`, `gate_gives_nobody`, `gate_has_no_port` and `gate_is_not_opened`.
 #[test]
 fn a_gate_gives_so_many_connections(rt: HostRuntime) {
     for most in 1..4 {
@@ -61,6 +62,7 @@ fn a_gate_gives_so_many_connections(rt: HostRuntime) {
     }
 }
 
+// Catches `shut_does_nothing` and `shut_leaves_the_socket_open`.
 #[test]
 fn a_gate_that_is_shut_gives_nobody(rt: HostRuntime) {
     let gate = gate_for(&rt, 2).expect(&rt, "a gate");
@@ -69,6 +71,7 @@ fn a_gate_that_is_shut_gives_nobody(rt: HostRuntime) {
     assert!(rt; is_shut(&rt, &gate) && !gate.bell().has_rung());
 }
 
+// Catches `stop_does_nothing` and `stop_leaves_the_gate_open`.
 #[test]
 fn a_gate_that_is_stopped_rings(rt: HostRuntime) {
     let gate = gate_for(&rt, 2).expect(&rt, "a gate");
@@ -77,6 +80,7 @@ fn a_gate_that_is_stopped_rings(rt: HostRuntime) {
     assert!(rt; is_shut(&rt, &gate) && gate.bell().has_rung());
 }
 
+// Catches `error_leaves_the_gate_open`.
 #[test]
 fn an_error_shuts_a_gate(rt: HostRuntime) {
     let gate = gate_for(&rt, 2).expect(&rt, "a gate");

@@ -1,5 +1,6 @@
-//! What a server makes of what its sessions left, its gate, and a whole server, over the public calls of `serve_core`
-//! and `keep_core`.
+//! What no case shows of a server, over the public calls of `serve_core` and `keep_core`: its gate, and what it tells of
+//! a session or an object that does not add up. Above each test stands the edit of `wrong-by-test/` that it catches, or
+//! what no case can show.
 #![tactic(auto)]
 
 #[cfg(test)]
@@ -9,6 +10,4 @@ mod gates;
 #[cfg(test)]
 mod gathered;
 #[cfg(test)]
-mod lacking;
-#[cfg(test)]
-mod served;
+mod make;

@@ -1,13 +1,21 @@
-//! Sessions of one client, over the public calls of `session_core`.
+//! Sessions of clients, over the public calls of `session_core` and `talk_core`, where no case shows it: readers, writers
+//! and devices that behave as a test needs. Above each test stands the edit of `wrong-by-test/` that it catches, or what
+//! no case can show.
 #![tactic(auto)]
 
 #[cfg(test)]
-mod devices;
+mod deaf;
 #[cfg(test)]
 mod lines;
 #[cfg(test)]
+mod make;
+#[cfg(test)]
+mod named;
+#[cfg(test)]
 mod patience;
 #[cfg(test)]
-mod refused;
+mod slow;
+#[cfg(test)]
+mod streams;
 #[cfg(test)]
 mod turns;

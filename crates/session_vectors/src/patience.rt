@@ -43,6 +43,7 @@ fn is_written(alloc: Global, pauses: u32, has_rung: bool) -> bool {
     writer.write_all(b"done 1\n").is_ok()
 }
 
+// Catches `waits_for_ever_for_a_client`.
 #[test]
 fn a_write_that_takes_nothing_fails_after_a_time(rt: HostRuntime) {
     let alloc = rt.alloc();

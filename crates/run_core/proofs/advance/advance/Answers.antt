@@ -15,9 +15,9 @@ returns-clause-makes g c =
     elim c.match-phase.branch [
       | in-Reading w ↦ rw (w.in-Reading.is, w.hand-is, w.next-is) w.read_step-next.ensures.makes
       | in-Paging w ↦ rw (w.in-Paging.is, w.hand-is, w.next-is) w.page_step-next.ensures.makes
-      | in-Creating w ↦ rw (w.in-Creating.is, w.hand-is) w.create_step-next.ensures.makes
-      | in-Appending w ↦ rw (w.in-Appending.is, w.hand-is) w.append_step-next.ensures.makes
-      | in-Sealing w ↦ rw (w.in-Sealing.is, w.hand-is) w.seal_step-next.ensures.makes
+      | in-Creating w ↦ rw (w.in-Creating.is, w.hand-is, w.next-is) w.create_step-next.ensures.makes
+      | in-Appending w ↦ rw (w.in-Appending.is, w.hand-is, w.next-is) w.append_step-next.ensures.makes
+      | in-Sealing w ↦ rw (w.in-Sealing.is, w.hand-is, w.next-is) w.seal_step-next.ensures.makes
     ]
 
 pub returns-clause-reads : goal.returns-clause-reads

@@ -1,11 +1,13 @@
-use Rattle.std.proofs.Common.{◌≡◌}
+use Rattle.std.proofs.Common.{◌≡◌, ℕ, List}
 use Rattle.std.specs.Arc.{arc_value}
-use Rattle.hand_core.specs.Device.{Assignment}
+use Rattle.hand_core.specs.declared.hand.Stamp.{Stamp}
+use Rattle.hand_core.specs.Device.{Assignment, Always}
 use Rattle.known_core.specs.Masks.{unread}
 use Rattle.judge_core.specs.Verdicts.{HasReads}
 use Rattle.seen_core.specs.Seen.{IsSeen}
 use Rattle.call_core.specs.Tasks.{task_call}
 use Rattle.call_core.specs.Truths.{PinsAreWhole}
+use Rattle.run_core.proofs.MadeAtOnce.{ReadsSoFar}
 use Rattle.run_core.proofs.at_once.judged.Given as goal
 
 -- the pages that were read so far are seen
@@ -18,6 +20,10 @@ invariant-loop-part g l =
       seen : (a : Assignment) → agrees l.hand a → PinsAreWhole a call → IsSeen a call l.fn.seen.known l.fn.seen.read.items → IsSeen a call l.seen.known l.seen.read.items;
       reads : HasReads (arc_value l.fn.task.operation) l.seen.read.items;
       none : g.H.Hand.failed l.hand ≡ g.H.Hand.failed l.fn.hand;
+      makes : ReadsSoFar g.H.Hand.makes call l.fn.seen.known l.seen.known l.fn.hand l.hand;
+      earlier : (n : ℕ) (b : List ℕ) → g.H.Hand.pending l.hand n b → g.H.Hand.pending l.fn.hand n b;
+      serves : (s : Stamp) → g.H.Hand.serves l.fn.hand s → g.H.Hand.serves l.hand s;
+      works : Always (g.H.Hand.works_for l.fn.hand) → Always (g.H.Hand.works_for l.hand);
     }
 
 abbrev pub decreases-loop-part : goal.decreases-loop-part

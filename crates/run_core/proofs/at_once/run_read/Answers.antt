@@ -15,6 +15,9 @@ use Rattle.call_core.specs.Truths.{PinHolds, PinsAreWhole}
 use Rattle.seen_core.specs.Seen.{JudgedBy}
 use Rattle.run_core.proofs.Telling.{told_of, renewed_of}
 use Rattle.run_core.proofs.WritingAll.{no_plan, none_changed}
+use Rattle.apply_core.specs.declared.reply.Failure.TheVariants as failures
+use Rattle.run_core.proofs.MadeAtOnce.{reads_alone, reads_and_writes, fault_of_device, failure_in_reply}
+use Rattle.run_core.proofs.Serving.{no_files}
 use Rattle.run_core.proofs.at_once.run_read.Goals as goal
 
 pub written-requires-clause-rising : goal.written-requires-clause-rising
@@ -94,3 +97,39 @@ returns-in-Done-clause-renewed g c = λ a agrees whole seen.
     let judged : JudgedBy a call known read (Done c.in-Done.reply c.in-Done.changes) = subst (λ (v : Verdict). JudgedBy a call known read v) c.in-Done.is found.1 in
     c.written.ensures.renewed a agrees whole found.0
     (subst (λ (cs : List Change). IsDone (PinHolds a call.pins) call.operation call.arguments c.in-Done.reply (AreChangesOf known call.operation read (PinHolds a call.pins) cs)) (sym c.deref.ensures.value) judged)
+
+pub returns-in-Err-clause-makes : goal.returns-in-Err-clause-makes
+returns-in-Err-clause-makes g c = reads_alone g.H.Hand.makes (task_call c.args.task) c.args.seen.known _ _ c.args.hand.now c.judged.new.hand c.over.ensures.sealed c.judged.ensures.makes
+
+pub returns-in-Err-clause-written : goal.returns-in-Err-clause-written
+returns-in-Err-clause-written g c = no_files (g.H.Hand.serves c.judged.new.hand) _ c.over.ensures.sealed
+
+pub returns-then-is_empty-clause-makes : goal.returns-then-is_empty-clause-makes
+returns-then-is_empty-clause-makes g c = reads_alone g.H.Hand.makes (task_call c.args.task) c.args.seen.known _ _ c.args.hand.now c.judged.new.hand c.over-then-is_empty.ensures.sealed c.judged.ensures.makes
+
+pub returns-then-is_empty-clause-written : goal.returns-then-is_empty-clause-written
+returns-then-is_empty-clause-written g c = no_files (g.H.Hand.serves c.judged.new.hand) _ c.over-then-is_empty.ensures.sealed
+
+pub returns-in-Refused-clause-makes : goal.returns-in-Refused-clause-makes
+returns-in-Refused-clause-makes g c = reads_alone g.H.Hand.makes (task_call c.args.task) c.args.seen.known _ _ c.args.hand.now c.judged.new.hand c.over-in-Refused.ensures.sealed c.judged.ensures.makes
+
+pub returns-in-Refused-clause-written : goal.returns-in-Refused-clause-written
+returns-in-Refused-clause-written g c = no_files (g.H.Hand.serves c.judged.new.hand) _ c.over-in-Refused.ensures.sealed
+
+pub returns-in-Damaged-clause-makes : goal.returns-in-Damaged-clause-makes
+returns-in-Damaged-clause-makes g c = reads_alone g.H.Hand.makes (task_call c.args.task) c.args.seen.known _ _ c.args.hand.now c.judged.new.hand c.over-in-Damaged.ensures.sealed c.judged.ensures.makes
+
+pub returns-in-Damaged-clause-written : goal.returns-in-Damaged-clause-written
+returns-in-Damaged-clause-written g c = no_files (g.H.Hand.serves c.judged.new.hand) _ c.over-in-Damaged.ensures.sealed
+
+pub returns-in-Done-clause-makes : goal.returns-in-Done-clause-makes
+returns-in-Done-clause-makes g c = reads_and_writes g.H.Hand.makes (task_call c.args.task) c.args.seen.known _ _ c.args.hand.now c.judged.new.hand c.written.new.hand c.judged.ensures.makes c.written.ensures.makes
+
+pub returns-in-Err-clause-in_order : goal.returns-in-Err-clause-in_order
+returns-in-Err-clause-in_order g c = λ always served is. c.in-Err.ensures.in_order always served (fault_of_device c.in-Err.fault c.failure.result c.failure.ensures (failure_in_reply _ c.failure.result failures.Device c.over.ensures.reply is))
+
+pub returns-in-Done-clause-in_order : goal.returns-in-Done-clause-in_order
+returns-in-Done-clause-in_order g c = λ always served. c.written.ensures.in_order (c.judged.ensures.works always)
+
+pub returns-clause-makes : goal.returns-clause-makes
+returns-clause-makes g c = reads_alone g.H.Hand.makes (task_call c.args.task) c.args.seen.known _ _ c.args.hand.now c.judged.new.hand c.over-in_default.ensures.sealed c.judged.ensures.makes

@@ -7,6 +7,8 @@ use Rattle.page_core.proofs.PartRows.{count_by}
 use Rattle.call_core.specs.Planned.{AreSized}
 use Rattle.call_core.proofs.Sizes.{sized_by}
 use Rattle.run_core.proofs.WritingAll.{all_places, sealed_long}
+use Rattle.run_core.proofs.MadeAtOnce.{each_served, none_served}
+use Rattle.page_core.specs.Calls.{WritesPages}
 use Rattle.run_core.proofs.at_once.write_all.Goals as goal
 
 pub write_pages-sealed-requires : goal.write_pages-sealed-requires
@@ -45,3 +47,15 @@ returns-clause-sealed g c = λ a is.
 
 pub returns-clause-all : goal.returns-clause-all
 returns-clause-all g c = λ went. omega (arith, c.write_pages-sealed.ensures.all went, ap length c.requires, ap length c.deref.ensures.value)
+
+pub returns-clause-makes : goal.returns-clause-makes
+returns-clause-makes g c =
+    let made = c.write_pages-sealed.ensures.makes in
+    let sealed : c.write_pages-sealed.result.0.items ≡ made.1 = made.2 ∙ ap (λ (s : List Stamp). s ++ made.1) c.requires in (
+      made.0,
+      made.3,
+      subst (λ (s : List Stamp). WritesPages c.args.pages.writes.items made.0 s c.write_pages-sealed.result.1) (sym sealed) (subst (λ (w : List PageWrite). WritesPages w made.0 made.1 c.write_pages-sealed.result.1) c.deref.ensures.value made.4),
+    )
+
+pub returns-clause-written : goal.returns-clause-written
+returns-clause-written g c = each_served (g.H.Hand.serves c.write_pages-sealed.new.hand) c.write_pages-sealed.result.0.items (c.write_pages-sealed.ensures.served (none_served (g.H.Hand.serves c.args.hand.now) c.args.pages.sealed.items c.requires))

@@ -1,4 +1,4 @@
-use Rattle.std.proofs.Common.{◌≤◌, ℕ, List, length, ap, sym, ◌∙◌, subst, arith}
+use Rattle.std.proofs.Common.{[], ◌≤◌, ℕ, List, length, ap, sym, ◌∙◌, subst, arith, Some, None, refl}
 use Rattle.std.specs.Arc.{arc_value}
 use Rattle.decl_core.specs.Bodies.{body_of}
 use Rattle.page_core.specs.PartPins.{PartPin, pin_at}
@@ -11,6 +11,8 @@ use Rattle.run_core.proofs.Inside.{none_has, plan_writes}
 use Rattle.run_core.proofs.Telling.{told_of, renewed_of}
 use Rattle.run_core.proofs.Writing.{all_left}
 use Rattle.run_core.proofs.WritingAll.{fault_is_true}
+use Rattle.run_core.proofs.MadeAtOnce.{writes_told, writes_none, failure_in_reply, fault_of_device}
+use Rattle.run_core.specs.Steps.{AreServed}
 use Rattle.run_core.proofs.at_once.written.Goals as goal
 
 pub outcome_of-requires : goal.outcome_of-requires
@@ -51,3 +53,22 @@ returns-in-None-clause-renewed g c = λ a agrees whole seen given.
 pub returns-in-Some-clause-told : goal.returns-in-Some-clause-told
 returns-in-Some-clause-told g c = λ a agrees whole seen given still.
     told_of a (task_call c.args.task) _ _ _ c.nothing.result.news _ c.outcome_of-in-Some.ensures.call (c.outcome_of-in-Some.ensures.reply ∙ ap replies.Failed c.failure.ensures) c.outcome_of-in-Some.ensures.news (fault_is_true a (task_call c.args.task) c.in-Some.fault c.nothing.result.news)
+
+pub returns-in-None-clause-makes : goal.returns-in-None-clause-makes
+returns-in-None-clause-makes g c =
+    let made = c.write_all-left.ensures.makes in
+    (made.0, made.1, writes_told c.in-Ok.pages.writes.items made.0 c.write_all-left.result.0.sealed.items _ c.write_all-left.result.1 _ c.outcome_of.ensures.sealed made.2 (rw c.in-None.is tt))
+
+pub returns-in-Some-clause-makes : goal.returns-in-Some-clause-makes
+returns-in-Some-clause-makes g c =
+    let made = c.write_all-left.ensures.makes in
+    (made.0, made.1, writes_told c.in-Ok.pages.writes.items made.0 c.write_all-left.result.0.sealed.items _ c.write_all-left.result.1 _ (c.outcome_of-in-Some.ensures.sealed ∙ c.nothing.ensures.sealed) made.2 (rw c.in-Some.is (c.outcome_of-in-Some.ensures.reply ∙ ap replies.Failed c.failure.ensures)))
+
+pub returns-in-Err-clause-makes : goal.returns-in-Err-clause-makes
+returns-in-Err-clause-makes g c = ([], refl, writes_none _ _ c.over.ensures.sealed)
+
+pub returns-in-None-clause-written : goal.returns-in-None-clause-written
+returns-in-None-clause-written g c = subst (AreServed (g.H.Hand.serves c.write_all-left.new.hand)) (sym c.outcome_of.ensures.sealed) c.write_all-left.ensures.written
+
+pub returns-in-Some-clause-written : goal.returns-in-Some-clause-written
+returns-in-Some-clause-written g c = subst (AreServed (g.H.Hand.serves c.write_all-left.new.hand)) (sym (c.outcome_of-in-Some.ensures.sealed ∙ c.nothing.ensures.sealed)) c.write_all-left.ensures.written

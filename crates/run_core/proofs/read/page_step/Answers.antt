@@ -1,4 +1,4 @@
-use Rattle.std.proofs.Common.{sym, ◌∙◌, inl, inr}
+use Rattle.std.proofs.Common.{Ok, Err, sym, ◌∙◌, inl, inr}
 use Rattle.std.specs.Arc.{arc_value}
 use Rattle.hand_core.specs.declared.hand.HandFault.TheVariants.{Memory}
 use Rattle.call_core.specs.Tasks.{task_call}
@@ -43,7 +43,7 @@ returns-in-Err-clause-makes g c =
     let there = c.in-Some.ensures.there in
     elim c.in-Err.ensures.makes [
       | inl none ↦ inl (memory_ends c.in-Err.fault _ none.0 c.failed-in-Err.ensures.ending, none.1)
-      | inr made ↦ inr (c.in-Some.stamp, (there.0, there.1, there.2), made)
+      | inr made ↦ inr (c.in-Some.stamp, (there.0, there.1, there.2), (made.0, Err c.in-Err.fault, made.1, c.failed-in-Err.ensures.ending))
     ]
 
 pub returns-clause-found : goal.returns-clause-found
@@ -65,5 +65,5 @@ returns-clause-makes g c =
     let there = c.in-Some.ensures.there in
     elim c.in-Ok.ensures.makes [
       | inl none ↦ absurd cc
-      | inr made ↦ inr (c.in-Some.stamp, (there.0, there.1, there.2), made)
+      | inr made ↦ inr (c.in-Some.stamp, (there.0, there.1, there.2), (made.0, Ok c.in-Ok.field-0, made.1, c.conclude.ensures.cause))
     ]

@@ -1,11 +1,11 @@
-use Rattle.std.proofs.Common.{◌+◌, arith, sym, ◌∙◌, inl, inr, refl}
+use Rattle.std.proofs.Common.{◌+◌, Ok, Err, arith, sym, ◌∙◌, inl, inr, refl}
 use Rattle.std.specs.Arc.{arc_value}
 use Rattle.hand_core.specs.declared.hand.HandFault.TheVariants.{Memory}
 use Rattle.call_core.specs.Tasks.{task_call}
 use Rattle.run_core.specs.Steps.{reads_on}
 use Rattle.run_core.proofs.Fronts.{reading_on, part_is_read}
 use Rattle.run_core.proofs.Inside.{none_has}
-use Rattle.run_core.proofs.Serving.{no_files, only_device, memory_ends}
+use Rattle.run_core.proofs.Serving.{no_files, only_device, memory_ends, running}
 use Rattle.run_core.proofs.Stepping.{failed_there, reads_first, ended_reads, reading_reads}
 use Rattle.run_core.proofs.read.read_step.Goals as goal
 
@@ -37,7 +37,7 @@ returns-in-Err-clause-makes g c =
     let there = c.in-Some.ensures.there in
     elim c.in-Err.ensures.makes [
       | inl none ↦ inl (memory_ends c.in-Err.fault _ none.0 c.failed-in-Err.ensures.ending, none.1)
-      | inr made ↦ inr (c.in-Some.found.0, (there.0, there.1, there.2), made)
+      | inr made ↦ inr (c.in-Some.found.0, (there.0, there.1, there.2), (made.0, Err c.in-Err.fault, made.1, c.failed-in-Err.ensures.ending))
     ]
 
 pub returns-in-Err-clause-reads : goal.returns-in-Err-clause-reads
@@ -69,7 +69,7 @@ returns-then-not-is_last-clause-makes g c =
     let there = c.in-Some.ensures.there in
     elim c.in-Ok.ensures.makes [
       | inl none ↦ absurd cc
-      | inr made ↦ inr (c.in-Some.found.0, (there.0, there.1, there.2), made)
+      | inr made ↦ inr (c.in-Some.found.0, (there.0, there.1, there.2), (made.0, Ok c.in-Ok.field-0, made.1, λ bad. absurd (running refl bad)))
     ]
 
 pub returns-clause-found : goal.returns-clause-found
@@ -94,5 +94,5 @@ returns-clause-makes g c =
     let there = c.in-Some.ensures.there in
     elim c.in-Ok.ensures.makes [
       | inl none ↦ absurd cc
-      | inr made ↦ inr (c.in-Some.found.0, (there.0, there.1, there.2), made)
+      | inr made ↦ inr (c.in-Some.found.0, (there.0, there.1, there.2), (made.0, Ok c.in-Ok.field-0, made.1, c.next_part.ensures.cause))
     ]

@@ -1,4 +1,4 @@
-use Rattle.std.proofs.Common.{◌≡◌, ℕ, List, [], refl, ap, sym, subst, ◌∙◌, inr}
+use Rattle.std.proofs.Common.{◌≡◌, ℕ, List, [], Ok, refl, ap, sym, subst, ◌∙◌, inl, inr}
 use Rattle.std.specs.Prelude.{Err}
 use Rattle.page_core.specs.declared.plan.PageWrite.{PageWrite}
 use Rattle.page_core.proofs.ListBytes.{some_same}
@@ -22,7 +22,7 @@ pub returns-in-Err-clause-steps : goal.returns-in-Err-clause-steps
 returns-in-Err-clause-steps g c = λ call. failed_there call _ _ c.in-Err.fault c.given_up.result.items appends_first c.given_up.ensures c.failed.ensures.place
 
 pub returns-in-Err-clause-makes : goal.returns-in-Err-clause-makes
-returns-in-Err-clause-makes g c = (_, Err c.in-Err.fault, inr (refl, (c.append.new.self, c.append.new.pen, c.in-Err.ensures.number, c.in-Err.ensures.makes, c.discard.ensures.makes)))
+returns-in-Err-clause-makes g c = (_, Err c.in-Err.fault, inr (refl, (c.append.new.self, c.append.new.pen, c.in-Err.ensures.number, c.in-Err.ensures.makes, c.discard.ensures.makes)), c.failed.ensures.ending)
 
 pub returns-in-Ok-clause-written : goal.returns-in-Ok-clause-written
 returns-in-Ok-clause-written g c = λ was. files_as_before (g.H.Hand.serves c.args.hand.now) (g.H.Hand.serves c.append.new.self) c.args.plan.pages.sealed.items _ refl c.append.ensures.serves was
@@ -33,3 +33,6 @@ returns-in-Err-clause-written g c = λ was.
 
 pub returns-in-Err-clause-news : goal.returns-in-Err-clause-news
 returns-in-Err-clause-news g c = λ p has. absurd (none_has _ p c.failed.ensures.news has)
+
+pub returns-in-Ok-clause-makes : goal.returns-in-Ok-clause-makes
+returns-in-Ok-clause-makes g c = (_, Ok c.in-Ok.field-0, inl c.in-Ok.ensures.makes, refl)

@@ -1,4 +1,4 @@
-use Rattle.std.proofs.Common.{refl, ◌∙◌}
+use Rattle.std.proofs.Common.{Ok, Err, refl, ◌∙◌}
 use Rattle.run_core.specs.Steps.{creates}
 use Rattle.run_core.proofs.Inside.{none_has}
 use Rattle.run_core.proofs.Serving.{files_as_before}
@@ -19,3 +19,9 @@ returns-in-Err-clause-written g c = λ was. files_as_before (g.H.Hand.serves c.a
 
 pub returns-in-Err-clause-news : goal.returns-in-Err-clause-news
 returns-in-Err-clause-news g c = λ p has. absurd (none_has _ p c.failed.ensures.news has)
+
+pub returns-in-Ok-clause-makes : goal.returns-in-Ok-clause-makes
+returns-in-Ok-clause-makes g c = (Ok c.in-Ok.pen, c.in-Ok.ensures.makes, refl)
+
+pub returns-in-Err-clause-makes : goal.returns-in-Err-clause-makes
+returns-in-Err-clause-makes g c = (Err c.in-Err.fault, c.in-Err.ensures.makes, c.failed.ensures.ending)

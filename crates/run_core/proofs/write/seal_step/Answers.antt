@@ -1,4 +1,4 @@
-use Rattle.std.proofs.Common.{List, [], ◌∷◌, length, sym, ap, ◌∙◌, arith, length-append}
+use Rattle.std.proofs.Common.{Ok, Err, inl, inr, refl, List, [], ◌∷◌, length, sym, ap, ◌∙◌, arith, length-append}
 use Rattle.page_core.specs.PartPins.{PartPin, pin_at}
 use Rattle.run_core.proofs.Inside.{none_has, still_has}
 use Rattle.run_core.proofs.Pens.{some_at}
@@ -53,3 +53,9 @@ returns-in-Err-clause-written g c = λ was.
 
 pub returns-in-Err-clause-news : goal.returns-in-Err-clause-news
 returns-in-Err-clause-news g c = λ p has. absurd (none_has _ p c.failed.ensures.news has)
+
+pub returns-in-Ok-clause-makes : goal.returns-in-Ok-clause-makes
+returns-in-Ok-clause-makes g c = (Ok c.in-Ok.stamp, inl c.in-Ok.ensures.makes, c.go_on.ensures.sealed ∙ c.with.ensures.sealed)
+
+pub returns-in-Err-clause-makes : goal.returns-in-Err-clause-makes
+returns-in-Err-clause-makes g c = (Err (c.in-Err.pen, c.in-Err.fault), inr (refl, (c.seal.new.self, c.in-Err.pen, c.in-Err.ensures.number, c.in-Err.ensures.makes, c.discard.ensures.makes)), (c.failed.ensures.ending, c.failed.ensures.sealed ∙ c.given_up.ensures))

@@ -2,7 +2,7 @@ use Rattle.std.proofs.Common.{◌≡◌, ◌⊎◌, inl, inr, Some, rules, ap, s
 use Rattle.std.specs.Arc.{arc_value}
 use Rattle.hand_core.specs.Device.{IsFree}
 use Rattle.page_core.specs.PartPins.{pin_at}
-use Rattle.run_core.specs.Phases.{ending_of, news_in, pen_in, PenHoldsIn, HasItsReads, FoundBy}
+use Rattle.run_core.specs.Phases.{ending_of, sealed_in, news_in, pen_in, PenHoldsIn, HasItsReads, FoundBy}
 use Rattle.run_core.specs.Calling.{StepMakes}
 use Rattle.run_core.specs.Steps.{ReadsItsPart, place_in}
 use Rattle.call_core.specs.Tasks.{task_call}
@@ -49,8 +49,8 @@ pub returns-clause-makes : goal.returns-clause-makes
 returns-clause-makes g c =
     let before : c.replace-phase.result ≡ c.args.self.now.phase = search rules in
     let after : c.replace-old.new.dest ≡ c.advance-phase.result.0 = search rules in
-    subst (λ ph. StepMakes g.H.Hand.makes (task_call c.args.self.now.task) ph (ending_of c.replace-old.new.dest) c.args.hand.now c.advance-phase.new.hand) before
-    (subst (λ ph. StepMakes g.H.Hand.makes (task_call c.args.self.now.task) c.replace-phase.result (ending_of ph) c.args.hand.now c.advance-phase.new.hand) (sym after) c.advance-phase.ensures.makes)
+    subst (λ ph. StepMakes g.H.Hand.makes (task_call c.args.self.now.task) ph (ending_of c.replace-old.new.dest) (sealed_in c.replace-old.new.dest) c.args.hand.now c.advance-phase.new.hand) before
+    (subst (λ ph. StepMakes g.H.Hand.makes (task_call c.args.self.now.task) c.replace-phase.result (ending_of ph) (sealed_in ph) c.args.hand.now c.advance-phase.new.hand) (sym after) c.advance-phase.ensures.makes)
 
 pub returns-clause-in_order : goal.returns-clause-in_order
 returns-clause-in_order g c = λ works pen pins none is.

@@ -1,0 +1,23 @@
+//! What every hand and every shelf does, and what theirs are told of folders, over the public calls of `device_core`,
+//! `ahead_core` and `store_core`. Above each test stands the edit of `wrong-by-test/` that it catches, or what no case
+//! can show.
+#![tactic(auto)]
+
+#[cfg(test)]
+mod folder;
+#[cfg(test)]
+mod hand_calls;
+#[cfg(test)]
+mod hands;
+#[cfg(test)]
+mod numbers;
+#[cfg(test)]
+mod parts;
+#[cfg(test)]
+mod places;
+#[cfg(test)]
+mod scratch;
+#[cfg(test)]
+mod shelf_calls;
+#[cfg(test)]
+mod shelves;

@@ -1,0 +1,10 @@
+pub mod Absent
+pub mod Certified
+pub mod Due
+pub mod Drains
+pub mod Epochs
+pub mod Future
+pub mod KeptApart
+pub mod Moves
+pub mod NeedsEnd
+pub mod OneAtATime

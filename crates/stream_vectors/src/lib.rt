@@ -1,0 +1,17 @@
+//! What no case shows of the engines of `paths`, `check` and `run`, and of what they stand on: readers and writers that
+//! fail at a place of their own, certificates, lists of events that are played as a whole, and the room that the bytes
+//! of a value take. Above each test stands the edit of `wrong-by-test/` that it catches, or what no case can show.
+#![tactic(auto)]
+
+#[cfg(test)]
+mod certificates;
+#[cfg(test)]
+mod engines;
+#[cfg(test)]
+mod fakes;
+#[cfg(test)]
+mod played;
+#[cfg(test)]
+mod trees;
+#[cfg(test)]
+mod values;

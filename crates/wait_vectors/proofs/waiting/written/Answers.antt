@@ -1,7 +1,0 @@
-use denote.Param.Send.{sendable}
-use Rattle.std.proofs.Crossing.{crosses}
-use Rattle.session_core.proofs.Sending.{named_sync, named_field_sync}
-use Rattle.wait_vectors.proofs.waiting.written.Goals as goal
-
-pub serve_session-receipts-requires-sync-O : goal.serve_session-receipts-requires-sync-O
-serve_session-receipts-requires-sync-O g c κs = search (sendable, crosses, named_sync, named_field_sync) depth 40
