@@ -100,11 +100,11 @@ run_served {H = H} {backs = backs} {agrees = agrees} {mid = mid} {begun = begun}
     let ends : List Ended = s.closes.ends in
     let all = s.closes.endings in
     let met_none : fault_of_end end ≡ None → all.met ≡ None = λ none. second_none s.gathered.fault all.met (sym all.fault ∙ end_quiet after.fault after.refused end is none) in
-    let said : AreSaid (listening_line s.port ∷ lines_all ends) (fault_of_end end) old new = said_then s.listens all.said (λ none. refl) met_none in
-    let whole : end ≡ Ok Whole → Every IsWhole ends × Appends old new (concat (listening_line s.port ∷ entries_all ends)) = λ done.
+    let said : AreSaid (listening_line s.place ∷ lines_all ends) (fault_of_end end) old new = said_then s.listens all.said (λ none. refl) met_none in
+    let whole : end ≡ Ok Whole → Every IsWhole ends × Appends old new (concat (listening_line s.place ∷ entries_all ends)) = λ done.
     let quiet = data_whole after.fault after.refused end is done in
     let each : Every IsWhole ends = all.whole (second_none s.gathered.fault all.met (sym all.fault ∙ quiet.0)) (apart_all s.gathered.refused ends (sym all.refused ∙ quiet.1)) in
-    let text : said.text ≡ concat (listening_line s.port ∷ entries_all ends) = said.whole (ap fault_of_end done) ∙ ap (λ (ls : List (List ℕ)). concat (listening_line s.port ∷ ls)) (whole_all ends each) in
+    let text : said.text ≡ concat (listening_line s.place ∷ entries_all ends) = said.whole (ap fault_of_end done) ∙ ap (λ (ls : List (List ℕ)). concat (listening_line s.place ∷ ls)) (whole_all ends each) in
     (each, subst (Appends old new) text said.written) in
     let many : length names ≡ length objects = omega (arith, ap length same, length-map objects (λ (o : Object). o.name)) in
     let gathers : IsGathered H (none_of (length objects)) begun s.gathered (slips_of ends) =
@@ -113,7 +113,7 @@ run_served {H = H} {backs = backs} {agrees = agrees} {mid = mid} {begun = begun}
     let sealed : ArePinnedAll agrees objects (openings_of ends) = subst (ArePinnedAll agrees objects) opened (pinned_as mid agrees objects openings s.closes.files pinned) in
     inl (
       record {
-        port = s.port;
+        place = s.place;
         ends = ends;
         named = s.closes.named ∙ same;
         each = all.each;
@@ -139,8 +139,8 @@ run_served {H = H} {backs = backs} {agrees = agrees} {mid = mid} {begun = begun}
     )
 
 -- a fault came before any was served
-pub run_failed : {old new : Option (List ℕ)} (objects : List Object) (fault : LinesFault) → (port : ℕ) × AreSaid (listening_line port ∷ []) (Some fault) old new → AreNotServed objects (Err fault) old new
-run_failed objects fault (port, said) = record { lines = listening_line port ∷ []; by = inr (inl (port, refl)); said = said }
+pub run_failed : {old new : Option (List ℕ)} (objects : List Object) (fault : LinesFault) → (place : List ℕ) × AreSaid (listening_line place ∷ []) (Some fault) old new → AreNotServed objects (Err fault) old new
+run_failed objects fault (place, said) = record { lines = listening_line place ∷ []; by = inr (inl (place, refl)); said = said }
 
 -- a line was not told, with a fault
 pub none_said : (line : List ℕ) (fault : LinesFault) (known : Option (List ℕ)) → AreSaid (line ∷ []) (Some fault) known known
@@ -183,7 +183,7 @@ unserved_failed objects lines (Err fault) by = by
 
 served_memory : {H : Type 0} {backs : H → Assignment → Type 0} {old new : Option (List ℕ)} (objects : List Object) (end : Result ServeEnd LinesFault) → AreServed backs objects end old new → AreServed backs objects (Err Memory) old new
 served_memory objects end run = record {
-  port = run.port;
+  place = run.place;
   ends = run.ends;
   named = run.named;
   each = run.each;

@@ -1,4 +1,4 @@
-use Rattle.std.proofs.Common.{arith}
+use Rattle.std.proofs.Common.{[], arith}
 use Rattle.std.proofs.lemmas.List.{length-map}
 use Rattle.line_core.specs.declared.machine.LinesFault.TheVariants.{Memory}
 use Rattle.session_core.specs.declared.order.Named.{Named}
@@ -9,7 +9,7 @@ use Rattle.serve_core.specs.Runs.{listening_line}
 use Rattle.serve_core.proofs.serve.serve_opened.Goals as goal
 
 pub returns-in-Err : goal.returns-in-Err
-returns-in-Err g c = (0, none_said (listening_line 0) Memory (g.W.Write.contents c.args.writer.now))
+returns-in-Err g c = ([], none_said (listening_line []) Memory (g.W.Write.contents c.args.writer.now))
 
 pub returns-in-Err-tell_port : goal.returns-in-Err-tell_port
 returns-in-Err-tell_port g c = c.in-Err-tell_port.ensures
@@ -21,7 +21,7 @@ close_all-requires-clause-gathered g c =
 
 pub returns : goal.returns
 returns g c = record {
-  port = c.in-Ok-tell_port.ensures.0;
+  place = c.in-Ok-tell_port.ensures.0;
   known = g.W.Write.contents c.tell_port.new.writer;
   listens = c.in-Ok-tell_port.ensures.1;
   gathered = c.serve_gathered-gathered.new.trouble;
