@@ -14,7 +14,7 @@ use Rattle.clap.specs.declared.parser.matches.SubCommand.{SubCommand}
 use Rattle.clap.specs.declared.parser.matches.Found.{Found}
 use Rattle.clap.proofs.WalkLemmas.{first_value-rows, one_text-rows}
 use Rattle.command_line.specs.declared.request.Address.{Address}
-use Rattle.command_line.specs.Forms.{Verb, paths, check, run, audit, serve, name_of, Given, Makes, IsAddressOf, number_of}
+use Rattle.command_line.specs.Forms.{Verb, paths, check, run, audit, serve, name_of, Given, Makes, IsAddressOf, IsNumber, number_of}
 use Rattle.command_line.specs.declared.request.Request.{Request}
 use Rattle.command_line.specs.declared.request.Request.TheVariants as requests
 use Rattle.command_line.specs.Commands.{Holds, IsMatched}

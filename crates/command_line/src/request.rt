@@ -326,7 +326,7 @@ fn address_in<'a>(word: &'a str) -> Option<Address<'a>>
 fn served<'a>(serve: &ArgMatches<'a>, address: Address<'a>) -> Request<'a>
     requires { (g : Given) × Holds serve_verb g (rows_of (found_of serve.now)) }
     ensures { (g : Given) → Holds serve_verb g (rows_of (found_of serve.now)) → (word : Text) →
-        first_value (found_of serve.now) (codes "PLACE") ≡ Some word → IsAddressOf word address →
+        first_value (found_of serve.now) (codes "PLACE") ≡ Some word → IsAddressOf word address.entry →
         Makes serve_verb g result }
 {
     Request::Serve(Serving {

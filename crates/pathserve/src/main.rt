@@ -153,7 +153,8 @@ fn source_at(rt: &HostRuntime, path: &str) -> Result<Vec<u8>, Lacking> {
 // A gate at a port, for so many connections. With port 0 the system chooses one.
 fn gate_at_port(rt: &HostRuntime, port: u16, sessions: usize) -> io::Result<Gate> {
     let listener = TcpListener::bind(rt, (Ipv4Addr::LOCALHOST, port))?;
-    let place = format!(rt; "{port}")?;
+    let alloc = rt.alloc();
+    let place = format!(in alloc; "{port}")?;
     Gate::open(Listener::Port(listener), place, sessions)
 }
 

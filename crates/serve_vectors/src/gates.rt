@@ -19,7 +19,9 @@ fn gate_for<R: Net<Listener = TcpListener, Stream = TcpStream> + AllocGlobal>(
     let socket = TcpStream::from(OwnedFd::from(listener.try_clone()?));
     socket.set_read_timeout(Some(Duration::from_millis(WAITS)))?;
     let port = listener.local_addr()?.port();
-    Gate::open(Listener::Port(listener), format!(rt; "{port}")?, most)
+    let alloc = rt.alloc();
+    let place = format!(in alloc; "{port}")?;
+    Gate::open(Listener::Port(listener), place, most)
 }
 
 // A client that has connected, where the gate lets it.
