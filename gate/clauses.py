@@ -1,13 +1,16 @@
-"""The clauses that refuse wrong bodies: the one that an edit names, and those that the prover names where it refuses it."""
+"""The clauses that refuse wrong bodies: which one an edit names, and which the prover names where it refuses it."""
 import collections
 import re
 
-# A clause: what sort it is, its label, the type and the name of whose clause it is, and the loop by whose invariant it is refused;
-# each empty where there is none.
+# A clause: what sort it is, its label, the type and the name of whose clause it is, and the loop by whose invariant it
+# refuses; each empty where there is none.
 Clause = collections.namedtuple("Clause", "kind label holder name loop")
-LINE = re.compile(r"(ensures|requires|invariant|measure|overflow|bounds|division)(?: (\w+))? of (?:(\w+)::)?(\w+)(?: by loop (\w+))?")
-# A goal that the prover left open: the functions of which one has it, and what its name says: the sort of clause, the label, and the
-# names among which the callee is, or the loop.
+LINE = re.compile(
+    r"(ensures|requires|invariant|measure|overflow|bounds|division)(?: (\w+))?"
+    r" of (?:(\w+)::)?(\w+)(?: by loop (\w+))?"
+)
+# A goal that the prover left open: the functions of which one has it, and what its name says: the sort of clause, the
+# label, and the names among which the callee is, or the loop.
 Goal = collections.namedtuple("Goal", "functions kind label names")
 # What stands in the name of a goal for each sort. The first that is there counts.
 SORTS = (
@@ -57,7 +60,9 @@ def labels(source, name):
     while at < len(lines):
         head = HEAD.match(lines[at])
         at += 1
-        while head and head[1] == name and at < len(lines) and not HEAD.match(lines[at]) and lines[at].strip() not in ("{", "}"):
+        if not head or head[1] != name:
+            continue
+        while at < len(lines) and not HEAD.match(lines[at]) and lines[at].strip() not in ("{", "}"):
             clause = ENSURES.match(lines[at])
             found += [clause[1]] if clause else []
             at += 1
@@ -86,14 +91,14 @@ def goals(said, sources):
             functions = {folder.lstrip("+"), *(parts[:1] if folder.startswith("+") else ())}
         kind = next((kind for kind, sort in SORTS if re.search(sort, name)), "")
         label = name.rpartition("-clause-")[2] if "-clause-" in name else ""
-        names = {"requires": parts[: parts.index("requires")] if kind == "requires" else (), "loop": parts}.get(kind, ())
+        names = parts[: parts.index("requires")] if kind == "requires" else parts if kind == "loop" else ()
         found.append(Goal(frozenset(functions), kind, label, tuple(names)))
     return found
 
 
 def is_named(clause, found, source, contracts):
-    """Whether a goal is the one of this clause, as far as its name tells it. The source is the text of the edited files, and the
-    contracts are the sources among which those of the function are."""
+    """Whether a goal is the one of this clause, as far as its name tells it. The source is the text of the edited files,
+    and the contracts are the sources among which those of the function are."""
     if clause.holder and not re.search(rf"\b{clause.holder}\b", source):
         return False
     if clause.kind == "requires":

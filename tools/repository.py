@@ -74,9 +74,11 @@ def without_bodies(source):
         if piece != "fn" or before[at - 1] == "const":
             continue
         is_visible = bool(blocks and blocks[-1]) or re.search(r"\bpub\s+(?!\()", "".join(kept[start:]))
-        # The signature and the clauses, up to the body or to the end of a function that has none.
-        in_clause = False
-        while at < len(pieces) and (in_clause or pieces[at] not in ("{", ";", "}")):
+        # The signature and the clauses, up to the body or to the end of a function that has none. (A `;` in the type of
+        # an array is no end.)
+        in_clause, depth = False, 0
+        while at < len(pieces) and (in_clause or depth or pieces[at] not in ("{", ";", "}")):
+            depth += (pieces[at] in "([") - (pieces[at] in ")]")
             if pieces[at] == "{":
                 end = behind(at)
                 kept += pieces[at:end]
@@ -135,8 +137,8 @@ def interface(folder):
 
 
 def functions_apart(source):
-    """A source of an interface without its functions, and these as names and texts. Methods of traits and of their impls stay, and so
-    do constant functions."""
+    """A source of an interface without its functions, and these as names and texts. Methods of traits and of their impls
+    stay, and so do constant functions."""
     pieces, rest, found, header, blocks, at = PIECE.findall(source), [], [], [], [], 0
     while at < len(pieces):
         piece = pieces[at]
@@ -162,10 +164,10 @@ WORD = re.compile(r"[\w']+")
 # Words that are joined to a path, with those in the braces at its end.
 PATH = re.compile(r"[\w']+(?:\s*(?:::|\.)\s*[\w']+)*(?:\s*(?:::|\.)\s*\{[^{}]*\})?")
 DECLARED = re.compile(r"\b(?:struct|enum|trait|type|union) (\w+)")
-IMPL_HEAD = re.compile(r"\bimpl\b[^{;]*\{")
-# A part of what a crate above may read: a function of a file, or the rest of it, whose `function` is empty. Beside its text all its
-# words, those of its paths (each, and each with one before it; alone in a pair a word that stands outside of paths, too), the types
-# and traits that it declares, and the words of the heads of its impls.
+IMPL_HEAD = re.compile(r"\bimpl\b[^{]*\{")
+# A part of what a crate above may read: a function of a file, or the rest of it, whose `function` is empty. Beside its
+# text all its words, those of its paths (each alone, and each with each before it in its path; a word outside of paths
+# as a tuple of one), the types and traits that it declares, and the words of the heads of its impls.
 Part = collections.namedtuple("Part", "crate path function text words named types heads")
 
 
@@ -232,19 +234,20 @@ def parts_named(top, lines, name, folders):
 
 
 def digest(top, lines, name, kit, *more):
-    """The sha256 of all on which it hangs whether a body of this crate is refused: the kit's logic, the crate's files, those of its
-    folders `more` too, and of the crates below it what these files name, and what that names, and so on; of their lines in
-    crates.txt the names of the crates with what stands beside these, and what the crate's own files name of its own line.
+    """The sha256 of all on which it hangs whether a body of this crate is refused: the kit's logic, the crate's files,
+    those of its folders `more` too, and of the crates below it what these files name, and what that names, and so on; of
+    their lines in crates.txt the names of the crates with what stands beside these, and what the crate's own files name
+    of its own line.
 
-    A wrong body is refused since it breaks a clause. Whether it does hangs on what the clause means, and what is known of each call:
-    on the words of the crate's own files, and what these are declared to be. (Which lemmas there are does not count: no lemma proves
-    what is false.) No file can use a thing of another one without a path with the name of its crate, and of its module, or from
-    where another file with both hands it on. So a file below counts where a text that counts has such a path (or the crate's name
-    outside of paths, as for a name that is made of it, and the module's in some path); the root of a crate where it has the
-    crate's name; and where a file that counts declares a type or a trait, each file counts in which the head of
-    an impl has that name, since methods are found by their types alone. A function is called by its name, and known by its
-    contract: it counts where its file does and its name stands in the crate's own files. Names are compared as words,
-    wherever they come from, so too much counts rather than too little."""
+    A wrong body is refused since it breaks a clause. Whether it does hangs on what the clause means, and on what is known
+    of each call: on the words of the crate's own files, and what these are declared to be. (Which lemmas there are does
+    not count: no lemma proves what is false.) No file can use a thing of another one without a path with the name of its
+    crate and of its module, or from where another file with both hands it on. So a file below counts where a text that
+    counts has such a path (or the crate's name outside of paths, as for a name that is made of it, and the module's in
+    some path); the root of a crate where it has the crate's name; and where a file that counts declares a type or a trait,
+    each file counts in which the head of an impl has that name, since methods are found by their types alone. A function
+    is called by its name, and known by its contract: it counts where its file does and its name stands in the crate's own
+    files. Names are compared as words, wherever they come from, so too much counts rather than too little."""
     summed = hashlib.sha256()
 
     def add(part):

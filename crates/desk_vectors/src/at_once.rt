@@ -5,8 +5,8 @@ use apply_core::reply::{Failure, Reply};
 use ask_core::answer::Collected;
 use device_core::memory::MemHand;
 use device_core::once::OnceHand;
-use hand_core::hand::{Hand, Stamp};
-use page_core::cut::page_size;
+use hand_core::hand::{Hand, HandFault, Stamp};
+use page_core::cut::{is_cut, page_size};
 use page_core::fault::PageFault;
 use page_core::page_list::PageList;
 use page_core::pins::Pins;
@@ -14,7 +14,9 @@ use run_core::at_once::run_at_once;
 use run_core::outcome::Outcome;
 use std::alloc::Global;
 use std::process::Abort;
+use store_core::open::OpenFault;
 use store_core::pages::put_cut;
+use store_core::save::SaveFault;
 use text_core::text::Text;
 use value_core::datum::Datum;
 
@@ -119,7 +121,7 @@ fn outcome_of<H: Hand>(rt: &impl Abort, alloc: Global, hand: &mut H, row: &Row) 
 }
 
 // Whether the call of a row replies so on a device that fails at its call of this number, and whether it was called so
-// often.
+// often. Where it is not, the call has sealed as many files as it wrote pages, and leaves as many to nobody.
 fn replies(
     rt: &impl Abort,
     alloc: Global,
@@ -128,9 +130,12 @@ fn replies(
     reply: Reply,
     fails: bool,
 ) -> bool {
+    let (_, _, _, writes, _) = *row;
     let mut hand = OnceHand::new(MemHand::new(alloc), number);
     let outcome = outcome_of(rt, alloc, &mut hand, row);
-    *outcome.reply() == reply && (hand.failures() == 1) == fails
+    let (sealed, free) = (outcome.sealed().len() as u64, outcome.free().len() as u64);
+    let is_whole = sealed == writes && free == writes;
+    *outcome.reply() == reply && (hand.failures() == 1) == fails && (fails || is_whole)
 }
 
 // Catches `call_at_once_reads_arrays_whole`, `call_at_once_reads_pages_twice` and
@@ -167,4 +172,14 @@ fn lists_that_are_no_cut_are_refused(rt: HostRuntime) {
     };
     assert!(rt; PageList::new(&[longest; 8]).is_ok());
     assert!(rt; PageList::new(&[longest; 9]).err() == Some(PageFault::BadLength));
+    assert!(rt; is_cut(&[longest; 8]) && !is_cut(&[longest; 9]));
+}
+
+// No case can show it: the numbers and names of faults that programs tell in words of their own.
+#[test]
+fn faults_have_numbers_and_names(rt: HostRuntime) {
+    assert!(rt; HandFault::Device.number() == 1 && HandFault::Device.name() == "Device");
+    assert!(rt; PageFault::BadLength.number() == 2 && PageFault::BadLength.name() == "BadLength");
+    assert!(rt; OpenFault::Damaged(0).number() == 1 && OpenFault::Damaged(0).name() == "Damaged");
+    assert!(rt; SaveFault::Memory.number() == 3 && SaveFault::Memory.name() == "Memory");
 }

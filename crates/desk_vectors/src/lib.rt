@@ -10,4 +10,6 @@ mod devices;
 #[cfg(test)]
 mod make;
 #[cfg(test)]
+mod parts;
+#[cfg(test)]
 mod strangers;

@@ -396,7 +396,7 @@ where
     scratch.remove()
 }
 
-// Catches all edits of this crate but `saving_reads_each_page_twice`: what is in a folder at each moment.
+// Catches all edits of this crate: what is in a folder at each moment.
 // Line 203 is that of number 3 of the script of number 2, both counted from 0.
 #[test]
 fn devices_in_folders(rt: HostRuntime) {

@@ -1,6 +1,5 @@
-//! What every hand and every shelf does, and what theirs are told of folders, over the public calls of `device_core`,
-//! `ahead_core` and `store_core`. Above each test stands the edit of `wrong-by-test/` that it catches, or what no case
-//! can show.
+//! What every hand and every shelf does, and what theirs are told of folders, over the public calls of `device_core`
+//! and `ahead_core`. Above each test stands the edit of `wrong-by-test/` that it catches, or what no case can show.
 #![tactic(auto)]
 
 #[cfg(test)]
@@ -11,8 +10,6 @@ mod hand_calls;
 mod hands;
 #[cfg(test)]
 mod numbers;
-#[cfg(test)]
-mod parts;
 #[cfg(test)]
 mod places;
 #[cfg(test)]

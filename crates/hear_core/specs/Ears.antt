@@ -77,6 +77,10 @@ ReadsOnce s t =
     (found : Option HearFault) × (lines : Unread) × Brings s.lines found lines
     × (t ≡ record s { lines = let_go s.quits lines; end = end_met s.end found })
 
+-- nothing more is heard, by this fault or none
+abbrev pub ended_by : Option HearFault → Hearing → Hearing
+ended_by fault s = record s { end = Some fault }
+
 -- an object was opened, at this place and for this session
 abbrev pub opened_at : ℕ × ℕ → Hearing → Hearing
 opened_at at s = record s { is_open = true; opened = Some at }

@@ -3,7 +3,7 @@
 ghost use Rattle.std.specs.Prelude.{◌≡◌, ◌↔◌, [], IsTrue, None, Some, IfOk, IfErr, false};
 ghost use Rattle.session_text.specs.Table.{Takes, TakesLast};
 ghost use Rattle.hear_core.specs.Hearing.{Hearing};
-ghost use Rattle.hear_core.specs.Ears.{IsHeardOf, IsQuit, end_by, end_met, Hears, ReadsOnce, opened_at};
+ghost use Rattle.hear_core.specs.Ears.{IsHeardOf, IsQuit, end_by, end_met, ended_by, Hears, ReadsOnce, opened_at};
 
 use crate::fault::HearFault;
 use crate::reader::{LineReader, Next};
@@ -153,7 +153,7 @@ impl<I: Read + Drop> Ear<I> {
 
     /// Nothing more is heard.
     pub fn end(&mut self, fault: Option<HearFault>)
-        ensures { self.new ≡ record self.old { end = Some fault } }
+        ensures { self.new ≡ ended_by fault self.old }
     {
         self.end = Some(fault);
     }

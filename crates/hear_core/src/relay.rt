@@ -1,9 +1,12 @@
 //! What the second thread of a session hands to the first.
 
-ghost use Rattle.std.specs.Prelude.{◌≡◌, ◌↔◌, [], IsTrue, None, Some, true, false};
+ghost use Rattle.std.specs.Prelude.{◌≡◌, ◌⊎◌, ◌↔◌, [], IsTrue, None, Some, true, false};
+ghost use Rattle.std.specs.Bool.{OnTrue, OnFalse};
+ghost use Rattle.hear_core.specs.Ears.{ended_by};
 ghost use Rattle.hear_core.specs.Handing.{IsWanted, IsReady, Passes, TakesEar};
 
 use crate::ear::Ear;
+use crate::fault::HearFault;
 use session_text::session::Action;
 use std::alloc::Global;
 use std::io::Read;
@@ -55,11 +58,18 @@ impl<I: Read + Drop> Pending<I> {
         !self.actions.is_empty() || self.ear.is_some()
     }
 
-    // Adds what was heard behind all that was heard before it. Without memory it answers false, and nothing is added.
-    fn pass(&mut self, action: Action) -> bool
-        ensures { Passes self.old.actions.items action result self.new.actions.items }
+    // Adds what was heard behind all that was heard before it, and answers whether it did. Without memory nothing is
+    // added, and nothing more is heard.
+    fn pass(&mut self, action: Action, ear: &mut Ear<I>) -> bool
+        ensures passed { Passes self.old.actions.items action result self.new.actions.items }
+        ensures heard { OnTrue result (ear.new ≡ ear.old) }
+        ensures refused { OnFalse result (ear.new ≡ ended_by (Some HearFault.Memory) ear.old) }
     {
-        self.actions.push(action).is_ok()
+        if self.actions.push(action).is_ok() {
+            return true;
+        }
+        ear.end(Some(HearFault::Memory));
+        false
     }
 
     // Takes all that was heard, in order.
@@ -113,13 +123,14 @@ impl<I: Read + Drop> Relay<I> {
         self.pending.lock(rt).is_wanted()
     }
 
-    /// Hands something over that the first thread is to do. Without memory it answers false.
-    pub fn pass<R: Wait>(&self, rt: &R, action: Action) -> bool {
-        if !self.pending.lock(rt).pass(action) {
-            return false;
+    /// Hands something over that the first thread is to do, which was heard by this reading side. Without memory it is
+    /// not handed over, and nothing more is heard.
+    pub fn pass<R: Wait>(&self, rt: &R, action: Action, ear: &mut Ear<I>)
+        ensures { (ear.new ≡ ear.old) ⊎ (ear.new ≡ ended_by (Some HearFault.Memory) ear.old) }
+    {
+        if self.pending.lock(rt).pass(action, ear) {
+            self.came.notify_all();
         }
-        self.came.notify_all();
-        true
     }
 
     /// Gives the reading side back.

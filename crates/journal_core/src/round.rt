@@ -1,8 +1,9 @@
 //! A round of a server: what was done is stored, and only then is anything said of it.
 
-ghost use Rattle.std.specs.Prelude.{◌≡◌, ◌⊎◌, ◌++◌, List, ℕ, OnOk};
+ghost use Rattle.std.specs.Prelude.{◌≡◌, ◌⊎◌, ◌++◌, List, ℕ, OnOk, IsErrOf};
 ghost use Rattle.journal_core.specs.Device.{LeavesOnly};
 ghost use Rattle.journal_core.specs.Journal.{recovered, AreLines, IsBetween};
+ghost use Rattle.journal_core.specs.declared.round.RoundFault.TheVariants.{NotStored, NotWritten};
 
 use crate::device::Device;
 use crate::journal::Journal;
@@ -21,7 +22,8 @@ impl<D: Device> Journal<D> {
     ghost use Rattle.journal_core.specs.Order.{IsInOrder, Holds};
 
     /// Adds the lines of a round and stores them; then writes the answers. `Err`: `NotStored` where the lines have no
-    /// room or the device failed, and nothing was written; else `NotWritten`, and the lines are stored.
+    /// room or the device failed, and nothing was written; else `NotWritten`, and the lines are stored and the journal is
+    /// in order.
     pub fn round<W: Write>(
         &mut self,
         writer: &mut W,
@@ -34,6 +36,12 @@ impl<D: Device> Journal<D> {
         ensures in_order { OnOk result (IsInOrder D.seen D.may_leave self.new) }
         ensures stored { OnOk result ((stored text : List ℕ) → Holds D.seen self.old stored text
             → Holds D.seen self.new (text ++ lines.now) (text ++ lines.now)) }
+
+        // After an answer that was not written whole the journal goes on.
+        ensures not_written { IsErrOf result NotWritten → IsInOrder D.seen D.may_leave self.new
+            × ((stored text : List ℕ) → Holds D.seen self.old stored text
+            → Holds D.seen self.new (text ++ lines.now) (text ++ lines.now)) }
+        ensures not_stored { IsErrOf result NotStored → W.contents writer.new ≡ W.contents writer.old }
 
         // No answer comes before its lines are on the disk.
         ensures stored_first { (stored text : List ℕ) → Holds D.seen self.old stored text

@@ -7,6 +7,7 @@ use Rattle.std.specs.declared.alloc.AllocError.{AllocError}
 use Rattle.line_core.specs.declared.machine.LinesFault.{LinesFault}
 use Rattle.line_core.specs.declared.machine.LinesFault.TheVariants.{ReadFault, WriteFault, Memory}
 use Rattle.line_core.specs.Reply.{reply}
+use Rattle.hand_core.specs.declared.hand.Stamp.{Stamp}
 use Rattle.decl_core.specs.declared.object.Object.{Object}
 use Rattle.decl_core.specs.declared.object.Part.{Part}
 use Rattle.keep_core.specs.Troubles.{fault_in}
@@ -28,6 +29,23 @@ damaged_line object place = codes "part " ++ (part_text object place ++ codes " 
 abbrev pub damaged_lines : Object → List ℕ → List (List ℕ)
 damaged_lines object [] = []
 damaged_lines object (place ∷ places) = damaged_line object place ∷ damaged_lines object places
+
+-- ` N.val` for each of these files, in order
+abbrev pub files_text : List Stamp → List ℕ
+files_text [] = []
+files_text (file ∷ files) = (codes " " ++ decimal file.number) ++ (codes ".val" ++ files_text files)
+
+-- ` not saved: N.val ..`, with the end of the line
+abbrev pub unsaved_text : List Stamp → List ℕ
+unsaved_text files = codes " not saved:" ++ (files_text files ++ codes "\n")
+
+-- `OBJECT.PART not saved: N.val ..`, the files that hold the value of the part
+abbrev pub unsaved_line : Object → ℕ → List Stamp → List ℕ
+unsaved_line object place files = part_text object place ++ unsaved_text files
+
+-- `NAME.trace not written`
+abbrev pub untraced_line : List ℕ → List ℕ
+untraced_line name = reply name (codes ".trace not written")
 
 -- `close NAME refused`
 abbrev pub refused_line : List ℕ → List ℕ

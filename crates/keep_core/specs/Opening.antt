@@ -2,8 +2,10 @@
 use Rattle.std.specs.Prelude.{◌≡◌, ℕ, List, map}
 use Rattle.value_core.specs.Contents.{Contents, kind_of}
 use Rattle.decl_core.specs.declared.object.Object.{Object}
+use Rattle.line_core.specs.declared.machine.LinesFault.TheVariants.{ReadFault, WriteFault, Memory}
 use Rattle.hand_core.specs.Device.{Assignment}
-use Rattle.store_core.specs.Opened.{ArePinned}
+use Rattle.hand_core.specs.Papers.{Papers}
+use Rattle.store_core.specs.Opened.{ArePinned, IsFirstDamaged}
 use Rattle.board_core.specs.Board.{Board}
 use Rattle.board_core.specs.Sound.{kinds_of}
 use Rattle.keep_core.specs.declared.open.NotOpened.{NotOpened}
@@ -11,10 +13,15 @@ use Rattle.keep_core.specs.declared.open.NotOpened.TheVariants.{Damaged, Fault}
 use Rattle.keep_core.specs.declared.opening.Opening.{Opening}
 use Rattle.keep_core.specs.Lines.{damaged_line}
 
--- the line is that of one of its parts
-abbrev pub IsNotOpened : Object → NotOpened → Type 0
-IsNotOpened object (Damaged line) = (place : ℕ) × (line.items ≡ damaged_line object place)
-IsNotOpened object (Fault fault) = Unit {0}
+-- Why it is not opened: a part is the first damaged one, whatever the shelf may hold, and the line is that of this part;
+-- or a device failed, or memory was refused.
+abbrev pub IsNotOpened : (Papers → Type 0) → Type 0 → Object → NotOpened → Type 0
+IsNotOpened holds failed object (Damaged line) =
+    (place : ℕ) × (line.items ≡ damaged_line object place)
+    × ((papers : Papers) → holds papers → IsFirstDamaged papers object.name object.parts.items place)
+IsNotOpened holds failed object (Fault ReadFault) = failed
+IsNotOpened holds failed object (Fault WriteFault) = ⊥
+IsNotOpened holds failed object (Fault Memory) = Unit {0}
 
 -- the values with which the parts opened
 abbrev pub values_of : Opening → List Contents

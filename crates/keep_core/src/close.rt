@@ -14,6 +14,7 @@ ghost use Rattle.keep_core.specs.Ends.{kept_in, KeepsDesk, HasAll, EndsDesk, End
 ghost use Rattle.keep_core.specs.Opening.{values_of};
 ghost use Rattle.keep_core.specs.Kept.{fault_by, Notes, Saves, StoresText, Traces};
 ghost use Rattle.keep_core.specs.Lines.{IsWritten, AreTold, entries_line, entries_lines, refused_line, damaged_line};
+ghost use Rattle.keep_core.specs.Lines.{files_text, unsaved_text, unsaved_line, untraced_line};
 
 use crate::marks::Marks;
 use crate::open::{push_damaged, push_part};
@@ -167,11 +168,13 @@ fn tell_unsaved<E: Write>(
     part: usize,
     pages: &[Stamp],
     error: &mut E,
-) {
+) -> Result<(), LinesFault>
+    ensures { AreTold (unsaved_line object.now part pages.now ∷ []) result (E.contents error.old)
+        (E.contents error.new) }
+{
     line.clear();
-    if push_unsaved(line, object, part, pages).is_ok() {
-        let _ = write_whole(error, line.as_slice());
-    }
+    let made = push_unsaved(line, object, part, pages);
+    tell(error, line.as_slice(), made)
 }
 
 fn push_unsaved(
@@ -179,22 +182,41 @@ fn push_unsaved(
     object: &Object,
     part: usize,
     pages: &[Stamp],
-) -> Result<(), AllocError> {
+) -> Result<(), AllocError>
+    ensures { OnOk result (line.new.items ≡ line.old.items ++ unsaved_line object.now part pages.now) }
+{
     push_part(line, object, part)?;
+    push_rest(line, pages)
+}
+
+// Adds what follows the name of a part that is not saved.
+fn push_rest(line: &mut Vec<u8>, pages: &[Stamp]) -> Result<(), AllocError>
+    ensures { OnOk result (line.new.items ≡ line.old.items ++ unsaved_text pages.now) }
+{
     line.extend_from_slice(b" not saved:")?;
-    for page in pages {
-        push_number(line, b" ", page.number)?;
-        line.extend_from_slice(b".val")?;
-    }
+    push_files(line, pages)?;
     line.extend_from_slice(b"\n")
 }
 
+// Adds ` N.val` for each of these files, in order.
+fn push_files(line: &mut Vec<u8>, files: &[Stamp]) -> Result<(), AllocError>
+    ensures { OnOk result (line.new.items ≡ line.old.items ++ files_text files.now) }
+{
+    let Some((file, rest)) = files.split_first() else {
+        return Ok(());
+    };
+    push_number(line, b" ", file.number)?;
+    line.extend_from_slice(b".val")?;
+    push_files(line, rest)
+}
+
 // Says on standard error that the trace of an object is not written: `OBJECT.trace not written`.
-fn tell_untraced<E: Write>(line: &mut Vec<u8>, name: &[u8], error: &mut E) {
+fn tell_untraced<E: Write>(line: &mut Vec<u8>, name: &[u8], error: &mut E) -> Result<(), LinesFault>
+    ensures { AreTold (untraced_line name.now ∷ []) result (E.contents error.old) (E.contents error.new) }
+{
     line.clear();
-    if push_reply(line, name, b".trace not written").is_ok() {
-        let _ = write_whole(error, line.as_slice());
-    }
+    let made = push_reply(line, name, b".trace not written");
+    tell(error, line.as_slice(), made)
 }
 
 // The fault of a write to a folder.
@@ -295,7 +317,7 @@ fn keep_trace<T: Shelf, E: Write>(
         Ok(()) => true,
         Err(fault) => {
             trouble.note(fault_of_hand(fault));
-            tell_untraced(line, desk.accepted().object().name.as_bytes(), error);
+            let _ = tell_untraced(line, desk.accepted().object().name.as_bytes(), error);
             false
         }
     }
@@ -386,7 +408,7 @@ impl<S: Shelf + Drop, T: Shelf + Drop, H: Hand + Drop> Closing<S, T, H> {
                     &mut self.trouble,
                     writer,
                 );
-                tell_unsaved(&mut self.line, object, place, pin.stamps(), error);
+                let _ = tell_unsaved(&mut self.line, object, place, pin.stamps(), error);
                 false
             }
         }

@@ -1,7 +1,7 @@
 //! The office of an accepted object, whose parts are read from a folder.
 
-ghost use Rattle.std.specs.Prelude.{◌≡◌, ◌++◌, length, IfOk, IfErr, OnOk};
-ghost use Rattle.hand_core.specs.Device.{Assignment};
+ghost use Rattle.std.specs.Prelude.{◌≡◌, ◌⊎◌, ◌++◌, length, IfOk, IfErr, OnOk};
+ghost use Rattle.hand_core.specs.Device.{Assignment, Failed as DeviceFailed};
 ghost use Rattle.hand_core.specs.Papers.{Papers};
 ghost use Rattle.store_core.specs.Opened.{AreLoaded, ArePinned};
 ghost use Rattle.keep_core.specs.Lines.{part_text, damaged_line};
@@ -86,7 +86,8 @@ fn parts_of<S: Shelf, H: Hand>(
         ArePinned a accepted.now.parts.items opened.0 opened.1.items) }
     ensures papers { (papers : Papers) → S.holds shelf.new papers → S.holds shelf.old papers }
     ensures files { (a : Assignment) → H.agrees hand.new a → H.agrees hand.old a }
-    ensures not { IfErr result (IsNotOpened accepted.now) }
+    ensures not { IfErr result (IsNotOpened (S.holds shelf.new) (DeviceFailed (S.failed shelf.old) (S.failed shelf.new)
+        ⊎ DeviceFailed (H.failed hand.old) (H.failed hand.new)) accepted.now) }
 {
     match open_parts(alloc, accepted.object(), shelf, hand) {
         Ok(opened) => Ok(opened),
@@ -115,7 +116,8 @@ pub fn open_one<S: Shelf, H: Hand>(
     ensures pinned { IfOk result (λ opened. IsSealed (H.agrees hand.new) accepted opened.opening) }
     ensures papers { (papers : Papers) → S.holds shelf.new papers → S.holds shelf.old papers }
     ensures files { (a : Assignment) → H.agrees hand.new a → H.agrees hand.old a }
-    ensures not { IfErr result (IsNotOpened accepted) }
+    ensures not { IfErr result (IsNotOpened (S.holds shelf.new) (DeviceFailed (S.failed shelf.old) (S.failed shelf.new)
+        ⊎ DeviceFailed (H.failed hand.old) (H.failed hand.new)) accepted) }
 {
     let name = accepted.object().name.copy(alloc)?;
     let (pins, values) = parts_of(alloc, &accepted, shelf, hand)?;
@@ -140,7 +142,9 @@ impl<S: Shelf + Drop, T: Shelf + Drop, H: Hand + Drop> Closing<S, T, H> {
         ensures files { (a : Assignment) → H.agrees self.new.hand a → H.agrees self.old.hand a }
         ensures traces { self.new.traces ≡ self.old.traces }
         ensures trouble { self.new.trouble ≡ self.old.trouble }
-        ensures not { IfErr result (IsNotOpened accepted) }
+        ensures not { IfErr result (IsNotOpened (S.holds self.new.parts)
+            (DeviceFailed (S.failed self.old.parts) (S.failed self.new.parts)
+            ⊎ DeviceFailed (H.failed self.old.hand) (H.failed self.new.hand)) accepted) }
     {
         open_one(self.alloc, accepted, &mut self.parts, &mut self.hand)
     }

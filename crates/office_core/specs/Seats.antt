@@ -2,6 +2,7 @@
 use Rattle.std.specs.Prelude.{◌≡◌, ℕ, ◌+◌, ◌≤◌, ◌<◌, length, Result, Ok, Err}
 use Rattle.run_core.specs.declared.outcome.Outcome.{Outcome}
 use Rattle.run_core.specs.Outcomes.{TellsSame}
+use Rattle.board_core.specs.Sound.{IsSound}
 use Rattle.board_core.specs.declared.receipt.Receipt.{Receipt}
 use Rattle.ask_core.specs.Answers.{Finishes, IsStranger, receipt_by}
 use Rattle.ask_core.specs.declared.answer.Finished.{Finished}
@@ -53,3 +54,10 @@ CompletesInPlace old seat o (Ok f) after new =
 CompletesInPlace old seat o (Err (missed seen found)) after new =
     (found ≡ length old.board.history + 1) × (found ≤ seat.seen) × (new ≡ old)
 CompletesInPlace old seat o (Err unknown) after new = IsAhead old seat × IsStranger old.board o × (new ≡ old)
+
+-- Some inside whose board is sound, before and after it completed so.
+pub record CompletedIn (seat : Seat) (o : Outcome) (answer : Result Finished NotTaken) (after : Outcome) : Type 0 where
+  pub old : InsideView
+  pub new : InsideView
+  pub sound : IsSound old.board
+  pub completes : CompletesInPlace old seat o answer after new

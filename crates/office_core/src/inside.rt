@@ -251,6 +251,7 @@ impl Inside {
     ) -> Result<Finished, NotTaken>
         ensures seat { ReceivesInPlace seat.old outcome.old result outcome.new seat.new }
         ensures inside { CompletesInPlace self.old seat.old outcome.old result outcome.new self.new }
+        ensures sound { IsSound self.old.board }
     {
         let found = self.desk.history().len() + 1;
         let seen = seat.seen();

@@ -4,7 +4,7 @@ ghost use Rattle.std.specs.Prelude.{◌≡◌, ◌<◌, ◌≤◌, ◌+◌, IfEr
 ghost use Rattle.office_core.specs.Insides.{InsideView};
 ghost use Rattle.office_core.specs.declared.seat.Submitted.{Submitted as Ask};
 ghost use Rattle.office_core.specs.Submissions.{Asks, IsStartOf, Tells};
-ghost use Rattle.office_core.specs.Seats.{Receives, ReceivesInPlace};
+ghost use Rattle.office_core.specs.Seats.{Receives, ReceivesInPlace, CompletedIn};
 ghost use Rattle.office_core.specs.Closing.{Closes, ClosesBySlips};
 
 use crate::inside::{CloseRefused, Closed, Inside, SeatsFull, with_outcome};
@@ -360,6 +360,8 @@ impl Office {
         outcome: &mut Outcome,
     ) -> Result<Finished, NotTaken>
         ensures seat { ReceivesInPlace seat.old outcome.old result outcome.new seat.new }
+        // So some inside of this office took it: what it hands out as free nobody needed then.
+        ensures inside { CompletedIn seat.old outcome.old result outcome.new }
     {
         let number = outcome.number();
         let mut inside = self.enter(rt);

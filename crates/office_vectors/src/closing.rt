@@ -8,8 +8,9 @@ use device_core::memory::MemHand;
 use hand_core::hand::Stamp;
 use office_core::inside::{CloseFault, CloseRefused, Closed, Inside};
 use office_core::office::Office;
-use office_core::seat::{Seat, Started};
+use office_core::seat::{CompleteFault, Seat, Started};
 use page_core::pins::Pins;
+use run_core::outcome::Outcome;
 use run_core::perform::perform;
 use run_core::run::Run;
 use slip_core::room::SlipRoom;
@@ -171,6 +172,78 @@ fn is_stranger<R: Wait>(
             }
         }
     }
+}
+
+// The outcome that is handed back, since no call of the office has it, or since the seat has seen place 1 before.
+fn handed_back(answer: Result<Receipt, CompleteFault>, is_seen: bool) -> Option<Outcome> {
+    match answer {
+        Ok(_) => None,
+        Err(
+            CompleteFault::Front {
+                seen,
+                found,
+                outcome,
+            },
+        ) => {
+            if is_seen && seen == 1 && found == 1 {
+                Some(outcome)
+            } else {
+                None
+            }
+        }
+        Err(CompleteFault::Stranger(outcome)) => { if is_seen { None } else { Some(outcome) } }
+    }
+}
+
+// Whether the outcome of a `get` of this seat is taken where it runs, and only for a seat that has seen none so late.
+fn is_taken_once<R: Wait>(
+    rt: &R,
+    alloc: Global,
+    office: &Office,
+    seat: &mut Seat,
+    other: &Office,
+    strange: &mut Seat,
+    hand: &mut MemHand,
+) -> bool {
+    let Ok(submitted) = office.submit(rt, seat, "get", &[]) else {
+        return false;
+    };
+    let outcome = match office.await_start(rt, submitted) {
+        Started::Ticket(ticket) => perform(Run::new(alloc, ticket), hand),
+        Started::Cancelled => return false,
+        Started::Stranger(back) => return stuck(rt, back),
+    };
+    let Some(outcome) = handed_back(other.complete(rt, strange, outcome), false) else {
+        return false;
+    };
+    let Some(outcome) = handed_back(office.complete(rt, strange, outcome), true) else {
+        return false;
+    };
+    office.complete(rt, seat, outcome).is_ok()
+}
+
+// No case can show it: no program takes an outcome to another office, or a seat.
+#[test]
+fn an_outcome_is_taken_once(rt: HostRuntime) {
+    let alloc = rt.alloc();
+    let mut hand = MemHand::new(alloc);
+    let office = office_of(&rt, alloc, pins(&rt, &mut hand));
+    let other = office_of(&rt, alloc, pins(&rt, &mut hand));
+    let mut seat = office.seat(&rt).expect(&rt, "a seat");
+    let mut strange = other.seat(&rt).expect(&rt, "a seat");
+    let receipt = put_whole(&rt, alloc, &other, &mut strange, &mut hand, 7);
+    assert!(rt; receipt.is_some());
+    assert!(rt;
+        is_taken_once(
+            &rt,
+            alloc,
+            &office,
+            &mut seat,
+            &other,
+            &mut strange,
+            &mut hand
+        )
+    );
 }
 
 // No case can show it: no program takes a submission to another office, or closes one while a call runs.

@@ -7,7 +7,7 @@ use device_core::memory::MemHand;
 use office_core::keyed::Resubmitted;
 use office_core::named::{NameFault, ParkFault};
 use office_core::office::Office;
-use office_core::seat::{Seat, Started, Submitted};
+use office_core::seat::{Seat, Submitted, Tried};
 use path_tree::name::Name;
 use run_core::perform::perform;
 use run_core::run::Run;
@@ -75,13 +75,14 @@ fn is_cancelled<R: Wait>(
         return false;
     };
     let is_parked = office.park(rt, seat).is_ok();
-    match office.await_start(rt, submitted) {
-        Started::Ticket(ticket) => {
+    match office.try_start(rt, submitted) {
+        Tried::Ticket(ticket) => {
             perform(Run::new(alloc, ticket), hand);
             false
         }
-        Started::Cancelled => is_parked,
-        Started::Stranger(back) => stuck(rt, back),
+        Tried::Cancelled => is_parked,
+        Tried::Waiting(back) => stuck(rt, back),
+        Tried::Stranger(back) => stuck(rt, back),
     }
 }
 

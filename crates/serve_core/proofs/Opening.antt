@@ -99,6 +99,6 @@ among_at [] later o = inl refl
 among_at (x ∷ done) later o = inr (among_at done later o)
 
 -- why one is not opened is why they all are not
-pub opened_not : {before holds : Papers → Type 0} {earlier agrees : Assignment → Type 0} {all rest : List Object} {left : ℕ} {names : List (List ℕ)} {openings : List Opening} (o : Object) (later : List Object) (why : NotOpened) → OpenedSoFar before holds earlier agrees all rest left names openings → rest ≡ o ∷ later → IsNotOpened o why → IsNotOpenedOf all why
-opened_not o later (Damaged line) so is not = (o, subst (Among o) (ap (λ (r : List Object). so.done ++ r) (sym is) ∙ so.split) (among_at so.done later o), not.0, not.1)
-opened_not o later (Fault fault) so is not = tt
+pub opened_not : {before then : Papers → Type 0} {earlier mid : Assignment → Type 0} {all rest : List Object} {left : ℕ} {names : List (List ℕ)} {openings : List Opening} (holds : Papers → Type 0) (failed : Type 0) (o : Object) (later : List Object) (why : NotOpened) → OpenedSoFar before then earlier mid all rest left names openings → rest ≡ o ∷ later → IsNotOpened holds failed o why → IsNotOpenedOf holds all why
+opened_not holds failed o later (Damaged line) so is not = (o, subst (Among o) (ap (λ (r : List Object). so.done ++ r) (sym is) ∙ so.split) (among_at so.done later o), not.0, not.1, not.2)
+opened_not holds failed o later (Fault fault) so is not = tt

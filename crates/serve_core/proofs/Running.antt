@@ -6,6 +6,8 @@ use Rattle.std.specs.List.{concat}
 use Rattle.std.specs.Io.KnownBytes.{Appends, Keeps}
 use Rattle.std.proofs.lemmas.Bool.{true≢false}
 use Rattle.std.proofs.lemmas.List.{length-map}
+use Rattle.keep_core.specs.declared.open.NotOpened.{NotOpened}
+use Rattle.keep_core.specs.declared.open.NotOpened.TheVariants.{Damaged, Fault}
 use Rattle.keep_core.specs.declared.opening.Opening.{Opening}
 use Rattle.line_core.specs.declared.machine.LinesFault.{LinesFault}
 use Rattle.line_core.specs.declared.machine.LinesFault.TheVariants.{Memory}
@@ -28,7 +30,7 @@ use Rattle.serve_core.specs.Backed.{AreBacked}
 use Rattle.serve_core.specs.Gathers.{none_of, IsGathered}
 use Rattle.serve_core.specs.Opened.{AreLoadedAll, ArePinnedAll}
 use Rattle.serve_core.specs.Closes.{openings_of, slips_of, AreBackedAll, IsFromOpening, IsLegalBy, lines_all, entries_all, refused_all, IsWhole}
-use Rattle.serve_core.specs.Runs.{listening_line, fault_of_end, Serves, AreServed, AreNotServed, IsDamagedLine, IsUnservedBy, IsRunOf, IsRunIn, IsRefusedBy, IsEndBehind}
+use Rattle.serve_core.specs.Runs.{listening_line, fault_of_end, GathersAndCloses, AreServed, AreNotServed, IsDamagedLine, IsFirstDamagedLine, IsNotOpenedOf, IsLineOf, IsUnservedBy, IsRunOf, IsRunIn, IsRefusedBy, IsEndBehind}
 use Rattle.serve_core.proofs.Opening.{pinned_as}
 
 -- the lines of an object that was closed, saved and traced, and has no damaged part
@@ -93,18 +95,18 @@ from_opening agrees a [] (e ∷ ends) is each pinned = absurd pinned
 from_opening agrees a (o ∷ objects) [] is each pinned = absurd pinned
 
 -- objects that were served and closed
-pub run_served : {H : Type 0} {backs : H → Assignment → Type 0} {agrees mid : Assignment → Type 0} {pw pm pa tw tm ta : Papers → Type 0} {begun : Trouble} {kept_all keeps_all : Bool} {openings : List Opening} {old new : Option (List ℕ)} (objects : List Object) (names : List (List ℕ)) (after : Trouble) (end : Result ServeEnd LinesFault) →
-    Serves backs agrees mid pm pa tm ta names openings begun after kept_all keeps_all old new → names ≡ object_names objects → ArePinnedAll mid objects openings → ((papers : Papers) → pm papers → AreLoadedAll papers objects openings) → ((papers : Papers) → pm papers → pw papers) →
+pub run_served : {H : Type 0} {backs : H → Assignment → Type 0} {agrees mid : Assignment → Type 0} {pw pm pa tw tm ta : Papers → Type 0} {begun : Trouble} {kept_all keeps_all : Bool} {openings : List Opening} {old known new : Option (List ℕ)} (objects : List Object) (names : List (List ℕ)) (after : Trouble) (end : Result ServeEnd LinesFault) →
+    (place : List ℕ) → AreSaid (listening_line place ∷ []) None old known → GathersAndCloses backs agrees mid pm pa tm ta names openings begun after kept_all keeps_all known new → names ≡ object_names objects → ArePinnedAll mid objects openings → ((papers : Papers) → pm papers → AreLoadedAll papers objects openings) → ((papers : Papers) → pm papers → pw papers) →
     ((papers : Papers) → tm papers → tw papers) → IsEndOf after.fault after.refused end → IsRunIn backs agrees pw pa tw ta objects end old new
-run_served {H = H} {backs = backs} {agrees = agrees} {mid = mid} {begun = begun} {openings = openings} {old = old} {new = new} objects names after end s same pinned loaded papers traces is =
+run_served {H = H} {backs = backs} {agrees = agrees} {mid = mid} {begun = begun} {openings = openings} {old = old} {new = new} objects names after end place listens s same pinned loaded papers traces is =
     let ends : List Ended = s.closes.ends in
     let all = s.closes.endings in
     let met_none : fault_of_end end ≡ None → all.met ≡ None = λ none. second_none s.gathered.fault all.met (sym all.fault ∙ end_quiet after.fault after.refused end is none) in
-    let said : AreSaid (listening_line s.place ∷ lines_all ends) (fault_of_end end) old new = said_then s.listens all.said (λ none. refl) met_none in
-    let whole : end ≡ Ok Whole → Every IsWhole ends × Appends old new (concat (listening_line s.place ∷ entries_all ends)) = λ done.
+    let said : AreSaid (listening_line place ∷ lines_all ends) (fault_of_end end) old new = said_then listens all.said (λ none. refl) met_none in
+    let whole : end ≡ Ok Whole → Every IsWhole ends × Appends old new (concat (listening_line place ∷ entries_all ends)) = λ done.
     let quiet = data_whole after.fault after.refused end is done in
     let each : Every IsWhole ends = all.whole (second_none s.gathered.fault all.met (sym all.fault ∙ quiet.0)) (apart_all s.gathered.refused ends (sym all.refused ∙ quiet.1)) in
-    let text : said.text ≡ concat (listening_line s.place ∷ entries_all ends) = said.whole (ap fault_of_end done) ∙ ap (λ (ls : List (List ℕ)). concat (listening_line s.place ∷ ls)) (whole_all ends each) in
+    let text : said.text ≡ concat (listening_line place ∷ entries_all ends) = said.whole (ap fault_of_end done) ∙ ap (λ (ls : List (List ℕ)). concat (listening_line place ∷ ls)) (whole_all ends each) in
     (each, subst (Appends old new) text said.written) in
     let many : length names ≡ length objects = omega (arith, ap length same, length-map objects (λ (o : Object). o.name)) in
     let gathers : IsGathered H (none_of (length objects)) begun s.gathered (slips_of ends) =
@@ -113,7 +115,7 @@ run_served {H = H} {backs = backs} {agrees = agrees} {mid = mid} {begun = begun}
     let sealed : ArePinnedAll agrees objects (openings_of ends) = subst (ArePinnedAll agrees objects) opened (pinned_as mid agrees objects openings s.closes.files pinned) in
     inl (
       record {
-        place = s.place;
+        place = place;
         ends = ends;
         named = s.closes.named ∙ same;
         each = all.each;
@@ -139,8 +141,8 @@ run_served {H = H} {backs = backs} {agrees = agrees} {mid = mid} {begun = begun}
     )
 
 -- a fault came before any was served
-pub run_failed : {old new : Option (List ℕ)} (objects : List Object) (fault : LinesFault) → (place : List ℕ) × AreSaid (listening_line place ∷ []) (Some fault) old new → AreNotServed objects (Err fault) old new
-run_failed objects fault (place, said) = record { lines = listening_line place ∷ []; by = inr (inl (place, refl)); said = said }
+pub run_failed : {old new : Option (List ℕ)} (damaged : List ℕ → Type 0) (fault : LinesFault) → (place : List ℕ) × AreSaid (listening_line place ∷ []) (Some fault) old new → AreNotServed damaged (Err fault) old new
+run_failed damaged fault (place, said) = record { lines = listening_line place ∷ []; by = inr (inl (place, refl)); said = said }
 
 -- a line was not told, with a fault
 pub none_said : (line : List ℕ) (fault : LinesFault) (known : Option (List ℕ)) → AreSaid (line ∷ []) (Some fault) known known
@@ -156,30 +158,49 @@ pub refused_as : {text wanted : List ℕ} {end : Result ServeEnd LinesFault} {ol
 refused_as {end = end} {old = old} {new = new} same by = subst (λ (t : List ℕ). IsRefusedBy t end old new) same by
 
 -- nothing was written
-pub run_none : {old : Option (List ℕ)} (objects : List Object) (fault : LinesFault) → AreNotServed objects (Err fault) old old
-run_none {old = old} objects fault = record { lines = []; by = inl refl; said = nothing_said (Some fault) old }
+pub run_none : {old : Option (List ℕ)} (damaged : List ℕ → Type 0) (fault : LinesFault) → AreNotServed damaged (Err fault) old old
+run_none {old = old} damaged fault = record { lines = []; by = inl refl; said = nothing_said (Some fault) old }
 
-pub run_unopened : {old : Option (List ℕ)} (objects : List Object) → AreNotServed objects (Ok Unopened) old old
-run_unopened {old = old} objects = record { lines = []; by = refl; said = nothing_said None old }
+pub run_unopened : {old : Option (List ℕ)} (damaged : List ℕ → Type 0) → AreNotServed damaged (Ok Unopened) old old
+run_unopened {old = old} damaged = record { lines = []; by = refl; said = nothing_said None old }
 
 -- a part is damaged
-pub run_damaged : {old new : Option (List ℕ)} (objects : List Object) (line : List ℕ) (end : Result ServeEnd LinesFault) → IsDamagedLine objects line → IsRefusedBy line end old new → AreNotServed objects end old new
-run_damaged objects line (Ok Whole) is by = absurd by.ends
-run_damaged objects line (Ok Refused) is by = record { lines = line ∷ []; by = (line, is, refl); said = by.said }
-run_damaged objects line (Ok Unopened) is by = absurd by.ends
-run_damaged objects line (Err fault) is by = record { lines = line ∷ []; by = inr (inr (line, is, refl)); said = by.said }
+pub run_damaged : {old new : Option (List ℕ)} (damaged : List ℕ → Type 0) (line : List ℕ) (end : Result ServeEnd LinesFault) → damaged line → IsRefusedBy line end old new → AreNotServed damaged end old new
+run_damaged damaged line (Ok Whole) is by = absurd by.ends
+run_damaged damaged line (Ok Refused) is by = record { lines = line ∷ []; by = (line, is, refl); said = by.said }
+run_damaged damaged line (Ok Unopened) is by = absurd by.ends
+run_damaged damaged line (Err fault) is by = record { lines = line ∷ []; by = inr (inr (line, is, refl)); said = by.said }
+
+unserved_as : (one other : List ℕ → Type 0) (lines : List (List ℕ)) (end : Result ServeEnd LinesFault) → ((line : List ℕ) → one line → other line) → IsUnservedBy one lines end → IsUnservedBy other lines end
+unserved_as one other lines (Ok Whole) follows by = by
+unserved_as one other lines (Ok Refused) follows by = (by.0, follows by.0 by.1, by.2)
+unserved_as one other lines (Ok Unopened) follows by = by
+unserved_as one other lines (Err fault) follows (inl none) = inl none
+unserved_as one other lines (Err fault) follows (inr (inl place)) = inr (inl place)
+unserved_as one other lines (Err fault) follows (inr (inr by)) = inr (inr (by.0, follows by.0 by.1, by.2))
+
+not_served_as : {old new : Option (List ℕ)} (one other : List ℕ → Type 0) (end : Result ServeEnd LinesFault) → ((line : List ℕ) → one line → other line) → AreNotServed one end old new → AreNotServed other end old new
+not_served_as one other end follows run = record { lines = run.lines; by = unserved_as one other run.lines end follows run.by; said = run.said }
+
+line_is : (holds : Papers → Type 0) (objects : List Object) (why : NotOpened) → IsNotOpenedOf holds objects why → (line : List ℕ) → IsLineOf why line → IsFirstDamagedLine holds objects line
+line_is holds objects (Damaged text) not line is = subst (IsFirstDamagedLine holds objects) (sym is) not
+line_is holds objects (Fault fault) not line is = absurd is
+
+-- objects that are not opened
+pub not_opened : {old new : Option (List ℕ)} (holds : Papers → Type 0) (objects : List Object) (why : NotOpened) (end : Result ServeEnd LinesFault) → IsNotOpenedOf holds objects why → AreNotServed (IsLineOf why) end old new → AreNotServed (IsFirstDamagedLine holds objects) end old new
+not_opened holds objects why end not run = not_served_as (IsLineOf why) (IsFirstDamagedLine holds objects) end (line_is holds objects why not) run
 
 -- what a server comes to, without what is stored
 pub run_of : {H : Type 0} {backs : H → Assignment → Type 0} {agrees : Assignment → Type 0} {pw pa tw ta : Papers → Type 0} {objects : List Object} {end : Result ServeEnd LinesFault} {old new : Option (List ℕ)} → IsRunIn backs agrees pw pa tw ta objects end old new → IsRunOf backs objects end old new
 run_of (inl run) = inl run.0
-run_of (inr run) = inr run
+run_of {pa = pa} {objects = objects} {end = end} (inr run) = inr (not_served_as (IsFirstDamagedLine pa objects) (IsDamagedLine objects) end (λ line is. (is.0, is.1, is.2, is.3)) run)
 
 -- memory was refused behind the end
-unserved_failed : (objects : List Object) (lines : List (List ℕ)) (end : Result ServeEnd LinesFault) → IsUnservedBy objects lines end → IsUnservedBy objects lines (Err Memory)
-unserved_failed objects lines (Ok Whole) by = absurd by
-unserved_failed objects lines (Ok Refused) by = inr (inr by)
-unserved_failed objects lines (Ok Unopened) by = inl by
-unserved_failed objects lines (Err fault) by = by
+unserved_failed : (damaged : List ℕ → Type 0) (lines : List (List ℕ)) (end : Result ServeEnd LinesFault) → IsUnservedBy damaged lines end → IsUnservedBy damaged lines (Err Memory)
+unserved_failed damaged lines (Ok Whole) by = absurd by
+unserved_failed damaged lines (Ok Refused) by = inr (inr by)
+unserved_failed damaged lines (Ok Unopened) by = inl by
+unserved_failed damaged lines (Err fault) by = by
 
 served_memory : {H : Type 0} {backs : H → Assignment → Type 0} {old new : Option (List ℕ)} (objects : List Object) (end : Result ServeEnd LinesFault) → AreServed backs objects end old new → AreServed backs objects (Err Memory) old new
 served_memory objects end run = record {
@@ -200,7 +221,7 @@ served_memory objects end run = record {
 run_memory : {H : Type 0} {backs : H → Assignment → Type 0} {agrees : Assignment → Type 0} {pw pa tw ta : Papers → Type 0} {old new : Option (List ℕ)} (objects : List Object) (end : Result ServeEnd LinesFault) → IsRunIn backs agrees pw pa tw ta objects end old new → IsRunIn backs agrees pw pa tw ta objects (Err Memory) old new
 unfolding served_memory
 run_memory objects end (inl (run, kept)) = inl (served_memory objects end run, kept)
-run_memory objects end (inr run) = inr (record { lines = run.lines; by = unserved_failed objects run.lines end run.by; said = said_as run.said (λ none. met_not none) })
+run_memory {pa = pa} objects end (inr run) = inr (record { lines = run.lines; by = unserved_failed (IsFirstDamagedLine pa objects) run.lines end run.by; said = said_as run.said (λ none. met_not none) })
 
 pub run_behind : {H : Type 0} {backs : H → Assignment → Type 0} {agrees : Assignment → Type 0} {pw pa tw ta : Papers → Type 0} {old new : Option (List ℕ)} (objects : List Object) (before end : Result ServeEnd LinesFault) → IsRunIn backs agrees pw pa tw ta objects before old new → IsEndBehind before end → IsRunIn backs agrees pw pa tw ta objects end old new
 run_behind {backs = backs} {agrees = agrees} {pw = pw} {pa = pa} {tw = tw} {ta = ta} {old = old} {new = new} objects before end run (inl same) = subst (λ (e : Result ServeEnd LinesFault). IsRunIn backs agrees pw pa tw ta objects e old new) (sym same) run

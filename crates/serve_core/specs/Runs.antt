@@ -10,6 +10,7 @@ use Rattle.hand_core.specs.Device.{Assignment}
 use Rattle.hand_core.specs.Papers.{Papers}
 use Rattle.decl_core.specs.declared.object.Object.{Object}
 use Rattle.decl_core.specs.ObjectMap.{objects_of, object_names}
+use Rattle.store_core.specs.Opened.{IsFirstDamaged}
 use Rattle.board_core.specs.Lists.{Every, Among}
 use Rattle.slip_core.specs.Slips.{Told}
 use Rattle.session_core.specs.declared.order.Named.{Named}
@@ -37,10 +38,21 @@ named_in offices = map (λ (n : Named). n.name) offices
 abbrev pub IsDamagedLine : List Object → List ℕ → Type 0
 IsDamagedLine objects line = (o : Object) × Among o objects × (place : ℕ) × (line ≡ damaged_line o place)
 
--- why these objects are not opened: the line that says so is that of a part of one of them
-abbrev pub IsNotOpenedOf : List Object → NotOpened → Type 0
-IsNotOpenedOf objects (Damaged line) = IsDamagedLine objects line.items
-IsNotOpenedOf objects (Fault fault) = Unit {0}
+-- the line of a part of one of these objects, the first one of that object that is damaged, whatever the shelf may hold
+abbrev pub IsFirstDamagedLine : (Papers → Type 0) → List Object → List ℕ → Type 0
+IsFirstDamagedLine holds objects line =
+    (o : Object) × Among o objects × (place : ℕ) × (line ≡ damaged_line o place)
+    × ((papers : Papers) → holds papers → IsFirstDamaged papers o.name o.parts.items place)
+
+-- why these objects are not opened: the line that says so is that of the first damaged part of one of them
+abbrev pub IsNotOpenedOf : (Papers → Type 0) → List Object → NotOpened → Type 0
+IsNotOpenedOf holds objects (Damaged line) = IsFirstDamagedLine holds objects line.items
+IsNotOpenedOf holds objects (Fault fault) = Unit {0}
+
+-- this is the line that says why objects are not opened
+abbrev pub IsLineOf : NotOpened → List ℕ → Type 0
+IsLineOf (Damaged text) line = line ≡ text.items
+IsLineOf (Fault fault) line = ⊥
 
 -- `listening PLACE`: a port, or the path of a socket
 abbrev pub listening_line : List ℕ → List ℕ
@@ -51,29 +63,16 @@ abbrev pub fault_of_end : Result ServeEnd LinesFault → Option LinesFault
 fault_of_end (Ok end) = None
 fault_of_end (Err fault) = Some fault
 
--- Objects under these names were served, and closed. What the sessions left was gathered between.
-pub record Serves {H : Type 0} (backs : H → Assignment → Type 0) (agrees earlier : Assignment → Type 0)
+-- What the sessions left of objects under these names was gathered, and then they were closed.
+pub record GathersAndCloses {H : Type 0} (backs : H → Assignment → Type 0) (agrees earlier : Assignment → Type 0)
     (parts_were parts_are traces_were traces_are : Papers → Type 0) (names : List (List ℕ))
     (openings : List Opening) (before after : Trouble) (kept_all keeps_all : Bool)
     (old new : Option (List ℕ)) : Type 0 where
-  pub place : List ℕ
-  pub known : Option (List ℕ)
-  pub listens : AreSaid (listening_line place ∷ []) None old known
   pub gathered : Trouble
   pub slips : List (List Told)
   pub gathers : IsGathered H (none_of (length names)) before gathered slips
   pub closes : Closes backs agrees earlier parts_were parts_are traces_were traces_are names openings slips gathered
-      after kept_all keeps_all known new
-
--- so it was, or a fault came before any was served
-abbrev pub ServesOr : {H : Type 0} → (H → Assignment → Type 0) → (Assignment → Type 0) → (Assignment → Type 0) →
-    (Papers → Type 0) → (Papers → Type 0) → (Papers → Type 0) → (Papers → Type 0) → List (List ℕ) →
-    List Opening → Trouble → Trouble → Bool → Bool → Option (List ℕ) → Option (List ℕ) →
-    Result (Unit {0}) LinesFault → Type 0
-ServesOr backs agrees earlier pw pa tw ta names openings before after kept_all keeps_all old new (Ok done) =
-    Serves backs agrees earlier pw pa tw ta names openings before after kept_all keeps_all old new
-ServesOr backs agrees earlier pw pa tw ta names openings before after kept_all keeps_all old new (Err fault) =
-    (place : List ℕ) × AreSaid (listening_line place ∷ []) (Some fault) old new
+      after kept_all keeps_all old new
 
 -- These objects were served: `listening PLACE` is written, and then, for each object in order, the lines for how it
 -- ended. The end is the first fault, those of sessions before those of the objects' ends; else refused, where a line
@@ -110,34 +109,35 @@ pub record AreKept (agrees : Assignment → Type 0) (parts_were parts_are traces
   pub traced : (papers : Papers) → traces_are papers →
       (base : Papers) × traces_were base × AreTracedAll base ends papers
 
--- What is written where no object is served: the line of a part that is damaged, or nothing; where a fault comes a
+-- What is written where no object is served: such a line of a part that is damaged, or nothing; where a fault comes a
 -- front of one line at most.
-abbrev pub IsUnservedBy : List Object → List (List ℕ) → Result ServeEnd LinesFault → Type 0
-IsUnservedBy objects lines (Ok Whole) = ⊥
-IsUnservedBy objects lines (Ok Refused) = (line : List ℕ) × IsDamagedLine objects line × (lines ≡ line ∷ [])
-IsUnservedBy objects lines (Ok Unopened) = lines ≡ []
-IsUnservedBy objects lines (Err fault) =
+abbrev pub IsUnservedBy : (List ℕ → Type 0) → List (List ℕ) → Result ServeEnd LinesFault → Type 0
+IsUnservedBy damaged lines (Ok Whole) = ⊥
+IsUnservedBy damaged lines (Ok Refused) = (line : List ℕ) × damaged line × (lines ≡ line ∷ [])
+IsUnservedBy damaged lines (Ok Unopened) = lines ≡ []
+IsUnservedBy damaged lines (Err fault) =
     (lines ≡ []) ⊎ ((place : List ℕ) × (lines ≡ listening_line place ∷ []))
-    ⊎ ((line : List ℕ) × IsDamagedLine objects line × (lines ≡ line ∷ []))
+    ⊎ ((line : List ℕ) × damaged line × (lines ≡ line ∷ []))
 
-pub record AreNotServed (objects : List Object) (end : Result ServeEnd LinesFault)
+pub record AreNotServed (damaged : List ℕ → Type 0) (end : Result ServeEnd LinesFault)
     (old new : Option (List ℕ)) : Type 0 where
   pub lines : List (List ℕ)
-  pub by : IsUnservedBy objects lines end
+  pub by : IsUnservedBy damaged lines end
   pub said : AreSaid lines (fault_of_end end) old new
 
 -- objects are served or not
 abbrev pub IsRunOf : {H : Type 0} → (H → Assignment → Type 0) → List Object → Result ServeEnd LinesFault →
     Option (List ℕ) → Option (List ℕ) → Type 0
-IsRunOf backs objects end old new = AreServed backs objects end old new ⊎ AreNotServed objects end old new
+IsRunOf backs objects end old new =
+    AreServed backs objects end old new ⊎ AreNotServed (IsDamagedLine objects) end old new
 
--- the same, with what is stored
+-- the same, with what is stored, and a damaged part is the first one by what is stored
 abbrev pub IsRunIn : {H : Type 0} → (H → Assignment → Type 0) → (Assignment → Type 0) → (Papers → Type 0) →
     (Papers → Type 0) → (Papers → Type 0) → (Papers → Type 0) → List Object → Result ServeEnd LinesFault →
     Option (List ℕ) → Option (List ℕ) → Type 0
 IsRunIn backs agrees pw pa tw ta objects end old new =
     ((run : AreServed backs objects end old new) × AreKept agrees pw pa tw ta objects run.ends)
-    ⊎ AreNotServed objects end old new
+    ⊎ AreNotServed (IsFirstDamagedLine pa objects) end old new
 
 -- an end that says that something is refused, or that writing so failed
 abbrev pub IsRefusal : Result ServeEnd LinesFault → Type 0

@@ -1,5 +1,8 @@
 //! Connections, each of them served on threads of its own.
 
+ghost use Rattle.std.specs.Prelude.{◌≡◌};
+ghost use Rattle.talk_core.specs.Truth.{AreTrue};
+
 use crate::backed::Backed;
 use crate::gate::Door;
 use ahead_core::ahead::Ends;
@@ -87,6 +90,32 @@ fn prepare(stream: &TcpStream) {
     let _ = stream.set_write_timeout(Some(Duration::from_millis(PAUSE)));
 }
 
+// What a session leaves to its object, once its hand has ended: all that it hands back but the writer.
+fn left_of<W: Drop, H: Ends>(end: SessionEnd<W, H>) -> Left<H>
+    requires { AreTrue H.agrees end.hand end.receipts.items }
+    ensures object { result.object ≡ end.object }
+    ensures seat { result.seat ≡ end.seat }
+    ensures backed { result.backed ≡ end.receipts.items }
+    ensures fault { result.fault ≡ end.fault }
+{
+    let SessionEnd {
+        object,
+        seat,
+        receipts,
+        writer,
+        mut hand,
+        fault,
+    } = end;
+    drop(writer);
+    hand.end();
+    Left {
+        object,
+        seat,
+        backed: Backed::new(receipts, hand),
+        fault,
+    }
+}
+
 // Serves a session over a connection, and has the hand end.
 fn serve_stream<R: Threads + Wait + Clock + Sync, H: Ends + Send, O: Offices + Sync>(
     rt: &R,
@@ -105,21 +134,8 @@ fn serve_stream<R: Threads + Wait + Clock + Sync, H: Ends + Send, O: Offices + S
         reader: stream,
         writer: Patient::new(writer, bell),
     };
-    let SessionEnd {
-        object,
-        seat,
-        receipts,
-        writer: _,
-        mut hand,
-        fault,
-    } = serve_session(rt, alloc, connection, bell, offices, hand);
-    hand.end();
-    Came::Session(Left {
-        object,
-        seat,
-        backed: Backed::new(receipts, hand),
-        fault,
-    })
+    let end = serve_session(rt, alloc, connection, bell, offices, hand);
+    Came::Session(left_of(end))
 }
 
 // Takes a connection and serves it with the next hand. `None`: no more are taken.

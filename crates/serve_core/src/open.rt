@@ -66,7 +66,7 @@ pub fn open_all<S: Shelf + Drop, T: Shelf + Drop, K: Hand + Drop>(
     ensures files { (a : Assignment) → K.agrees closing.new.hand a → K.agrees closing.old.hand a }
     ensures traces { closing.new.traces ≡ closing.old.traces }
     ensures trouble { closing.new.trouble ≡ closing.old.trouble }
-    ensures not { IfErr result (IsNotOpenedOf ready.items) }
+    ensures not { IfErr result (IsNotOpenedOf (S.holds closing.new.parts) ready.items) }
 {
     let mut served = Served {
         offices: Vec::new(alloc),

@@ -3,7 +3,6 @@
 ghost use Rattle.std.specs.Prelude.{◌≡◌, ◌<◌, ◌∷◌, ℕ, List, [], IfOk, Some, length};
 ghost use Rattle.std.specs.Io.KnownBytes.{Appends};
 ghost use Rattle.std.specs.Vec.Iter.{into_iter_len, into_iter_steps};
-ghost use Rattle.decl_core.specs.declared.object.Object.{Object};
 ghost use Rattle.keep_core.specs.Troubles.{fault_in};
 ghost use Rattle.keep_core.specs.Lines.{AreSaid};
 ghost use Rattle.std.specs.Arc.{arc_value};
@@ -14,8 +13,8 @@ ghost use Rattle.serve_core.specs.Gathers.{slips_in, none_of, IsGathered};
 ghost use Rattle.serve_core.specs.Handled.{IsHandled};
 ghost use Rattle.serve_core.specs.Ends.{IsEndOf};
 ghost use Rattle.serve_core.specs.Closes.{Closes};
-ghost use Rattle.serve_core.specs.Runs.{named_in, listening_line, ServesOr, IsNotOpenedOf, IsRunOf, IsRunIn};
-ghost use Rattle.serve_core.specs.Runs.{IsRefusedBy, IsRun, IsEndBehind, AreNotServed};
+ghost use Rattle.serve_core.specs.Runs.{named_in, listening_line, GathersAndCloses, IsRunOf, IsRunIn};
+ghost use Rattle.serve_core.specs.Runs.{IsRefusedBy, IsRun, IsEndBehind, AreNotServed, IsLineOf};
 ghost use Rattle.serve_core.specs.Tidies.{TidiesValues};
 
 use crate::gate::Gate;
@@ -193,7 +192,7 @@ fn serve_gathered<R: Threads + Wait + Clock + Sync, H: Ends + Send, E: Write>(
     }
 }
 
-// Serves objects whose parts are open, and closes them.
+// Serves objects whose parts are open, and closes them. Nothing of it can fail by itself: what goes wrong is noted.
 fn serve_opened<
     R: Threads + Wait + Clock + Sync,
     S: Shelf + Drop,
@@ -206,24 +205,19 @@ fn serve_opened<
     rt: &R,
     served: Served,
     guests: Guests<'_, H>,
+    gathering: Gathering<H>,
     closing: &mut Closing<S, T, K>,
     writer: &mut W,
     error: &mut E,
-) -> Result<(), LinesFault>
-    requires { length served.openings.items ≡ length served.offices.items }
-    ensures { ServesOr H.agrees (K.agrees closing.new.hand) (K.agrees closing.old.hand) (S.holds closing.old.parts)
-        (S.holds closing.new.parts) (T.holds closing.old.traces) (T.holds closing.new.traces)
-        (named_in served.offices.items) served.openings.items closing.old.trouble closing.new.trouble
-        closing.old.keeps_all closing.new.keeps_all (W.contents writer.old) (W.contents writer.new) result }
+)
+    requires openings { length served.openings.items ≡ length served.offices.items }
+    requires none { slips_in gathering.all.items ≡ none_of (length served.offices.items) }
+    ensures { GathersAndCloses H.agrees (K.agrees closing.new.hand) (K.agrees closing.old.hand)
+        (S.holds closing.old.parts) (S.holds closing.new.parts) (T.holds closing.old.traces)
+        (T.holds closing.new.traces) (named_in served.offices.items) served.openings.items closing.old.trouble
+        closing.new.trouble closing.old.keeps_all closing.new.keeps_all (W.contents writer.old)
+        (W.contents writer.new) }
 {
-    let gathering = match Gathering::new(guests.alloc, served.offices.len(), guests.hands.len()) {
-        Ok(gathering) => gathering,
-        Err(_) => return Err(LinesFault::Memory),
-    };
-    match tell_port(guests.alloc, guests.gate, writer) {
-        Ok(()) => {}
-        Err(fault) => return Err(fault),
-    }
     let gathered = serve_gathered(
         rt,
         &served.offices,
@@ -233,10 +227,9 @@ fn serve_opened<
         error,
     );
     close_all(served, gathered, closing, writer, error);
-    Ok(())
 }
 
-// Opens objects, serves them, and closes them.
+// Opens objects, tells the place, serves them, and closes them.
 fn serve_closing<
     R: Threads + Wait + Clock + Sync,
     S: Shelf + Drop,
@@ -257,21 +250,25 @@ fn serve_closing<
         (T.holds closing.old.traces) (T.holds closing.new.traces) ready.items result (W.contents writer.old)
         (W.contents writer.new) }
 {
-    match open_all(guests.alloc, ready, closing) {
-        Ok(served) => {
-            match serve_opened(rt, served, guests, closing, writer, error) {
-                Ok(()) => end_of(closing.trouble),
-                Err(fault) => Err(fault),
-            }
-        }
-        Err(why) => tell_not_opened(why, writer),
+    let served = match open_all(guests.alloc, ready, closing) {
+        Ok(served) => served,
+        Err(why) => return tell_not_opened(why, writer),
+    };
+    let gathering = match Gathering::new(guests.alloc, served.offices.len(), guests.hands.len()) {
+        Ok(gathering) => gathering,
+        Err(_) => return Err(LinesFault::Memory),
+    };
+    match tell_port(guests.alloc, guests.gate, writer) {
+        Ok(()) => {}
+        Err(fault) => return Err(fault),
     }
+    serve_opened(rt, served, guests, gathering, closing, writer, error);
+    end_of(closing.trouble)
 }
 
 // Writes why objects are not opened, where a part of one is damaged.
 fn tell_not_opened<W: Write>(why: NotOpened, writer: &mut W) -> Result<ServeEnd, LinesFault>
-    ensures { (objects : List Object) → IsNotOpenedOf objects why →
-        AreNotServed objects result (W.contents writer.old) (W.contents writer.new) }
+    ensures { AreNotServed (IsLineOf why) result (W.contents writer.old) (W.contents writer.new) }
 {
     match why {
         NotOpened::Damaged(line) => tell_refused(&line, writer),

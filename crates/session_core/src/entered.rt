@@ -3,6 +3,9 @@
 //! A client that has a name gets the seat of that name each time that it opens the object, and its session goes on
 //! where it left. Any other gets a seat of its own.
 
+ghost use Rattle.std.specs.Prelude.{◌≡◌, ◌≢◌, ◌<◌, ◌≤◌, ◌↔◌, IsTrue, IsSome, IfOk, IfErr};
+ghost use Rattle.session_core.specs.Entering.{IsFound, LeavesSeat, why_not};
+
 use crate::order::Offices;
 use office_core::named::NameFault;
 use office_core::office::Office;
@@ -30,8 +33,22 @@ pub(crate) enum NotEntered {
     Memory,
 }
 
+// Why a client gets no seat of its own.
+fn not_entered(why: NameFault) -> NotEntered
+    ensures { result ≡ why_not why }
+{
+    match why {
+        NameFault::InUse => NotEntered::Refused(Refusal::InUse),
+        NameFault::SeatsFull => NotEntered::Refused(Refusal::Full),
+        NameFault::Memory => NotEntered::Memory,
+    }
+}
+
 // The seat of a client at an office: its own, where it has a name.
-fn seat_of<R: Wait>(rt: &R, office: &Office, client: &Option<Name>) -> Result<Seat, NotEntered> {
+fn seat_of<R: Wait>(rt: &R, office: &Office, client: &Option<Name>) -> Result<Seat, NotEntered>
+    ensures within { IfOk result (λ seat. (0 < seat.session) × (seat.session ≤ 1024)) }
+    ensures not { IfErr result (λ why. why ≢ NotEntered.Refused Refusal.NoObject) }
+{
     let Some(client) = client else {
         return match office.seat(rt) {
             Ok(seat) => Ok(seat),
@@ -40,14 +57,14 @@ fn seat_of<R: Wait>(rt: &R, office: &Office, client: &Option<Name>) -> Result<Se
     };
     match office.seat_named(rt, client) {
         Ok(seat) => Ok(seat),
-        Err(NameFault::InUse) => Err(NotEntered::Refused(Refusal::InUse)),
-        Err(NameFault::SeatsFull) => Err(NotEntered::Refused(Refusal::Full)),
-        Err(NameFault::Memory) => Err(NotEntered::Memory),
+        Err(why) => Err(not_entered(why)),
     }
 }
 
 // The key of the next call of this seat's session, where the seat is that of a client that has a name.
-fn next_key<R: Wait>(rt: &R, office: &Office, seat: &Seat, is_named: bool) -> Option<u32> {
+fn next_key<R: Wait>(rt: &R, office: &Office, seat: &Seat, is_named: bool) -> Option<u32>
+    ensures { IsSome result ↔ IsTrue is_named }
+{
     if is_named {
         Some(office.next_key(rt, seat))
     } else {
@@ -55,13 +72,16 @@ fn next_key<R: Wait>(rt: &R, office: &Office, seat: &Seat, is_named: bool) -> Op
     }
 }
 
-/// Opens an object, and gives the next key that is told.
+/// Opens the object of this name, and gives the next key that is told. `NoObject` is told where there is none, and
+/// only there.
 pub(crate) fn seat_at<R: Wait, O: Offices>(
     rt: &R,
     offices: &O,
     name: &Name,
     client: &Option<Name>,
-) -> Result<(Entered, Option<u32>), NotEntered> {
+) -> Result<(Entered, Option<u32>), NotEntered>
+    ensures { IsFound (O.named offices.now) name.now client.now result }
+{
     let Some(at) = offices.place_of(name) else {
         return Err(NotEntered::Refused(Refusal::NoObject));
     };
@@ -84,7 +104,9 @@ pub(crate) fn parked<R: Wait, O: Offices>(
     rt: &R,
     offices: &O,
     seat: Option<Entered>,
-) -> (Option<usize>, Option<Seat>) {
+) -> (Option<usize>, Option<Seat>)
+    ensures { LeavesSeat seat result.0 result.1 }
+{
     let Some(entered) = seat else {
         return (None, None);
     };

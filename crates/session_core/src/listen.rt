@@ -1,9 +1,10 @@
 //! The second thread of a session: it reads while a call waits.
 
+ghost use Rattle.session_core.specs.Heeding.{Heeds};
+
 use crate::order::Offices;
 use crossbeam_channel::Receiver;
 use hear_core::ear::{Ear, Heard};
-use hear_core::fault::HearFault;
 use hear_core::relay::Relay;
 use session_text::line::{Line, Refusal};
 use session_text::session::Action;
@@ -53,7 +54,9 @@ fn heed<R: Wait, I: Read + Drop, W: Write + Drop, J: Start, O: Offices>(
     relay: &Relay<I>,
     ear: &mut Ear<I>,
     heard: Heard,
-) -> bool {
+) -> bool
+    ensures { Heeds heard ear.old result ear.new }
+{
     match heard {
         Heard::Nothing => ear.read(),
         Heard::Action(Action::Cancel(number)) => {
@@ -62,9 +65,7 @@ fn heed<R: Wait, I: Read + Drop, W: Write + Drop, J: Start, O: Offices>(
             }
         }
         Heard::Action(action) => {
-            if !relay.pass(rt, action) {
-                ear.end(Some(HearFault::Memory));
-            }
+            relay.pass(rt, action, ear);
         }
         Heard::LineTooLong => {
             let _told = tell(rt, mouth, Line::Refused(Refusal::LineTooLong));

@@ -8,12 +8,15 @@ ghost use Rattle.board_core.specs.Sound.{IsSound};
 ghost use Rattle.call_core.specs.Tickets.{ticket_call};
 ghost use Rattle.run_core.specs.Outcomes.{outcome_call, TellsSame};
 ghost use Rattle.slip_core.specs.Rooms.{IsMade};
+ghost use Rattle.ask_core.specs.Answers.{HasName};
 ghost use Rattle.ask_core.specs.Keyed.{IsStateOf};
 ghost use Rattle.slip_core.specs.Slips.{told_by};
 ghost use Rattle.office_core.specs.declared.seat.Submitted.{Submitted as Ask};
 ghost use Rattle.office_core.specs.Submissions.{Asks, Tells, IsTicketOf};
 ghost use Rattle.talk_core.specs.Truth.{Keeps, AreTrue, OutcomeIsTrue};
 ghost use Rattle.session_core.specs.Leaving.{RetiresLeft, PutsOff};
+ghost use Rattle.session_core.specs.Making.{IsNew, MakesCall, MakesFor, MakesOnce, asked_by};
+ghost use Rattle.session_core.specs.Opening.{Takes, Enters};
 
 use crate::entered::{Entered, NotEntered, seat_at};
 use crate::listen::leave;
@@ -254,7 +257,8 @@ fn begun<R: Wait + Clock, I: Read + Drop, W: Write + Drop, J: Start>(
     op: &str,
     args: &[Datum],
 ) -> Option<Ticket>
-    ensures { IfSome result (λ t. (ticket_call t).arguments ≡ args.now) }
+    ensures arguments { IfSome result (λ t. (ticket_call t).arguments ≡ args.now) }
+    ensures named { IfSome result (λ t. HasName op.now (ticket_call t).operation) }
 {
     let (number, tried) = match submitted(service, late, seat, op, args) {
         Ok(answer) => answer,
@@ -313,6 +317,7 @@ fn serve_at<R: Wait + Clock, I: Read + Drop, W: Write + Drop, H: Hand + Drop, J:
     ensures kept { Keeps H.agrees worked.old.hand worked.new.hand }
     ensures told { AreTrue H.agrees worked.old.hand worked.old.receipts.items →
         AreTrue H.agrees worked.new.hand worked.new.receipts.items }
+    ensures made { MakesOnce op.now args.now worked.old.receipts.items worked.new.receipts.items }
 {
     retire_left(service.alloc, &mut worked.hand, &mut worked.free);
     if !make_room(service, &mut worked.receipts, &mut worked.room, args) {
@@ -365,7 +370,9 @@ fn is_new<R: Wait, W: Write + Drop, J: Start>(
     key: Option<u32>,
     op: &str,
     args: &[Datum],
-) -> bool {
+) -> bool
+    ensures { IsTrue result → IsNew (asked_by seat.now.session op.now args.now) key }
+{
     let Some(key) = key else {
         return true;
     };
@@ -401,6 +408,7 @@ fn serve_call<
     ensures kept { Keeps H.agrees worked.old.hand worked.new.hand }
     ensures told { AreTrue H.agrees worked.old.hand worked.old.receipts.items →
         AreTrue H.agrees worked.new.hand worked.new.receipts.items }
+    ensures made { MakesCall worked.old.seat key op.now args.now worked.old.receipts.items worked.new.receipts.items }
 {
     let Ok(op) = str::from_utf8(op.as_bytes()) else {
         return;
@@ -423,15 +431,17 @@ fn serve_call<
     worked.seat = Some(entered);
 }
 
-// Opens an object for this session, which goes on or, where memory is refused, leaves.
-fn enter<R: Wait, I: Read + Drop, W: Write + Drop, J: Start, O: Offices>(
+// Tells whether an object was opened, and takes the seat there. The session goes on or, where memory was refused, leaves.
+fn take_found<R: Wait, I: Read + Drop, W: Write + Drop, J: Start, O: Offices>(
     service: Service<'_, R, O, W, J>,
     reading: &mut Reading<'_, I>,
     seat: &mut Option<Entered>,
     name: &Name,
-    client: &Option<Name>,
-) -> Goes {
-    match seat_at(service.rt, service.by, name, client) {
+    found: Result<(Entered, Option<u32>), NotEntered>,
+) -> Goes
+    ensures { Takes found seat.old reading.old.opened seat.new reading.new.opened result }
+{
+    match found {
         Ok((entered, next)) => {
             reading.set_opened(entered.at, entered.seat.session());
             let _said = service.mouth.say_opened(service.rt, name, next);
@@ -444,6 +454,21 @@ fn enter<R: Wait, I: Read + Drop, W: Write + Drop, J: Start, O: Offices>(
         }
         Err(NotEntered::Memory) => Goes::Leaves(Some(HearFault::Memory)),
     }
+}
+
+// Opens an object for this session, which goes on or, where memory is refused, leaves.
+fn enter<R: Wait, I: Read + Drop, W: Write + Drop, J: Start, O: Offices>(
+    service: Service<'_, R, O, W, J>,
+    reading: &mut Reading<'_, I>,
+    seat: &mut Option<Entered>,
+    name: &Name,
+    client: &Option<Name>,
+) -> Goes
+    ensures { Enters (O.named service.entry.by.now) name.now client.now seat.old reading.old.opened seat.new
+        reading.new.opened result }
+{
+    let found = seat_at(service.rt, service.by, name, client);
+    take_found(service, reading, seat, name, found)
 }
 
 // Cancels a call of the object that is opened.
@@ -481,6 +506,7 @@ fn act<R: Wait + Clock, I: Read + Drop, W: Write + Drop, H: Hand + Drop, J: Star
     ensures kept { Keeps H.agrees worked.old.hand worked.new.hand }
     ensures told { AreTrue H.agrees worked.old.hand worked.old.receipts.items →
         AreTrue H.agrees worked.new.hand worked.new.receipts.items }
+    ensures made { MakesFor action worked.old.seat worked.old.receipts.items worked.new.receipts.items }
 {
     match action {
         Action::Open(name, client) => {

@@ -6,6 +6,8 @@
 #[cfg(test)]
 mod deaf;
 #[cfg(test)]
+mod gone;
+#[cfg(test)]
 mod lines;
 #[cfg(test)]
 mod make;

@@ -1,6 +1,6 @@
 //! The engines of `paths`, `run` and `check` over readers and writers that fail.
 
-use crate::fakes::{Brim, Choppy, Endless, Mood, Shy, accepted};
+use crate::fakes::{Brim, CELL, Choppy, Endless, Mood, Shy, accepted};
 use check_core::report::{CheckEnd, CheckFault, check_report};
 use path_count::paths::{PathsEnd, PathsFault, run_paths};
 use script_core::script::{ScriptEnd, ScriptFault, run_script};
@@ -95,15 +95,6 @@ started 7
 steps 7 4
 done 7 1
 started 6
-";
-
-const CELL: &[u8] = b"object cell;
-  path 1:([get], put, bump) end;
-  var v : array [1] of integer;
-  entry function get : integer; begin get := v[0] end;
-  entry procedure put(x : integer); begin v[0] := x end;
-  entry procedure bump(x : integer); begin v[0] := v[0] + x end;
-end;
 ";
 
 const CELL_REPORT: &[u8] = b"object cell accepted

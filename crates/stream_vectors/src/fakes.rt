@@ -126,6 +126,16 @@ impl Write for Shy {
     }
 }
 
+/// An object with one part.
+pub const CELL: &[u8] = b"object cell;
+  path 1:([get], put, bump) end;
+  var v : array [1] of integer;
+  entry function get : integer; begin get := v[0] end;
+  entry procedure put(x : integer); begin v[0] := x end;
+  entry procedure bump(x : integer); begin v[0] := v[0] + x end;
+end;
+";
+
 /// The object of a source that has one.
 pub fn only_object(rt: &impl Abort, alloc: Global, text: &[u8]) -> Object {
     let objects = read_objects(alloc, text).expect(rt, "objects");

@@ -14,4 +14,6 @@ mod played;
 #[cfg(test)]
 mod trees;
 #[cfg(test)]
+mod uncalled;
+#[cfg(test)]
 mod values;

@@ -65,6 +65,11 @@ pub held_still : (held text : List ℕ) (notes more : List Note) (first at : Sta
 held_still held text notes more first at line true is so adds = cc
 held_still held text notes more first at line false (kept, noted, leads, are) so (same, unmarked) = (kept, noted ∙ sym unmarked, leads, same ∙ are)
 
+-- what adding a line did, of what is seen of what is held back
+pub adds_seen : (was is : List ℕ × List Note × Stage × Stage × Bool × Bool) (new : List ℕ) (more : List Note) (line : Said) (added known : Bool) → was ≡ is → added ≡ known → Adds was.0 new was.1 more line added
+    → Adds is.0 new is.1 more line known
+adds_seen was is new more line added known same so adds = subst (λ v. Adds v.0 new v.1 more line known) same (subst (λ b. Adds was.0 new was.1 more line b) so adds)
+
 -- what is left behind where lines were handed over
 pub all_gone : (held left to : List ℕ) (notes fewer noted more : List Note) (at : Stage) (went : Bool) → went ≡ true → HandsOver held left notes fewer to noted more went → IsHeld left fewer at at
 all_gone held left to notes fewer noted more at false so hands = cc

@@ -4,6 +4,7 @@ ghost use Rattle.std.specs.Prelude.{◌≡◌, [], ℕ, List, false};
 ghost use Rattle.std.specs.Bool.{OnFalse};
 ghost use Rattle.session_text.specs.Answers.{opened, ended, repeated, told};
 ghost use Rattle.talk_core.specs.declared.note.Note.{Note};
+ghost use Rattle.talk_core.specs.Repeats.{WasNoted};
 ghost use Rattle.talk_core.specs.Written.{IsHeld, IsSilent, Adds, HandsOver};
 
 use crate::note::{Note, add_note};
@@ -220,7 +221,8 @@ impl Held {
     /// Holds a line back, unless it may not stand here, or a line before it was not held back. It answers whether it
     /// did.
     pub fn say(&mut self, line: Line) -> bool
-        ensures { OnFalse result (IsSilent self.new.4 self.new.5) }
+        ensures silent { OnFalse result (IsSilent self.new.4 self.new.5) }
+        ensures added { Adds self.old.0 self.new.0 self.old.1 self.new.1 (told line) result }
     {
         if !self.is_whole() {
             return false;
@@ -240,7 +242,8 @@ impl Held {
     /// Holds back the last line of a call that has a receipt, and notes it, unless that call is not open, or a line
     /// before it was not held back. It answers whether it did.
     pub fn say_ended(&mut self, number: u32, reply: &Reply) -> bool
-        ensures { OnFalse result (IsSilent self.new.4 self.new.5) }
+        ensures silent { OnFalse result (IsSilent self.new.4 self.new.5) }
+        ensures added { Adds self.old.0 self.new.0 self.old.1 self.new.1 (ended number reply.now) result }
     {
         if !self.is_whole() {
             return false;
@@ -265,9 +268,11 @@ impl Held {
     }
 
     /// Holds back the last line of a call that was made before, unless a call is open, or a line before it was not held
-    /// back. It answers whether it did. It is not noted.
+    /// back. It answers whether it did. It is not noted. Only what stands in a history is told so.
     pub fn say_repeated(&mut self, number: u32, reply: &Reply) -> bool
-        ensures { OnFalse result (IsSilent self.new.4 self.new.5) }
+        requires { WasNoted number reply.now }
+        ensures silent { OnFalse result (IsSilent self.new.4 self.new.5) }
+        ensures added { Adds self.old.0 self.new.0 self.old.1 self.new.1 (repeated number reply.now) result }
     {
         if !self.is_whole() {
             return false;
@@ -287,7 +292,8 @@ impl Held {
     /// Holds back `opened NAME`, with the next key where one is told, unless a call is open, or a line before it was not
     /// held back. It answers whether it did.
     pub fn say_opened(&mut self, name: &Name, next: Option<u32>) -> bool
-        ensures { OnFalse result (IsSilent self.new.4 self.new.5) }
+        ensures silent { OnFalse result (IsSilent self.new.4 self.new.5) }
+        ensures added { Adds self.old.0 self.new.0 self.old.1 self.new.1 (opened name.now next) result }
     {
         if !self.is_whole() {
             return false;

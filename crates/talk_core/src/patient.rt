@@ -1,5 +1,7 @@
 //! A writer that does not wait for ever.
 
+ghost use Rattle.std.specs.Prelude.{◌≡◌};
+
 use hear_core::bell::Bell;
 use hear_core::reader::is_pause;
 use std::io::{self, Write};
@@ -12,7 +14,7 @@ pub const LAST_PAUSES: u32 = 4;
 
 /// A writer over one whose writes return after a while where nothing is taken, as those of a socket with a time-out do.
 /// A write that takes nothing is made again: at most 40 times in a row, and once the bell has rung at most four times
-/// in all. With a time-out of 250 ms these are ten seconds, and one.
+/// in all. With a time-out of 250 ms these are ten seconds, and one. What was written to it is what the writer inside has.
 #[derive(Drop)]
 pub struct Patient<'a, W: Write + Drop> {
     writer: W,
@@ -23,7 +25,9 @@ pub struct Patient<'a, W: Write + Drop> {
 
 impl<'a, W: Write + Drop> Patient<'a, W> {
     /// Nothing is written yet.
-    pub fn new(writer: W, bell: &'a Bell) -> Patient<'a, W> {
+    pub fn new(writer: W, bell: &'a Bell) -> Patient<'a, W>
+        ensures { W.contents result.writer ≡ W.contents writer }
+    {
         Patient {
             writer,
             bell,
@@ -32,7 +36,9 @@ impl<'a, W: Write + Drop> Patient<'a, W> {
     }
 
     // Whether a write that takes nothing may be made again.
-    fn goes_on(&mut self) -> bool {
+    fn goes_on(&mut self) -> bool
+        ensures { W.contents self.new.writer ≡ W.contents self.old.writer }
+    {
         if !self.bell.has_rung() {
             return true;
         }
@@ -42,6 +48,8 @@ impl<'a, W: Write + Drop> Patient<'a, W> {
 }
 
 impl<W: Write + Drop> Write for Patient<'_, W> {
+    ghost contents = { λ p. W.contents p.writer };
+
     fn write(&mut self, buf: &[u8]) -> io::Result<usize> {
         if self.late >= LAST_PAUSES {
             return Err(io::Error::from(io::ErrorKind::TimedOut));

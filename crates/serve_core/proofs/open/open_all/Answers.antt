@@ -29,10 +29,10 @@ loop-accepted-preserved g c =
 pub returns-in-Err-clause-not : goal.returns-in-Err-clause-not
 returns-in-Err-clause-not g c =
     let step = step_some c.loop-accepted.accepted-iterator c.next.new.self _ _ c.in-Some.is c.next.ensures.steps in
-    opened_not c.in-Some.accepted _ c.in-Err.why c.loop-accepted.invariant.so step.0 c.in-Err.ensures.not
+    opened_not (g.S.Shelf.holds c.open.new.self.parts) _ c.in-Some.accepted _ c.in-Err.why c.loop-accepted.invariant.so step.0 c.in-Err.ensures.not
 
 pub returns-in-Err-add-clause-not : goal.returns-in-Err-add-clause-not
-returns-in-Err-add-clause-not g c = subst (IsNotOpenedOf c.args.ready.items) (sym c.in-Err-add.ensures.not) tt
+returns-in-Err-add-clause-not g c = subst (IsNotOpenedOf (g.S.Shelf.holds c.open.new.self.parts) c.args.ready.items) (sym c.in-Err-add.ensures.not) tt
 
 pub returns-clause-named : goal.returns-clause-named
 returns-clause-named g c = opened_all c.loop-accepted.invariant.so (step_none c.loop-accepted.accepted-iterator c.next.new.self _ c.in-None.is c.next.ensures.steps)

@@ -4,10 +4,10 @@ use Rattle.serve_core.proofs.Running.{run_none, run_of}
 use Rattle.serve_core.proofs.serve.serve_ready.Goals as goal
 
 pub returns-in-Err : goal.returns-in-Err
-returns-in-Err g c = inr (run_none c.args.ready.items Memory)
+returns-in-Err g c = inr (run_none _ Memory)
 
 pub returns : goal.returns
 returns g c = run_of c.serve_keeping.ensures.run
 
 pub returns-in-Err-values_in : goal.returns-in-Err-values_in
-returns-in-Err-values_in g c = inr (run_none c.args.ready.items Memory)
+returns-in-Err-values_in g c = inr (run_none _ Memory)

@@ -1,0 +1,40 @@
+-- The calls that a session makes.
+use Rattle.std.proofs.Common.{◌≡◌, ◌∙◌, ap, sym, subst, inl, inr, ℕ, List, [], ◌∷◌, ◌++◌, Option, Some}
+use Rattle.decl_core.specs.ObjectForm.{OperationForm}
+use Rattle.value_core.specs.declared.datum.Datum.{Datum}
+use Rattle.call_core.specs.declared.ticket.Ticket.{Ticket as Admitted}
+use Rattle.call_core.specs.Tickets.{ticket_call}
+use Rattle.call_core.specs.Calls.{Call}
+use Rattle.run_core.specs.declared.outcome.Outcome.{Outcome}
+use Rattle.run_core.specs.Outcomes.{outcome_call, TellsSame}
+use Rattle.ask_core.specs.Answers.{HasName}
+use Rattle.slip_core.specs.Slips.{Told, told_by}
+use Rattle.office_core.specs.declared.seat.Submitted.{Submitted}
+use Rattle.office_core.specs.Submissions.{Asks, IsTicketOf}
+use Rattle.session_core.specs.declared.entered.Entered.{Entered}
+use Rattle.session_core.specs.Making.{IsNew, IsCallOf, AddsOne, MakesOnce, MakesCall, asked_by}
+
+-- the ticket of a submission is of the operation that was asked for
+pub named_ticket : (name : List ℕ) (args : List Datum) (s : Submitted) (t : Admitted) → Asks name args s → IsTicketOf s t → HasName name (ticket_call t).operation
+named_ticket name args s t asks is = asks.named ∙ sym (ap (λ (f : OperationForm). f.name) is.operation)
+
+-- the receipt of a call that was performed is the one that came
+pub one_made : (name : List ℕ) (args : List Datum) (t : Admitted) (o after : Outcome) (place session : ℕ) (old between new : List Told) → HasName name (ticket_call t).operation → (ticket_call t).arguments ≡ args
+    → outcome_call o ≡ ticket_call t → TellsSame o after → between ≡ old → new ≡ between ++ told_by place session after ∷ [] → MakesOnce name args old new
+one_made name args t o after place session old between new named of run tells same kept =
+    let call : outcome_call after ≡ ticket_call t = tells.call ∙ run in
+    inr (record {
+      receipt = told_by place session after;
+      of = record {
+        named = subst (λ (c : Call). HasName name c.operation) (sym call) named;
+        arguments = ap (λ (c : Call). c.arguments) call ∙ of;
+      };
+      behind = kept ∙ ap (λ (l : List Told). l ++ told_by place session after ∷ []) same;
+    })
+
+-- a call of a seat that is there, where it is to be made
+pub call_made : (seat : Option Entered) (e : Entered) (key : Option ℕ) (name given : List ℕ) (args : List Datum) (old new : List Told) → seat ≡ Some e → given ≡ name → IsNew (asked_by e.seat.session given args) key
+    → MakesOnce given args old new → MakesCall seat key name args old new
+call_made seat e key name given args old new there same fresh (inl none) = inl none
+call_made seat e key name given args old new there same fresh (inr one) =
+    inr (e, there, subst (λ (n : List ℕ). IsNew (asked_by e.seat.session n args) key) same fresh, subst (λ (n : List ℕ). AddsOne n args old new) same one)

@@ -1,0 +1,142 @@
+//! Clients to whom nothing can be written, while a call of theirs waits.
+
+use crate::make::{TURNS, ZERO, offices, serve};
+use crate::streams::{Short, await_lines};
+use call_core::ticket::Ticket;
+use device_core::memory::MemHand;
+use office_core::office::Office;
+use office_core::seat::{Seat, Started, Submitted, Tried};
+use run_core::at_once::run_at_once;
+use session_core::end::SessionEnd;
+use session_core::order::Named;
+use session_core::serve::Connection;
+use std::alloc::Global;
+use std::io::{self, Read};
+use std::process::Abort;
+use std::sync::atomic::{AtomicU64, Ordering};
+use std::sync::{Arc, Wait};
+use std::thread::Threads;
+use std::time::Clock;
+
+// So often a reader pauses before its input ends: a session that does not end by then does not end by itself.
+const PAUSES: u32 = 10;
+
+// A reader of one piece, which then pauses, each time for a while, and says when its input ends.
+#[derive(Drop)]
+struct Silent {
+    text: &'static [u8],
+    pauses: u32,
+    ended: Arc<AtomicU64>,
+}
+
+impl Read for Silent {
+    fn read(&mut self, buf: &mut [u8]) -> io::Result<usize> {
+        let len = self.text.len().min(buf.len());
+        if len > 0 {
+            buf[..len].copy_from_slice(&self.text[..len]);
+            self.text = &self.text[len..];
+            return Ok(len);
+        }
+        if self.pauses == 0 {
+            self.ended.store(1, Ordering::SeqCst);
+            return Ok(0);
+        }
+        self.pauses -= 1;
+        await_lines(&self.ended, 1);
+        Err(io::Error::from(io::ErrorKind::WouldBlock))
+    }
+}
+
+// A client says this and then nothing, and nothing can be written to it. Its session ends by a fault, before its input
+// does, and without a receipt. It gives the seat and the hand.
+fn visits<R: Abort + Threads + Wait + Clock + Sync>(
+    rt: &R,
+    alloc: Global,
+    all: &Vec<Named>,
+    hand: MemHand,
+    text: &'static [u8],
+) -> (Option<Seat>, MemHand) {
+    let ended = Arc::new(alloc, AtomicU64::new(0)).expect(rt, "memory");
+    let reader = Silent {
+        text,
+        pauses: PAUSES,
+        ended: Arc::try_clone(&ended).expect(rt, "memory"),
+    };
+    let writer = Short {
+        bytes: Vec::new(alloc),
+        left: 0,
+        fails: true,
+    };
+    let SessionEnd {
+        object: _,
+        seat,
+        receipts,
+        writer: _,
+        hand,
+        fault,
+    } = serve(rt, alloc, all, Connection { reader, writer }, hand);
+    assert!(rt; fault.is_some() && receipts.is_empty() && ended.load(Ordering::SeqCst) == 0);
+    (seat, hand)
+}
+
+// Its waiting call is cancelled, since nobody is told of it, and no other session leaves for that. Catches
+// `deaf_client_throws_out_the_first_session` and `waiting_call_of_a_deaf_client_stays`.
+#[test]
+fn a_client_that_hears_nothing_is_let_go_alone(rt: HostRuntime) {
+    let alloc = rt.alloc();
+    let (all, hand) = offices(&rt, alloc, TURNS, ZERO);
+    let named = all.first().expect(&rt, "an office");
+    let first = named.office.seat(&rt).expect(&rt, "a seat");
+    let (seat, _) = visits(&rt, alloc, &all, hand, b"open turns\ncall b\n");
+    let seat = seat.expect(&rt, "a seat");
+    assert!(rt; first.session() == 1 && seat.session() == 2);
+    assert!(rt; named.office.kept(&rt, &first, 1, "b", &[]).is_ok());
+    assert!(rt; named.office.kept(&rt, &seat, 1, "b", &[]).is_err());
+}
+
+// Waits for a call that waits.
+fn awaited<R: Wait>(rt: &R, office: &Office, submitted: Submitted) -> Option<Ticket> {
+    let mut submitted = submitted;
+    for _ in rt.forever() {
+        match office.await_start(rt, submitted) {
+            Started::Ticket(ticket) => return Some(ticket),
+            Started::Cancelled => return None,
+            Started::Stranger(back) => submitted = back,
+        }
+    }
+    unreachable!()
+}
+
+// The ticket of a call of `a`, which starts at once.
+fn begun<R: Abort + Wait + Clock>(rt: &R, office: &Office, seat: &mut Seat) -> Ticket {
+    let (_, tried) = office
+        .submit_and_try(rt, seat, "a", &[])
+        .expect(rt, "a call");
+    let ticket = match tried {
+        Tried::Ticket(ticket) => Some(ticket),
+        Tried::Cancelled => None,
+        Tried::Waiting(back) => awaited(rt, office, back),
+        Tried::Stranger(back) => awaited(rt, office, back),
+    };
+    ticket.expect(rt, "a ticket")
+}
+
+// Before a call is submitted that has waited for its turn, what stands ready is sent. Where that fails, the call is not
+// taken. Catches `call_of_a_deaf_client_is_taken`.
+#[test]
+fn a_call_of_a_client_that_hears_nothing_is_not_taken(rt: HostRuntime) {
+    let alloc = rt.alloc();
+    let (all, hand) = offices(&rt, alloc, TURNS, ZERO);
+    let named = all.first().expect(&rt, "an office");
+    let mut first = named.office.seat(&rt).expect(&rt, "a seat");
+    let ticket = begun(&rt, &named.office, &mut first);
+    let (seat, hand) = visits(&rt, alloc, &all, hand, b"open turns\ncall a\n");
+    let seat = seat.expect(&rt, "a seat");
+    assert!(rt; named.office.next_key(&rt, &seat) == 1);
+    let mut hand = hand;
+    let mut outcome = run_at_once(alloc, ticket, &mut hand);
+    let taken = named
+        .office
+        .complete_in_place(&rt, &mut first, &mut outcome);
+    assert!(rt; taken.is_ok());
+}
