@@ -307,6 +307,13 @@ class Reader:
                 raise BadCase(f"line {self.block.line}: a row has nothing for {line!r}")
         return lines
 
+    def command(self, puts):
+        """The words of the command, with the words of a row put in."""
+        words = " ".join(self.words)
+        for name, text in puts.items():
+            words = words.replace(name, text.strip("|"))
+        return words.split()
+
     def inputs(self, puts, more):
         """The inputs, and the place of the mark in them as it is told."""
         found, place = {}, None
@@ -340,7 +347,7 @@ class Reader:
             words = [it.replace(name, text) for it in words]
         error = read_text(self.lines("error", puts), told).bytes
         title = self.block.title + ("" if line == self.block.line else f", row {line}") + tail
-        made = Case(self.file, line, title, self.words, inputs, output, error, int(words[0]), kind)
+        made = Case(self.file, line, title, self.command(puts), inputs, output, error, int(words[0]), kind)
         made.growths = "growths" in self.sections and not more
         return made
 

@@ -138,14 +138,11 @@ class StoryReader(Reader):
 
     def story(self, line, puts):
         puts = {word: text.strip("|") for word, text in puts.items()}
-        words = " ".join(self.words)
-        for name, text in puts.items():
-            words = words.replace(name, text)
         inputs, _ = self.inputs(puts, 0)
         output, error = (read_text(self.lines(name, puts), "").bytes for name in ("output", "error"))
         title = self.block.title + ("" if line == self.block.line else f", row {line}")
         [status] = self.lines("status", puts) or ["0"]
-        made = Story(self.file, line, title, words.split(), inputs, output, error, int(status))
+        made = Story(self.file, line, title, self.command(puts), inputs, output, error, int(status))
         made.steps, made.traces = self.steps(puts), {name: read_text(text, "").bytes for name, text in self.traces.items()}
         made.before, made.after = self.folder("folder", puts) or [], self.folder("folder at the end", puts)
         return made

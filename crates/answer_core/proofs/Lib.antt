@@ -3,3 +3,5 @@ pub mod Checks
 pub mod Scripts
 pub mod Lineless
 pub mod Audits
+pub mod Hints
+pub mod Words

@@ -27,9 +27,6 @@ pub enum Telling {
     Nothing,
 }
 
-/// The line that says that there is more to tell.
-pub const HINT: &[u8] = b"--explain tells more\n";
-
 // Writes a text, or nothing where memory for it was refused.
 fn push_text<E: Write>(text: Result<Vec<u8>, AllocError>, error: &mut E) {
     if let Ok(text) = text {
@@ -37,19 +34,31 @@ fn push_text<E: Write>(text: Result<Vec<u8>, AllocError>, error: &mut E) {
     }
 }
 
-// Writes the line that says that there is more to tell, where this text tells more.
+// Writes the line that says that there is more to tell.
+#[tactic(auto, using(crate::proofs::Hints::whole_hint))]
+fn write_hint<E: Write>(error: &mut E)
+    ensures { IsHinted (E.contents error.old) (E.contents error.new) }
+{
+    match write_whole(error, b"--explain tells more\n") {
+        Ok(()) | Err(_) => {}
+    }
+}
+
+// The same, where this text tells more.
+#[tactic(auto, using(crate::proofs::Hints::no_hint))]
 fn push_hint<E: Write>(text: Result<Vec<u8>, AllocError>, error: &mut E)
     ensures { IsHinted (E.contents error.old) (E.contents error.new) }
 {
     if let Ok(text) = text {
         if !text.is_empty() {
-            let _ = write_whole(error, HINT);
+            write_hint(error);
         }
     }
 }
 
 // Writes why a source of a file is refused, as far as that is to be told. Where memory for the text is refused nothing is
 // written, and where a write fails a front of it.
+#[tactic(auto, using(crate::proofs::Hints::no_hint))]
 fn push_explanation<E: Write>(
     alloc: Global,
     telling: Telling,
@@ -71,6 +80,7 @@ fn push_explanation<E: Write>(
 /// Hands on what a command ended with, which no explanation changes. Where it refused something `error` gets first, as
 /// far as that is to be told, why the source of a file is refused: its fault, or each object that is refused, or the one
 /// of a name. Want of memory, and a write that fails, end the explanation alone.
+#[tactic(auto, using(crate::proofs::Hints::no_hint))]
 pub fn explained<E: Write>(
     alloc: Global,
     ended: Result<u8, Failure>,
@@ -93,6 +103,7 @@ pub fn explained<E: Write>(
 /// Hands on what a script ended with, which no explanation changes. Where it refused something `error` gets first, as
 /// far as that is to be told, why the object is refused that this head names, or the fault of the source; where it names
 /// none, nothing. Want of memory, and a write that fails, end the explanation alone.
+#[tactic(auto, using(crate::proofs::Hints::no_hint))]
 pub fn explained_script<E: Write>(
     alloc: Global,
     ended: Result<u8, Failure>,
@@ -120,6 +131,23 @@ pub fn explained_script<E: Write>(
     }
 }
 
+// Writes what is wrong with lines of a script that came to its end, or to a bad line.
+fn push_script<E: Write>(
+    alloc: Global,
+    ended: &Result<u8, Failure>,
+    files: Files<'_>,
+    source: &[u8],
+    text: Option<&[u8]>,
+    error: &mut E,
+) {
+    let Some(script) = text else {
+        return;
+    };
+    if ended.is_ok() {
+        push_text(explain_script(alloc, files, source, script), error);
+    }
+}
+
 /// Hands on what a script ended with, which no explanation changes. Where all is to be told, and what was read of the
 /// script is given, `error` gets first what is wrong with the line that ended it, if one did, and with calls that its
 /// object does not take. Want of memory, and a write that fails, end the explanation alone.
@@ -136,15 +164,15 @@ pub fn explained_run<E: Write>(
     ensures unasked { telling.entry ≡ Nothing → Keeps (E.contents error.old) (E.contents error.new) }
     ensures hint { telling.entry ≡ Hint → Keeps (E.contents error.old) (E.contents error.new) }
 {
-    if let (Telling::Whole, Some(script)) = (telling, text) {
-        if ended.is_ok() {
-            push_text(explain_script(alloc, files, source, script), error);
-        }
+    match telling {
+        Telling::Whole => push_script(alloc, &ended, files, source, text, error),
+        Telling::Hint | Telling::Nothing => {}
     }
     ended
 }
 
 // Writes why the object of a trace is refused, and else, where all is to be told, what is wrong with the trace.
+#[tactic(auto, using(crate::proofs::Hints::no_hint))]
 fn push_trace<E: Write>(
     alloc: Global,
     telling: Telling,
@@ -166,14 +194,16 @@ fn push_trace<E: Write>(
             error,
         );
     }
-    if telling == Telling::Whole {
-        push_text(explain_trace(alloc, files, source, text), error);
+    match telling {
+        Telling::Whole => push_text(explain_trace(alloc, files, source, text), error),
+        Telling::Hint | Telling::Nothing => {}
     }
 }
 
 /// Hands on what an audit ended with, which no explanation changes. Where it refused something, and the first bytes of
 /// the trace are given, `error` gets first, as far as that is to be told, why the trace's object is refused, and what is
 /// wrong with its first faulty line. Want of memory, and a write that fails, end the explanation alone.
+#[tactic(auto, using(crate::proofs::Hints::no_hint))]
 pub fn explained_audit<E: Write>(
     alloc: Global,
     ended: Result<u8, Failure>,

@@ -135,7 +135,7 @@ fn bad_bytes(before: &[Token], here: &[u8]) -> Said {
             "a comment stands between `{` and `}`, or between `(*` and `*)`",
         ),
         [b'#', ..] => say(
-            "`#` does not begin a comment",
+            "`%` does not begin a comment",
             "a comment stands between `{` and `}`, or between `(*` and `*)`",
         ),
         [byte, behind @ ..] => if is_sign(*byte) && ends_in_path(before) {

@@ -22,10 +22,12 @@ enum Misfit {
 
 // The operation of a name.
 fn operation_of<'o>(object: &'o Object, name: &[u8]) -> Option<&'o Operation> {
-    object
-        .operations
-        .iter()
-        .find(|operation| operation.name.is_spelled_by(name))
+    for operation in &object.operations {
+        if operation.name.is_spelled_by(name) {
+            return Some(operation);
+        }
+    }
+    None
 }
 
 // What is wrong with the words from this number on, as the arguments of an operation.
@@ -111,14 +113,12 @@ fn push_unknown(
     } else {
         push_help(out, "its operations are: %", two(&names, b""))
     }?;
-    match object
-        .operations
-        .iter()
-        .find(|operation| are_alike(operation.name.as_bytes(), name))
-    {
-        Some(meant) => push_help(out, "is `%` meant?", two(meant.name.as_bytes(), b"")),
-        None => Ok(()),
+    for operation in &object.operations {
+        if are_alike(operation.name.as_bytes(), name) {
+            return push_help(out, "is `%` meant?", two(operation.name.as_bytes(), b""));
+        }
     }
+    Ok(())
 }
 
 // The name of a parameter, by its place.
@@ -142,7 +142,7 @@ fn push_misfit(
 ) -> Result<(), AllocError> {
     let (place, sentence) = match misfit {
         Misfit::Missing(place) => (place, "the argument `%` is missing here"),
-        Misfit::Surplus(place) => (place, "`$` has no such argument"),
+        Misfit::Surplus(place) => (place, "`$` takes no further argument"),
         Misfit::Other(place, Elem::Integer) => (
             place,
             "the argument `%` is an integer, and a text stands here",

@@ -360,6 +360,7 @@ fn run_check(rt: &HostRuntime, path: &str, when: Explain) -> Result<u8, Failure>
 }
 
 // What `run` and `audit` read: a source, and a second file.
+#[derive(Drop)]
 struct Inputs {
     source: Vec<u8>,
     kept: Kept<File>,

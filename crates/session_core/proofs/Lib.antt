@@ -3,5 +3,4 @@ pub mod Telling
 pub mod Repeating
 pub mod Ending
 pub mod Leaving
-pub mod Entering
 pub mod Making

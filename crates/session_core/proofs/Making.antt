@@ -1,22 +1,23 @@
 -- The calls that a session makes.
-use Rattle.std.proofs.Common.{◌≡◌, ◌∙◌, ap, sym, subst, inl, inr, ℕ, List, [], ◌∷◌, ◌++◌, Option, Some}
-use Rattle.decl_core.specs.ObjectForm.{OperationForm}
+use Rattle.std.proofs.Common.{◌≡◌, ◌∙◌, ap, sym, subst, inl, inr, ℕ, List, [], ◌∷◌, ◌++◌, Option, Some, None}
+use Rattle.std.specs.Prelude.{Ok}
 use Rattle.value_core.specs.declared.datum.Datum.{Datum}
 use Rattle.call_core.specs.declared.ticket.Ticket.{Ticket as Admitted}
 use Rattle.call_core.specs.Tickets.{ticket_call}
 use Rattle.call_core.specs.Calls.{Call}
 use Rattle.run_core.specs.declared.outcome.Outcome.{Outcome}
 use Rattle.run_core.specs.Outcomes.{outcome_call, TellsSame}
-use Rattle.ask_core.specs.Answers.{HasName}
+use Rattle.board_core.specs.Board.{Board}
+use Rattle.board_core.specs.Sound.{IsSound}
+use Rattle.ask_core.specs.Answers.{Asked, HasName}
+use Rattle.ask_core.specs.Keyed.{Finds}
 use Rattle.slip_core.specs.Slips.{Told, told_by}
-use Rattle.office_core.specs.declared.seat.Submitted.{Submitted}
-use Rattle.office_core.specs.Submissions.{Asks, IsTicketOf}
 use Rattle.session_core.specs.declared.entered.Entered.{Entered}
 use Rattle.session_core.specs.Making.{IsNew, IsCallOf, AddsOne, MakesOnce, MakesCall, asked_by}
 
--- the ticket of a submission is of the operation that was asked for
-pub named_ticket : (name : List ℕ) (args : List Datum) (s : Submitted) (t : Admitted) → Asks name args s → IsTicketOf s t → HasName name (ticket_call t).operation
-named_ticket name args s t asks is = asks.named ∙ sym (ap (λ (f : OperationForm). f.name) is.operation)
+-- what the desk has as the key of the next call is new
+pub new_by : (a : Asked) (given : Option ℕ) (key : ℕ) (b : Board) → given ≡ Some key → IsSound b → Finds b a key (Ok None) → IsNew a given
+new_by a given key b is sound finds = subst (IsNew a) (sym is) (b, sound, finds)
 
 -- the receipt of a call that was performed is the one that came
 pub one_made : (name : List ℕ) (args : List Datum) (t : Admitted) (o after : Outcome) (place session : ℕ) (old between new : List Told) → HasName name (ticket_call t).operation → (ticket_call t).arguments ≡ args
