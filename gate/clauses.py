@@ -10,15 +10,15 @@ LINE = re.compile(
     r" of (?:(\w+)::)?(\w+)(?: by loop (\w+))?"
 )
 # A goal that the prover left open: the functions of which one has it, and what its name says: the sort of clause, the
-# label, and the names among which the callee is, or the loop.
-Goal = collections.namedtuple("Goal", "functions kind label names")
+# label, and the names among which the callee is, or the loop; and the whole name.
+Goal = collections.namedtuple("Goal", "functions kind label names goal")
 # What stands in the name of a goal for each sort. The first that is there counts.
 SORTS = (
     ("requires", r"(?:^|-)requires(?:-|$)"),
     ("invariant", r"(?:^|-)invariant_of-"),
     ("ensures", r"(?:^|-)returns(?:-|$)"),
-    ("loop", r"-(?:init|preserved)(?:-clause-\w+)?$"),
-    ("measure", r"-smaller$|(?:^|-)decreases-"),
+    ("loop", r"-(?:init|preserved)(?:-|$)"),
+    ("measure", r"-smaller(?:-|$)|(?:^|-)decreases-"),
     ("overflow", r"(?:^|-)overflow_\w+-"),
     ("division", r"(?:^|-)nonzero_\w+-"),
     ("bounds", r"(?:^|-)(?:slice_|offset_)?bounds-"),
@@ -92,7 +92,7 @@ def goals(said, sources):
         kind = next((kind for kind, sort in SORTS if re.search(sort, name)), "")
         label = name.rpartition("-clause-")[2] if "-clause-" in name else ""
         names = parts[: parts.index("requires")] if kind == "requires" else parts if kind == "loop" else ()
-        found.append(Goal(frozenset(functions), kind, label, tuple(names)))
+        found.append(Goal(frozenset(functions), kind, label, tuple(names), name))
     return found
 
 
@@ -122,8 +122,8 @@ def offered(found, holder, source):
         return Clause("ensures", found.label or (written[0] if written else ""), holder, function, "")
     if found.kind == "loop":
         written = labels(source, function)
-        rest = [it for it in found.names if it not in ("loop", "init", "preserved", "clause", found.label)]
-        return Clause("ensures", written[0] if written else "", holder, function, rest[-1] if rest else "loop")
+        loop = re.split(r"-(?:init|preserved)(?:-|$)", found.goal)[0].split("-")[-1]
+        return Clause("ensures", written[0] if written else "", holder, function, loop)
     if found.kind == "requires":
         return Clause("requires", found.label, "", found.names[0] if found.names else function, "")
     if found.kind == "invariant":

@@ -304,14 +304,18 @@ fn prepare_server(rt: &HostRuntime, asked: Serving<'_>) -> Result<Prepared, Fail
         Ok(started) => Ok(Prepared::Serves(started, asked.stops)),
         Err(lacking) => {
             let name = match &lacking.lack {
-                Some(Lack {
-                    need: Need::File,
-                    ..
-                }) => asked.file,
-                Some(Lack {
-                    need: Need::Socket,
-                    ..
-                }) => path_of(asked.address),
+                Some(
+                    Lack {
+                        need: Need::File,
+                        ..
+                    },
+                ) => asked.file,
+                Some(
+                    Lack {
+                        need: Need::Socket,
+                        ..
+                    },
+                ) => path_of(asked.address),
                 _ => asked.folder,
             };
             Err(told(rt, lacking, name))

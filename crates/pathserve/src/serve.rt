@@ -1,7 +1,10 @@
 //! `pathserve serve` over any runtime, hands and writer.
 
 ghost use Rattle.std.specs.Prelude.{◌≡◌, IfOk};
+ghost use Rattle.std.specs.Prelude.{Result};
 ghost use Rattle.std.specs.Arc.{arc_value};
+ghost use Rattle.serve_core.specs.Runs.{IsRun};
+ghost use Rattle.pathserve.specs.Ends.{serve_status, status_of_end};
 
 use crate::lack::{Lack, Need, tell_lack};
 use ahead_core::ahead::{AheadHand, Ends};
@@ -73,7 +76,9 @@ pub fn place_of<R: Files + AllocGlobal + Clone + Drop>(
 }
 
 // The exit status of a server that ended so.
-fn status_of_serve(end: ServeEnd) -> Result<u8, Failure> {
+fn status_of_serve(end: ServeEnd) -> Result<u8, Failure>
+    ensures { result ≡ serve_status end }
+{
     match end {
         ServeEnd::Whole => Ok(ACCEPTED),
         ServeEnd::Refused => Ok(REFUSED),
@@ -124,6 +129,9 @@ pub fn serve_objects<
 ) -> Result<u8, Failure>
 where
     R::File: FileExt,
+    // The status is that of the end of the server.
+    ensures { (end : Result ServeEnd LinesFault) × IsRun H.agrees source.now.text.items end (W.contents writer.old)
+        (W.contents writer.new) × (result ≡ status_of_end end) }
 {
     let ended = serve_on(rt, &source.text, place, gate, writer, error);
     tell_lack(rt.alloc(), lack_of(&ended), source.folder.as_str(), error);

@@ -55,7 +55,11 @@ fn lock_path(rt: &HostRuntime, path: &str) -> io::Result<File> {
 fn is_free(rt: &HostRuntime, path: &str) -> io::Result<bool> {
     match fs::symlink_metadata(rt, path) {
         Ok(found) => Ok(found.file_type().is_socket()),
-        Err(error) => if error.kind() == ErrorKind::NotFound { Ok(true) } else { Err(error) },
+        Err(error) => if error.kind() == ErrorKind::NotFound {
+            Ok(true)
+        } else {
+            Err(error)
+        },
     }
 }
 

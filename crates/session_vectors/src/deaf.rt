@@ -92,33 +92,49 @@ fn a_client_that_does_not_read_holds_up_nobody(rt: HostRuntime) {
     let (all, hand) = offices(&rt, alloc, TURNS, ZERO);
     let came = Arc::new(alloc, AtomicU64::new(0)).expect(&rt, "memory");
     let others = Arc::new(alloc, AtomicU64::new(0)).expect(&rt, "memory");
-    let stuck = Connection {
-        reader: Gate {
-            lines: DEAF,
-            written: shared(&rt, &others),
-        },
-        writer: Stuck {
-            bytes: Vec::new(alloc),
-            came: shared(&rt, &came),
-            others: shared(&rt, &others),
-        },
+    let waits = Gate {
+        lines: DEAF,
+        written: shared(&rt, &others),
     };
-    let follows = Connection {
-        reader: Gate {
-            lines: OTHER,
-            written: shared(&rt, &came),
-        },
-        writer: Counted {
-            bytes: Vec::new(alloc),
-            written: shared(&rt, &others),
-        },
+    let stuck = Stuck {
+        bytes: Vec::new(alloc),
+        came: shared(&rt, &came),
+        others: shared(&rt, &others),
+    };
+    let follows = Gate {
+        lines: OTHER,
+        written: shared(&rt, &came),
+    };
+    let counted = Counted {
+        bytes: Vec::new(alloc),
+        written: shared(&rt, &others),
     };
     let other = MemHand::new(alloc);
     let by = &rt;
     let (one, two) = thread::join(
         by,
-        || tells(by, alloc, &all, stuck, hand, DEAF_TOLD),
-        || tells(by, alloc, &all, follows, other, OTHER_TOLD),
+        || tells(
+            by,
+            alloc,
+            &all,
+            Connection {
+                reader: waits,
+                writer: stuck,
+            },
+            hand,
+            DEAF_TOLD,
+        ),
+        || tells(
+            by,
+            alloc,
+            &all,
+            Connection {
+                reader: follows,
+                writer: counted,
+            },
+            other,
+            OTHER_TOLD,
+        ),
     );
     assert!(rt; one.is_some() && two.is_some() && came.load(Ordering::SeqCst) == IN_TIME);
 }
