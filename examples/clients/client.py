@@ -1,9 +1,9 @@
 #!/usr/bin/env python3
 """Calls operations of an object that `pathserve serve` serves, and prints how each call ended.
 
-usage: client.py PORT OBJECT CALL ..    (a CALL is an operation with its arguments, as in "put 7")
+usage: client.py PLACE OBJECT CALL ..    (a CALL is an operation with its arguments, as in "put 7")
 
-Exit statuses: 0 each call was answered; 1 the object was not opened; 2 usage; 3 there is no server, or it was gone
+PLACE is a port of this machine, or the path of a socket, with a slash in it. Exit statuses: 0 each call was answered; 1 the object was not opened; 2 usage; 3 there is no server, or it was gone
 before the last answer. A program that calls is better off with pathclient.py, in this folder.
 """
 import socket
@@ -28,13 +28,22 @@ def ask(lines, line):
     return line_of(lines)
 
 
+def connected(place):
+    """A connection to a port, or to the path of a socket."""
+    if "/" not in place:
+        return socket.create_connection(("127.0.0.1", int(place)))
+    connection = socket.socket(socket.AF_UNIX)
+    connection.connect(place)
+    return connection
+
+
 def main(words):
-    if len(words) < 2 or not words[0].isdecimal() or int(words[0]) > 65535:
+    if len(words) < 2 or "/" not in words[0] and (not words[0].isdecimal() or int(words[0]) > 65535):
         print(__doc__, file=sys.stderr)
         return 2
-    port, name, *calls = words
+    place, name, *calls = words
     try:
-        connection = socket.create_connection(("127.0.0.1", int(port)))
+        connection = connected(place)
     except OSError as error:
         print(f"client: there is no server: {error.strerror}", file=sys.stderr)
         return 3

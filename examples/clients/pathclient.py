@@ -20,6 +20,10 @@ another thread ends a call that has not ended: it is Lost.
 What can come in place of a reply is told by the exceptions below, which are all a CallError. Where a connection was
 lost, the next call makes a new one.
 
+    Object("/run/book.sock", "phone_book")
+
+is one of a server at the path of a socket. And
+
     Object(7000, "phone_book", client="ann")
 
 is the session of this name. No other program may use the name at the same time. Each of its calls has a key, so where
@@ -109,9 +113,9 @@ class Object:
     """A session of an object."""
 
     def __init__(self, port, name, host="127.0.0.1", wait=10.0, client=None):
-        """Opens the object `name` of the server at this port, which is tried for `wait` seconds before NoServer is
-        raised. With `client` it is the session of this name, and its calls have keys."""
-        self._place, self._wait = (host, port), wait
+        """Opens the object `name` of the server at this port, or at the path of a socket, which is tried for `wait`
+        seconds before NoServer is raised. With `client` it is the session of this name, and its calls have keys."""
+        self._place, self._wait = (port if isinstance(port, str) else (host, port)), wait
         self._opens = f"open {named(name)}" + (f" as {named(client)}" if client is not None else "")
         # The key of the next call, in a session with a name.
         self._key = None if client is None else 0
@@ -125,11 +129,10 @@ class Object:
         """Opens the object on a new connection, by this time where it is given."""
         end = time.monotonic() + self._wait
         end = end if latest is None else min(end, latest)
-        place = f"{self._place[0]}:{self._place[1]}"
+        place = self._place if isinstance(self._place, str) else f"{self._place[0]}:{self._place[1]}"
         while True:
             try:
-                self._socket, self._rest = socket.create_connection(self._place, timeout=max(self._wait, 1)), b""
-                self._socket.setsockopt(socket.IPPROTO_TCP, socket.TCP_NODELAY, 1)
+                self._socket, self._rest = self._connected(), b""
                 answer = self._opened(end)
                 if answer is not None:
                     break
@@ -147,6 +150,21 @@ class Object:
             raise Rejected(answer.removeprefix("no "), self._opens)
         if self._key is not None:
             self._key = int(answer.rpartition(" next ")[2])
+
+    def _connected(self):
+        """A new connection."""
+        if isinstance(self._place, str):
+            found = socket.socket(socket.AF_UNIX)
+            found.settimeout(max(self._wait, 1))
+            try:
+                found.connect(self._place)
+            except OSError:
+                found.close()
+                raise
+            return found
+        found = socket.create_connection(self._place, timeout=max(self._wait, 1))
+        found.setsockopt(socket.IPPROTO_TCP, socket.TCP_NODELAY, 1)
+        return found
 
     def _opened(self, end):
         """The answer to `open`, or None where none came. While a session of this name has not ended, it is said again

@@ -2,10 +2,11 @@
 """Calls operations of an object as a client that has a name, and prints how each call ended. Where the connection
 breaks, it comes back and asks again: a call that was done is not done a second time.
 
-usage: resuming.py PORT OBJECT NAME CALL ..    (a CALL is an operation with its arguments, as in "put 7")
+usage: resuming.py PLACE OBJECT NAME CALL ..    (a CALL is an operation with its arguments, as in "put 7")
 
-Exit statuses: 0 each call was answered; 1 the object was not opened; 2 usage; 3 there is no server, or it is not known
-whether the last call was done. A program that calls is better off with `client=` of pathclient.py, in this folder.
+PLACE is a port of this machine, or the path of a socket, with a slash in it. Exit statuses: 0 each call was answered; 1
+the object was not opened; 2 usage; 3 there is no server, or it is not known whether the last call was done. A program
+that calls is better off with `client=` of pathclient.py, in this folder.
 """
 import socket
 import sys
@@ -22,8 +23,12 @@ class Gone(Exception):
 class Connection:
     """A connection, line by line."""
 
-    def __init__(self, port):
-        self.it = socket.create_connection(("127.0.0.1", port))
+    def __init__(self, place):
+        if "/" in place:
+            self.it = socket.socket(socket.AF_UNIX)
+            self.it.connect(place)
+        else:
+            self.it = socket.create_connection(("127.0.0.1", int(place)))
         self.lines = self.it.makefile("r", encoding="ascii", newline="\n")
 
     def line(self):
@@ -43,12 +48,12 @@ class Connection:
         self.it.close()
 
 
-def opened(port, line):
+def opened(place, line):
     """A connection on which the object is open, and the key of the next call; or what was answered in place of it."""
     end = time.monotonic() + SECONDS
     while True:
         try:
-            it = Connection(port)
+            it = Connection(place)
             # Until the server has seen that the connection before this one is broken, the name is in use.
             while (answer := it.ask(line)) == "no InUse" and time.monotonic() < end:
                 time.sleep(0.02)
@@ -73,12 +78,12 @@ def unknown(call):
 
 
 def main(words):
-    if len(words) < 3 or not words[0].isdecimal() or int(words[0]) > 65535:
+    if len(words) < 3 or "/" not in words[0] and (not words[0].isdecimal() or int(words[0]) > 65535):
         print(__doc__, file=sys.stderr)
         return 2
-    port, line, calls = int(words[0]), f"open {words[1]} as {words[2]}", words[3:]
+    place, line, calls = words[0], f"open {words[1]} as {words[2]}", words[3:]
     try:
-        it, key = opened(port, line)
+        it, key = opened(place, line)
     except Gone as error:
         print(f"client: there is no server: {error}", file=sys.stderr)
         return 3
@@ -96,7 +101,7 @@ def main(words):
             except (Gone, OSError):
                 it.close()
             try:
-                it, found = opened(port, line)
+                it, found = opened(place, line)
             except Gone:
                 it = None
             # The server has either this call or all before it. (Before the first one there are none, so of that one a

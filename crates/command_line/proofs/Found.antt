@@ -13,7 +13,8 @@ use Rattle.clap.specs.declared.parser.matches.ArgMatches.TheViews.{out-ArgMatche
 use Rattle.clap.specs.declared.parser.matches.SubCommand.{SubCommand}
 use Rattle.clap.specs.declared.parser.matches.Found.{Found}
 use Rattle.clap.proofs.WalkLemmas.{first_value-rows, one_text-rows}
-use Rattle.command_line.specs.Forms.{Verb, paths, check, run, audit, serve, name_of, Given, Makes, IsNumber, number_of}
+use Rattle.command_line.specs.declared.request.Address.{Address}
+use Rattle.command_line.specs.Forms.{Verb, paths, check, run, audit, serve, name_of, Given, Makes, IsAddressOf, IsNumber, number_of}
 use Rattle.command_line.specs.declared.request.Request.{Request}
 use Rattle.command_line.specs.declared.request.Request.TheVariants as requests
 use Rattle.command_line.specs.Commands.{Holds, IsMatched}
@@ -35,10 +36,10 @@ has_one f id t e = one_text-rows f id ∙ e
 pub third_is : (a b c x y z : Text) → a ∷ b ∷ c ∷ [] ≡ x ∷ y ∷ z ∷ [] → c ≡ z
 third_is a b c x y z e = ap (λ (ws : List Text). slice_index_or ws 2 []) e
 
--- the third word of what `serve` asks for is a port
-pub port_made : (g : Given) (q : Request) (a b p : Text) → g.words ≡ a ∷ b ∷ p ∷ [] → Makes serve g q → IsNumber 1 65535 p
-port_made g (requests.Serve s) a b p e m = subst (IsNumber 1 65535) (third_is s.file.now s.folder.now m.0 a b p (sym m.1 ∙ e)) m.2
-port_made g q a b p e m = absurd m
+-- the third word of what `serve` asks for is an address
+pub address_made : (g : Given) (q : Request) (a b p : Text) → g.words ≡ a ∷ b ∷ p ∷ [] → Makes serve g q → (address : Address) × IsAddressOf p address
+address_made g (requests.Serve s) a b p e m = (s.address, subst (λ w. IsAddressOf w s.address) (third_is s.file.now s.folder.now m.0 a b p (sym m.1 ∙ e)) m.2)
+address_made g q a b p e m = absurd m
 
 -- whether a flag is there
 pub flag_is : (f : Found) (id : Text) (b r : Bool) → one_of id (rows_of f) ≡ Some (bool_text b)

@@ -6,9 +6,11 @@ use Rattle.clap.specs.Simple.{subcommand_of}
 use Rattle.clap.specs.Values.{bool_text}
 use Rattle.command_line.specs.declared.request.Request.{Request}
 use Rattle.command_line.specs.declared.request.Request.TheVariants as requests
-use Rattle.command_line.specs.Forms.{Verb, paths, check, run, audit, serve, name_of, Given, number_of, explain_of, Makes, Asks}
+use Rattle.command_line.specs.declared.request.Address.{Address}
+use Rattle.command_line.specs.declared.request.Address.TheVariants as addresses
+use Rattle.command_line.specs.Forms.{Verb, paths, check, run, audit, serve, name_of, Given, number_of, explain_of, has_slash, IsAddressOf, Makes, Asks}
 use Rattle.command_line.specs.Commands.{Holds, HoldsExplain, program}
-use Rattle.command_line.specs.Laws.{IsSame, AsksOnce}
+use Rattle.command_line.specs.Laws.{IsSame, IsSameAddress, AsksOnce}
 use Rattle.command_line.proofs.Found.{same_verb, some_same}
 use Rattle.command_line.proofs.Levels.{rules}
 use Rattle.command_line.proofs.Whole.{level_holds, full_from, found_is}
@@ -26,6 +28,9 @@ bools false false e = refl
 bools true false e = ap (λ t. bytes_eq t (codes "true")) e
 bools false true e = ap (λ t. bytes_eq t (codes "true")) e
 
+not_both : false ≡ true → ⊥
+not_both e = cc
+
 abbrev word_at : ℕ → List Text → Text
 word_at k ws = slice_index_or ws k []
 
@@ -36,6 +41,13 @@ same_at k ws us vs xs e f same = ap (word_at k) e ∙ same ∙ sym (ap (word_at 
 -- what is said of explanations
 same_explain : (g h : Given) (rows : List Row) → HoldsExplain g rows → HoldsExplain h rows → explain_of g.explains g.silent ≡ explain_of h.explains h.silent
 same_explain g h rows a b = ap₂ explain_of (bools g.explains h.explains (same_one rows (codes "explain") _ _ a.0 b.0)) (bools g.silent h.silent (same_one rows (codes "no-explain") _ _ a.1 b.1))
+
+-- a word says one address at most
+same_address : (u w : Text) (a b : Address) → u ≡ w → IsAddressOf u a → IsAddressOf w b → IsSameAddress a b
+same_address u w (addresses.Port n) (addresses.Port k) e one other = one.2 ∙ ap number_of e ∙ sym other.2
+same_address u w (addresses.Path p) (addresses.Path q) e one other = one.1 ∙ e ∙ sym other.1
+same_address u w (addresses.Port n) (addresses.Path q) e one other = absurd (not_both (sym one.0 ∙ ap has_slash e ∙ other.0))
+same_address u w (addresses.Path p) (addresses.Port k) e one other = absurd (not_both (sym other.0 ∙ sym (ap has_slash e) ∙ one.0))
 
 same_made : (v : Verb) (g h : Given) (rows : List Row) (p q : Request) → Holds v g rows → Holds v h rows → Makes v g p → Makes v h q → IsSame p q
 same_made paths g h rows requests.Paths requests.Paths a b m n = tt
@@ -68,15 +80,15 @@ same_made audit g h rows p q a b m n = absurd m
 same_made serve g h rows (requests.Serve s) (requests.Serve t) a b m n =
     let first = same_first rows (codes "FILE") a.0 b.0 a.5 b.5 in
     let second = same_first rows (codes "DIR") a.1 b.1 a.6 b.6 in
-    let third = same_first rows (codes "PORT") a.2 b.2 a.7 b.7 in
+    let third = same_first rows (codes "PLACE") a.2 b.2 a.7 b.7 in
     let mine = same_at 2 (s.file.now ∷ s.folder.now ∷ m.0 ∷ []) (a.0 ∷ a.1 ∷ a.2 ∷ []) (t.file.now ∷ t.folder.now ∷ n.0 ∷ []) (b.0 ∷ b.1 ∷ b.2 ∷ []) (sym m.1 ∙ a.4) (sym n.1 ∙ b.4) third in
     let counts = same_one rows (codes "sessions") a.3 b.3 a.8 b.8 in (
       same_at 0 (s.file.now ∷ s.folder.now ∷ m.0 ∷ []) (a.0 ∷ a.1 ∷ a.2 ∷ []) (t.file.now ∷ t.folder.now ∷ n.0 ∷ []) (b.0 ∷ b.1 ∷ b.2 ∷ []) (sym m.1 ∙ a.4) (sym n.1 ∙ b.4) first,
       same_at 1 (s.file.now ∷ s.folder.now ∷ m.0 ∷ []) (a.0 ∷ a.1 ∷ a.2 ∷ []) (t.file.now ∷ t.folder.now ∷ n.0 ∷ []) (b.0 ∷ b.1 ∷ b.2 ∷ []) (sym m.1 ∙ a.4) (sym n.1 ∙ b.4) second,
-      m.3 ∙ ap number_of mine ∙ sym n.3,
-      m.4 ∙ a.10 ∙ ap number_of counts ∙ sym b.10 ∙ sym n.4,
-      sym m.5 ∙ bools g.stops h.stops (same_one rows (codes "stop-with-input") _ _ a.11 b.11) ∙ n.5,
-      m.6 ∙ same_explain g h rows a.12 b.12 ∙ sym n.6,
+      same_address m.0 n.0 s.address t.address mine m.2 n.2,
+      m.3 ∙ a.10 ∙ ap number_of counts ∙ sym b.10 ∙ sym n.3,
+      sym m.4 ∙ bools g.stops h.stops (same_one rows (codes "stop-with-input") _ _ a.11 b.11) ∙ n.4,
+      m.5 ∙ same_explain g h rows a.12 b.12 ∙ sym n.5,
     )
 same_made serve g h rows (requests.Serve s) q a b m n = absurd n
 same_made serve g h rows p q a b m n = absurd m

@@ -165,7 +165,7 @@ holds_all audit g (a ∷ b ∷ []) R e places h none =
 holds_all audit g (a ∷ b ∷ c ∷ more) R e places h none = absurd places.1.1
 holds_all serve g [] R e places h none = absurd (lacks_this _ _ (missing_last serve R FILE refl places.0) none)
 holds_all serve g (a ∷ []) R e places h none = absurd (lacks_this _ _ (missing_last serve R (codes "DIR") refl places.1.0) (lacks_later _ _ none))
-holds_all serve g (a ∷ b ∷ []) R e places h none = absurd (lacks_this _ _ (missing_last serve R (codes "PORT") refl places.1.1.0) (lacks_later _ _ (lacks_later _ _ none)))
+holds_all serve g (a ∷ b ∷ []) R e places h none = absurd (lacks_this _ _ (missing_last serve R (codes "PLACE") refl places.1.1.0) (lacks_later _ _ (lacks_later _ _ none)))
 holds_all serve g (a ∷ b ∷ c ∷ []) R e places h none =
     let s = sessions_last g R h in (
       tt,
@@ -177,7 +177,7 @@ holds_all serve g (a ∷ b ∷ c ∷ []) R e places h none =
         e,
         word_last serve R FILE a places.0,
         word_last serve R (codes "DIR") b places.1.0,
-        word_last serve R (codes "PORT") c places.1.1.0,
+        word_last serve R (codes "PLACE") c places.1.1.0,
         s.1,
         s.2,
         s.3,
@@ -206,7 +206,7 @@ full_lacks_none serve [] R places full = absurd full
 full_lacks_none serve (a ∷ []) R places full = absurd full
 full_lacks_none serve (a ∷ b ∷ []) R places full = absurd full
 full_lacks_none serve (a ∷ b ∷ c ∷ []) R places full =
-    lacks_one _ _ (given_last serve R FILE a places.0) ∙ lacks_one _ _ (given_last serve R (codes "DIR") b places.1.0) ∙ lacks_one _ _ (given_last serve R (codes "PORT") c places.1.1.0)
+    lacks_one _ _ (given_last serve R FILE a places.0) ∙ lacks_one _ _ (given_last serve R (codes "DIR") b places.1.0) ∙ lacks_one _ _ (given_last serve R (codes "PLACE") c places.1.1.0)
 full_lacks_none serve (a ∷ b ∷ c ∷ d ∷ more) R places full = absurd full
 
 -- ---- one subcommand

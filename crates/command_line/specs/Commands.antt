@@ -38,7 +38,7 @@ own_rules check = required_rule (codes "FILE") ∷ explain_rules
 own_rules run = required_rule (codes "FILE") ∷ required_rule (codes "SCRIPT") ∷ explain_rules
 own_rules audit = required_rule (codes "FILE") ∷ required_rule (codes "TRACE") ∷ explain_rules
 own_rules serve =
-    required_rule (codes "FILE") ∷ required_rule (codes "DIR") ∷ required_rule (codes "PORT") ∷ sessions_rule
+    required_rule (codes "FILE") ∷ required_rule (codes "DIR") ∷ required_rule (codes "PLACE") ∷ sessions_rule
     ∷ flag_rule (codes "stop-with-input") ∷ explain_rules
 
 abbrev pub with_rules : App → List Rule → App
@@ -70,9 +70,9 @@ Holds run g rows = (file script : Text) × (g.words ≡ file ∷ script ∷ []) 
 Holds audit g rows = (file trace : Text) × (g.words ≡ file ∷ trace ∷ []) × (first_of (codes "FILE") rows ≡ Some file)
     × (first_of (codes "TRACE") rows ≡ Some trace) × HoldsExplain g rows
 Holds serve g rows =
-    (file folder port sessions : Text) × (g.words ≡ file ∷ folder ∷ port ∷ [])
+    (file folder place sessions : Text) × (g.words ≡ file ∷ folder ∷ place ∷ [])
     × (first_of (codes "FILE") rows ≡ Some file)
-    × (first_of (codes "DIR") rows ≡ Some folder) × (first_of (codes "PORT") rows ≡ Some port)
+    × (first_of (codes "DIR") rows ≡ Some folder) × (first_of (codes "PLACE") rows ≡ Some place)
     × (one_of (codes "sessions") rows ≡ Some sessions) × IsNumber 1 64 sessions
     × (sessions_of g.sessions ≡ number_of sessions)
     × (one_of (codes "stop-with-input") rows ≡ Some (bool_text g.stops)) × HoldsExplain g rows
@@ -81,6 +81,6 @@ Holds serve g rows =
 abbrev pub IsMatched : Verb → Given → ArgMatches → Type 0
 IsMatched v g m = (rows : List Row) × (subcommand_rows_of m ≡ Some (name_of v, rows)) × Holds v g rows
 
--- the kinds of error that words may give: those of the parser, and where it takes them that of a PORT that is none
+-- the kinds of error that words may give: those of the parser, and where it takes them that of a PLACE that is none
 abbrev pub faults : List Text → Kinds
 faults words = or_else (fault_of program words) (kinds.ValueValidation ∷ [])

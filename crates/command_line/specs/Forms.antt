@@ -1,13 +1,15 @@
 -- What the words of a command line ask for.
 use Rattle.std.specs.Prelude.{◌≡◌, ◌≤◌, ◌++◌, ◌||◌, ⊤, ℕ, ◌==◌, Bool, true, false, not, List, [], ◌∷◌, length, Option}
 use Rattle.std.specs.Prelude.{Some, None, codes}
-use Rattle.std.specs.List.{list_all}
+use Rattle.std.specs.List.{list_all, list_any}
 use Rattle.std.specs.Str.{bytes_eq, chars}
 use Rattle.std.specs.Str.Parse.{IsNumeral, digits_value, without_leading_plus}
 use Rattle.clap.specs.declared.error.kind.ErrorKind.{ErrorKind}
 use Rattle.clap.specs.declared.error.kind.ErrorKind.TheVariants as kinds
 use Rattle.command_line.specs.declared.request.Explain.{Explain}
 use Rattle.command_line.specs.declared.request.Explain.TheVariants as explain_cases
+use Rattle.command_line.specs.declared.request.Address.{Address}
+use Rattle.command_line.specs.declared.request.Address.TheVariants as addresses
 use Rattle.command_line.specs.declared.request.Request.{Request}
 use Rattle.command_line.specs.declared.request.Request.TheVariants as requests
 
@@ -50,7 +52,7 @@ pub record IsNumber (low high : ℕ) (text : Text) : Type 0 where
   pub below : number_of text ≤ high
 
 -- behind these words a subcommand takes one more: FILE of `check`, FILE SCRIPT of `run`, FILE TRACE of `audit`,
--- FILE DIR PORT of `serve`
+-- FILE DIR PLACE of `serve`
 abbrev pub Takes : Verb → List Text → Text → Type 0
 Takes check [] w = ⊤
 Takes run [] w = ⊤
@@ -114,7 +116,16 @@ explain_of explains true = explain_cases.Never
 explain_of true false = explain_cases.Always
 explain_of false false = explain_cases.AtTerminal
 
--- the table: what a subcommand asks for with all that it was given. PORT is a number from 1 to 65535
+-- a word with a slash in it
+abbrev pub has_slash : Text → Bool
+has_slash w = list_any (λ b. b == 47) w
+
+-- where a word has a server listen: at the socket of this path where it has a slash, else at the port that it writes
+abbrev pub IsAddressOf : Text → Address → Type 0
+IsAddressOf w (addresses.Port n) = (has_slash w ≡ false) × IsNumber 1 65535 w × (n ≡ number_of w)
+IsAddressOf w (addresses.Path p) = (has_slash w ≡ true) × (p.now ≡ w)
+
+-- the table: what a subcommand asks for with all that it was given
 abbrev pub Makes : Verb → Given → Request → Type 0
 Makes paths g requests.Paths = ⊤
 Makes check g (requests.Check file when) = (g.words ≡ file.now ∷ []) × (when ≡ explain_of g.explains g.silent)
@@ -123,8 +134,8 @@ Makes run g (requests.Run file script when) =
 Makes audit g (requests.Audit file trace when) =
     (g.words ≡ file.now ∷ trace.now ∷ []) × (when ≡ explain_of g.explains g.silent)
 Makes serve g (requests.Serve s) =
-    (port : Text) × (g.words ≡ s.file.now ∷ s.folder.now ∷ port ∷ []) × IsNumber 1 65535 port
-    × (s.port ≡ number_of port) × (s.sessions ≡ sessions_of g.sessions) × (g.stops ≡ s.stops)
+    (place : Text) × (g.words ≡ s.file.now ∷ s.folder.now ∷ place ∷ []) × IsAddressOf place s.address
+    × (s.sessions ≡ sessions_of g.sessions) × (g.stops ≡ s.stops)
     × (s.explain ≡ explain_of g.explains g.silent)
 Makes v g q = ⊥
 

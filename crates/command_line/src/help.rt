@@ -19,7 +19,7 @@ happened is kept in a trace, which can be audited.
 
 Try `pathserve paths` to play with paths by hand, `pathserve check FILE` on a
 file of objects, `pathserve run FILE SCRIPT` to call one of them,
-`pathserve serve FILE DIR PORT` to let many clients call, and
+`pathserve serve FILE DIR PLACE` to let many clients call, and
 `pathserve audit FILE TRACE` on what a run or a server left.
 `pathserve SUBCOMMAND --help` says what a subcommand reads and writes, with an
 example.
@@ -224,22 +224,23 @@ pub const SERVE_FILE: &str = "The file with the objects, each of which `check` h
 
 pub const SERVE_DIR: &str = "The folder of the values: read at the start, saved at the end";
 
-pub const SERVE_PORT: &str = "The port on 127.0.0.1 at which clients connect, 1 to 65535";
+pub const SERVE_PLACE: &str =
+    "Where clients connect: a port on 127.0.0.1, 1 to 65535, or the path of a socket";
 
 pub const SERVE_SESSIONS: &str = "Connections taken in all, 1 to 64";
 
-/// What is said of a word that should be a port.
-pub const PORT_IS: &str = "PORT is the third word, 1 to 65535";
+/// What is said of a word that should be an address.
+pub const PLACE_IS: &str = "PLACE is the third word: a port, 1 to 65535, or a path with a slash";
 
 /// How `serve` is called.
-pub const SERVE_USAGE: &str = "pathserve serve [OPTIONS] <FILE> <DIR> <PORT>";
+pub const SERVE_USAGE: &str = "pathserve serve [OPTIONS] <FILE> <DIR> <PLACE>";
 
 /// What the flag `--stop-with-input` of `serve` does.
 pub const SERVE_STOP: &str = "Ends in order when standard input ends";
 
 /// What `serve` reads and writes.
 pub const SERVE_MORE: &str =
-    "Takes up the values that an earlier run saved in DIR, writes `listening PORT`,
+    "Takes up the values that an earlier run saved in DIR, writes `listening PLACE`,
 takes N connections, one after the other or at once, and ends when all have
 ended. Then it saves the values of all parts in DIR, with a trace for
 `pathserve audit`, and writes `NAME entries K` for each object that is saved.
@@ -253,6 +254,10 @@ does that on SIGINT, SIGTERM and SIGHUP. A kill loses what was not saved.
 With --explain, and where standard error is a terminal, standard error gets why
 FILE, or an object of it, is refused, where, and what would help. Nothing else
 changes. Why a start failed is always told.
+
+A PLACE with a slash is the path of a socket, as /run/jobs.sock. Its owner and
+its group may connect. One that a killed server left is replaced; one that is
+served is not. PLACE.lock tells them apart, and stays.
 
 A client says `open NAME`, `call OP ARG ..`, `cancel N` and `quit`, a line
 each; docs/SERVING.md has the answers. One that said `open NAME as CLIENT` can

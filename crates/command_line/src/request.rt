@@ -10,7 +10,7 @@ ghost use Rattle.clap.specs.Kinds.{HasKind};
 ghost use Rattle.clap.specs.Values.{bool_text, kind_of};
 ghost use Rattle.command_line.specs.Forms.{Asks, Given, IsNumber, Makes, number_of, Verb, paths, check as check_verb};
 ghost use Rattle.command_line.specs.Forms.{run as run_verb, audit as audit_verb, serve as serve_verb, explain_of};
-ghost use Rattle.command_line.specs.Forms.{Shows, Text, Topic, kind_for};
+ghost use Rattle.command_line.specs.Forms.{IsAddressOf, Shows, Text, Topic, kind_for};
 ghost use Rattle.command_line.specs.Commands.{Holds, HoldsExplain, IsMatched, app_for, faults, flag_rule, program};
 ghost use Rattle.command_line.specs.Commands.{required_rule, sessions_rule};
 
@@ -44,8 +44,17 @@ pub enum Request<'a> {
     /// `pathserve audit FILE TRACE`, with the paths of the two, and when a refusal of the source, and a fault of the
     /// trace, are explained.
     Audit(&'a str, &'a str, Explain),
-    /// `pathserve serve FILE DIR PORT --sessions N`.
+    /// `pathserve serve FILE DIR PLACE --sessions N`.
     Serve(Serving<'a>),
+}
+
+/// Where a server listens.
+#[derive(Clone, Copy)]
+pub enum Address<'a> {
+    /// A port of 127.0.0.1, 1 to 65535.
+    Port(u16),
+    /// The path of a socket, which has a slash in it.
+    Path(&'a str),
 }
 
 /// What a server is asked for.
@@ -55,7 +64,8 @@ pub struct Serving<'a> {
     pub file: &'a str,
     /// The path of the folder.
     pub folder: &'a str,
-    pub port: u16,
+    /// Where clients connect.
+    pub address: Address<'a>,
     /// How many connections are taken.
     pub sessions: usize,
     /// Whether it stops with the end of standard input.
@@ -180,7 +190,7 @@ fn serve_command<'a>(alloc: Global) -> Result<Command<'a>, AllocError>
         .override_usage(help::SERVE_USAGE)
         .arg(required(alloc, "FILE", help::SERVE_FILE))?
         .arg(required(alloc, "DIR", help::SERVE_DIR))?
-        .arg(required(alloc, "PORT", help::SERVE_PORT))?
+        .arg(required(alloc, "PLACE", help::SERVE_PLACE))?
         .arg(sessions_option(alloc))?
         .arg(stop_flag(alloc))?
         .arg(explain_flag(alloc, help::EXPLAIN))?
@@ -298,24 +308,38 @@ fn sessions_in(serve: &ArgMatches<'_>) -> u8
     }
 }
 
-// What the words of `serve` ask for, whose third one is this port.
-fn served<'a>(serve: &ArgMatches<'a>, port: u16) -> Request<'a>
+// Where a word has a server listen, if it says that.
+fn address_in<'a>(word: &'a str) -> Option<Address<'a>>
+    ensures some { IfSome result (λ address. IsAddressOf word.now address) }
+    ensures none { result ≡ None → (address : Address) → IsAddressOf word.now address → ⊥ }
+{
+    if word.as_bytes().contains(&b'/') {
+        return Some(Address::Path(word));
+    }
+    match port_in(word) {
+        Some(port) => Some(Address::Port(port)),
+        None => None,
+    }
+}
+
+// What the words of `serve` ask for, whose third one is this address.
+fn served<'a>(serve: &ArgMatches<'a>, address: Address<'a>) -> Request<'a>
     requires { (g : Given) × Holds serve_verb g (rows_of (found_of serve.now)) }
     ensures { (g : Given) → Holds serve_verb g (rows_of (found_of serve.now)) → (word : Text) →
-        first_value (found_of serve.now) (codes "PORT") ≡ Some word → IsNumber 1 65535 word →
-        port ≡ number_of word → Makes serve_verb g result }
+        first_value (found_of serve.now) (codes "PLACE") ≡ Some word → IsAddressOf word address.entry →
+        Makes serve_verb g result }
 {
     Request::Serve(Serving {
         file: word_of(serve, "FILE"),
         folder: word_of(serve, "DIR"),
-        port,
+        address,
         sessions: usize::from(sessions_in(serve)),
         stops: serve.get_flag("stop-with-input"),
         explain: explain_in(serve),
     })
 }
 
-// What the words of `serve` ask for, or the word that should be a port.
+// What the words of `serve` ask for, or the word that should be an address.
 fn serve_request<'a>(serve: &ArgMatches<'a>) -> Result<Request<'a>, &'a str>
     requires { (g : Given) × Holds serve_verb g (rows_of (found_of serve.now)) }
     ensures asked { IfOk result (λ q. (g : Given) → Holds serve_verb g (rows_of (found_of serve.now)) →
@@ -323,14 +347,14 @@ fn serve_request<'a>(serve: &ArgMatches<'a>) -> Result<Request<'a>, &'a str>
     ensures other { IfErr result (λ _. (g : Given) → Holds serve_verb g (rows_of (found_of serve.now)) → (q : _) →
         Makes serve_verb g q → ⊥) }
 {
-    let word = word_of(serve, "PORT");
-    match port_in(word) {
-        Some(port) => Ok(served(serve, port)),
+    let word = word_of(serve, "PLACE");
+    match address_in(word) {
+        Some(address) => Ok(served(serve, address)),
         None => Err(word),
     }
 }
 
-// What the words ask for in which this was found, or the word that should be a port.
+// What the words ask for in which this was found, or the word that should be an address.
 fn matched_request<'a>(matches: &ArgMatches<'a>) -> Result<Request<'a>, &'a str>
     requires { (v : Verb) × (g : Given) × IsMatched v g matches.now }
     ensures asked { IfOk result (λ q. (v : Verb) (g : Given) → IsMatched v g matches.now → Makes v g q) }
@@ -352,19 +376,19 @@ fn matched_request<'a>(matches: &ArgMatches<'a>) -> Result<Request<'a>, &'a str>
     Ok(Request::Paths)
 }
 
-// The error of a word that should be a port.
-fn no_port(alloc: Global, word: &str) -> Result<Error, AllocError>
+// The error of a word that should be an address.
+fn no_address(alloc: Global, word: &str) -> Result<Error, AllocError>
     ensures { IfOk result (λ e. kind_of e ≡ ErrorKind.ValueValidation) }
 {
-    let text = format!(in alloc; "invalid value '{word}' for '<PORT>': {}", help::PORT_IS)?;
+    let text = format!(in alloc; "invalid value '{word}' for '<PLACE>': {}", help::PLACE_IS)?;
     serve_command(alloc)?.error(ErrorKind::ValueValidation, text.as_str())
 }
 
 /// What these words, the first of which names the program, ask for.
 ///
 /// An error is a mistake in them or a request for help or the version, with the text to print, or a want of memory. Its
-/// kind is one that the parser gives such words, and where the parser takes them `ValueValidation`: PORT is no number
-/// from 1 to 65535. Words that ask for help or the version before any mistake give that.
+/// kind is one that the parser gives such words, and where the parser takes them `ValueValidation`: PLACE is no number
+/// from 1 to 65535, and has no slash. Words that ask for help or the version before any mistake give that.
 pub fn request_of<'a>(alloc: Global, words: &'a [&'a str]) -> Result<Request<'a>, Error>
     ensures asked { IfOk result (λ q. Asks (map (λ w. w.now) words.now) q) }
     ensures refused { IfErr result (λ e. (q : Request) → Asks (map (λ w. w.now) words.now) q →
@@ -376,6 +400,6 @@ pub fn request_of<'a>(alloc: Global, words: &'a [&'a str]) -> Result<Request<'a>
     let matches = command(alloc)?.try_get_matches_from(words)?;
     match matched_request(&matches) {
         Ok(request) => Ok(request),
-        Err(word) => Err(no_port(alloc, word)?),
+        Err(word) => Err(no_address(alloc, word)?),
     }
 }

@@ -20,6 +20,8 @@ pub enum Need {
     Lock,
     /// The port.
     Port(u16),
+    /// The path of a socket.
+    Socket,
     /// The saved parts, and files for their values.
     Parts,
 }
@@ -78,6 +80,7 @@ fn push_need(out: &mut Vec<u8>, need: Need, name: &str) -> Result<(), AllocError
         Need::Port(port) => {
             return push_number(out, b"nobody can listen at port ", u64::from(port));
         }
+        Need::Socket => b": nobody can listen at this path",
         Need::File => b": this file cannot be read",
         Need::Folder => b": this folder cannot be read",
         Need::Lock => b": another server has this folder",
@@ -95,6 +98,7 @@ fn cause_text(cause: ErrorKind) -> &'static [u8] {
         ErrorKind::IsADirectory => b": it is a folder",
         ErrorKind::NotADirectory => b": it is no folder",
         ErrorKind::AddrInUse => b": it is taken",
+        ErrorKind::AlreadyExists => b": it is no socket",
         _ => b"",
     }
 }

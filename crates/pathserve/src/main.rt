@@ -5,7 +5,7 @@
 //! apart, and by which nodes.
 //! `pathserve run FILE SCRIPT` runs a script of calls, device steps and finishes on an object of a file.
 //! `pathserve audit FILE TRACE` says whether a trace of an object of a file is legal, or which line of it is not.
-//! `pathserve serve FILE DIR PORT` serves the objects of a file to clients on this machine.
+//! `pathserve serve FILE DIR PLACE` serves the objects of a file to clients on this machine.
 //! With `--explain`, and where standard error is a terminal, standard error gets why a source, an object of it, a line of
 //! a script or a trace is refused; `--no-explain` leaves that out. Nothing else changes by it.
 //! Exit statuses: 0 accepted, and help that was asked for, 1 refused, 2 usage, 3 read or write fault, 4 out of memory.
@@ -17,6 +17,7 @@
 
 mod lack;
 mod serve;
+mod socket;
 
 use ahead_core::ahead::AheadHand;
 use answer_core::answer::{answer_lines, check_source};
@@ -25,13 +26,14 @@ use answer_core::explanation::{Telling, explained_audit, explained_run};
 use answer_core::failure::{Failure, exit_status, words_end};
 use answer_core::script::answer_script;
 use answer_core::source::read_source;
-use command_line::request::{Explain, Request, Serving, request_of};
+use command_line::request::{Address, Explain, Request, Serving, request_of};
 use explain_line::files::Files;
 use explain_line::kept::Kept;
 use lack::{Lack, Lacking, Need, tell_lack};
 use serve::{Source, place_of, serve_objects};
-use serve_core::gate::Gate;
+use serve_core::gate::{Gate, Listener};
 use serve_core::serve::Place;
+use socket::{Socket, socket_at};
 use std::alloc::AllocError;
 use std::fs::{File, TryLockError};
 use std::io::{ErrorKind, IsTerminal, Read};
@@ -50,6 +52,8 @@ struct Started {
     gate: Arc<Gate>,
     // The folder, which no other server has as long as this is open.
     lock: File,
+    // The socket at which it listens, where it does so at a path.
+    socket: Option<Socket>,
 }
 
 // What is done of a command line before any thread is started.
@@ -69,6 +73,7 @@ fn main(rt: HostRuntime) -> ExitCode {
                 place,
                 gate,
                 lock,
+                socket,
             } = started;
             let is_watched = match Arc::try_clone(&gate) {
                 // Nobody waits for this thread: it ends with the program, where standard input does not end before.
@@ -91,6 +96,9 @@ fn main(rt: HostRuntime) -> ExitCode {
             } else {
                 Err(Failure::Memory)
             };
+            if let Some(socket) = socket {
+                socket.remove(&rt);
+            }
             // Until now nobody else may serve from the folder.
             drop(lock);
             ended
@@ -142,12 +150,40 @@ fn source_at(rt: &HostRuntime, path: &str) -> Result<Vec<u8>, Lacking> {
     }
 }
 
-// A gate at a port, for so many connections.
-fn gate_at(rt: &HostRuntime, port: u16, sessions: usize) -> io::Result<Gate> {
-    Gate::open(
-        TcpListener::bind(rt, (Ipv4Addr::LOCALHOST, port))?,
-        sessions,
-    )
+// A gate at a port, for so many connections. With port 0 the system chooses one.
+fn gate_at_port(rt: &HostRuntime, port: u16, sessions: usize) -> io::Result<Gate> {
+    let listener = TcpListener::bind(rt, (Ipv4Addr::LOCALHOST, port))?;
+    let alloc = rt.alloc();
+    let place = format!(in alloc; "{port}")?;
+    Gate::open(Listener::Port(listener), place, sessions)
+}
+
+// A gate at the path of a socket, for so many connections, and the socket.
+fn gate_at_path(rt: &HostRuntime, path: &str, sessions: usize) -> io::Result<(Gate, Socket)> {
+    let (listener, socket) = socket_at(rt, path)?;
+    let place = String::from_str(rt.alloc(), path)?;
+    Ok((
+        Gate::open(Listener::Path(listener), place, sessions)?,
+        socket,
+    ))
+}
+
+// A gate where clients are to connect, and its socket, where that has a path.
+fn gate_at(
+    rt: &HostRuntime,
+    address: Address<'_>,
+    sessions: usize,
+) -> Result<(Gate, Option<Socket>), Lacking> {
+    match address {
+        Address::Port(port) => match gate_at_port(rt, port, sessions) {
+            Ok(gate) => Ok((gate, None)),
+            Err(error) => Err(Lacking::of(Need::Port(port), error)),
+        },
+        Address::Path(path) => match gate_at_path(rt, path, sessions) {
+            Ok((gate, socket)) => Ok((gate, Some(socket))),
+            Err(error) => Err(Lacking::of(Need::Socket, error)),
+        },
+    }
 }
 
 // A gate that threads can share.
@@ -158,14 +194,11 @@ fn shared(rt: &HostRuntime, gate: Gate) -> Result<Arc<Gate>, AllocError> {
     }
 }
 
-// Takes what a server needs, in this order: the source, the folder, the port.
+// Takes what a server needs, in this order: the source, the folder, the place where clients connect.
 fn take_needs(rt: &HostRuntime, asked: Serving<'_>) -> Result<Started, Lacking> {
     let text = source_at(rt, asked.file)?;
     let lock = lock_folder(rt, asked.folder)?;
-    let gate = match gate_at(rt, asked.port, asked.sessions) {
-        Ok(gate) => gate,
-        Err(error) => return Err(Lacking::of(Need::Port(asked.port), error)),
-    };
+    let (gate, socket) = gate_at(rt, asked.address, asked.sessions)?;
     let place = match place_of(rt, asked.folder, asked.sessions) {
         Ok(place) => place,
         Err(Failure::ReadFault) => return Err(Lacking::at(Need::Folder, ErrorKind::Other)),
@@ -186,6 +219,7 @@ fn take_needs(rt: &HostRuntime, asked: Serving<'_>) -> Result<Started, Lacking> 
         place,
         gate,
         lock,
+        socket,
     })
 }
 
@@ -256,16 +290,32 @@ fn told_unread<R: Read + Drop>(
     ended
 }
 
+// The path of a socket, where a server is to listen at one.
+fn path_of(address: Address<'_>) -> &str {
+    match address {
+        Address::Path(path) => path,
+        Address::Port(_) => "",
+    }
+}
+
 // Prepares a server. Where it lacks something that is told.
 fn prepare_server(rt: &HostRuntime, asked: Serving<'_>) -> Result<Prepared, Failure> {
     match take_needs(rt, asked) {
         Ok(started) => Ok(Prepared::Serves(started, asked.stops)),
         Err(lacking) => {
             let name = match &lacking.lack {
-                Some(Lack {
-                    need: Need::File,
-                    ..
-                }) => asked.file,
+                Some(
+                    Lack {
+                        need: Need::File,
+                        ..
+                    },
+                ) => asked.file,
+                Some(
+                    Lack {
+                        need: Need::Socket,
+                        ..
+                    },
+                ) => path_of(asked.address),
                 _ => asked.folder,
             };
             Err(told(rt, lacking, name))

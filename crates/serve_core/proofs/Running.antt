@@ -96,17 +96,17 @@ from_opening agrees a (o ∷ objects) [] is each pinned = absurd pinned
 
 -- objects that were served and closed
 pub run_served : {H : Type 0} {backs : H → Assignment → Type 0} {agrees mid : Assignment → Type 0} {pw pm pa tw tm ta : Papers → Type 0} {begun : Trouble} {kept_all keeps_all : Bool} {openings : List Opening} {old known new : Option (List ℕ)} (objects : List Object) (names : List (List ℕ)) (after : Trouble) (end : Result ServeEnd LinesFault) →
-    (port : ℕ) → AreSaid (listening_line port ∷ []) None old known → GathersAndCloses backs agrees mid pm pa tm ta names openings begun after kept_all keeps_all known new → names ≡ object_names objects → ArePinnedAll mid objects openings → ((papers : Papers) → pm papers → AreLoadedAll papers objects openings) → ((papers : Papers) → pm papers → pw papers) →
+    (place : List ℕ) → AreSaid (listening_line place ∷ []) None old known → GathersAndCloses backs agrees mid pm pa tm ta names openings begun after kept_all keeps_all known new → names ≡ object_names objects → ArePinnedAll mid objects openings → ((papers : Papers) → pm papers → AreLoadedAll papers objects openings) → ((papers : Papers) → pm papers → pw papers) →
     ((papers : Papers) → tm papers → tw papers) → IsEndOf after.fault after.refused end → IsRunIn backs agrees pw pa tw ta objects end old new
-run_served {H = H} {backs = backs} {agrees = agrees} {mid = mid} {begun = begun} {openings = openings} {old = old} {new = new} objects names after end port listens s same pinned loaded papers traces is =
+run_served {H = H} {backs = backs} {agrees = agrees} {mid = mid} {begun = begun} {openings = openings} {old = old} {new = new} objects names after end place listens s same pinned loaded papers traces is =
     let ends : List Ended = s.closes.ends in
     let all = s.closes.endings in
     let met_none : fault_of_end end ≡ None → all.met ≡ None = λ none. second_none s.gathered.fault all.met (sym all.fault ∙ end_quiet after.fault after.refused end is none) in
-    let said : AreSaid (listening_line port ∷ lines_all ends) (fault_of_end end) old new = said_then listens all.said (λ none. refl) met_none in
-    let whole : end ≡ Ok Whole → Every IsWhole ends × Appends old new (concat (listening_line port ∷ entries_all ends)) = λ done.
+    let said : AreSaid (listening_line place ∷ lines_all ends) (fault_of_end end) old new = said_then listens all.said (λ none. refl) met_none in
+    let whole : end ≡ Ok Whole → Every IsWhole ends × Appends old new (concat (listening_line place ∷ entries_all ends)) = λ done.
     let quiet = data_whole after.fault after.refused end is done in
     let each : Every IsWhole ends = all.whole (second_none s.gathered.fault all.met (sym all.fault ∙ quiet.0)) (apart_all s.gathered.refused ends (sym all.refused ∙ quiet.1)) in
-    let text : said.text ≡ concat (listening_line port ∷ entries_all ends) = said.whole (ap fault_of_end done) ∙ ap (λ (ls : List (List ℕ)). concat (listening_line port ∷ ls)) (whole_all ends each) in
+    let text : said.text ≡ concat (listening_line place ∷ entries_all ends) = said.whole (ap fault_of_end done) ∙ ap (λ (ls : List (List ℕ)). concat (listening_line place ∷ ls)) (whole_all ends each) in
     (each, subst (Appends old new) text said.written) in
     let many : length names ≡ length objects = omega (arith, ap length same, length-map objects (λ (o : Object). o.name)) in
     let gathers : IsGathered H (none_of (length objects)) begun s.gathered (slips_of ends) =
@@ -115,7 +115,7 @@ run_served {H = H} {backs = backs} {agrees = agrees} {mid = mid} {begun = begun}
     let sealed : ArePinnedAll agrees objects (openings_of ends) = subst (ArePinnedAll agrees objects) opened (pinned_as mid agrees objects openings s.closes.files pinned) in
     inl (
       record {
-        port = port;
+        place = place;
         ends = ends;
         named = s.closes.named ∙ same;
         each = all.each;
@@ -141,8 +141,8 @@ run_served {H = H} {backs = backs} {agrees = agrees} {mid = mid} {begun = begun}
     )
 
 -- a fault came before any was served
-pub run_failed : {old new : Option (List ℕ)} (damaged : List ℕ → Type 0) (fault : LinesFault) → (port : ℕ) × AreSaid (listening_line port ∷ []) (Some fault) old new → AreNotServed damaged (Err fault) old new
-run_failed damaged fault (port, said) = record { lines = listening_line port ∷ []; by = inr (inl (port, refl)); said = said }
+pub run_failed : {old new : Option (List ℕ)} (damaged : List ℕ → Type 0) (fault : LinesFault) → (place : List ℕ) × AreSaid (listening_line place ∷ []) (Some fault) old new → AreNotServed damaged (Err fault) old new
+run_failed damaged fault (place, said) = record { lines = listening_line place ∷ []; by = inr (inl (place, refl)); said = said }
 
 -- a line was not told, with a fault
 pub none_said : (line : List ℕ) (fault : LinesFault) (known : Option (List ℕ)) → AreSaid (line ∷ []) (Some fault) known known
@@ -176,7 +176,7 @@ unserved_as one other lines (Ok Whole) follows by = by
 unserved_as one other lines (Ok Refused) follows by = (by.0, follows by.0 by.1, by.2)
 unserved_as one other lines (Ok Unopened) follows by = by
 unserved_as one other lines (Err fault) follows (inl none) = inl none
-unserved_as one other lines (Err fault) follows (inr (inl port)) = inr (inl port)
+unserved_as one other lines (Err fault) follows (inr (inl place)) = inr (inl place)
 unserved_as one other lines (Err fault) follows (inr (inr by)) = inr (inr (by.0, follows by.0 by.1, by.2))
 
 not_served_as : {old new : Option (List ℕ)} (one other : List ℕ → Type 0) (end : Result ServeEnd LinesFault) → ((line : List ℕ) → one line → other line) → AreNotServed one end old new → AreNotServed other end old new
@@ -204,7 +204,7 @@ unserved_failed damaged lines (Err fault) by = by
 
 served_memory : {H : Type 0} {backs : H → Assignment → Type 0} {old new : Option (List ℕ)} (objects : List Object) (end : Result ServeEnd LinesFault) → AreServed backs objects end old new → AreServed backs objects (Err Memory) old new
 served_memory objects end run = record {
-  port = run.port;
+  place = run.place;
   ends = run.ends;
   named = run.named;
   each = run.each;

@@ -1,6 +1,6 @@
 -- What a server writes, and how it ends.
 use Rattle.std.specs.Prelude.{◌≡◌, ◌⊎◌, ℕ, Bool, List, [], ◌∷◌, map, Option, Some, None, Result, Ok, Err, codes}
-use Rattle.std.specs.Prelude.{decimal, length}
+use Rattle.std.specs.Prelude.{length}
 use Rattle.std.specs.List.{concat}
 use Rattle.std.specs.Io.KnownBytes.{Appends, Keeps}
 use Rattle.line_core.specs.declared.machine.LinesFault.{LinesFault}
@@ -54,9 +54,9 @@ abbrev pub IsLineOf : NotOpened → List ℕ → Type 0
 IsLineOf (Damaged text) line = line ≡ text.items
 IsLineOf (Fault fault) line = ⊥
 
--- `listening PORT`
-abbrev pub listening_line : ℕ → List ℕ
-listening_line port = reply (codes "listening ") (decimal port)
+-- `listening PLACE`: a port, or the path of a socket
+abbrev pub listening_line : List ℕ → List ℕ
+listening_line place = reply (codes "listening ") place
 
 -- the fault with which a server ends
 abbrev pub fault_of_end : Result ServeEnd LinesFault → Option LinesFault
@@ -74,7 +74,7 @@ pub record GathersAndCloses {H : Type 0} (backs : H → Assignment → Type 0) (
   pub closes : Closes backs agrees earlier parts_were parts_are traces_were traces_are names openings slips gathered
       after kept_all keeps_all old new
 
--- These objects were served: `listening PORT` is written, and then, for each object in order, the lines for how it
+-- These objects were served: `listening PLACE` is written, and then, for each object in order, the lines for how it
 -- ended. The end is the first fault, those of sessions before those of the objects' ends; else refused, where a line
 -- says that something is; else whole, and then each object was closed, saved and traced, and its line is `NAME entries
 -- K`, K the length of its history. Memory may be refused behind that.
@@ -83,18 +83,18 @@ pub record GathersAndCloses {H : Type 0} (backs : H → Assignment → Type 0) (
 -- where the object was closed its history is legal.
 pub record AreServed {H : Type 0} (backs : H → Assignment → Type 0) (objects : List Object)
     (end : Result ServeEnd LinesFault) (old new : Option (List ℕ)) : Type 0 where
-  pub port : ℕ
+  pub place : List ℕ
   pub ends : List Ended
   pub named : names_of ends ≡ object_names objects
   pub each : Every IsAtEnd ends
-  pub said : AreSaid (listening_line port ∷ lines_all ends) (fault_of_end end) old new
+  pub said : AreSaid (listening_line place ∷ lines_all ends) (fault_of_end end) old new
   pub begun : Trouble
   pub gathered : Trouble
   pub gathers : IsGathered H (none_of (length objects)) begun gathered (slips_of ends)
   pub legal : Every (IsLegalBy backs) ends
   pub met : Option LinesFault
   pub by : IsEndOf (first_of gathered.fault met) (refused_all gathered.refused ends) end ⊎ (end ≡ Err Memory)
-  pub whole : end ≡ Ok Whole → Every IsWhole ends × Appends old new (concat (listening_line port ∷ entries_all ends))
+  pub whole : end ≡ Ok Whole → Every IsWhole ends × Appends old new (concat (listening_line place ∷ entries_all ends))
 
 -- What is stored of objects that have ended. The parts of each opened with what the shelf had before, pages were sealed
 -- with that, and it stands at the head of the trace. Where an object was closed, its history is legal from that. What is
@@ -116,7 +116,7 @@ IsUnservedBy damaged lines (Ok Whole) = ⊥
 IsUnservedBy damaged lines (Ok Refused) = (line : List ℕ) × damaged line × (lines ≡ line ∷ [])
 IsUnservedBy damaged lines (Ok Unopened) = lines ≡ []
 IsUnservedBy damaged lines (Err fault) =
-    (lines ≡ []) ⊎ ((port : ℕ) × (lines ≡ listening_line port ∷ []))
+    (lines ≡ []) ⊎ ((place : List ℕ) × (lines ≡ listening_line place ∷ []))
     ⊎ ((line : List ℕ) × damaged line × (lines ≡ line ∷ []))
 
 pub record AreNotServed (damaged : List ℕ → Type 0) (end : Result ServeEnd LinesFault)

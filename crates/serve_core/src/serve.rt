@@ -35,7 +35,7 @@ use keep_core::close::{Closing, Ending};
 use keep_core::open::NotOpened;
 use keep_core::opening::Opening;
 use keep_core::trouble::{Trouble, fault_of};
-use line_core::reply::push_count;
+use line_core::reply::push_reply;
 use line_core::{LinesFault, write_whole};
 use session_core::order::Named;
 use source_core::judge::{Judged, judge};
@@ -90,17 +90,13 @@ fn end_of(trouble: Trouble) -> Result<ServeEnd, LinesFault>
     }
 }
 
-// `listening PORT`.
+// `listening PLACE`.
 fn tell_port<W: Write>(alloc: Global, gate: &Gate, writer: &mut W) -> Result<(), LinesFault>
-    ensures { (port : ℕ) × AreSaid (listening_line port ∷ []) (fault_in result) (W.contents writer.old)
+    ensures { (place : List ℕ) × AreSaid (listening_line place ∷ []) (fault_in result) (W.contents writer.old)
         (W.contents writer.new) }
 {
-    let port = match gate.port() {
-        Ok(port) => port,
-        Err(error) => return Err(fault_of(error)),
-    };
     let mut line = Vec::new(alloc);
-    match push_count(&mut line, b"listening ", u64::from(port)) {
+    match push_reply(&mut line, b"listening ", gate.place().as_bytes()) {
         Ok(()) => {}
         Err(_) => return Err(LinesFault::Memory),
     }
@@ -233,7 +229,7 @@ fn serve_opened<
     close_all(served, gathered, closing, writer, error);
 }
 
-// Opens objects, tells the port, serves them, and closes them.
+// Opens objects, tells the place, serves them, and closes them.
 fn serve_closing<
     R: Threads + Wait + Clock + Sync,
     S: Shelf + Drop,
@@ -441,7 +437,7 @@ fn remove_own<V: Values>(
 /// ended, or the gate is shut and those that were taken have ended. The parts of each object are read from the folder
 /// at the start, and saved there at the end, with its trace.
 ///
-/// It writes `listening PORT` once connections are taken, and at the end `NAME entries K` for each object, in order,
+/// It writes `listening PLACE` once connections are taken, and at the end `NAME entries K` for each object, in order,
 /// that was closed and saved, and whose trace was written. Where nothing is served it writes why: the fault of the
 /// source, or a line for each object that is refused, as a check does; or `part OBJECT.PART damaged`. At the end that
 /// line stands for a part that spells no value, and `close OBJECT refused` for an object that does not close; it

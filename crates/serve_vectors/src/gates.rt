@@ -1,7 +1,7 @@
 //! Which connections a gate gives, and when it is shut.
 
-use serve_core::gate::{Door, Gate};
-use std::io;
+use serve_core::gate::{Door, Gate, Listener};
+use std::io::{self, ErrorKind};
 use std::net::{Ipv4Addr, Net, TcpListener, TcpStream};
 use std::os::fd::OwnedFd;
 use std::process::Abort;
@@ -11,14 +11,17 @@ use std::time::Duration;
 const WAITS: u64 = 500;
 
 // A gate for so many connections, at a port that is free. Where none comes its `accept` fails after a while.
-fn gate_for<R: Net<Listener = TcpListener, Stream = TcpStream>>(
+fn gate_for<R: Net<Listener = TcpListener, Stream = TcpStream> + AllocGlobal>(
     rt: &R,
     most: usize,
 ) -> io::Result<Gate> {
     let listener = TcpListener::bind(rt, (Ipv4Addr::LOCALHOST, 0))?;
     let socket = TcpStream::from(OwnedFd::from(listener.try_clone()?));
     socket.set_read_timeout(Some(Duration::from_millis(WAITS)))?;
-    Gate::open(listener, most)
+    let port = listener.local_addr()?.port();
+    let alloc = rt.alloc();
+    let place = format!(in alloc; "{port}")?;
+    Gate::open(Listener::Port(listener), place, most)
 }
 
 // A client that has connected, where the gate lets it.
@@ -26,7 +29,10 @@ fn client<R: Net<Listener = TcpListener, Stream = TcpStream>>(
     rt: &R,
     gate: &Gate,
 ) -> io::Result<TcpStream> {
-    TcpStream::connect(rt, (Ipv4Addr::LOCALHOST, gate.port()?))
+    match gate.place().parse::<u16>() {
+        Ok(port) => TcpStream::connect(rt, (Ipv4Addr::LOCALHOST, port)),
+        Err(_) => Err(io::Error::from(ErrorKind::InvalidInput)),
+    }
 }
 
 // Whether the gate gives a connection now, and it is that of this client.
