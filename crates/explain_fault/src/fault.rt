@@ -13,8 +13,8 @@ use note_core::page::{Page, push_note, push_said};
 use note_core::said::{Said, Words, say};
 use note_core::span::{Span, behind, front, span_of, text_at};
 use note_core::tokens::{
-    begins, count_before, ends, ends_before_last, find_name, first_tokens, from_last, is_at_name, is_symbol, last,
-    name_of, section, tokens_from,
+    begins, count_before, ends, ends_before_last, find_name, first_tokens, from_last, is_at_name,
+    is_symbol, last, name_of, section, tokens_from,
 };
 use path_tree::lex::fault::LexFault;
 use path_tree::lex::lex;

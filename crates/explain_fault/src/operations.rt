@@ -138,7 +138,10 @@ pub(crate) fn no_entry() -> Said {
 pub(crate) fn bare_declaration<'t>(tokens: &'t [Token], name: &[u8]) -> &'t [Token] {
     let mut has_entry = false;
     for (count, token) in tokens.iter().enumerate() {
-        if begins_operation(token) && !has_entry && name_of(tokens_from(tokens, count + 1)) == name {
+        if begins_operation(token)
+            && !has_entry
+            && name_of(tokens_from(tokens, count + 1)) == name
+        {
             return tokens_from(tokens, count);
         }
         has_entry = is_symbol(token, Symbol::Entry);

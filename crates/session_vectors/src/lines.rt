@@ -112,7 +112,16 @@ fn a_read_fails(rt: HostRuntime) {
         fails: true,
     };
     let fault = Some(SessionFault::ReadFault);
-    assert!(rt; plays(&rt, rt.alloc(), b"open cell\ndan", fails, b"opened cell\n", fault));
+    assert!(rt;
+        plays(
+            &rt,
+            rt.alloc(),
+            b"open cell\ndan",
+            fails,
+            b"opened cell\n",
+            fault
+        )
+    );
 }
 
 // A line of so many letters, and `quit`.
