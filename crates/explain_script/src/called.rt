@@ -31,7 +31,7 @@ fn operation_of<'o>(object: &'o Object, name: &[u8]) -> Option<&'o Operation> {
 }
 
 // What is wrong with the words from this number on, as the arguments of an operation.
-fn misfit(operation: &Operation, words: &LineWords<'_>, number: usize) -> Option<Misfit> {
+fn misfit_of(operation: &Operation, words: &LineWords<'_>, number: usize) -> Option<Misfit> {
     for (place, param) in operation.params.iter().enumerate() {
         match words.all.get(number.saturating_add(place)) {
             None => return Some(Misfit::Missing(place)),
@@ -182,7 +182,7 @@ pub(crate) fn push_called(
         }
         Some(operation) => {
             let first = number.saturating_add(1);
-            match misfit(operation, &words, first) {
+            match misfit_of(operation, &words, first) {
                 Some(found) => {
                     push_misfit(alloc, out, page, operation, &words, first, found)?;
                     Ok(true)
