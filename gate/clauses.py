@@ -70,8 +70,11 @@ def labels(source, name):
 
 
 def function_before(source, line):
-    """The name of the function in which a line of a source stands, counted from 1."""
-    heads = [found[1] for it in source.split("\n")[:line] if (found := HEAD.match(it))]
+    """The name of the function in which a line of a source stands, counted from 1, or above whose head it has an attribute."""
+    lines = source.split("\n")
+    if lines[line - 1 :] and lines[line - 1].lstrip().startswith("#["):
+        line = next((at + 1 for at in range(line, len(lines)) if HEAD.match(lines[at])), line)
+    heads = [found[1] for it in lines[:line] if (found := HEAD.match(it))]
     return heads[-1] if heads else ""
 
 
