@@ -107,8 +107,8 @@ pub fn check_source<R: Read + Drop, W: Write, E: Write>(
         × IsCheck text end whole × Appends (W.contents writer.old) (W.contents writer.new) (take count whole)) }
     ensures unread { IsErrOf result ReadFault → Keeps (W.contents writer.old) (W.contents writer.new) }
     ensures memory { IsErrOf result Memory → Keeps (W.contents writer.old) (W.contents writer.new) }
-    ensures unasked { telling.entry ≡ Nothing → Keeps (E.contents error.old) (E.contents error.new) }
-    ensures hint { telling.entry ≡ Hint → IsHinted (E.contents error.old) (E.contents error.new) }
+    ensures unasked { telling ≡ Nothing → Keeps (E.contents error.old) (E.contents error.new) }
+    ensures hint { telling ≡ Hint → IsHinted (E.contents error.old) (E.contents error.new) }
 {
     let source = match read_source(alloc, reader) {
         Ok(source) => source,

@@ -67,8 +67,8 @@ fn push_explanation<E: Write>(
     only: Option<&[u8]>,
     error: &mut E,
 )
-    ensures unasked { telling.entry ≡ Nothing → Keeps (E.contents error.old) (E.contents error.new) }
-    ensures hint { telling.entry ≡ Hint → IsHinted (E.contents error.old) (E.contents error.new) }
+    ensures unasked { telling ≡ Nothing → Keeps (E.contents error.old) (E.contents error.new) }
+    ensures hint { telling ≡ Hint → IsHinted (E.contents error.old) (E.contents error.new) }
 {
     match telling {
         Telling::Whole => push_text(explain(alloc, file.as_bytes(), source, only), error),
@@ -91,8 +91,8 @@ pub fn explained<E: Write>(
     error: &mut E,
 ) -> Result<u8, Failure>
     ensures same { result ≡ ended }
-    ensures unasked { telling.entry ≡ Nothing → Keeps (E.contents error.old) (E.contents error.new) }
-    ensures hint { telling.entry ≡ Hint → IsHinted (E.contents error.old) (E.contents error.new) }
+    ensures unasked { telling ≡ Nothing → Keeps (E.contents error.old) (E.contents error.new) }
+    ensures hint { telling ≡ Hint → IsHinted (E.contents error.old) (E.contents error.new) }
 {
     if matches!(&ended, Ok(REFUSED)) {
         push_explanation(alloc, telling, file, source, only, error);
@@ -114,8 +114,8 @@ pub fn explained_script<E: Write>(
     error: &mut E,
 ) -> Result<u8, Failure>
     ensures same { result ≡ ended }
-    ensures unasked { telling.entry ≡ Nothing → Keeps (E.contents error.old) (E.contents error.new) }
-    ensures hint { telling.entry ≡ Hint → IsHinted (E.contents error.old) (E.contents error.new) }
+    ensures unasked { telling ≡ Nothing → Keeps (E.contents error.old) (E.contents error.new) }
+    ensures hint { telling ≡ Hint → IsHinted (E.contents error.old) (E.contents error.new) }
 {
     match named_object(alloc, head) {
         Ok(Some(name)) => explained(
@@ -161,8 +161,8 @@ pub fn explained_run<E: Write>(
     error: &mut E,
 ) -> Result<u8, Failure>
     ensures same { result ≡ ended }
-    ensures unasked { telling.entry ≡ Nothing → Keeps (E.contents error.old) (E.contents error.new) }
-    ensures hint { telling.entry ≡ Hint → Keeps (E.contents error.old) (E.contents error.new) }
+    ensures unasked { telling ≡ Nothing → Keeps (E.contents error.old) (E.contents error.new) }
+    ensures hint { telling ≡ Hint → Keeps (E.contents error.old) (E.contents error.new) }
 {
     match telling {
         Telling::Whole => push_script(alloc, &ended, files, source, text, error),
@@ -181,8 +181,8 @@ fn push_trace<E: Write>(
     text: &[u8],
     error: &mut E,
 )
-    ensures unasked { telling.entry ≡ Nothing → Keeps (E.contents error.old) (E.contents error.new) }
-    ensures hint { telling.entry ≡ Hint → IsHinted (E.contents error.old) (E.contents error.new) }
+    ensures unasked { telling ≡ Nothing → Keeps (E.contents error.old) (E.contents error.new) }
+    ensures hint { telling ≡ Hint → IsHinted (E.contents error.old) (E.contents error.new) }
 {
     if let Ok(Some(name)) = named_object(alloc, text) {
         push_explanation(
@@ -214,8 +214,8 @@ pub fn explained_audit<E: Write>(
     error: &mut E,
 ) -> Result<u8, Failure>
     ensures same { result ≡ ended }
-    ensures unasked { telling.entry ≡ Nothing → Keeps (E.contents error.old) (E.contents error.new) }
-    ensures hint { telling.entry ≡ Hint → IsHinted (E.contents error.old) (E.contents error.new) }
+    ensures unasked { telling ≡ Nothing → Keeps (E.contents error.old) (E.contents error.new) }
+    ensures hint { telling ≡ Hint → IsHinted (E.contents error.old) (E.contents error.new) }
 {
     if let Some(trace) = text {
         if matches!(&ended, Ok(REFUSED)) {

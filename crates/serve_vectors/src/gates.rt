@@ -55,7 +55,7 @@ fn is_shut<R: Net<Listener = TcpListener, Stream = TcpStream>>(rt: &R, gate: &Ga
     gives_none && client(rt, gate).is_err() && !gate.shut()
 }
 
-// Catches `gate_admits_any_number`, `gate_gives_nobody`, `gate_has_no_port` and `gate_is_not_opened`.
+// Catches `gate_admits_any_number`, `gate_gives_nobody`, `gate_tells_no_place` and `gate_is_not_opened`.
 #[test]
 fn a_gate_gives_so_many_connections(rt: HostRuntime) {
     for most in 1..4 {
