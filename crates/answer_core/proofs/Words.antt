@@ -26,16 +26,16 @@ shown_end e r is ended = record {
   mistake = λ none _. absurd (none is);
 }
 
-pub memory_end : (e : Error) → kind_of e ≡ kinds.OutOfMemory → IsWordsEnd e (Err failures.Memory)
-memory_end e is = record {
+pub no_memory : (e : Error) → kind_of e ≡ kinds.OutOfMemory → IsWordsEnd e (Err failures.Memory)
+no_memory e is = record {
   shown = λ shown. absurd (not_memory e shown is);
   memory = λ _. refl;
   mistake = λ _ none. absurd (none is);
 }
 
-pub mistake_end : (e : Error) → (IsShown e → ⊥) → (kind_of e ≡ kinds.OutOfMemory → ⊥) → IsWordsEnd e (Err (failures.Usage e))
-mistake_end e not_shown no_memory = record {
+pub is_usage : (e : Error) → (IsShown e → ⊥) → (kind_of e ≡ kinds.OutOfMemory → ⊥) → IsWordsEnd e (Err (failures.Usage e))
+is_usage e not_shown none = record {
   shown = λ shown. absurd (not_shown shown);
-  memory = λ memory. absurd (no_memory memory);
+  memory = λ memory. absurd (none memory);
   mistake = λ _ _. refl;
 }

@@ -85,8 +85,8 @@ fn check_text<W: Write>(alloc: Global, source: &[u8], writer: &mut W) -> Result<
 }
 
 /// `pathserve check`: checks the objects of a source, and gives the exit status: 0 where none is refused,
-/// 1 where one is and where the source is no file of objects. Then `error` gets why the source of the file is refused, as
-/// far as that is to be told; what is written to `writer`, and the exit status, are what they are without it.
+/// 1 where one is and where the source is no file of objects. Then `error` gets why the source of the file is refused,
+/// as far as that is to be told; what is written to `writer`, and the exit status, are what they are without it.
 ///
 /// A failure is `ReadFault`, `WriteFault` or `Memory`. A `WriteFault` leaves a front of the report, the others
 /// leave nothing.

@@ -56,8 +56,8 @@ fn push_hint<E: Write>(text: Result<Vec<u8>, AllocError>, error: &mut E)
     }
 }
 
-// Writes why a source of a file is refused, as far as that is to be told. Where memory for the text is refused nothing is
-// written, and where a write fails a front of it.
+// Writes why a source of a file is refused, as far as that is to be told. Where memory for the text is refused nothing
+// is written, and where a write fails a front of it.
 #[tactic(auto, using(crate::proofs::Hints::no_hint))]
 fn push_explanation<E: Write>(
     alloc: Global,
@@ -78,8 +78,8 @@ fn push_explanation<E: Write>(
 }
 
 /// Hands on what a command ended with, which no explanation changes. Where it refused something `error` gets first, as
-/// far as that is to be told, why the source of a file is refused: its fault, or each object that is refused, or the one
-/// of a name. Want of memory, and a write that fails, end the explanation alone.
+/// far as that is to be told, why the source of a file is refused: its fault, or each object that is refused, or the
+/// one of a name. Want of memory, and a write that fails, end the explanation alone.
 #[tactic(auto, using(crate::proofs::Hints::no_hint))]
 pub fn explained<E: Write>(
     alloc: Global,
@@ -101,8 +101,8 @@ pub fn explained<E: Write>(
 }
 
 /// Hands on what a script ended with, which no explanation changes. Where it refused something `error` gets first, as
-/// far as that is to be told, why the object is refused that this head names, or the fault of the source; where it names
-/// none, nothing. Want of memory, and a write that fails, end the explanation alone.
+/// far as that is to be told, why the object is refused that this head names, or the fault of the source; where it
+/// names none, nothing. Want of memory, and a write that fails, end the explanation alone.
 #[tactic(auto, using(crate::proofs::Hints::no_hint))]
 pub fn explained_script<E: Write>(
     alloc: Global,
@@ -201,8 +201,8 @@ fn push_trace<E: Write>(
 }
 
 /// Hands on what an audit ended with, which no explanation changes. Where it refused something, and the first bytes of
-/// the trace are given, `error` gets first, as far as that is to be told, why the trace's object is refused, and what is
-/// wrong with its first faulty line. Want of memory, and a write that fails, end the explanation alone.
+/// the trace are given, `error` gets first, as far as that is to be told, why the trace's object is refused, and what
+/// is wrong with its first faulty line. Want of memory, and a write that fails, end the explanation alone.
 #[tactic(auto, using(crate::proofs::Hints::no_hint))]
 pub fn explained_audit<E: Write>(
     alloc: Global,

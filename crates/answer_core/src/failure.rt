@@ -57,7 +57,7 @@ pub fn exit_status(ended: &Result<u8, Failure>) -> u8
 ///
 /// A failure is `Usage` at a mistake, `WriteFault`, which leaves a front of the text, or `Memory`. At a mistake, and
 /// where memory was refused, `writer` gets nothing.
-#[tactic(auto, using(crate::proofs::Words::shown_end, crate::proofs::Words::memory_end, crate::proofs::Words::mistake_end))]
+#[tactic(auto, using(crate::proofs::Words::shown_end, crate::proofs::Words::no_memory, crate::proofs::Words::is_usage))]
 pub fn words_end<W: Write>(error: Error, writer: &mut W) -> Result<u8, Failure>
     ensures ended { IsWordsEnd error result }
     ensures kept { (IsShown error → ⊥) → Keeps (W.contents writer.old) (W.contents writer.new) }

@@ -105,8 +105,8 @@ fn push_lines(
     Ok(())
 }
 
-/// What a person is told of the line that ended a script, if one did, and of the first 16 calls before it that are of no
-/// operation of the object, or have other arguments than it takes; or of a first line that names no object of the
+/// What a person is told of the line that ended a script, if one did, and of the first 16 calls before it that are of
+/// no operation of the object, or have other arguments than it takes; or of a first line that names no object of the
 /// source. It is empty where there is nothing of that, and where the source, or the object, is refused: `explain` tells
 /// why.
 pub fn explain_script(

@@ -6,8 +6,8 @@
 //! `pathserve run FILE SCRIPT` runs a script of calls, device steps and finishes on an object of a file.
 //! `pathserve audit FILE TRACE` says whether a trace of an object of a file is legal, or which line of it is not.
 //! `pathserve serve FILE DIR PLACE` serves the objects of a file to clients on this machine.
-//! With `--explain`, and where standard error is a terminal, standard error gets why a source, an object of it, a line of
-//! a script or a trace is refused; `--no-explain` leaves that out. Nothing else changes by it.
+//! With `--explain`, and where standard error is a terminal, standard error gets why a source, an object of it, a line
+//! of a script or a trace is refused; `--no-explain` leaves that out. Nothing else changes by it.
 //! Exit statuses: 0 accepted, and help that was asked for, 1 refused, 2 usage, 3 read or write fault, 4 out of memory.
 //! Standard error gets what could not be read, before the line `read fault`.
 //!
@@ -42,7 +42,7 @@ use std::process::ExitCode;
 use std::sync::Arc;
 use std::{env, io, thread};
 
-/// Of a trace whose object may be refused so many bytes are kept, where its faults are not told: the line that names it.
+/// Of a trace so many bytes are kept where its faults are not told: they have the line that names its object.
 const HEAD_BYTES: usize = 4_096;
 
 // What a server starts with.
