@@ -91,7 +91,8 @@ def goals(said, sources):
             functions = {function_before(sources[path], int(place[2]))}
         else:
             folder = path.split("/")[-2]
-            functions = {folder.lstrip("+"), *(parts[:1] if folder.startswith("+") else ())}
+            # Goals of a cycle of several functions begin with the name of one.
+            functions = {folder.lstrip("+"), *(parts[:1] if folder.startswith("+") and parts[0] != "returns" else ())}
         kind = next((kind for kind, sort in SORTS if re.search(sort, name)), "")
         if re.fullmatch(r"proofs/\w+\.antt", path):
             # A lemma that is of no function: what a law ensures has the law's name.

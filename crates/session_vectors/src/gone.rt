@@ -1,6 +1,6 @@
 //! Clients to whom nothing can be written, while a call of theirs waits.
 
-use crate::make::{TURNS, ZERO, offices, serve};
+use crate::make::{STEPS, TURNS, ZERO, offices, serve};
 use crate::streams::{Short, await_lines};
 use call_core::ticket::Ticket;
 use device_core::memory::MemHand;
@@ -126,11 +126,11 @@ fn begun<R: Abort + Wait + Clock>(rt: &R, office: &Office, seat: &mut Seat) -> T
 #[test]
 fn a_call_of_a_client_that_hears_nothing_is_not_taken(rt: HostRuntime) {
     let alloc = rt.alloc();
-    let (all, hand) = offices(&rt, alloc, TURNS, ZERO);
+    let (all, hand) = offices(&rt, alloc, STEPS, ZERO);
     let named = all.first().expect(&rt, "an office");
     let mut first = named.office.seat(&rt).expect(&rt, "a seat");
     let ticket = begun(&rt, &named.office, &mut first);
-    let (seat, hand) = visits(&rt, alloc, &all, hand, b"open turns\ncall a\n");
+    let (seat, hand) = visits(&rt, alloc, &all, hand, b"open steps\ncall a\n");
     let seat = seat.expect(&rt, "a seat");
     assert!(rt; named.office.next_key(&rt, &seat) == 1);
     let mut hand = hand;
