@@ -39,4 +39,4 @@ pub worked_on : {H : Type 0} (makes : H → Made → H → Type 0) (old between 
 worked_on {H = H} makes old between ran last left kept free after o on did out (inl put) first was =
     subst (λ (h : H). Works makes first h after) (sym put.0) (subst (Works makes first ran) (sym put.1) (runs between ran kept free o (on first was) did out))
 worked_on makes old between ran last left kept free after o on did out (inr gone) first was =
-    subst (Works makes first last) (sym gone.0) (lets_go ran last kept free gone.1 (runs between ran kept free o (on first was) did out) gone.2)
+    subst (Works makes first last) (sym gone.0) (lets_go ran last kept free gone.1.0 (runs between ran kept free o (on first was) did out) gone.1.1)
