@@ -136,15 +136,35 @@ def interface(folder):
     return {it: text for it, text in {**sources, **specs}.items() if text}
 
 
+def imports_for(imports, text):
+    """Of these imports those that a text names, in one order. The rest of a text means the same without the others, and so
+    do the operators of the kit."""
+    found = set()
+    for public, ghost, path, several, one, other in imports:
+        items = [it.strip() for it in several.split(",")] if several is not None else [f"{one} as {other}" if other else one]
+        for it in filter(None, items):
+            name = it.split(" as ")[-1].split("::")[-1].replace("◌", "").strip()
+            is_word = re.fullmatch(r"[\w']+", name)
+            if public or (re.search(rf"(?<![\w']){name}(?![\w'])", text) if is_word else name in text and not path.startswith("Rattle.std.")):
+                found.add(f"{public or ''} {ghost or ''}use {path}{{{it}}};".strip())
+    return " ".join(sorted(found))
+
+
+# The head of an impl that is of no trait and of which nothing is left.
+BARE_IMPL = re.compile(r"\bimpl\b(?:(?!\bfor\b)[^{};])*\{\s*\}")
+
+
 def functions_apart(source):
-    """A source of an interface without its functions, and these as names and texts. Methods of traits and of their impls
-    stay, and so do constant functions."""
-    pieces, rest, found, header, blocks, at = PIECE.findall(source), [], [], [], [], 0
+    """A source of an interface without its functions, and these as names, texts, and whether each is of a type. Each text
+    has the imports that it names. Methods of traits and of their impls stay, and so do constant functions."""
+    imports = IMPORT.findall(source)
+    pieces, rest, found, header, blocks, at = PIECE.findall(IMPORT.sub("", source)), [], [], [], [], 0
     while at < len(pieces):
         piece = pieces[at]
-        if piece == "fn" and "const" not in header and not (blocks and blocks[-1]):
+        if piece == "fn" and "const" not in header and not (blocks and blocks[-1] == "trait"):
             end = next(it for it in range(at, len(pieces)) if pieces[it : it + 2] == ["{", "}"]) + 2
-            found.append((next(it for it in pieces[at + 1 :] if not it.isspace()), "".join(header + pieces[at:end])))
+            name, text = next(it for it in pieces[at + 1 :] if not it.isspace()), "".join(header + pieces[at:end]).strip()
+            found.append((name, f"{imports_for(imports, text)} {text}", bool(blocks)))
             header, at = [], end
             continue
         header.append(piece)
@@ -152,23 +172,48 @@ def functions_apart(source):
         if piece in ("{", "}", ";"):
             text = "".join(header)
             if piece == "{":
-                blocks.append(bool(re.search(r"\btrait\b|\bimpl\b.*\bfor\b", text, re.S)))
+                blocks.append("trait" if re.search(r"\btrait\b|\bimpl\b.*\bfor\b", text, re.S) else "impl")
             elif piece == "}" and blocks:
                 blocks.pop()
             rest.append(text)
             header = []
-    return "".join([*rest, *header]), found
+    text = "".join([*rest, *header])
+    heads = sorted({" ".join(it.split()) for it in BARE_IMPL.findall(text)})
+    text = " ".join([BARE_IMPL.sub(" ", text), *heads])
+    return " ".join(f"{imports_for(imports, text)} {text}".split()), found
+
+
+ANTT_USE = re.compile(r"^use ([^{}\n]*?)(?:\{([^{}]*)\}|([\w']+)(?: as ([\w']+))?)\n", re.M)
+# What stands at the head of a line of a definition before the name that it declares or defines.
+ANTT_NAME = re.compile(r"^\s*(?:(?:pub|abbrev|record|data|mutual|unfoldable|opaque|given|let|where) )*([^\s:({=]+)", re.M)
+
+
+def definitions_apart(text):
+    """The blocks of a file of definitions, one for each definition or for several that stand together, each with the
+    imports that it names; and the names that it declares: of its types, their fields and constructors, and its functions."""
+    imports = [("", "", *it) for it in ANTT_USE.findall(text)]
+    blocks = []
+    for block in re.split(r"\n\s*\n", ANTT_USE.sub("", text)):
+        if block.strip():
+            # What is indented from its first line on belongs to what stands before it.
+            if blocks and block.lstrip("\n")[:1].isspace():
+                blocks[-1] += "\n" + block
+            else:
+                blocks.append(block.strip("\n"))
+    return [(f"{imports_for(imports, it)}\n{it}", frozenset(ANTT_NAME.findall(it))) for it in blocks]
 
 
 WORD = re.compile(r"[\w']+")
 # Words that are joined to a path, with those in the braces at its end.
 PATH = re.compile(r"[\w']+(?:\s*(?:::|\.)\s*[\w']+)*(?:\s*(?:::|\.)\s*\{[^{}]*\})?")
 DECLARED = re.compile(r"\b(?:struct|enum|trait|type|union) (\w+)")
-IMPL_HEAD = re.compile(r"\bimpl\b[^{]*\{")
-# A part of what a crate above may read: a function of a file, or the rest of it, whose `function` is empty. Beside its
-# text all its words, those of its paths (each alone, and each with each before it in its path; a word outside of paths
-# as a tuple of one), the types and traits that it declares, and the words of the heads of its impls.
-Part = collections.namedtuple("Part", "crate path function text words named types heads")
+# The head of an impl, from the type on for which it is.
+IMPL_HEAD = re.compile(r"\bimpl\b(?:[^{};]*\bfor\b)?([^{]*)\{")
+# A part of what a crate above may read: of a source a function, or the rest of it, whose `function` is empty; of a file
+# of definitions a block, whose `function` are the names that it declares. Beside its text all its words, those of its
+# paths (each alone, and each with each before it in its path; a word outside of paths as a tuple of one), the types and
+# traits that it declares, the words of the heads of its impls from the type on, and whether it is a method.
+Part = collections.namedtuple("Part", "crate path function text words named types heads is_method")
 
 
 def meant(path, text):
@@ -179,14 +224,14 @@ def meant(path, text):
     return "\n".join(it for it in rows if path.name != "Lib.antt" or not re.fullmatch(r"\s*(pub )?mod \w+\s*", it))
 
 
-def part_of(crate, path, function, text):
+def part_of(crate, path, function, text, is_method=False):
     named = set()
     for words in map(WORD.findall, PATH.findall(text)):
         named.update(words if len(words) > 1 else [(words[0],)], itertools.combinations(words, 2))
     is_source = path.suffix == ".rt"
     types = frozenset(DECLARED.findall(text) if is_source else ())
     heads = frozenset(word for it in IMPL_HEAD.findall(text) if is_source for word in WORD.findall(it))
-    return Part(crate, path, function, text, frozenset(WORD.findall(text)), frozenset(named), types, heads)
+    return Part(crate, path, function, text, frozenset(WORD.findall(text)), frozenset(named), types, heads, is_method)
 
 
 @functools.cache
@@ -194,8 +239,11 @@ def parts_above(folder):
     """The parts of the interface of the crate in this folder."""
     found = []
     for path, text in sorted(interface(folder).items()):
-        rest, functions = functions_apart(meant(path, text)) if path.suffix == ".rt" else (meant(path, text), [])
-        found += [part_of(folder.name, path, *it) for it in [("", rest), *functions]]
+        if path.suffix == ".rt":
+            rest, functions = functions_apart(meant(path, text))
+            found += [part_of(folder.name, path, *it) for it in [("", rest), *functions]]
+        else:
+            found += [part_of(folder.name, path, names, it) for it, names in definitions_apart(meant(path, text))]
     return found
 
 
@@ -207,29 +255,47 @@ def parts_named(top, lines, name, folders):
         source = "".join(it for it in PIECE.findall(text) if not it.startswith("//")) if file.suffix == ".rt" else text
         texts.append(source if file.suffix == ".edit" else meant(file, source))
     own = part_of(name, pathlib.Path("src/lib.rt"), "", "\n".join(texts))
+    # A method is called behind a point or two colons.
+    called = frozenset(re.findall(r"[.:]\s*(\w+)", own.text))
     there = [it for crate in below(lines, name) for it in parts_above(top / "crates" / crate)]
-    found, named, types, fresh = {}, set(), set(), [own]
+    waiting = collections.defaultdict(list)
+    for it in there:
+        waiting[it.crate, it.path].append(it)
+    unreached = {crate: {it for it in waiting if it[0] == crate} for crate in {it.crate for it in there}}
+    found, reached, types, words, fresh = set(), set(), set(), set(own.words), [own]
 
-    def is_named(part, by):
-        module = part.path.parent.name if part.path.stem == "mod" else part.path.stem
-        is_root = part.path.name in ("Lib.antt", "lib.rt", "main.rt")
-        if part.crate == by.crate:
+    def is_named(place, by):
+        crate, path = place
+        module = path.parent.name if path.stem == "mod" else path.stem
+        is_root = path.name in ("Lib.antt", "lib.rt", "main.rt")
+        if crate == by.crate:
             return is_root or module in by.named
-        is_bare = (part.crate,) in by.named and module in by.named
-        return part.crate in by.words and (is_root or (part.crate, module) in by.named or is_bare)
+        return is_root or (crate, module) in by.named or (crate,) in by.named and module in by.named
+
+    def counts(it):
+        if it.path.suffix != ".rt":
+            # A name that is no word (an operator) counts where its file does.
+            return not it.function or any(name in words or not WORD.fullmatch(name) for name in it.function)
+        return not it.function or it.function in (called if it.is_method else own.words)
 
     while fresh:
-        more = []
-        for it in there:
-            place = it.crate, it.path
-            if it.function and place in named and it.function in own.words and it not in found:
-                more.append(it)
-            elif not it.function and place not in named and (it.heads & types or any(is_named(it, by) for by in fresh)):
-                more.append(it)
-                named.add(place)
-                types |= it.types
-        found.update(dict.fromkeys(more))
-        fresh = more
+        for by in fresh:
+            for crate, places in unreached.items():
+                if crate == by.crate or crate in by.words:
+                    more = {it for it in places if is_named(it, by)}
+                    places -= more
+                    reached |= more
+        for places in unreached.values():
+            more = {it for it in places if any(part.heads & types for part in waiting[it])}
+            places -= more
+            reached |= more
+        fresh = [it for place in reached for it in waiting[place] if counts(it)]
+        for it in fresh:
+            types |= it.types
+            words |= it.words
+        found.update(fresh)
+        for place in reached:
+            waiting[place] = [it for it in waiting[place] if it not in found]
     return [it for it in there if it in found], own.words
 
 
@@ -262,7 +328,7 @@ def digest(top, lines, name, kit, *more):
         head, _, rest = lines[crate].partition(":")
         add(" ".join([head, *(sorted({*WORD.findall(rest)} & words) if crate == name else ())]).encode())
     for it in found:
-        add(f"{it.crate} {it.path} {it.function}".encode())
+        add(f"{it.crate} {it.path} {it.function if it.path.suffix == '.rt' else ''}".encode())
         add(it.text.encode())
     return summed.hexdigest()
 
