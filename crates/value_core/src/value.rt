@@ -392,6 +392,7 @@ impl Value {
     pub fn take_back(&mut self, undo: Undo)
         ensures { self.new ≡ back undo self.old }
     {
+        undo.keeps_data();
         match &mut self.body {
             Body::Array(cells) => cells.take_back(undo),
             Body::Queue(queue) => queue.take_back(undo),
