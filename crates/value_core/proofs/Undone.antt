@@ -1,14 +1,20 @@
 -- What a change is taken back from is contents again.
-use Rattle.std.proofs.Common.{◌≡◌, ℕ, zero, suc, ◌+◌, ◌<◌, Bool, true, false, cond, List, [], ◌∷◌, length, refl, sym, ap, ◌∙◌, subst, arith}
-use Rattle.std.specs.Prelude.{All, ◌&&◌, ◌||◌, not, nat_lt, ◌-◌, ◌≤◌, take, slice_set, if◌then◌else◌, vec_capacity}
+use Rattle.std.proofs.Common.{◌≡◌, ℕ, zero, suc, ◌+◌, ◌<◌, Bool, true, false, List, [], ◌∷◌, length, refl, sym, ap, ◌∙◌, subst, arith}
+use Rattle.std.specs.Prelude.{map as mapped, All, T, ◌&&◌, ◌||◌, nat_lt, ◌-◌, ◌≤◌, take, slice_set, if◌then◌else◌, vec_capacity}
 use Rattle.std.specs.VecDeque.{deque_capacity}
 use Rattle.std.proofs.lemmas.Bool.Decides.{nat_tests}
-use Rattle.std.proofs.lemmas.List.{length-set, length-take}
-use Rattle.std.proofs.lemmas.List.Elements.{All-nil, All-cons, All-head, All-tail, All-set, All-take}
-use Rattle.std.specs.Ordering.{eq_by_cmp}
+use Rattle.std.proofs.lemmas.List.{length-set}
+use Rattle.std.proofs.lemmas.List.Elements.{All-cons, All-set, All-take}
+use Rattle.std.specs.Ordering.{is_lt}
+use Rattle.std.specs.declared.cmp.Ordering.{Ordering}
+use Rattle.std.specs.declared.cmp.Ordering.TheVariants.{Less, Equal, Greater}
+use Rattle.std.specs.BTreeMap.{is_at}
+use Rattle.std.specs.Map.{remove_entry}
+use Rattle.std.specs.List.{AllByRecursion}
+use Rattle.std.specs.List.Sorted.{IsStrictlySortedBy}
 use Rattle.std.specs.Cmp.Lexicographic.{nat_list_cmp_total}
 use Rattle.std.specs.FinMap as map
-use Rattle.std.specs.FinMap.{remove, retain_keys, entries}
+use Rattle.std.specs.FinMap.Entries.{below_all}
 use Rattle.text_core.specs.Plain.{IsText}
 use Rattle.text_core.specs.TextOrder.{text_cmp}
 use Rattle.value_core.specs.Limits.{most_elements}
@@ -23,7 +29,12 @@ use Rattle.value_core.specs.declared.undo.Undo.TheVariants.{Element, Newest, Old
 use Rattle.value_core.specs.Datum.{IsDatum, IsElement}
 use Rattle.value_core.specs.Contents.{Contents, array, queue, table, IsContents, AreElements, AreRows, IsRow}
 use Rattle.value_core.specs.Undo.{kept_datum, is_kept_of, is_integer, is_text, array_back, queue_back, table_back, back, KeepsData}
-use Rattle.value_core.proofs.TableRows.{rows_stored}
+use Rattle.value_core.specs.Rows.{as_data}
+use Rattle.value_core.specs.Sorted.{Rise}
+use Rattle.value_core.proofs.Tables.{exact_texts}
+use Rattle.value_core.proofs.Placing.{erased_row, rise_removed}
+use Rattle.value_core.proofs.TableRows.{rows_stored, rows_removed}
+use Rattle.value_core.proofs.Backs.{Table}
 
 -- what was kept of this sort is an element
 kept_is : (e : Elem) (k : Kept) → is_kept_of e k ≡ true → IsDatum (kept_datum k) → IsElement e (kept_datum k)
@@ -42,8 +53,8 @@ text_is elem.Text t is d = record { sort = refl; datum = d }
 
 -- of a test that chooses
 chosen : {A : Type 0} (P : A → Type 0) (b : Bool) (x y : A) → (b ≡ true → P x) → P y → P (if b then x else y)
-chosen P true x y yes no = yes refl
-chosen P false x y yes no = no
+chosen P true x y first second = first refl
+chosen P false x y first second = second
 
 first_of : (a b : Bool) → a && b ≡ true → a ≡ true
 first_of true b is = refl
@@ -72,39 +83,54 @@ with_fewer : (e : Elem) (xs : List Datum) (n : ℕ) → AreElements e xs → Are
 with_fewer e xs n are = record { each = All-take (IsElement e) n xs are.each; few = omega (arith, shorter n xs, are.few) }
 
 -- rows
-left : (e : Elem) (test : List ℕ → Bool) (es : List (List ℕ × Datum)) → All (IsRow e) es → All (IsRow e) (map.Entries.where_key test es)
-left e test [] each = All-nil
-left e test (r ∷ es) each =
-    let first = All-head (IsRow e) r es each in
-    let later = left e test es (All-tail (IsRow e) r es each) in
-    elim (test r.0) as (λ b. All (IsRow e) (cond b (r ∷ map.Entries.where_key test es) (map.Entries.where_key test es))) [
-      | true ↦ All-cons (IsRow e) r (map.Entries.where_key test es) first later
-      | false ↦ later
-    ]
+split : (a b : Bool) → T (a && b) → T a × T b
+split true b h = (tt, h)
+split false b h = absurd h
 
-no_more : (b : Bool) (n : ℕ) → cond b (n - 1) n ≤ n
-no_more true n = omega arith
-no_more false n = omega arith
+less : (o : Ordering) → T (is_lt o) → o ≡ Less
+less Less h = refl
+less Equal h = absurd h
+less Greater h = absurd h
 
-entries_left : (m : map.FinMap text_cmp Datum) (k : List ℕ) → entries (remove m k) ≡ map.Entries.where_key (λ q. not (eq_by_cmp text_cmp k q)) (entries m)
-unfolding remove retain_keys entries
-entries_left m k = refl
+all_below : (k : List ℕ) (es : List (List ℕ × Datum)) → T (below_all text_cmp k es) → AllByRecursion (λ y. text_cmp k y ≡ Less) (mapped (λ e. e.0) es)
+all_below k [] h = tt
+all_below k (e ∷ es) h =
+    let parts = split (is_lt (text_cmp k e.0)) (below_all text_cmp k es) h in
+    (less (text_cmp k e.0) parts.0, all_below k es parts.1)
 
-without_row : (e : Elem) (m : map.FinMap text_cmp Datum) (k : List ℕ) → AreRows e m → AreRows e (remove m k)
+rise_of : (es : List (List ℕ × Datum)) → T (map.is_sorted text_cmp es) → Rise es
+unfolding IsStrictlySortedBy
+rise_of [] h = tt
+rise_of (e ∷ es) h =
+    let parts = split (below_all text_cmp e.0 es) (map.is_sorted text_cmp es) h in
+    (all_below e.0 es parts.0, rise_of es parts.1)
+
+as_they_are : (es : List (List ℕ × Datum)) → as_data (λ d. d) es ≡ es
+as_they_are [] = refl
+as_they_are (e ∷ es) = ap (λ l. e ∷ l) (as_they_are es)
+
+-- a table is that of its rows
+of_rows : (m : Table) → m ≡ map.from_entries {R = text_cmp} (as_data (λ d. d) (map.entries m))
+of_rows m =
+    map.same_map nat_list_cmp_total exact_texts m (map.from_entries (map.entries m)) (λ q. map.get-entries m q ∙ sym (map.get-from_entries nat_list_cmp_total (map.entries m) q))
+    ∙ ap (λ es. map.from_entries {R = text_cmp} es) (sym (as_they_are (map.entries m)))
+
+without_row : (e : Elem) (m : Table) (k : List ℕ) → AreRows e m → AreRows e (map.remove m k)
 without_row e m k rows =
-    record {
-      each = subst (All (IsRow e)) (sym (entries_left m k)) (left e (λ q. not (eq_by_cmp text_cmp k q)) (entries m) rows.each);
-      few = omega (arith, map.len-remove nat_list_cmp_total m k, no_more (map.contains_key m k) (map.len m), rows.few);
-    }
+    let es = map.entries m in
+    let rise = rise_of es (map.entries_sorted m) in
+    let gone = erased_row (λ d. d) es k rise in
+    subst (λ n. AreRows e (map.remove n k)) (sym (of_rows m)) (subst (AreRows e) gone
+    (rows_removed (λ d. d) e es (remove_entry (is_at (text_cmp k)) es) k rise (rise_removed (is_at (text_cmp k)) es rise) refl gone (subst (AreRows e) (of_rows m) rows)))
 
-over_row : (e : Elem) (m : map.FinMap text_cmp Datum) (k : List ℕ) (d : Datum) → IsText k → IsElement e d → map.contains_key m k ≡ true → AreRows e m → AreRows e (map.insert m k d)
+over_row : (e : Elem) (m : Table) (k : List ℕ) (d : Datum) → IsText k → IsElement e d → map.contains_key m k ≡ true → AreRows e m → AreRows e (map.insert m k d)
 over_row e m k d key is there rows = rows_stored e m k d rows (record { key = key; element = is }) (ap (λ b. b || nat_lt (map.len m) most_elements) there)
 
 or_true : (a b : Bool) → b ≡ true → a || b ≡ true
 or_true true b is = refl
 or_true false b is = is
 
-row_more : (e : Elem) (m : map.FinMap text_cmp Datum) (k : List ℕ) (d : Datum) → IsText k → IsElement e d → nat_lt (map.len m) most_elements ≡ true → AreRows e m → AreRows e (map.insert m k d)
+row_more : (e : Elem) (m : Table) (k : List ℕ) (d : Datum) → IsText k → IsElement e d → nat_lt (map.len m) most_elements ≡ true → AreRows e m → AreRows e (map.insert m k d)
 row_more e m k d key is less rows = rows_stored e m k d rows (record { key = key; element = is }) (or_true (map.contains_key m k) _ less)
 
 array_again : (u : Undo) (e : Elem) (xs : List Datum) → KeepsData u → AreElements e xs → AreElements e (array_back u e xs)
@@ -122,16 +148,16 @@ queue_again (Element i k) e xs holds are = are
 queue_again Newest e xs holds are = with_fewer e xs (length xs - 1) are
 queue_again (OldestInteger n room) e xs holds are =
     chosen (AreElements e) (is_integer e && nat_lt (length xs) (deque_capacity room) && nat_lt (length xs) most_elements) _ _ (λ is.
-    with_first e xs (datum.Integer n) (integer_is e n (first_of _ _ is) holds) (is_less _ _ (second_of _ _ (second_of _ _ is))) are) are
+    with_first e xs (datum.Integer n) (integer_is e n (first_of _ _ (first_of _ _ is)) holds) (is_less _ _ (second_of _ _ is)) are) are
 queue_again (OldestText t room) e xs holds are =
     chosen (AreElements e) (is_text e && nat_lt (length xs) (deque_capacity room) && nat_lt (length xs) most_elements) _ _ (λ is.
-    with_first e xs (datum.Text t) (text_is e t (first_of _ _ is) holds) (is_less _ _ (second_of _ _ (second_of _ _ is))) are) are
+    with_first e xs (datum.Text t) (text_is e t (first_of _ _ (first_of _ _ is)) holds) (is_less _ _ (second_of _ _ is)) are) are
 queue_again (Under key k) e xs holds are = are
 queue_again (Added key) e xs holds are = are
 queue_again (RowOfInteger key n room) e xs holds are = are
 queue_again (RowOfText key t room) e xs holds are = are
 
-table_again : (u : Undo) (e : Elem) (m : map.FinMap text_cmp Datum) → KeepsData u → AreRows e m → AreRows e (table_back u e m)
+table_again : (u : Undo) (e : Elem) (m : Table) → KeepsData u → AreRows e m → AreRows e (table_back u e m)
 table_again (Element i k) e m holds rows = rows
 table_again Newest e m holds rows = rows
 table_again (OldestInteger n room) e m holds rows = rows
@@ -142,10 +168,10 @@ table_again (Under key k) e m holds rows =
 table_again (Added key) e m holds rows = without_row e m key rows
 table_again (RowOfInteger key n room) e m holds rows =
     chosen (AreRows e) (is_integer e && nat_lt (map.len m) (vec_capacity room) && nat_lt (map.len m) most_elements) _ _ (λ is.
-    row_more e m key (datum.Integer n) holds.0 (integer_is e n (first_of _ _ is) holds.1) (second_of _ _ (second_of _ _ is)) rows) rows
+    row_more e m key (datum.Integer n) holds.0 (integer_is e n (first_of _ _ (first_of _ _ is)) holds.1) (second_of _ _ is) rows) rows
 table_again (RowOfText key t room) e m holds rows =
     chosen (AreRows e) (is_text e && nat_lt (map.len m) (vec_capacity room) && nat_lt (map.len m) most_elements) _ _ (λ is.
-    row_more e m key (datum.Text t) holds.0 (text_is e t (first_of _ _ is) holds.1) (second_of _ _ (second_of _ _ is)) rows) rows
+    row_more e m key (datum.Text t) holds.0 (text_is e t (first_of _ _ (first_of _ _ is)) holds.1) (second_of _ _ is) rows) rows
 
 -- what a change was taken back from is contents
 pub contents_again : (u : Undo) (v : Contents) → KeepsData u → IsContents v → IsContents (back u v)
