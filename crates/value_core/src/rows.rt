@@ -123,7 +123,7 @@ impl Rows {
     }
 
     /// Puts an element under a key, and says what takes that back.
-    pub fn insert_kept(&mut self, key: Text, datum: Datum) -> Result<Undo, AllocError>
+    pub fn store(&mut self, key: Text, datum: Datum) -> Result<Undo, AllocError>
         requires { elem_of datum ≡ rows_sort self.old }
         ensures sort { rows_sort self.new ≡ rows_sort self.old }
         ensures ok { OnOk result (rows_map self.new ≡ map.insert (rows_map self.old) key datum) }
@@ -174,7 +174,7 @@ impl Rows {
     }
 
     /// Removes a key that is there, and says what takes that back.
-    pub fn take_out(&mut self, key: &Text) -> Result<Undo, AllocError>
+    pub fn erase(&mut self, key: &Text) -> Result<Undo, AllocError>
         requires there { map.contains_key (rows_map self.old) key.now ≡ true }
         requires few { map.len (rows_map self.old) ≤ most_elements }
         ensures sort { rows_sort self.new ≡ rows_sort self.old }

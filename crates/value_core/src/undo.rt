@@ -58,7 +58,7 @@ impl Kept {
             Kept::Text(row) => Datum::Text(row.text()),
         }
     }
-    // What each of them is: integers have 32 bits, texts are texts.
+    // That an integer has 32 bits, and a text is one. It does nothing, and is called for its contract alone.
     fn holds_datum(&self)
         ensures { IsDatum (kept_datum self.now) }
     {
@@ -76,7 +76,7 @@ impl Kept {
 }
 
 impl Undo {
-    // What each of them keeps. It does nothing, and is called for its contract alone.
+    // That what it keeps can be a key and an element. It does nothing, and is called for its contract alone.
     pub(crate) fn keeps_data(&self)
         ensures { KeepsData self.now }
     {
