@@ -2,7 +2,6 @@ pub mod Fitting
 pub mod Held
 pub mod History
 pub mod HistoryLaws
-pub mod Spread
+pub mod Replies
 pub mod Stops
-pub mod Sums
 pub mod Fits

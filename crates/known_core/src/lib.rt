@@ -8,8 +8,11 @@
 #![tactic(auto)]
 
 pub mod act;
+pub mod apply;
 mod eval;
 pub mod evaluate;
 pub mod laws;
+pub mod log;
 pub mod pages;
+pub mod undo;
 pub mod whole;
