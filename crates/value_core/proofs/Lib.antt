@@ -10,3 +10,4 @@ pub mod Unique
 pub mod Bytes
 pub mod Widening
 pub mod Outcomes
+pub mod Backs

@@ -21,4 +21,5 @@ mod reader;
 pub mod refusal;
 mod rows;
 mod sorted;
+pub mod undo;
 pub mod value;

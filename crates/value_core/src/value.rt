@@ -8,6 +8,7 @@ ghost use Rattle.value_core.specs.Contents.{kind_of, elements_of, rows_of, IsCon
 ghost use Rattle.value_core.specs.Meaning.{opening_of, element_at, with_element, oldest_of, without_oldest};
 ghost use Rattle.value_core.specs.Meaning.{with_newest, has_key, under_key, with_row, without_key, count_of, Changes};
 ghost use Rattle.value_core.specs.Meaning.{Grows};
+ghost use Rattle.value_core.specs.Undo.{back, Grown};
 
 use crate::cells::Cells;
 use crate::datum::Datum;
@@ -17,6 +18,7 @@ use crate::limits::{HEADER_BYTES, MOST_ELEMENTS};
 use crate::queue::Queue;
 use crate::refusal::{GrowFault, Refusal};
 use crate::rows::Rows;
+use crate::undo::Undo;
 use std::alloc::{AllocError, Global};
 use std::marker::Model;
 use text_core::text::Text;
@@ -299,5 +301,101 @@ impl Value {
         }
         rows.remove(key);
         Ok(())
+    }
+
+    /// Puts an element in the place of the one at an index, and says what takes that back. Refused `index` as by
+    /// `element`, then `Memory`; nothing changes in either case.
+    pub fn set_kept(&mut self, index: u32, datum: Datum) -> Result<Undo, GrowFault>
+        requires kind { IsArray (kind_of self.old) }
+        requires sort { elem_of datum ≡ sort_of (kind_of self.old) }
+        ensures change { Grown result (with_element self.old index datum) self.old self.new }
+        ensures kind { kind_of self.new ≡ kind_of self.old }
+    {
+        let _sort = datum.elem();
+        let Body::Array(cells) = &mut self.body else {
+            unreachable!();
+        };
+        if index as usize >= cells.len() {
+            return Err(GrowFault::Refused(Refusal::Index));
+        }
+        let undo = cells.set_kept(index as usize, datum)?;
+        Ok(undo)
+    }
+
+    /// Removes the oldest element of a queue, and says what takes that back. Refused `empty` where there is none,
+    /// then `Memory`; nothing changes in either case.
+    pub fn take_kept(&mut self) -> Result<Undo, GrowFault>
+        requires { IsQueue (kind_of self.old) }
+        ensures change { Grown result (without_oldest self.old) self.old self.new }
+        ensures kind { kind_of self.new ≡ kind_of self.old }
+    {
+        let Body::Queue(queue) = &mut self.body else {
+            unreachable!();
+        };
+        if queue.len() == 0 {
+            return Err(GrowFault::Refused(Refusal::Empty));
+        }
+        let undo = queue.take_out()?;
+        Ok(undo)
+    }
+
+    /// Adds an element to a queue, as its newest, and says what takes that back. Refused `full` at 1,024 elements,
+    /// then `Memory`; nothing changes in either case.
+    pub fn append_kept(&mut self, datum: Datum) -> Result<Undo, GrowFault>
+        requires kind { IsQueue (kind_of self.old) }
+        requires sort { elem_of datum ≡ sort_of (kind_of self.old) }
+        ensures change { Grown result (with_newest self.old datum) self.old self.new }
+        ensures kind { kind_of self.new ≡ kind_of self.old }
+    {
+        self.append(datum)?;
+        Ok(Undo::Newest)
+    }
+
+    /// Puts an element under a key of a table, and says what takes that back. Refused `full` for a new key at 1,024
+    /// keys, then `Memory`; nothing changes in either case.
+    pub fn store_kept(&mut self, key: Text, datum: Datum) -> Result<Undo, GrowFault>
+        requires kind { IsTable (kind_of self.old) }
+        requires sort { elem_of datum ≡ sort_of (kind_of self.old) }
+        ensures change { Grown result (with_row self.old key datum) self.old self.new }
+        ensures kind { kind_of self.new ≡ kind_of self.old }
+    {
+        let _sort = datum.elem();
+        let _bytes = key.bytes();
+        let Body::Table(rows) = &mut self.body else {
+            unreachable!();
+        };
+        if rows.len() >= MOST_ELEMENTS as usize && !rows.has(&key) {
+            return Err(GrowFault::Refused(Refusal::Full));
+        }
+        let undo = rows.insert_kept(key, datum)?;
+        Ok(undo)
+    }
+
+    /// Removes a key of a table, and says what takes that back. Refused `missing` where the table has no such key,
+    /// then `Memory`; nothing changes in either case.
+    pub fn erase_kept(&mut self, key: &Text) -> Result<Undo, GrowFault>
+        requires { IsTable (kind_of self.old) }
+        ensures change { Grown result (without_key self.old key.now) self.old self.new }
+        ensures kind { kind_of self.new ≡ kind_of self.old }
+    {
+        let Body::Table(rows) = &mut self.body else {
+            unreachable!();
+        };
+        if !rows.has(key) {
+            return Err(GrowFault::Refused(Refusal::Missing));
+        }
+        let undo = rows.take_out(key)?;
+        Ok(undo)
+    }
+
+    /// Takes a change back. Where it is none of this value, nothing changes. It takes no memory.
+    pub fn take_back(&mut self, undo: Undo)
+        ensures { self.new ≡ back undo self.old }
+    {
+        match &mut self.body {
+            Body::Array(cells) => cells.take_back(undo),
+            Body::Queue(queue) => queue.take_back(undo),
+            Body::Table(rows) => rows.take_back(undo),
+        }
     }
 }
