@@ -1,6 +1,6 @@
 //! Statements, done on the values of parts.
 
-ghost use Rattle.std.specs.Prelude.{◌≡◌, ◌<◌, length, map, Option};
+ghost use Rattle.std.specs.Prelude.{◌≡◌, ◌<◌, length, map, vec_len, vec_capacity, Option, OnOk, IfErr};
 ghost use Rattle.std.specs.Result.{IsErrOf};
 ghost use Rattle.value_core.specs.declared.datum.Datum.{Datum};
 ghost use Rattle.value_core.specs.Contents.{kind_of};
@@ -73,14 +73,6 @@ impl From<Refusal> for Stop {
     }
 }
 
-impl From<AllocError> for Stop {
-    ghost from_gives = { λ _ stop. stop ≡ Memory };
-
-    fn from(_: AllocError) -> Stop {
-        Stop::Memory
-    }
-}
-
 impl From<GrowFault> for Stop {
     ghost from_gives = { λ fault stop. stop ≡ stop_of fault };
 
@@ -92,6 +84,18 @@ impl From<GrowFault> for Stop {
     }
 }
 
+// Takes the memory in which one change more is noted.
+fn make_room(log: &mut Vec<(PartId, Undo)>) -> Result<(), Stop>
+    ensures room { OnOk result (vec_len log.new < vec_capacity log.new) }
+    ensures same { log.new.items ≡ log.old.items }
+    ensures memory { IfErr result (λ stop. stop ≡ Memory) }
+{
+    match log.reserve(1) {
+        Ok(()) => Ok(()),
+        Err(AllocError) => Err(Stop::Memory),
+    }
+}
+
 // Puts an element into an array, where it is known.
 #[tactic(auto, using(apply_core::proofs::KindsKept::kinds_kept))]
 fn set(
@@ -99,7 +103,8 @@ fn set(
     part: PartId,
     index: u32,
     datum: Datum,
-    known: &Pages, log: &mut Vec<(PartId, Undo)>
+    known: &Pages,
+    log: &mut Vec<(PartId, Undo)>,
 ) -> Result<(), Stop>
     requires at { IsAtOf (map kind_of parts.old.items) IsArray part (elem_of datum) }
     ensures left { (reply : Option Datum) →
@@ -109,7 +114,7 @@ fn set(
     ensures kinds { map kind_of parts.new.items ≡ map kind_of parts.old.items }
     ensures back { taken_back log.new.items parts.new.items ≡ taken_back log.old.items parts.old.items }
 {
-    log.reserve(1)?;
+    make_room(log)?;
     let value = &mut parts[part.place() as usize];
     let undo = value.set_kept(index, datum)?;
     log.push_reserved((part, undo));
@@ -122,7 +127,12 @@ fn set(
 
 // Adds an element to a queue.
 #[tactic(auto, using(apply_core::proofs::KindsKept::kinds_kept))]
-fn append(parts: &mut Vec<Value>, part: PartId, datum: Datum, log: &mut Vec<(PartId, Undo)>) -> Result<(), Stop>
+fn append(
+    parts: &mut Vec<Value>,
+    part: PartId,
+    datum: Datum,
+    log: &mut Vec<(PartId, Undo)>,
+) -> Result<(), Stop>
     requires at { IsAtOf (map kind_of parts.old.items) IsQueue part (elem_of datum) }
     ensures left { (reply : Option Datum) →
         Leaves result (with_contents (changing parts.old.items reply) part
@@ -130,7 +140,7 @@ fn append(parts: &mut Vec<Value>, part: PartId, datum: Datum, log: &mut Vec<(Par
     ensures kinds { map kind_of parts.new.items ≡ map kind_of parts.old.items }
     ensures back { taken_back log.new.items parts.new.items ≡ taken_back log.old.items parts.old.items }
 {
-    log.reserve(1)?;
+    make_room(log)?;
     let value = &mut parts[part.place() as usize];
     let undo = value.append_kept(datum)?;
     log.push_reserved((part, undo));
@@ -147,7 +157,7 @@ fn take(parts: &mut Vec<Value>, part: PartId, log: &mut Vec<(PartId, Undo)>) -> 
     ensures kinds { map kind_of parts.new.items ≡ map kind_of parts.old.items }
     ensures back { taken_back log.new.items parts.new.items ≡ taken_back log.old.items parts.old.items }
 {
-    log.reserve(1)?;
+    make_room(log)?;
     let value = &mut parts[part.place() as usize];
     let undo = value.take_kept()?;
     log.push_reserved((part, undo));
@@ -156,7 +166,13 @@ fn take(parts: &mut Vec<Value>, part: PartId, log: &mut Vec<(PartId, Undo)>) -> 
 
 // Puts an element under a key of a table.
 #[tactic(auto, using(apply_core::proofs::KindsKept::kinds_kept))]
-fn store(parts: &mut Vec<Value>, part: PartId, key: Text, datum: Datum, log: &mut Vec<(PartId, Undo)>) -> Result<(), Stop>
+fn store(
+    parts: &mut Vec<Value>,
+    part: PartId,
+    key: Text,
+    datum: Datum,
+    log: &mut Vec<(PartId, Undo)>,
+) -> Result<(), Stop>
     requires at { IsAtOf (map kind_of parts.old.items) IsTable part (elem_of datum) }
     ensures left { (reply : Option Datum) →
         Leaves result (with_contents (changing parts.old.items reply) part
@@ -164,7 +180,7 @@ fn store(parts: &mut Vec<Value>, part: PartId, key: Text, datum: Datum, log: &mu
     ensures kinds { map kind_of parts.new.items ≡ map kind_of parts.old.items }
     ensures back { taken_back log.new.items parts.new.items ≡ taken_back log.old.items parts.old.items }
 {
-    log.reserve(1)?;
+    make_room(log)?;
     let value = &mut parts[part.place() as usize];
     let undo = value.store_kept(key, datum)?;
     log.push_reserved((part, undo));
@@ -173,7 +189,12 @@ fn store(parts: &mut Vec<Value>, part: PartId, key: Text, datum: Datum, log: &mu
 
 // Removes a key of a table.
 #[tactic(auto, using(apply_core::proofs::KindsKept::kinds_kept))]
-fn erase(parts: &mut Vec<Value>, part: PartId, key: Text, log: &mut Vec<(PartId, Undo)>) -> Result<(), Stop>
+fn erase(
+    parts: &mut Vec<Value>,
+    part: PartId,
+    key: Text,
+    log: &mut Vec<(PartId, Undo)>,
+) -> Result<(), Stop>
     requires at { IsAt (map kind_of parts.old.items) IsTable part }
     ensures left { (reply : Option Datum) →
         Leaves result (with_contents (changing parts.old.items reply) part
@@ -181,7 +202,7 @@ fn erase(parts: &mut Vec<Value>, part: PartId, key: Text, log: &mut Vec<(PartId,
     ensures kinds { map kind_of parts.new.items ≡ map kind_of parts.old.items }
     ensures back { taken_back log.new.items parts.new.items ≡ taken_back log.old.items parts.old.items }
 {
-    log.reserve(1)?;
+    make_room(log)?;
     let value = &mut parts[part.place() as usize];
     let undo = value.erase_kept(&key)?;
     log.push_reserved((part, undo));
@@ -195,7 +216,8 @@ fn do_set_element(
     e: &Expr,
     args: &[Datum],
     parts: &mut Vec<Value>,
-    known: &Pages, log: &mut Vec<(PartId, Undo)>
+    known: &Pages,
+    log: &mut Vec<(PartId, Undo)>,
 ) -> Result<(), Stop>
     requires fits { StatementFits (map kind_of parts.old.items) (set_element_form part (integers_of index.now)
         (form_of e.now)) }
@@ -216,7 +238,8 @@ fn do_append(
     e: &Expr,
     args: &[Datum],
     parts: &mut Vec<Value>,
-    known: &Pages, log: &mut Vec<(PartId, Undo)>
+    known: &Pages,
+    log: &mut Vec<(PartId, Undo)>,
 ) -> Result<(), Stop>
     requires fits { StatementFits (map kind_of parts.old.items) (append_form part (form_of e.now)) }
     ensures left { (reply : Option Datum) →
@@ -236,7 +259,8 @@ fn do_store(
     e: &Expr,
     args: &[Datum],
     parts: &mut Vec<Value>,
-    known: &Pages, log: &mut Vec<(PartId, Undo)>
+    known: &Pages,
+    log: &mut Vec<(PartId, Undo)>,
 ) -> Result<(), Stop>
     requires fits { StatementFits (map kind_of parts.old.items) (store_form part (texts_of key.now) (form_of e.now)) }
     ensures left { (reply : Option Datum) →
@@ -256,7 +280,8 @@ fn do_erase(
     key: &TextExpr,
     args: &[Datum],
     parts: &mut Vec<Value>,
-    known: &Pages, log: &mut Vec<(PartId, Undo)>
+    known: &Pages,
+    log: &mut Vec<(PartId, Undo)>,
 ) -> Result<(), Stop>
     requires fits { StatementFits (map kind_of parts.old.items) (erase_form part (texts_of key.now)) }
     ensures left { (reply : Option Datum) →
@@ -296,7 +321,8 @@ fn act(
     args: &[Datum],
     parts: &mut Vec<Value>,
     known: &Pages,
-    reply: &mut Option<Datum>, log: &mut Vec<(PartId, Undo)>
+    reply: &mut Option<Datum>,
+    log: &mut Vec<(PartId, Undo)>,
 ) -> Result<(), Stop>
     requires fits { StatementFits (map kind_of parts.old.items) (statement_of s.now) }
     ensures left { Leaves result (after_known (known_by known.now) args.now (statement_of s.now)
@@ -307,7 +333,9 @@ fn act(
 {
     match s {
         Stmt::Block(all) => act_all(all, args, parts, known, reply, log),
-        Stmt::SetElement(part, index, e) => do_set_element(*part, index, e, args, parts, known, log),
+        Stmt::SetElement(part, index, e) => do_set_element(
+            *part, index, e, args, parts, known, log,
+        ),
         Stmt::SetResult(e) => do_set_result(e, args, parts, known, reply),
         Stmt::Append(part, e) => do_append(*part, e, args, parts, known, log),
         Stmt::Take(part) => take(parts, *part, log),
@@ -329,7 +357,8 @@ pub(crate) fn act_all(
     args: &[Datum],
     parts: &mut Vec<Value>,
     known: &Pages,
-    reply: &mut Option<Datum>, log: &mut Vec<(PartId, Undo)>
+    reply: &mut Option<Datum>,
+    log: &mut Vec<(PartId, Undo)>,
 ) -> Result<(), Stop>
     requires fits { StatementsFit (map kind_of parts.old.items) (all_of all.now) }
     ensures left { Leaves result (all_known (known_by known.now) args.now (all_of all.now)
