@@ -2,5 +2,4 @@ pub mod Blocks
 pub mod HeldReads
 pub mod Histories
 pub mod KindsKept
-pub mod Spreading
 pub mod TypedFits

@@ -3,5 +3,4 @@ pub mod Held
 pub mod History
 pub mod HistoryLaws
 pub mod Replies
-pub mod Stops
 pub mod Fits

@@ -5,7 +5,6 @@
 //! histories. No device stands here: an audit needs none. `known_core` does the bodies.
 #![tactic(auto)]
 
-pub mod act;
 pub mod fits;
 pub mod laws;
 pub mod need;

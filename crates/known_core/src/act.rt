@@ -1,6 +1,6 @@
 //! Statements, done on the values of parts.
 
-ghost use Rattle.std.specs.Prelude.{◌≡◌, ◌<◌, length, map, vec_len, vec_capacity, Option, OnOk, IfErr};
+ghost use Rattle.std.specs.Prelude.{◌≡◌, ◌<◌, length, map, Option};
 ghost use Rattle.std.specs.Result.{IsErrOf};
 ghost use Rattle.value_core.specs.declared.datum.Datum.{Datum};
 ghost use Rattle.value_core.specs.Contents.{kind_of};
@@ -73,6 +73,14 @@ impl From<Refusal> for Stop {
     }
 }
 
+impl From<AllocError> for Stop {
+    ghost from_gives = { λ _ stop. stop ≡ Memory };
+
+    fn from(_: AllocError) -> Stop {
+        Stop::Memory
+    }
+}
+
 impl From<GrowFault> for Stop {
     ghost from_gives = { λ fault stop. stop ≡ stop_of fault };
 
@@ -81,18 +89,6 @@ impl From<GrowFault> for Stop {
             GrowFault::Refused(refusal) => Stop::from(refusal),
             GrowFault::Memory => Stop::Memory,
         }
-    }
-}
-
-// Takes the memory in which one change more is noted.
-fn make_room(log: &mut Vec<(PartId, Undo)>) -> Result<(), Stop>
-    ensures room { OnOk result (vec_len log.new < vec_capacity log.new) }
-    ensures same { log.new.items ≡ log.old.items }
-    ensures memory { IfErr result (λ stop. stop ≡ Memory) }
-{
-    match log.reserve(1) {
-        Ok(()) => Ok(()),
-        Err(AllocError) => Err(Stop::Memory),
     }
 }
 
@@ -114,7 +110,7 @@ fn set(
     ensures kinds { map kind_of parts.new.items ≡ map kind_of parts.old.items }
     ensures back { taken_back log.new.items parts.new.items ≡ taken_back log.old.items parts.old.items }
 {
-    make_room(log)?;
+    log.reserve(1)?;
     let value = &mut parts[part.place() as usize];
     let undo = value.set_kept(index, datum)?;
     log.push_reserved((part, undo));
@@ -140,7 +136,7 @@ fn append(
     ensures kinds { map kind_of parts.new.items ≡ map kind_of parts.old.items }
     ensures back { taken_back log.new.items parts.new.items ≡ taken_back log.old.items parts.old.items }
 {
-    make_room(log)?;
+    log.reserve(1)?;
     let value = &mut parts[part.place() as usize];
     let undo = value.append_kept(datum)?;
     log.push_reserved((part, undo));
@@ -157,7 +153,7 @@ fn take(parts: &mut Vec<Value>, part: PartId, log: &mut Vec<(PartId, Undo)>) -> 
     ensures kinds { map kind_of parts.new.items ≡ map kind_of parts.old.items }
     ensures back { taken_back log.new.items parts.new.items ≡ taken_back log.old.items parts.old.items }
 {
-    make_room(log)?;
+    log.reserve(1)?;
     let value = &mut parts[part.place() as usize];
     let undo = value.take_kept()?;
     log.push_reserved((part, undo));
@@ -180,7 +176,7 @@ fn store(
     ensures kinds { map kind_of parts.new.items ≡ map kind_of parts.old.items }
     ensures back { taken_back log.new.items parts.new.items ≡ taken_back log.old.items parts.old.items }
 {
-    make_room(log)?;
+    log.reserve(1)?;
     let value = &mut parts[part.place() as usize];
     let undo = value.store_kept(key, datum)?;
     log.push_reserved((part, undo));
@@ -202,7 +198,7 @@ fn erase(
     ensures kinds { map kind_of parts.new.items ≡ map kind_of parts.old.items }
     ensures back { taken_back log.new.items parts.new.items ≡ taken_back log.old.items parts.old.items }
 {
-    make_room(log)?;
+    log.reserve(1)?;
     let value = &mut parts[part.place() as usize];
     let undo = value.erase_kept(&key)?;
     log.push_reserved((part, undo));

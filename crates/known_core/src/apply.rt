@@ -5,12 +5,11 @@ ghost use Rattle.value_core.specs.Contents.{kind_of};
 ghost use Rattle.decl_core.specs.Bodies.{body_of};
 ghost use Rattle.decl_core.specs.Meaning.{apply_body};
 ghost use Rattle.apply_core.specs.Fits.{ArgumentsFit, HoldsReads};
-ghost use Rattle.apply_core.specs.declared.act.Stop.TheVariants.{Refused};
 ghost use Rattle.apply_core.specs.Replies.{ReplyTells};
+ghost use Rattle.known_core.specs.declared.whole.WholeStop.TheVariants.{Refused};
 
 use crate::log::undo_all;
-use crate::whole::evaluate_whole;
-use apply_core::act::Stop;
+use crate::whole::{WholeStop, evaluate_whole};
 use apply_core::reply::Reply;
 use decl_core::object::Operation;
 use std::alloc::{AllocError, Global};
@@ -50,11 +49,11 @@ pub fn apply_all(
 }
 
 // The word by which a body was refused.
-fn word_by(stop: Stop) -> Result<Text, AllocError>
+fn word_by(stop: WholeStop) -> Result<Text, AllocError>
     ensures { IfOk result (λ word. stop ≡ Refused word) }
 {
     match stop {
-        Stop::Refused(word) => Ok(word),
-        Stop::Memory => Err(AllocError),
+        WholeStop::Refused(word) => Ok(word),
+        WholeStop::Memory => Err(AllocError),
     }
 }
