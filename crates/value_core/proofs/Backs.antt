@@ -1,5 +1,5 @@
--- A change of a table, taken back, gives the table before.
-use Rattle.std.proofs.Common.{◌≡◌, ℕ, zero, suc, Bool, true, false, cond, List, [], ◌∷◌, Some, None, arith, refl, sym, ap, ◌∙◌}
+-- A change that is taken back gives what was before it.
+use Rattle.std.proofs.Common.{◌≡◌, ℕ, zero, suc, Bool, true, false, cond, List, [], ◌∷◌, length, Some, None, arith, refl, sym, ap, ◌∙◌}
 use Rattle.std.specs.declared.cmp.Ordering.{Ordering}
 use Rattle.std.specs.declared.cmp.Ordering.TheVariants.{Less, Equal, Greater}
 use Rattle.std.specs.Ordering.{eq_by_cmp, is_eq}
@@ -7,7 +7,7 @@ use Rattle.std.specs.Prelude.{is_some, Option, slice_get, slice_set, map as map_
 use Rattle.std.specs.Cmp.{eq_by_cmp_equiv}
 use Rattle.std.specs.Cmp.Lexicographic.{nat_list_cmp_total}
 use Rattle.std.specs.FinMap as map
-use Rattle.std.specs.FinMap.{get-insert, get-remove, len-insert, same_map}
+use Rattle.std.specs.FinMap.{get-insert, get-remove, len-insert, put, same_map}
 use Rattle.value_core.specs.declared.datum.Datum.{Datum}
 use Rattle.text_core.specs.TextOrder.{text_cmp}
 use Rattle.value_core.specs.declared.datum.Datum.TheVariants as datum
@@ -22,7 +22,10 @@ use Rattle.value_core.specs.Cells.{cells_sort, cells_data}
 use Rattle.value_core.specs.Undo.{kept_datum, is_kept_of}
 use Rattle.std.proofs.lemmas.Bool.Decides.{nat_tests}
 use Rattle.value_core.specs.Limits.{most_elements}
-use Rattle.value_core.proofs.Tables.{exact_texts}
+use Rattle.value_core.specs.Rows.{as_data}
+use Rattle.value_core.specs.Sorted.{Rise}
+use Rattle.value_core.proofs.Tables.{exact_texts, value_at, has_at, count_at}
+use Rattle.value_core.proofs.Placing.{stored_row}
 
 abbrev elem_in : Option Datum → Elem
 elem_in (Some d) = elem_of d
@@ -143,3 +146,24 @@ under_back m n k key w e old new sort there same =
 -- a key that was added is dropped
 pub none_back : (m n : Table) (k key : List ℕ) (w : Datum) → n ≡ map.insert m k w → None ≡ map.get m k → key ≡ k → map.remove n key ≡ m
 none_back m n k key w new none same = ap (map.remove n) same ∙ ap (λ t. map.remove t k) new ∙ added_back m k w (sym none)
+
+module _ {X : Type 0} (datum : X → Datum) where
+  -- a row that is put in, or not
+  put_or_not : (b : Bool) (es : List (List ℕ × X)) (k : List ℕ) (v : X) → Rise es → map.from_entries {R = text_cmp} (as_data datum (if b then put text_cmp k v es else es)) ≡ (if b then map.insert (map.from_entries (as_data datum es)) k (datum v) else map.from_entries (as_data datum es))
+  put_or_not true es k v rise = stored_row datum es k v rise
+  put_or_not false es k v rise = refl
+
+  -- another value under a key, where it is there
+  pub exchanged : (es fs : List (List ℕ × X)) (k : List ℕ) (v : X) → Rise es → fs ≡ (if is_some (value_at datum es k) then put text_cmp k v es else es)
+      → map.from_entries {R = text_cmp} (as_data datum fs) ≡ (if map.contains_key (map.from_entries {R = text_cmp} (as_data datum es)) k then map.insert (map.from_entries (as_data datum es)) k (datum v) else map.from_entries (as_data datum es))
+  exchanged es fs k v rise is =
+      let m : Table = map.from_entries (as_data datum es) in
+      ap (λ l. map.from_entries {R = text_cmp} (as_data datum l)) is ∙ put_or_not (is_some (value_at datum es k)) es k v rise ∙ ap (λ b. if b then map.insert m k (datum v) else m) (sym (has_at datum es k))
+
+  -- a row that is put back, where there is room
+  pub put_in_room : (es fs : List (List ℕ × X)) (k : List ℕ) (v : X) (room : ℕ) → Rise es → fs ≡ (if nat_lt (length es) room && nat_lt (length es) most_elements then put text_cmp k v es else es)
+      → map.from_entries {R = text_cmp} (as_data datum fs) ≡ (if nat_lt (map.len (map.from_entries {R = text_cmp} (as_data datum es))) room && nat_lt (map.len (map.from_entries {R = text_cmp} (as_data datum es))) most_elements then map.insert (map.from_entries (as_data datum es)) k (datum v) else map.from_entries (as_data datum es))
+  put_in_room es fs k v room rise is =
+      let m : Table = map.from_entries (as_data datum es) in
+      ap (λ l. map.from_entries {R = text_cmp} (as_data datum l)) is ∙ put_or_not (nat_lt (length es) room && nat_lt (length es) most_elements) es k v rise
+      ∙ ap (λ n. if nat_lt n room && nat_lt n most_elements then map.insert m k (datum v) else m) (count_at datum es rise)

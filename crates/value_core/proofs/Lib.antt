@@ -11,3 +11,4 @@ pub mod Bytes
 pub mod Widening
 pub mod Outcomes
 pub mod Backs
+pub mod Undone

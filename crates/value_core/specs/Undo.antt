@@ -1,8 +1,9 @@
 -- What takes a change of a value back.
-use Rattle.std.specs.Prelude.{◌≡◌, ℕ, ◌-◌, ◌&&◌, nat_lt, Bool, true, false, if◌then◌else◌, List, [], ◌∷◌, ◌++◌, length}
+use Rattle.std.specs.Prelude.{◌≡◌, ⊤, ℕ, ◌-◌, ◌&&◌, nat_lt, Bool, true, false, if◌then◌else◌, List, [], ◌∷◌, ◌++◌, length}
 use Rattle.std.specs.Prelude.{take, slice_set, vec_capacity, Result, Ok, Err, IsOk}
 use Rattle.std.specs.VecDeque.{deque_capacity}
 use Rattle.std.specs.FinMap as map
+use Rattle.text_core.specs.Plain.{IsText}
 use Rattle.text_core.specs.TextOrder.{text_cmp}
 use Rattle.value_core.specs.declared.datum.Datum.{Datum}
 use Rattle.value_core.specs.declared.datum.Datum.TheVariants as datum
@@ -12,6 +13,7 @@ use Rattle.value_core.specs.declared.refusal.Refusal.{Refusal}
 use Rattle.value_core.specs.declared.refusal.GrowFault.{GrowFault}
 use Rattle.value_core.specs.declared.refusal.GrowFault.TheVariants as faults
 use Rattle.value_core.specs.Contents.{Contents, array, queue, table}
+use Rattle.value_core.specs.Datum.{IsDatum}
 use Rattle.value_core.specs.Limits.{most_elements}
 use Rattle.value_core.specs.declared.undo.Kept.{Kept}
 use Rattle.value_core.specs.declared.undo.Kept.TheVariants as kept
@@ -80,6 +82,17 @@ abbrev pub back : Undo → Contents → Contents
 back u (array e xs) = array e (array_back u e xs)
 back u (queue e xs) = queue e (queue_back u e xs)
 back u (table e m) = table e (table_back u e m)
+
+-- what it keeps can be a key and an element
+abbrev pub KeepsData : Undo → Type 0
+KeepsData (Element i k) = IsDatum (kept_datum k)
+KeepsData Newest = ⊤
+KeepsData (OldestInteger n room) = IsDatum (datum.Integer n)
+KeepsData (OldestText t room) = IsDatum (datum.Text t)
+KeepsData (Under key k) = IsText key × IsDatum (kept_datum k)
+KeepsData (Added key) = ⊤
+KeepsData (RowOfInteger key n room) = IsText key × IsDatum (datum.Integer n)
+KeepsData (RowOfText key t room) = IsText key × IsDatum (datum.Text t)
 
 -- an operation is done, and this takes it back; or it is refused, or, where it would be done, wants memory, and then
 -- nothing changes

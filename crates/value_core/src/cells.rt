@@ -90,7 +90,7 @@ impl Cells {
 
     /// Puts an element in the place of another, and says what takes that back.
     #[tactic(auto, using(crate::proofs::Backs::kept_sort, crate::proofs::Backs::element_back, crate::proofs::Backs::cell_sort))]
-    pub fn set_kept(&mut self, place: usize, datum: Datum) -> Result<Undo, AllocError>
+    pub fn replace(&mut self, place: usize, datum: Datum) -> Result<Undo, AllocError>
         requires place { place < length (cells_data self.old) }
         requires few { length (cells_data self.old) ≤ most_elements }
         requires sort { elem_of datum ≡ cells_sort self.old }

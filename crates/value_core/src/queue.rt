@@ -108,24 +108,9 @@ impl Queue {
         }
     }
 
-    /// Removes the oldest element, if there is one. It takes no memory.
-    pub fn take(&mut self)
-        ensures sort { queue_sort self.new ≡ queue_sort self.old }
-        ensures data { queue_data self.new ≡ drop 1 (queue_data self.old) }
-    {
-        match self {
-            Queue::Integers(all) => {
-                let _number = all.pop_front();
-            }
-            Queue::Texts(all) => {
-                let _row = all.pop_front();
-            }
-        }
-    }
-
     /// Removes the oldest element, of one or more, and says what takes that back. The error is that memory was
     /// refused, and then nothing changes.
-    pub fn take_out(&mut self) -> Result<Undo, AllocError>
+    pub fn take(&mut self) -> Result<Undo, AllocError>
         requires some { 0 < length (queue_data self.old) }
         requires few { length (queue_data self.old) ≤ most_elements }
         ensures sort { queue_sort self.new ≡ queue_sort self.old }

@@ -7,7 +7,7 @@ ghost use Rattle.std.specs.FinMap as map;
 ghost use Rattle.std.specs.List.{flat_map};
 ghost use Rattle.value_core.specs.Spelling.{spelled_row};
 ghost use Rattle.value_core.specs.Datum.{elem_of};
-ghost use Rattle.std.specs.Prelude.{◌≤◌, true};
+ghost use Rattle.std.specs.Prelude.{◌≤◌, ◌&&◌, true, if◌then◌else◌};
 ghost use Rattle.value_core.specs.Limits.{most_elements};
 ghost use Rattle.value_core.specs.Undo.{table_back, kept_datum, is_kept_of};
 ghost use Rattle.std.specs.Prelude.{option_map, IfSome};
@@ -123,7 +123,7 @@ impl Rows {
     }
 
     /// Puts an element under a key, and says what takes that back.
-    pub fn insert_kept(&mut self, key: Text, datum: Datum) -> Result<Undo, AllocError>
+    pub fn store(&mut self, key: Text, datum: Datum) -> Result<Undo, AllocError>
         requires { elem_of datum ≡ rows_sort self.old }
         ensures sort { rows_sort self.new ≡ rows_sort self.old }
         ensures ok { OnOk result (rows_map self.new ≡ map.insert (rows_map self.old) key datum) }
@@ -174,7 +174,7 @@ impl Rows {
     }
 
     /// Removes a key that is there, and says what takes that back.
-    pub fn take_out(&mut self, key: &Text) -> Result<Undo, AllocError>
+    pub fn erase(&mut self, key: &Text) -> Result<Undo, AllocError>
         requires there { map.contains_key (rows_map self.old) key.now ≡ true }
         requires few { map.len (rows_map self.old) ≤ most_elements }
         ensures sort { rows_sort self.new ≡ rows_sort self.old }
@@ -199,6 +199,8 @@ impl Rows {
 
     /// Takes a change of the rows back; where it is none of these, nothing changes. It takes no memory.
     pub fn take_back(&mut self, undo: Undo)
+        ensures sort { rows_sort self.new ≡ rows_sort self.old }
+        ensures data { rows_map self.new ≡ table_back undo (rows_sort self.old) (rows_map self.old) }
     {
         match undo {
             Undo::Under(key, kept) => self.put_kept(&key.text(), kept),
@@ -217,18 +219,17 @@ impl Rows {
 
     // Puts an element that was kept under a key that is there.
     fn put_kept(&mut self, key: &Text, kept: Kept)
+        ensures sort { rows_sort self.new ≡ rows_sort self.old }
+        ensures data { rows_map self.new ≡ (if is_kept_of (rows_sort self.old) kept && map.contains_key (rows_map self.old) key.now
+            then map.insert (rows_map self.old) key.now (kept_datum kept) else rows_map self.old) }
     {
         match kept {
             Kept::Integer(number) => match self {
-                Rows::Integers(all) => {
-                    all.exchange(key, number);
-                }
+                Rows::Integers(all) => all.exchange(key, number),
                 Rows::Texts(_) => {}
             },
             Kept::Text(row) => match self {
-                Rows::Texts(all) => {
-                    all.exchange(key, row);
-                }
+                Rows::Texts(all) => all.exchange(key, row),
                 Rows::Integers(_) => {}
             },
         }

@@ -1,10 +1,11 @@
 //! Rows that lie in the order of their keys. A key is asked for by a text, without memory.
 
-ghost use Rattle.std.specs.Prelude.{◌≡◌, ◌≤◌, [], ◌∷◌, length, map, is_some, true, Some, nat_lt, ◌&&◌, if◌then◌else◌, vec_capacity, option_copied, IfOk, IfErr, OnOk, OnErr};
+ghost use Rattle.std.specs.Prelude.{◌≡◌, ◌≤◌, ◌<◌, [], ◌∷◌, length, map, is_some, true, Some, nat_lt, ◌&&◌};
+ghost use Rattle.std.specs.Prelude.{if◌then◌else◌, vec_capacity, option_copied, IfOk, IfErr, OnOk, OnErr};
 ghost use Rattle.std.specs.BTreeMap.{is_at};
 ghost use Rattle.std.specs.FinMap.{put};
 ghost use Rattle.value_core.specs.Limits.{most_elements};
-ghost use Rattle.std.specs.List.{AllZip};
+ghost use Rattle.std.specs.List.{AllZip, insert};
 ghost use Rattle.std.specs.List.Sorted.{IsStrictlySortedBy};
 ghost use Rattle.std.specs.Map.{lookup, remove_entry};
 ghost use Rattle.text_core.specs.TextOrder.{text_cmp};
@@ -165,25 +166,41 @@ impl<X: Drop> Sorted<X> {
         ensures still { Rise self.new }
     {
         if self.rows.len() < room.capacity() && self.rows.len() < MOST_ELEMENTS as usize {
-            let key = row.text();
-            match self.place(&key) {
-                Ok(place) => self.rows[place].1 = value,
-                Err(place) => {
-                    let mut more = room;
-                    more.clear();
-                    match more.append(&mut self.rows) {
-                        Ok(()) => {}
-                        Err(_) => unreachable!(),
-                    }
-                    match more.insert(place, (row, value)) {
-                        Ok(()) => {}
-                        Err(_) => unreachable!(),
-                    }
-                    self.rows = more;
-                }
-            }
+            self.put_row(row, value, room);
         }
     }
+
+    // Puts a row in, in this room, which has room for them all.
+    fn put_row(&mut self, row: Row, value: X, room: Vec<(Row, X)>)
+        requires { length self.old < vec_capacity room }
+        ensures rows { self.new ≡ put text_cmp row value self.old }
+        ensures rise { Rise self.old }
+        ensures still { Rise self.new }
+    {
+        match self.place(&row.text()) {
+            Ok(place) => self.rows[place].1 = value,
+            Err(place) => put_in(&mut self.rows, place, (row, value), room),
+        }
+    }
+}
+
+// Puts a row in at this place, in this room, which has room for them all.
+fn put_in<X: Drop>(rows: &mut Vec<X>, place: usize, row: X, room: Vec<X>)
+    requires place { place ≤ length rows.old.items }
+    requires room { length rows.old.items < vec_capacity room }
+    ensures { rows.new.items ≡ insert rows.old.items place row }
+{
+    let mut more = room;
+    more.clear();
+    match more.append(rows) {
+        Ok(()) => {}
+        Err(_) => unreachable!(),
+    }
+    match more.insert(place, row) {
+        Ok(()) => {}
+        Err(_) => unreachable!(),
+    }
+    *rows = more;
 }
 
 impl<X: Clone> Sorted<X> {

@@ -1,7 +1,8 @@
 //! What takes a change of a value back.
 
 ghost use Rattle.std.specs.Prelude.{◌≡◌, IfOk};
-ghost use Rattle.value_core.specs.Undo.{kept_datum};
+ghost use Rattle.value_core.specs.Datum.{IsDatum};
+ghost use Rattle.value_core.specs.Undo.{kept_datum, KeepsData};
 
 use crate::datum::Datum;
 use std::alloc::{AllocError, Global};
@@ -36,7 +37,7 @@ pub enum Undo {
 
 impl Kept {
     /// A datum, kept.
-    pub fn new(alloc: Global, datum: &Datum) -> Result<Kept, AllocError>
+    pub(crate) fn new(alloc: Global, datum: &Datum) -> Result<Kept, AllocError>
         ensures { IfOk result (λ kept. kept_datum kept ≡ datum.now) }
     {
         match datum {
@@ -49,12 +50,57 @@ impl Kept {
     }
 
     /// The datum.
-    pub fn datum(&self) -> Datum
+    pub(crate) fn datum(&self) -> Datum
         ensures { result ≡ kept_datum self.now }
     {
         match self {
             Kept::Integer(number) => Datum::Integer(*number),
             Kept::Text(row) => Datum::Text(row.text()),
+        }
+    }
+    // That an integer has 32 bits, and a text is one. It does nothing, and is called for its contract alone.
+    fn holds_datum(&self)
+        ensures { IsDatum (kept_datum self.now) }
+    {
+        match self {
+            Kept::Integer(number) => {
+                // Read for its type alone.
+                let _number = *number;
+            }
+            Kept::Text(row) => {
+                // Called for its contract alone.
+                let _bytes = row.bytes();
+            }
+        }
+    }
+}
+
+impl Undo {
+    // That what it keeps can be a key and an element. It does nothing, and is called for its contract alone.
+    pub(crate) fn keeps_data(&self)
+        ensures { KeepsData self.now }
+    {
+        match self {
+            Undo::Element(_, kept) => kept.holds_datum(),
+            Undo::OldestInteger(number, _) => {
+                let _number = *number;
+            }
+            Undo::OldestText(row, _) => {
+                let _bytes = row.bytes();
+            }
+            Undo::Under(key, kept) => {
+                let _key = key.bytes();
+                kept.holds_datum();
+            }
+            Undo::RowOfInteger(key, number, _) => {
+                let _key = key.bytes();
+                let _number = *number;
+            }
+            Undo::RowOfText(key, row, _) => {
+                let _key = key.bytes();
+                let _bytes = row.bytes();
+            }
+            Undo::Newest | Undo::Added(_) => {}
         }
     }
 }

@@ -9,7 +9,7 @@ use Rattle.value_core.proofs.Placing.{erased_row}
 use Rattle.value_core.proofs.TableRows.{rows_removed}
 use Rattle.value_core.proofs.Tables.{has_at, get_at, count_at}
 use Rattle.value_core.proofs.Backs.{row_back}
-use Rattle.value_core.proofs.rows.Rows.take_out.Goals as goal
+use Rattle.value_core.proofs.rows.Rows.erase.Goals as goal
 
 pub take_out-row-requires : goal.take_out-row-requires
 take_out-row-requires c =

@@ -1,7 +1,7 @@
 use Rattle.std.proofs.Common.{rules}
 use Rattle.value_core.specs.Rows.{rows_map, rows_sort}
 use Rattle.value_core.proofs.Backs.{under_back, none_back}
-use Rattle.value_core.proofs.rows.Rows.insert_kept.Goals as goal
+use Rattle.value_core.proofs.rows.Rows.store.Goals as goal
 
 pub returns-in_ok-insert-in-Some-clause-back : goal.returns-in_ok-insert-in-Some-clause-back
 returns-in_ok-insert-in-Some-clause-back c =
