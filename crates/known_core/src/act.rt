@@ -112,7 +112,7 @@ fn set(
 {
     log.reserve(1)?;
     let value = &mut parts[part.place() as usize];
-    let undo = value.set_kept(index, datum)?;
+    let undo = value.set(index, datum)?;
     log.push_reserved((part, undo));
     if known.has(part, index) {
         Ok(())
@@ -138,7 +138,7 @@ fn append(
 {
     log.reserve(1)?;
     let value = &mut parts[part.place() as usize];
-    let undo = value.append_kept(datum)?;
+    let undo = value.append(datum)?;
     log.push_reserved((part, undo));
     Ok(())
 }
@@ -155,7 +155,7 @@ fn take(parts: &mut Vec<Value>, part: PartId, log: &mut Vec<(PartId, Undo)>) -> 
 {
     log.reserve(1)?;
     let value = &mut parts[part.place() as usize];
-    let undo = value.take_kept()?;
+    let undo = value.take()?;
     log.push_reserved((part, undo));
     Ok(())
 }
@@ -178,7 +178,7 @@ fn store(
 {
     log.reserve(1)?;
     let value = &mut parts[part.place() as usize];
-    let undo = value.store_kept(key, datum)?;
+    let undo = value.store(key, datum)?;
     log.push_reserved((part, undo));
     Ok(())
 }
@@ -200,7 +200,7 @@ fn erase(
 {
     log.reserve(1)?;
     let value = &mut parts[part.place() as usize];
-    let undo = value.erase_kept(&key)?;
+    let undo = value.erase(&key)?;
     log.push_reserved((part, undo));
     Ok(())
 }
