@@ -1,6 +1,6 @@
 -- What a change is taken back from is contents again.
-use Rattle.std.proofs.Common.{◌≡◌, ℕ, zero, suc, ◌+◌, ◌<◌, Bool, true, false, List, [], ◌∷◌, length, refl, sym, ap, ◌∙◌, subst, arith}
-use Rattle.std.specs.Prelude.{map as mapped, All, T, ◌&&◌, ◌||◌, nat_lt, ◌-◌, ◌≤◌, take, slice_set, if◌then◌else◌, vec_capacity}
+use Rattle.std.proofs.Common.{◌≡◌, ℕ, zero, suc, ◌<◌, Bool, true, false, List, [], ◌∷◌, length, refl, sym, ap, ◌∙◌, subst, arith}
+use Rattle.std.specs.Prelude.{map as mapped, T, ◌&&◌, ◌||◌, nat_lt, ◌-◌, ◌≤◌, take, slice_set, if◌then◌else◌, vec_capacity}
 use Rattle.std.specs.VecDeque.{deque_capacity}
 use Rattle.std.proofs.lemmas.Bool.Decides.{nat_tests}
 use Rattle.std.proofs.lemmas.List.{length-set}
@@ -27,7 +27,7 @@ use Rattle.value_core.specs.declared.undo.Kept.TheVariants as kept
 use Rattle.value_core.specs.declared.undo.Undo.{Undo}
 use Rattle.value_core.specs.declared.undo.Undo.TheVariants.{Element, Newest, OldestInteger, OldestText, Under, Added, RowOfInteger, RowOfText}
 use Rattle.value_core.specs.Datum.{IsDatum, IsElement}
-use Rattle.value_core.specs.Contents.{Contents, array, queue, table, IsContents, AreElements, AreRows, IsRow}
+use Rattle.value_core.specs.Contents.{Contents, array, queue, table, IsContents, AreElements, AreRows}
 use Rattle.value_core.specs.Undo.{kept_datum, is_kept_of, is_integer, is_text, array_back, queue_back, table_back, back, KeepsData}
 use Rattle.value_core.specs.Rows.{as_data}
 use Rattle.value_core.specs.Sorted.{Rise}

@@ -1,5 +1,5 @@
 -- What the operations do to contents. Where the kind does not fit, nothing is asked of them.
-use Rattle.std.specs.Prelude.{◌≡◌, ℕ, ◌+◌, ◌-◌, ◌^◌, nat_lt, nat_le, Bool, false, ◌||◌, if◌then◌else◌, List, [], ◌∷◌}
+use Rattle.std.specs.Prelude.{ℕ, ◌+◌, ◌-◌, ◌^◌, nat_lt, nat_le, Bool, false, ◌||◌, if◌then◌else◌, List, [], ◌∷◌}
 use Rattle.std.specs.Prelude.{◌++◌, length, drop, Result, Ok, Err, slice_get, slice_set, ok_or, replicate}
 use Rattle.std.specs.FinMap as map
 use Rattle.value_core.specs.declared.datum.Datum.{Datum}

@@ -1,5 +1,5 @@
 -- What takes a change of a value back.
-use Rattle.std.specs.Prelude.{◌≡◌, ⊤, ℕ, ◌-◌, ◌&&◌, nat_lt, Bool, true, false, if◌then◌else◌, List, [], ◌∷◌, ◌++◌, length}
+use Rattle.std.specs.Prelude.{◌≡◌, ⊤, ◌-◌, ◌&&◌, nat_lt, Bool, true, false, if◌then◌else◌, List, ◌∷◌, length}
 use Rattle.std.specs.Prelude.{take, slice_set, vec_capacity, Result, Ok, Err, IsOk}
 use Rattle.std.specs.VecDeque.{deque_capacity}
 use Rattle.std.specs.FinMap as map

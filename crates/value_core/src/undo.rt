@@ -58,6 +58,7 @@ impl Kept {
             Kept::Text(row) => Datum::Text(row.text()),
         }
     }
+
     // That an integer has 32 bits, and a text is one. It does nothing, and is called for its contract alone.
     fn holds_datum(&self)
         ensures { IsDatum (kept_datum self.now) }

@@ -3,7 +3,7 @@ use Rattle.std.specs.BTreeMap.{is_at}
 use Rattle.std.specs.Map.{remove_entry}
 use Rattle.text_core.specs.TextOrder.{text_cmp}
 use Rattle.value_core.specs.Sorted.{Rise, StandsAt}
-use Rattle.value_core.proofs.Placing.{removed, not_removed, rise_removed, found, missing}
+use Rattle.value_core.proofs.Placing.{removed, rise_removed, found, missing}
 use Rattle.value_core.proofs.Tables.{exact_texts}
 use Rattle.value_core.proofs.Backs.{none_some}
 use Rattle.value_core.proofs.sorted.Sorted.take_out.Goals as goal
