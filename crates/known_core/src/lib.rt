@@ -14,6 +14,6 @@ pub mod apply;
 mod eval;
 pub mod evaluate;
 pub mod laws;
-pub mod log;
+mod log;
 pub mod pages;
 pub mod whole;

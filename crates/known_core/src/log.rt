@@ -17,9 +17,9 @@ fn undo_one(step: (PartId, Undo), parts: &mut Vec<Value>)
     }
 }
 
-/// Takes all changes back, the last one first. It takes no memory.
+// Takes all changes back, the last one first. It takes no memory.
 #[tactic(auto, using(crate::proofs::Undoing::none_left))]
-pub fn undo_all(log: Vec<(PartId, Undo)>, parts: &mut Vec<Value>)
+pub(crate) fn undo_all(log: Vec<(PartId, Undo)>, parts: &mut Vec<Value>)
     ensures { parts.new.items ≡ taken_back log.items parts.old.items }
 {
     let mut log = log;
