@@ -155,16 +155,17 @@ BARE_IMPL = re.compile(r"\bimpl\b(?:(?!\bfor\b)[^{};])*\{\s*\}")
 
 
 def functions_apart(source):
-    """A source of an interface without its functions, and these as names, texts, and whether each is of a type. Each text
-    has the imports that it names. Methods of traits and of their impls stay, and so do constant functions."""
+    """A source of an interface without its functions, and these as names, texts, and the head of the impl in which each
+    stands, or None. Each text has the imports that it names. Methods of traits and of their impls stay, and so do constant
+    functions."""
     imports = IMPORT.findall(source)
-    pieces, rest, found, header, blocks, at = PIECE.findall(IMPORT.sub("", source)), [], [], [], [], 0
+    pieces, rest, found, header, blocks, heads, at = PIECE.findall(IMPORT.sub("", source)), [], [], [], [], [], 0
     while at < len(pieces):
         piece = pieces[at]
-        if piece == "fn" and "const" not in header and not (blocks and blocks[-1] == "trait"):
+        if piece == "fn" and "const" not in header and not (blocks and blocks[-1]):
             end = next(it for it in range(at, len(pieces)) if pieces[it : it + 2] == ["{", "}"]) + 2
             name, text = next(it for it in pieces[at + 1 :] if not it.isspace()), "".join(header + pieces[at:end]).strip()
-            found.append((name, f"{imports_for(imports, text)} {text}", bool(blocks)))
+            found.append((name, f"{imports_for(imports, text)} {text}", heads[-1] if heads else None))
             header, at = [], end
             continue
         header.append(piece)
@@ -172,9 +173,11 @@ def functions_apart(source):
         if piece in ("{", "}", ";"):
             text = "".join(header)
             if piece == "{":
-                blocks.append("trait" if re.search(r"\btrait\b|\bimpl\b.*\bfor\b", text, re.S) else "impl")
+                blocks.append(bool(re.search(r"\btrait\b|\bimpl\b.*\bfor\b", text, re.S)))
+                heads.append(text.strip())
             elif piece == "}" and blocks:
                 blocks.pop()
+                heads.pop()
             rest.append(text)
             header = []
     text = "".join([*rest, *header])
@@ -212,8 +215,8 @@ IMPL_HEAD = re.compile(r"\bimpl\b(?:[^{};]*\bfor\b)?([^{]*)\{")
 # A part of what a crate above may read: of a source a function, or the rest of it, whose `function` is empty; of a file
 # of definitions a block, whose `function` are the names that it declares. Beside its text all its words, those of its
 # paths (each alone, and each with each before it in its path; a word outside of paths as a tuple of one), the types and
-# traits that it declares, the words of the heads of its impls from the type on, and whether it is a method.
-Part = collections.namedtuple("Part", "crate path function text words named types heads is_method")
+# traits that it declares, the words of the heads of its impls from the type on, and the head of the impl of a method.
+Part = collections.namedtuple("Part", "crate path function text words named types heads impl")
 
 
 def meant(path, text):
@@ -224,39 +227,77 @@ def meant(path, text):
     return "\n".join(it for it in rows if path.name != "Lib.antt" or not re.fullmatch(r"\s*(pub )?mod \w+\s*", it))
 
 
-def part_of(crate, path, function, text, is_method=False):
+def part_of(crate, path, function, text, impl=None):
     named = set()
     for words in map(WORD.findall, PATH.findall(text)):
         named.update(words if len(words) > 1 else [(words[0],)], itertools.combinations(words, 2))
     is_source = path.suffix == ".rt"
     types = frozenset(DECLARED.findall(text) if is_source else ())
     heads = frozenset(word for it in IMPL_HEAD.findall(text) if is_source for word in WORD.findall(it))
-    return Part(crate, path, function, text, frozenset(WORD.findall(text)), frozenset(named), types, heads, is_method)
+    return Part(crate, path, function, text, frozenset(WORD.findall(text)), frozenset(named), types, heads, impl)
+
+
+# A type that no other crate can name.
+HIDDEN = re.compile(r"(?:#\[[^]]*\] )?pub\(\w+\) (?:struct|enum) [^{;]*(?:\{[^{}]*\}|;)")
+
+
+def public_modules(folder):
+    """The paths of the sources of a crate to which a path of public modules leads from its root."""
+    waiting, found = [(pathlib.Path("src/lib.rt"), pathlib.Path("src"))], set()
+    while waiting:
+        path, inside = waiting.pop()
+        if path in found or not (folder / path).is_file():
+            continue
+        found.add(path)
+        for name in re.findall(r"^\s*pub mod (\w+);", (folder / path).read_text(encoding="utf-8"), re.M):
+            waiting += [(inside / f"{name}.rt", inside / name), (inside / name / "mod.rt", inside / name)]
+    return found
 
 
 @functools.cache
 def parts_above(folder):
-    """The parts of the interface of the crate in this folder."""
-    found = []
+    """The parts of the interface of the crate in this folder. Of a type of a private module that no public one names, but in
+    what is hidden, there is no value outside, so its methods are left out."""
+    public, found, shown = public_modules(folder), [], set()
     for path, text in sorted(interface(folder).items()):
         if path.suffix == ".rt":
             rest, functions = functions_apart(meant(path, text))
             found += [part_of(folder.name, path, *it) for it in [("", rest), *functions]]
+            if path in public:
+                seen = HIDDEN.sub(" ", rest)
+                texts = [imports_for(IMPORT.findall(seen), IMPORT.sub("", seen)), *(it for _, it, _ in functions)]
+                shown.update(word for it in texts for found_in in IMPORT.finditer(it) for word in WORD.findall(found_in[0]))
         else:
             found += [part_of(folder.name, path, names, it) for it, names in definitions_apart(meant(path, text))]
+    is_had = lambda it: not it.impl or it.path in public or not {it.path.stem, it.path.parent.name}.isdisjoint(shown)
+    return [it for it in found if is_had(it)]
+
+
+def calls_in(source):
+    """The names that stand behind a point or two colons in a source, each with whether arguments follow: both where that
+    is not seen."""
+    found = set()
+    for sign, name, behind in re.findall(r"(\.|::)\s*(\w+)\s*(\(\s*\)?)?", source):
+        is_seen = sign == "." and behind
+        found |= {(name, not behind.endswith(")"))} if is_seen else {(name, True), (name, False)}
     return found
+
+
+def calls_of(method):
+    """How a method is called."""
+    takes = re.search(rf"\bfn {method.function}\b[^(]*\(\s*(?:&\s*)?(?:'\w+ )?(?:mut )?self\s*(,?)", method.text)
+    return {(method.function, bool(takes[1]))} if takes else {(method.function, True), (method.function, False)}
 
 
 def parts_named(top, lines, name, folders):
     """The parts of the crates below that a crate's files name, and that these name again, in order, and all words of its own files."""
-    texts = []
-    for file in (it for folder in folders for it in files(top / "crates" / name / folder)):
+    texts, all_files = [], [it for folder in folders for it in files(top / "crates" / name / folder)]
+    for file in all_files:
         text = file.read_text(encoding="utf-8")
         source = "".join(it for it in PIECE.findall(text) if not it.startswith("//")) if file.suffix == ".rt" else text
         texts.append(source if file.suffix == ".edit" else meant(file, source))
     own = part_of(name, pathlib.Path("src/lib.rt"), "", "\n".join(texts))
-    # A method is called behind a point or two colons.
-    called = frozenset(re.findall(r"[.:]\s*(\w+)", own.text))
+    calls = calls_in("\n".join(it for file, it in zip(all_files, texts) if file.suffix != ".antt"))
     there = [it for crate in below(lines, name) for it in parts_above(top / "crates" / crate)]
     waiting = collections.defaultdict(list)
     for it in there:
@@ -272,11 +313,14 @@ def parts_named(top, lines, name, folders):
             return is_root or module in by.named
         return is_root or (crate, module) in by.named or (crate,) in by.named and module in by.named
 
+    def is_of_types(part):
+        return any(name in part.heads and (crate == part.crate or crate in part.words) for crate, name in types)
+
     def counts(it):
         if it.path.suffix != ".rt":
             # A name that is no word (an operator) counts where its file does.
             return not it.function or any(name in words or not WORD.fullmatch(name) for name in it.function)
-        return not it.function or it.function in (called if it.is_method else own.words)
+        return not it.function or (it.function in own.words if not it.impl else not calls.isdisjoint(calls_of(it)))
 
     while fresh:
         for by in fresh:
@@ -286,12 +330,12 @@ def parts_named(top, lines, name, folders):
                     places -= more
                     reached |= more
         for places in unreached.values():
-            more = {it for it in places if any(part.heads & types for part in waiting[it])}
+            more = {it for it in places if any(is_of_types(part) for part in waiting[it])}
             places -= more
             reached |= more
         fresh = [it for place in reached for it in waiting[place] if counts(it)]
         for it in fresh:
-            types |= it.types
+            types |= {(it.crate, name) for name in it.types}
             words |= it.words
         found.update(fresh)
         for place in reached:
@@ -308,12 +352,14 @@ def digest(top, lines, name, kit, *more):
     A wrong body is refused since it breaks a clause. Whether it does hangs on what the clause means, and on what is known
     of each call: on the words of the crate's own files, and what these are declared to be. (Which lemmas there are does
     not count: no lemma proves what is false.) No file can use a thing of another one without a path with the name of its
-    crate and of its module, or from where another file with both hands it on. So a file below counts where a text that
+    crate and of its module, or from where another file with both hands it on. So a file below is reached where a text that
     counts has such a path (or the crate's name outside of paths, as for a name that is made of it, and the module's in
     some path); the root of a crate where it has the crate's name; and where a file that counts declares a type or a trait,
-    each file counts in which the head of an impl has that name, since methods are found by their types alone. A function
-    is called by its name, and known by its contract: it counts where its file does and its name stands in the crate's own
-    files. Names are compared as words, wherever they come from, so too much counts rather than too little."""
+    each file in which an impl is for that name, and which is of its crate or names that, since methods are found by their
+    types alone. Of a file of definitions that is reached a block counts where a text that counts has a name that it
+    declares. Of a source the rest counts, and a function where its name stands in the crate's own files: a method where
+    it stands behind a point or two colons, with arguments or without as it takes them. An import counts where its name
+    stands. Names are compared as words, wherever they come from, so too much counts rather than too little."""
     summed = hashlib.sha256()
 
     def add(part):
