@@ -3,6 +3,7 @@ use Rattle.std.proofs.Common.{◌≡◌, sym, subst, refl, inl, inr, List, [], �
 use Rattle.std.specs.Prelude.{Ok}
 use Rattle.hand_core.specs.declared.hand.Stamp.{Stamp}
 use Rattle.hand_core.specs.Made.{Made}
+use Rattle.hand_core.specs.Retired.{Left, RetiresAll, files_left}
 use Rattle.page_core.specs.Calls.{AreMade}
 use Rattle.call_core.specs.declared.ticket.Ticket.{Ticket as Admitted}
 use Rattle.call_core.specs.Tickets.{ticket_call}
@@ -13,7 +14,7 @@ use Rattle.run_core.specs.AtOnce.{RunsAtOnce}
 use Rattle.ask_core.specs.declared.answer.Finished.{Finished}
 use Rattle.seat_core.specs.declared.seat.Seat.{Seat}
 use Rattle.office_core.specs.Seats.{CompletedIn}
-use Rattle.session_core.specs.Leaving.{RetiresLeft, PutsOff}
+use Rattle.session_core.specs.Leaving.{PutsOff}
 use Rattle.session_core.specs.Working.{Runs, HandsOut, Works, WorksOn, begins, runs, retires, lets_go}
 
 -- a ticket's call ran
@@ -30,8 +31,10 @@ pub begun_with : {H : Type 0} (makes : H → Made → H → Type 0) (hand : H) (
 begun_with makes hand left none = subst (Works makes hand hand) (sym none) begins
 
 -- files were retired that were left
-pub retired_on : {H : Type 0} (makes : H → Made → H → Type 0) (hand next : H) (left after : List Stamp) → RetiresLeft makes hand left after next → WorksOn makes hand left next after
-retired_on makes hand next left after all first was = retires hand next left after was all
+pub retired_on : {H : Type 0} (makes : H → Made → H → Type 0) (hand next : H) (left files after : List Stamp) (failed : List Left)
+    → files ≡ left → RetiresAll makes hand files failed next → after ≡ files_left failed → WorksOn makes hand left next after
+retired_on makes hand next left files after failed same all are first was =
+    retires hand next left after was (failed, subst (λ (fs : List Stamp). RetiresAll makes hand fs failed next) same all, are)
 
 -- a call ran, its outcome was taken, and what was free then is left, or was retired
 pub worked_on : {H : Type 0} (makes : H → Made → H → Type 0) (old between ran last : H) (left kept free after : List Stamp) (o : Outcome)

@@ -10,4 +10,5 @@ returns-then-is_empty-clause-retired g c = none_left g.H.Hand.makes c.args.hand.
 pub returns-clause-works : goal.returns-clause-works
 returns-clause-works g c =
     let all = c.retire_all.ensures.retired in
-    retired_on g.H.Hand.makes c.args.hand.now c.retire_all.new.hand c.args.left.now.items c.retire_all.result.items (all.0, all.1, all.2)
+    retired_on g.H.Hand.makes c.args.hand.now c.retire_all.new.hand c.args.left.now.items c.replace-free.result.items c.retire_all.result.items all.0
+    (λ i. (c.replace-free.ensures.value i).items) all.1 all.2
