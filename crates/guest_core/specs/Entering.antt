@@ -30,7 +30,8 @@ NoneMayForget guests now = (q t : ℕ) (h : Guest) → slice_get guests q ≡ So
 
 -- a client that was away comes again
 pub record ComesAgain (old : Guests) (name : List ℕ) (a : Entered) (new : Guests) : Type 0 where
-  pub place since : ℕ
+  pub place : ℕ
+  pub since : ℕ
   pub guest : Guest
   pub at : IsAt old name place guest
   pub away : guest.away ≡ Some since
@@ -44,7 +45,7 @@ abbrev pub GetsPlace : Guests → ℕ → Guest → Guests → Type 0
 GetsPlace old now g new =
     ((length old.guests < old.most) × (new ≡ with_guest old g))
     ⊎ ((old.most ≤ length old.guests) × ((p : ℕ) × (f : Guest) × IsLongestAway old.guests now p f
-        × (new ≡ with_other old p f g)))
+    × (new ≡ with_other old p f g)))
 
 -- a client of a new name comes, and gets the least free number
 pub record ComesNew (old : Guests) (name : List ℕ) (now : ℕ) (a : Entered) (new : Guests) : Type 0 where
