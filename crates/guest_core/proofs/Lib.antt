@@ -1,0 +1,5 @@
+pub mod Finding
+pub mod Items
+pub mod Judging
+pub mod Longest
+pub mod Sound
