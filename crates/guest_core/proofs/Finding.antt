@@ -18,7 +18,7 @@ Known guests find = (p : ℕ) (g : Guest) → slice_get guests p ≡ Some g → 
 abbrev pub Finds : (List ℕ → Option ℕ) → List ℕ → Option ℕ → (List ℕ → Option ℕ) → Type 0
 Finds find name at new = (q : List ℕ) → new q ≡ cond (bytes_eq name q) at (find q)
 
-which : (n q : List ℕ) → (n ≡ q) ⊎ (n ≢ q)
+pub which : (n q : List ℕ) → (n ≡ q) ⊎ (n ≢ q)
 which n q = by (bytes_eq n q) refl
   where
     by : (b : Bool) → bytes_eq n q ≡ b → (n ≡ q) ⊎ (n ≢ q)
