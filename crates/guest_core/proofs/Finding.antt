@@ -41,7 +41,7 @@ same_place p q is = ap (λ o. unwrap_or o p) is
 no_place : (p : ℕ) → None ≡ Some p → ⊥
 no_place p is = cc
 
-name_of : Guest → List ℕ
+abbrev name_of : Guest → List ℕ
 name_of g = g.name
 
 -- a client of a new name
