@@ -2,6 +2,8 @@ pub mod Finding
 pub mod Items
 pub mod Judging
 pub mod Longest
+pub mod Remembering
 pub mod Repeating
+pub mod Seating
 pub mod Sound
 pub mod Telling

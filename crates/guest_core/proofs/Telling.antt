@@ -290,7 +290,7 @@ one_step old new name renews t sound does stands = quiet old new name renews t (
 
 pub consecutive : KeysAreConsecutive
 consecutive name old new steps t begins stands = (t, nothing_yet, stands)
-consecutive name old new steps t (goes {_} {mid} step plays sound does) stands =
+consecutive name old new steps t (goes {mid} step plays sound does) stands =
     let before = consecutive name old mid _ t plays stands in
     let after = one_step mid new name step before.0 sound does before.2 in
     (after.0, further step before.1 does after.1, after.2)
