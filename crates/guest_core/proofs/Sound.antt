@@ -23,7 +23,7 @@ pub same_place : (p q : ℕ) → Named p ≡ Named q → p ≡ q
 same_place p q is = ap place_of is
 
 -- two places of one session are one
-one_place : (seats : List Seat) (s p q : ℕ) → slice_get seats s ≡ Some (Named p) → slice_get seats s ≡ Some (Named q) → p ≡ q
+pub one_place : (seats : List Seat) (s p q : ℕ) → slice_get seats s ≡ Some (Named p) → slice_get seats s ≡ Some (Named q) → p ≡ q
 one_place seats s p q is at = same_place p q (one_item seats s (Named p) (Named q) is at)
 
 -- a client changes, and keeps its name and its session

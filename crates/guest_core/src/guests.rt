@@ -1,6 +1,6 @@
 //! Who the clients of an object are.
 
-ghost use Rattle.std.specs.Prelude.{◌≡◌, ◌≢◌, ◌<◌, ℕ, [], map, IfOk, IfSome, IfNone, Some, None, Ok};
+ghost use Rattle.std.specs.Prelude.{◌≡◌, ◌≢◌, ◌<◌, ◌≤◌, ℕ, [], map, IfOk, IfSome, IfNone, Some, None, Ok};
 ghost use Rattle.std.specs.Prelude.{slice_get, length, OnOk, OnErr, true, false};
 ghost use Rattle.guest_core.specs.declared.guest.Guest.{Guest as AGuest};
 ghost use Rattle.guest_core.specs.declared.keys.Judged.TheVariants.{BadKey as IsBadKey};
@@ -100,6 +100,17 @@ impl Model for Guests {
     ghost invariant = { IsWhole };
 }
 
+// A client of a new name has come, and has this session.
+fn first_entered(session: u16) -> Entered
+    ensures { result ≡ record { session = session; next = 1; is_new = true } }
+{
+    Entered {
+        session,
+        next: 1,
+        is_new: true,
+    }
+}
+
 impl Guests {
     /// No client: sessions will have the numbers from 1 to `sessions`, and there will be `names` names before a new one
     /// takes the place of another. The error is that memory was refused.
@@ -130,19 +141,21 @@ impl Guests {
     }
 
     // A client that is known comes.
+    #[tactic(auto, using(crate::proofs::Whole::again_entered, crate::proofs::Whole::in_use, crate::proofs::Whole::sound_again))]
     fn come_again(&mut self, place: u16) -> Result<Entered, EnterFault>
         requires { place < length self.old.guests }
         ensures { (g : AGuest) (now : ℕ) → slice_get self.old.guests place ≡ Some g →
             Enters self.old g.name now result self.new }
     {
-        match self.roll.come(place) {
-            None => Err(EnterFault::InUse),
-            Some((session, next)) => Ok(Entered {
-                session,
-                next,
-                is_new: false,
-            }),
-        }
+        let Some(found) = self.roll.come(place) else {
+            return Err(EnterFault::InUse);
+        };
+        let (session, next) = found;
+        Ok(Entered {
+            session,
+            next,
+            is_new: false,
+        })
     }
 
     // A client of a new name comes.
@@ -154,22 +167,41 @@ impl Guests {
             return Err(EnterFault::Full);
         };
         if self.roll.len() < self.most as usize {
-            if self.settle(name, session, None, 1).is_err() {
-                return Err(EnterFault::Memory);
-            }
-        } else {
-            let Some(place) = self.roll.longest_away(now) else {
-                return Err(EnterFault::Full);
-            };
-            if self.displace(place, name, session, None, 1).is_err() {
-                return Err(EnterFault::Memory);
-            }
+            return self.come_more(name, session);
         }
-        Ok(Entered {
-            session,
-            next: 1,
-            is_new: true,
-        })
+        self.come_instead(name, session, now)
+    }
+
+    // A client of a new name gets this number, and the next place.
+    #[tactic(auto, using(crate::proofs::Whole::more_entered, crate::proofs::Whole::more_refused))]
+    fn come_more(&mut self, name: &Name, session: u16) -> Result<Entered, EnterFault>
+        requires new { IsUnknown self.old name.now }
+        requires room { length self.old.guests < self.old.most }
+        requires few { length self.old.guests < 65535 }
+        requires free { IsLeastFree self.old.seats session }
+        ensures { (now : ℕ) → Enters self.old name.now now result self.new }
+    {
+        let Ok(()) = self.settle(name, session, None, 1) else {
+            return Err(EnterFault::Memory);
+        };
+        Ok(first_entered(session))
+    }
+
+    // A client of a new name gets this number, and the place of the one that is away longest.
+    #[tactic(auto, using(crate::proofs::Whole::instead_entered, crate::proofs::Whole::instead_refused, crate::proofs::Whole::none_entered))]
+    fn come_instead(&mut self, name: &Name, session: u16, now: u64) -> Result<Entered, EnterFault>
+        requires new { IsUnknown self.old name.now }
+        requires full { self.old.most ≤ length self.old.guests }
+        requires free { IsLeastFree self.old.seats session }
+        ensures { Enters self.old name.now now result self.new }
+    {
+        let Some(place) = self.roll.longest_away(now) else {
+            return Err(EnterFault::Full);
+        };
+        let Ok(()) = self.displace(place, name, session, None, 1) else {
+            return Err(EnterFault::Memory);
+        };
+        Ok(first_entered(session))
     }
 
     // A client of a new name gets a free number, and the next place.
@@ -236,19 +268,52 @@ impl Guests {
         if !self.seats.is_free(session) {
             return Err(AdmitFault::Taken);
         }
-        let admitted = match self.roll.place_of(name) {
-            Some(place) => self.restart(place, session, Some(away), first),
-            None => {
-                if self.roll.len() >= MOST_SESSIONS as usize {
-                    return Err(AdmitFault::Full);
-                }
-                self.settle(name, session, Some(away), first)
-            }
-        };
-        match admitted {
-            Ok(()) => Ok(()),
-            Err(AllocError) => Err(AdmitFault::Memory),
+        match self.roll.place_of(name) {
+            Some(place) => self.admit_known(place, session, away, first),
+            None => self.admit_new(name, session, away, first),
         }
+    }
+
+    // The session of a known name is another one.
+    fn admit_known(
+        &mut self,
+        place: u16,
+        session: u16,
+        away: u64,
+        first: u64,
+    ) -> Result<(), AdmitFault>
+        requires within { place < length self.old.guests }
+        requires free { slice_get self.old.seats session ≡ Some AFree }
+        requires first { 0 < first }
+        ensures { (f : AGuest) → slice_get self.old.guests place ≡ Some f →
+            Admits self.old (guest_of f.name session (Some away) first) result self.new }
+    {
+        let Ok(()) = self.restart(place, session, Some(away), first) else {
+            return Err(AdmitFault::Memory);
+        };
+        Ok(())
+    }
+
+    // A session gets a new name.
+    fn admit_new(
+        &mut self,
+        name: &Name,
+        session: u16,
+        away: u64,
+        first: u64,
+    ) -> Result<(), AdmitFault>
+        requires new { IsUnknown self.old name.now }
+        requires free { slice_get self.old.seats session ≡ Some AFree }
+        requires first { 0 < first }
+        ensures { Admits self.old (guest_of name.now session (Some away) first) result self.new }
+    {
+        if self.roll.len() >= MOST_SESSIONS as usize {
+            return Err(AdmitFault::Full);
+        }
+        let Ok(()) = self.settle(name, session, Some(away), first) else {
+            return Err(AdmitFault::Memory);
+        };
+        Ok(())
     }
 
     // A client of a known name gets another number, and nothing is known of its calls.
@@ -404,10 +469,14 @@ impl Guests {
     }
 
     /// Whether a client has this name.
+    #[tactic(auto, using(crate::proofs::Whole::known_at))]
     pub fn knows(&self, name: &Name) -> bool
         ensures yes { result ≡ true → (p : ℕ) × (g : AGuest) × IsAt self.now name.now p g }
         ensures no { result ≡ false → IsUnknown self.now name.now }
     {
-        self.roll.place_of(name).is_some()
+        match self.roll.place_of(name) {
+            Some(_) => true,
+            None => false,
+        }
     }
 }

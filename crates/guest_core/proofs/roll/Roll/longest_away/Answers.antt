@@ -1,4 +1,4 @@
-use Rattle.std.proofs.Common.{◌∙◌, Some, refl, sym, ap, subst, arith}
+use Rattle.std.proofs.Common.{◌∙◌, ◌<◌, length, Some, refl, sym, ap, subst, arith}
 use Rattle.std.proofs.lemmas.Option.{slice_get-get_or}
 use Rattle.guest_core.specs.declared.guest.Guest.{Guest}
 use Rattle.guest_core.specs.Entering.{IsLongestAway, NoneMayForget}
@@ -8,7 +8,7 @@ use Rattle.guest_core.proofs.roll.Roll.longest_away.Goals as goal
 pub loop-place-preserved : goal.loop-place-preserved
 loop-place-preserved c =
     let items = c.self.inside.guests.items in
-    let within = omega (arith, c.loop-place-test.true, c.len-place-end.ensures, c.self.inside.guests.ok.0) in
+    let within : c.loop-place.place < length items = omega (arith, c.loop-place-test.true, c.len-place-end.ensures, c.self.inside.guests.ok.0) in
     let there = slice_get-get_or items c.loop-place.place c.index.result.now within ∙ ap Some (sym c.index.ensures) in (
       omega (arith, within),
       best_more items c.args.now c.loop-place.place c.loop-place.place c.index.result.now c.loop-place.best c.longer-best.result there refl c.loop-place.invariant.1
