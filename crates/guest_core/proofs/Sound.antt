@@ -9,7 +9,7 @@ use Rattle.guest_core.specs.Guests.{Guests, IsSound, IsUnknown, with_seat, with_
 use Rattle.guest_core.specs.Seats.{free_seats, renewed}
 use Rattle.guest_core.proofs.Items.{get_more, get_set, get_front, get_last, get_here, get_there, one_item}
 
-place_of : Seat → ℕ
+abbrev place_of : Seat → ℕ
 place_of Void = 0
 place_of Free = 0
 place_of Nameless = 0
