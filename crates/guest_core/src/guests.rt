@@ -75,8 +75,8 @@ pub enum AdmitFault {
 /// The clients of an object that have names, and the numbers of sessions.
 ///
 /// At most 65,535 sessions, and as many names; of each name 16 calls, with what they asked for and what they replied. So
-/// with 4,096 names of calls of a hundred bytes some 16 MB, and 300 KB where nobody has come. It is bounded by the limits
-/// alone, however many calls there were.
+/// with 4,096 names and calls of a hundred bytes some 20 MB, and 270 KB where nobody has come. It is bounded by the limits
+/// and the longest line of a call alone, however many calls there were.
 #[derive(Drop)]
 pub struct Guests {
     roll: Roll,
@@ -331,8 +331,8 @@ impl Guests {
             self.new ≡ with_other self.old place f (guest_of f.name session away first)) }
         ensures err { OnErr result (self.new ≡ self.old) }
     {
-        let old = self.roll.restart(place, session, away, first)?;
-        self.seats.set(old, Seat::Retired);
+        let was = self.roll.restart(place, session, away, first)?;
+        self.seats.set(was, Seat::Retired);
         self.seats.set(session, Seat::Named(place));
         Ok(())
     }
