@@ -14,9 +14,6 @@ use Rattle.word_core.proofs.Clear.{written_clear}
 use Rattle.word_core.proofs.Written.{written_words}
 use Rattle.front_core.specs.Reads.{IsLine}
 
-IsOther : ℕ → Type 0
-IsOther b = (b == 10) ≡ false
-
 is_other : (b : ℕ) → (b == 10) ≡ false → b ≡ 10 → ⊥
 is_other b h same = grind (arith, nat_tests)
 
@@ -59,8 +56,3 @@ written_found line words found is same are =
 
 pub some_words : (line : List ℕ) (words : List Word) → IsLine words → line ≡ words_text words → ((all : List Word) → AreWords line all → ⊥) → ⊥
 some_words line words is same none = none words (subst (λ l. AreWords l words) (sym same) (written_words words is.each))
-
--- what stands on a line is words
-pub are_words : (line : List ℕ) (words : List Word) → AreWords line words → EachWord words
-are_words line [] are = tt
-are_words line (w ∷ words) are = (are.1.is, are_words are.0 words are.2)

@@ -1,6 +1,8 @@
 -- What is read of the words of a line.
 use Rattle.std.proofs.Common.{◌≡◌, ◌≢◌, ℕ, zero, suc, ◌+◌, ◌<◌, ◌≤◌, ◌^◌, Bool, true, false, cond, inl, inr, List, [], ◌∷◌, ◌++◌, length, refl, sym, ap, subst, ◌∙◌, arith, map, length-map}
 use Rattle.std.specs.Prelude.{All, Option, Some, None, MatchOption, IfSome, codes, decimal, nat_lt, nat_le, ◌&&◌, slice_index_or, bytes_eq, option_map}
+use Rattle.std.specs.List.{list_all}
+use Rattle.std.specs.Char.{is_ascii_digit}
 use Rattle.std.specs.Str.{all_ascii_digits}
 use Rattle.std.specs.Str.Parse.{digits_value}
 use Rattle.std.proofs.lemmas.Bool.{and_parts}
@@ -9,19 +11,33 @@ use Rattle.std.proofs.lemmas.Slice.Eq.{bytes_eq-Decides}
 use Rattle.std.proofs.lemmas.Fmt.{digits_decimal, digits_value-decimal, decimal_nonempty}
 use Rattle.std.proofs.lemmas.List.Elements.{All-nil, All-cons, All-head, All-tail}
 use Rattle.path_tree.specs.Known.{place_of, next}
-use Rattle.path_tree.specs.Identifier.{IsName}
+use Rattle.path_tree.specs.Identifier.{IsName, IsLetter}
 use Rattle.path_tree.proofs.Below.{place_below}
 use Rattle.value_core.specs.declared.datum.Datum.{Datum}
 use Rattle.value_core.specs.declared.datum.Datum.TheVariants.{Integer, Text}
 use Rattle.value_core.specs.Datum.{IsDatum}
 use Rattle.decl_core.specs.ObjectForm.{ObjectForm, OperationForm}
+use Rattle.decl_core.specs.RefusalWord.{IsRefusalWord, IsLower}
+use Rattle.apply_core.specs.declared.reply.Failure.{Failure}
+use Rattle.apply_core.specs.declared.reply.Failure.TheVariants.{Device, Memory, Damaged}
+use Rattle.apply_core.specs.declared.reply.Reply.{Reply}
+use Rattle.apply_core.specs.declared.reply.Reply.TheVariants.{Done, Refused, Failed}
 use Rattle.word_core.specs.Words.{Word, bare, quoted, EachWord, IsWord}
-use Rattle.word_core.specs.Data.{◌>>=◌, integer_of, session_of, datum_of, data_of, datum_word, session_bytes, bare_of}
-use Rattle.word_core.proofs.Numerals.{digits, integer_of-decimal}
-use Rattle.trace_core.specs.Text.{operation_name}
+use Rattle.word_core.specs.Data.{◌>>=◌, integer_of, session_of, datum_of, data_of, datum_word, session_bytes, session_word, bare_of}
+use Rattle.word_core.proofs.Numerals.{digits, integer_of-decimal, no_digits, same_test}
+use Rattle.word_core.proofs.Written.{written_session, written_datum}
+use Rattle.trace_core.specs.Text.{operation_name, failure_word}
 use Rattle.trace_core.specs.Laws.{HasNames}
-use Rattle.front_core.specs.Front.{IsOperation}
-use Rattle.front_core.specs.Reads.{long_of, place_in}
+use Rattle.front_core.specs.declared.past.PastRun.{PastRun}
+use Rattle.front_core.specs.declared.past.PastRun.TheVariants.{Calls, Begins, Ends}
+use Rattle.front_core.specs.declared.front.Answer.{Answer}
+use Rattle.front_core.specs.declared.front.Answer.TheVariants.{Replied, Cancelled}
+use Rattle.front_core.specs.Front.{IsOperation, IsRun, IsAnswer}
+use Rattle.front_core.specs.Text.{run_words, answer_words}
+use Rattle.front_core.specs.Reads.{long_of, place_in, run_of, run_by, carried_head, kept_head, client_of, is_lower, refused_by, failed_by}
+use Rattle.front_core.specs.declared.answer.Told.{Told}
+use Rattle.front_core.specs.declared.answer.Told.TheVariants as told
+use Rattle.front_core.specs.Told.{answer_of, told_front, behind_told}
 
 some_same : {A : Type 0} (x y : A) → Some x ≡ Some y → x ≡ y
 some_same x y is = cc
@@ -34,38 +50,6 @@ long_of-decimal n small =
     let value : digits_value 10 (decimal n) ≡ n = digits_value-decimal digits n small in
     let few : nat_lt n 18446744073709551616 ≡ true = grind (arith, nat_tests) in
     rw (some, are, value, few) refl
-
-few_of : (b : Bool) (n m : ℕ) → cond b (Some n) None ≡ Some m → (b ≡ true) × (n ≡ m)
-few_of true n m is = let e : n ≡ m = cc in (refl, e)
-few_of false n m is = absurd cc
-
-pub integer_small : (bytes : List ℕ) (n : ℕ) → integer_of bytes ≡ Some n → n < 2 ^ 32
-integer_small bytes n is =
-    let both = few_of (nat_lt 0 (length bytes) && (all_ascii_digits bytes && nat_lt (digits_value 10 bytes) 4294967296)) (digits_value 10 bytes) n is in
-    let small = (and_parts (all_ascii_digits bytes) (nat_lt (digits_value 10 bytes) 4294967296) (and_parts (nat_lt 0 (length bytes)) (all_ascii_digits bytes && nat_lt (digits_value 10 bytes) 4294967296) both.0).1).1 in
-    let value = both.1 in
-    subst (λ k. k < 2 ^ 32) value (small_of (digits_value 10 bytes) small)
-where
-  small_of : (v : ℕ) → nat_lt v 4294967296 ≡ true → v < 2 ^ 32
-  small_of v h = grind (arith, nat_tests)
-
--- data
-pub datum_is : (word : Word) (datum : Datum) → IsWord word → datum_of word ≡ Some datum → IsDatum datum
-datum_is (bare bytes) datum is found = bare_datum bytes (integer_of bytes) datum refl found
-where
-  bare_datum : (bytes : List ℕ) (o : Option ℕ) (datum : Datum) → integer_of bytes ≡ o → option_map Integer o ≡ Some datum → IsDatum datum
-  bare_datum bytes None datum same found = absurd cc
-  bare_datum bytes (Some n) datum same found = subst IsDatum (some_same (Integer n) datum found) (integer_small bytes n same)
-datum_is (quoted text) datum is found = subst IsDatum (some_same (Text text) datum found) is
-
-pub data_are : (words : List Word) (data : List Datum) → EachWord words → data_of words ≡ Some data → All IsDatum data
-data_are [] data each found = subst (All IsDatum) (some_same [] data found) (All-nil IsDatum)
-data_are (word ∷ words) data each found = more (datum_of word) (data_of words) data refl refl found
-where
-  more : (a : Option Datum) (b : Option (List Datum)) (data : List Datum) → datum_of word ≡ a → data_of words ≡ b → a >>= (λ datum. b >>= λ others. Some (datum ∷ others)) ≡ Some data → All IsDatum data
-  more None b data p q found = absurd cc
-  more (Some d) None data p q found = absurd cc
-  more (Some d) (Some ds) data p q found = subst (All IsDatum) (some_same (d ∷ ds) data found) (All-cons IsDatum d ds (datum_is word d each.0 p) (data_are words ds each.1 q))
 
 -- operations
 named_at : (b : Bool) (x name : List ℕ) (xs : List (List ℕ)) (o : Option ℕ) (op : ℕ) → (b ≡ true → x ≡ name) → ((k : ℕ) → o ≡ Some k → slice_index_or xs k [] ≡ name) → cond b (Some 0) (next o) ≡ Some op → slice_index_or (x ∷ xs) op [] ≡ name
@@ -86,3 +70,88 @@ operation_is o name op is = record {
   there = omega (arith, place_below (map (λ f. f.name) o.operations) name op is, length-map o.operations (λ f. f.name));
   first = ap (place_in o) (found_name o name op is) ∙ is;
 }
+
+name_of_operation : (operations : List OperationForm) (place : ℕ) → All (λ f. IsName f.name) operations → place < length operations → IsName (slice_index_or (map (λ f. f.name) operations) place [])
+name_of_operation [] place names within = absurd (omega arith)
+name_of_operation (x ∷ operations) zero names within = All-head (λ f. IsName f.name) x operations names
+name_of_operation (x ∷ operations) (suc place) names within = name_of_operation operations place (All-tail (λ f. IsName f.name) x operations names) (omega arith)
+
+letter_no_digit : (b : ℕ) → IsLetter b → is_ascii_digit b ≡ false
+letter_no_digit b (inl h) = grind (arith, nat_tests)
+letter_no_digit b (inr h) = grind (arith, nat_tests)
+
+name_no_integer : (name : List ℕ) → IsName name → integer_of name ≡ None
+name_no_integer [] is = absurd is.0
+name_no_integer (b ∷ name) is = no_digits (b ∷ name) (sym (same_test (b ∷ name)) ∙ ap (λ t. t && list_all is_ascii_digit name) (letter_no_digit b is.0.0))
+
+-- the name of an operation is no integer
+pub op_no_integer : (o : ObjectForm) (op : ℕ) → HasNames o → IsOperation o op → integer_of (operation_name o op) ≡ None
+op_no_integer o op named is = name_no_integer (operation_name o op) (name_of_operation o.operations op named.operations is.there)
+
+-- a line of a past
+pub run_found : (o : ObjectForm) (run : PastRun) → HasNames o → IsRun o run → run_of o (run_words o run) ≡ Some run
+run_found o (Calls op count) named is =
+    let low : nat_le 1 count ≡ true = let h = is.1.0 in grind (arith, nat_tests) in
+    let high : nat_le count 65536 ≡ true = let h = is.1.1 in grind (arith, nat_tests) in
+    let number : integer_of (decimal count) ≡ Some count = integer_of-decimal count (let h = is.1.1 in omega (arith, h)) in
+    ap (run_by o (operation_name o op) (decimal count)) number ∙ rw (low, high, is.0.first) refl
+run_found o (Begins op) named is = ap (run_by o (codes "begin") (operation_name o op)) (op_no_integer o op named is) ∙ rw (is.first) refl
+run_found o (Ends op) named is = ap (run_by o (codes "end") (operation_name o op)) (op_no_integer o op named is) ∙ rw (is.first) refl
+
+-- the numbers at the front of a waiting call, and of a remembered one
+pub carried_found : (number told session : ℕ) (words : List Word) → number < 2 ^ 32 → told < 2 ^ 64 → session < 2 ^ 32
+    → carried_head (bare (decimal number) ∷ bare (decimal told) ∷ session_word session ∷ words) ≡ Some ((number, told, session), words)
+carried_found number told session words a b c = rw (integer_of-decimal number a, long_of-decimal told b, (written_session session c).1) refl
+
+pub kept_found : (session key told : ℕ) (words : List Word) → session < 2 ^ 32 → key < 2 ^ 32 → told < 2 ^ 64
+    → kept_head (session_word session ∷ bare (decimal key) ∷ bare (decimal told) ∷ words) ≡ Some ((session, key, told), words)
+kept_found session key told words a b c = rw ((written_session session a).1, integer_of-decimal key b, long_of-decimal told c) refl
+
+pub client_found : (session : ℕ) (name : List ℕ) (keys : ℕ) → session < 2 ^ 32 → keys < 2 ^ 32
+    → client_of (session_word session ∷ bare name ∷ bare (decimal keys) ∷ []) ≡ Some (session, name, keys)
+client_found session name keys a b = rw ((written_session session a).1, integer_of-decimal keys b) refl
+
+-- how a remembered call ended
+all_lower : (bytes : List ℕ) → All IsLower bytes → list_all is_lower bytes ≡ true
+all_lower [] each = refl
+all_lower (b ∷ bytes) each = rw (low b (All-head IsLower b bytes each), all_lower bytes (All-tail IsLower b bytes each)) refl
+where
+  low : (b : ℕ) → IsLower b → is_lower b ≡ true
+  low b h = grind (arith, nat_tests)
+
+refusal_found : (word : List ℕ) → IsRefusalWord word → refused_by word ≡ Some (Refused word)
+refusal_found word is =
+    let some : nat_lt 0 (length word) ≡ true = let h = is.some in grind (arith, nat_tests) in
+    let few : nat_le (length word) 16 ≡ true = let h = is.few in grind (arith, nat_tests) in
+    rw (some, few, all_lower word is.lower) refl
+
+failure_found : (failure : Failure) → failed_by (failure_word failure) ≡ Some (Failed failure)
+failure_found Device = refl
+failure_found Memory = refl
+failure_found Damaged = refl
+
+-- how an answer is told
+abbrev pub told_of : Answer → Told
+told_of (Replied reply) = told.Replied reply
+told_of Cancelled = told.Cancelled
+
+pub answer_again : (answer : Answer) → answer_of (told_of answer) ≡ answer
+answer_again (Replied reply) = refl
+answer_again Cancelled = refl
+
+-- behind the answer stands a word that is no integer and no text
+pub told_found : (answer : Answer) (name : List ℕ) (words : List Word) → IsAnswer answer → integer_of name ≡ None
+    → told_front (answer_words answer ++ bare name ∷ words) ≡ Some (told_of answer)
+told_found (Replied (Done None)) name words is none = rw none refl
+told_found (Replied (Done (Some datum))) name words is none = rw ((written_datum datum is).1) refl
+told_found (Replied (Refused word)) name words is none = rw (refusal_found word is) refl
+told_found (Replied (Failed failure)) name words is none = rw (failure_found failure) refl
+told_found Cancelled name words is none = refl
+
+pub behind_found : (answer : Answer) (name : List ℕ) (words : List Word) → IsAnswer answer → integer_of name ≡ None
+    → behind_told (answer_words answer ++ bare name ∷ words) ≡ Some (bare name ∷ words)
+behind_found (Replied (Done None)) name words is none = rw none refl
+behind_found (Replied (Done (Some datum))) name words is none = rw ((written_datum datum is).1) refl
+behind_found (Replied (Refused word)) name words is none = refl
+behind_found (Replied (Failed failure)) name words is none = refl
+behind_found Cancelled name words is none = refl

@@ -2,7 +2,7 @@
 use Rattle.std.proofs.Common.{◌≡◌, ◌≢◌, ℕ, zero, suc, ◌<◌, ◌≤◌, ◌^◌, ◌/◌, ◌%◌, true, List, [], ◌∷◌, ◌++◌, length, refl, sym, ap, subst, arith, inl, inr, map}
 use Rattle.std.specs.Prelude.{All, Some, None, codes, decimal, nat_lt, ◌&&◌, Bool, slice_index, slice_index_or}
 use Rattle.std.specs.List.{list_all}
-use Rattle.std.specs.Int.{w64, to_be_bytes}
+use Rattle.std.specs.Int.{w64, to_be_bytes, byte_at, bytes_high_first}
 use Rattle.std.proofs.lemmas.Bool.{and_parts}
 use Rattle.std.proofs.lemmas.Bool.Decides.{nat_tests}
 use Rattle.std.proofs.lemmas.List.Sums.{AllPass-from_list_all}
@@ -34,7 +34,7 @@ use Rattle.front_core.specs.declared.front.Client.{Client}
 use Rattle.front_core.specs.declared.front.KeptCall.{KeptCall}
 use Rattle.front_core.specs.declared.front.Answer.{Answer}
 use Rattle.front_core.specs.declared.front.Answer.TheVariants.{Replied, Cancelled}
-use Rattle.front_core.specs.Front.{IsOperation, IsCall, IsRun, IsCarried, IsClient, IsKept, IsAnswer, IsLong}
+use Rattle.front_core.specs.Front.{Every, IsOperation, IsCall, IsRun, IsCarried, IsClient, IsKept, IsAnswer, IsLong}
 use Rattle.front_core.specs.Text.{object_words, source_words, base_words, run_words, call_words, carried_words, client_words, answer_words, kept_words}
 use Rattle.front_core.specs.Reads.{IsLine}
 
@@ -86,6 +86,18 @@ hex_each (b ∷ rest) are =
     let h : b < 256 = are 0 in
     All-cons IsSafeByte (slice_index lower_digits (b / 16)) (slice_index lower_digits (b % 16) ∷ encode_lower rest) (hex_digit (b / 16) (omega (arith, h))) (All-cons IsSafeByte (slice_index lower_digits (b % 16)) (encode_lower rest) (hex_digit (b % 16) (omega (arith, h))) (hex_each rest (λ i. are (suc i))))
 
+left_small : (n : ℕ) → n % 256 < 256
+left_small n = omega arith
+
+byte_small : (k n : ℕ) → byte_at k n < 256
+byte_small zero n = left_small n
+byte_small (suc k) n = left_small (n / 256 ^ suc k)
+
+pub high_bytes : (k n i : ℕ) → slice_index (bytes_high_first k n) i < 256
+high_bytes zero n i = omega arith
+high_bytes (suc k) n zero = byte_small k n
+high_bytes (suc k) n (suc i) = high_bytes k n i
+
 -- words as traces have them
 operation_safe : (operations : List OperationForm) (place : ℕ) → All (λ f. IsName f.name) operations → place < length operations → IsSafe (slice_index_or (map (λ f. f.name) operations) place [])
 operation_safe [] place names within = absurd (omega arith)
@@ -96,9 +108,9 @@ datum_safe : (datum : Datum) → IsDatum datum → IsSafeWord (datum_word datum)
 datum_safe (Integer n) is = decimal_safe n (omega (arith, is))
 datum_safe (Text text) is = is
 
-data_safe : (elements : List Datum) → All IsDatum elements → EachSafe (map datum_word elements)
+data_safe : (elements : List Datum) → Every IsDatum elements → EachSafe (map datum_word elements)
 data_safe [] each = tt
-data_safe (datum ∷ elements) each = (datum_safe datum (All-head IsDatum datum elements each), data_safe elements (All-tail IsDatum datum elements each))
+data_safe (datum ∷ elements) each = (datum_safe datum each.0, data_safe elements each.1)
 
 pub op_safe : (o : ObjectForm) (op : ℕ) → HasNames o → IsOperation o op → IsSafe (operation_name o op)
 op_safe o op named is = operation_safe o.operations op named.operations is.there
@@ -142,6 +154,9 @@ safe_line words each = record { each = each_word words each; clear = each_clear 
 
 pub object_line : (name : List ℕ) (epoch : ℕ) → IsName name → IsLong epoch → IsLine (object_words name epoch)
 object_line name epoch named few = safe_line (object_words name epoch) (known (codes "object") refl refl, (name_safe name named, (known (codes "epoch") refl refl, (decimal_safe epoch few, tt))))
+
+pub source_line : (source : ℕ) → IsLine (source_words source)
+source_line source = safe_line (source_words source) (known (codes "source") refl refl, (record { some = omega arith; each = hex_each (to_be_bytes w64 source) (high_bytes 8 source) }, tt))
 
 pub base_line : (base : ℕ) → IsLong base → IsLine (base_words base)
 base_line base few = safe_line (base_words base) (known (codes "base") refl refl, (decimal_safe base few, tt))

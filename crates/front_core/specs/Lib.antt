@@ -1,4 +1,7 @@
+pub mod Exact
 pub mod Front
 pub mod Past
 pub mod Reads
 pub mod Text
+pub mod Told
+pub mod Whole

@@ -7,12 +7,9 @@ use Rattle.std.specs.Str.Parse.{digits_value}
 use Rattle.std.specs.Borrow.{Bor}
 use Rattle.path_tree.specs.Known.{place_of}
 use Rattle.decl_core.specs.ObjectForm.{ObjectForm}
-use Rattle.value_core.specs.declared.datum.Datum.{Datum}
 use Rattle.apply_core.specs.declared.reply.Failure.TheVariants.{Device, Memory, Damaged}
 use Rattle.apply_core.specs.declared.reply.Reply.{Reply}
-use Rattle.apply_core.specs.declared.reply.Reply.TheVariants.{Done, Refused, Failed}
-use Rattle.front_core.specs.declared.front.Answer.{Answer}
-use Rattle.front_core.specs.declared.front.Answer.TheVariants.{Replied, Cancelled}
+use Rattle.apply_core.specs.declared.reply.Reply.TheVariants.{Refused, Failed}
 use Rattle.front_core.specs.declared.past.PastRun.{PastRun}
 use Rattle.front_core.specs.declared.past.PastRun.TheVariants.{Calls, Begins, Ends}
 use Rattle.word_core.specs.Words.{Word, bare, quoted, EachWord, EachClear}
@@ -108,31 +105,6 @@ failed_by bytes =
     else if bytes_eq bytes (codes "memory") then Some (Failed Memory)
     else if bytes_eq bytes (codes "damaged") then Some (Failed Damaged)
     else None
-
--- how a call ended that was done, with what stands behind `done`: an integer or a text, or the name of its operation
-abbrev pub done_by : Option Datum → List Word → List Word → Reply × List Word
-done_by (Some datum) words more = (Done (Some datum), more)
-done_by None words more = (Done None, words)
-
-abbrev pub done_front : List Word → Reply × List Word
-done_front [] = (Done None, [])
-done_front (word ∷ more) = done_by (datum_of word) (word ∷ more) more
-
--- what was replied to a remembered call, `None` where it was cancelled, and the words behind that
-abbrev pub answer_by : List ℕ → List Word → Option (Option Reply × List Word)
-answer_by verb words =
-    if bytes_eq verb (codes "done") then Some (Some (done_front words).0, (done_front words).1)
-    else if bytes_eq verb (codes "refused") then (at_front refused_by words >>= λ r. Some (Some r.0, r.1))
-    else if bytes_eq verb (codes "failed") then (at_front failed_by words >>= λ r. Some (Some r.0, r.1))
-    else if bytes_eq verb (codes "cancelled") then Some (None, words)
-    else None
-
-abbrev pub answer_front : List Word → Option (Option Reply × List Word)
-answer_front words = bare_of words >>= λ verb. answer_by verb.0 verb.1
-
-abbrev pub answer_of : Option Reply → Answer
-answer_of (Some reply) = Replied reply
-answer_of None = Cancelled
 
 abbrev pub rest_view : Bor (List declared.Word) → List Word
 rest_view b = words_of b.now

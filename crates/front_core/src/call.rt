@@ -1,12 +1,11 @@
 //! Calls, as the lines of a front tell them.
 
-ghost use Rattle.std.specs.Prelude.{◌≡◌, ◌≤◌, ◌∷◌, ℕ, List, Some, IfOk, IfSome, option_map, length};
+ghost use Rattle.std.specs.Prelude.{◌≡◌, ℕ, List, Some, IfOk, IfSome, option_map};
+ghost use Rattle.value_core.specs.Datum.{IsDatum};
 ghost use Rattle.value_core.specs.declared.datum.Datum.{Datum as ADatum};
 ghost use Rattle.decl_core.specs.ObjectMap.{object_of};
-ghost use Rattle.word_core.specs.Words.{EachWord};
 ghost use Rattle.word_core.specs.View.{words_of as words_in};
-ghost use Rattle.trace_core.specs.Laws.{HasNames};
-ghost use Rattle.front_core.specs.Front.{IsCall};
+ghost use Rattle.front_core.specs.Front.{Every, IsCall};
 ghost use Rattle.front_core.specs.Text.{call_words};
 ghost use Rattle.front_core.specs.Reads.{carried_head as carried_head_in, kept_head as kept_head_in, heads_view};
 
@@ -16,6 +15,7 @@ use decl_core::object::Object;
 use path_tree::node::OpId;
 use short_core::slim::Slims;
 use std::alloc::{AllocError, Global};
+use value_core::datum::Datum;
 use word_core::word::Word;
 use word_core::words::{bare_of, data_of};
 
@@ -43,6 +43,31 @@ pub(crate) fn kept_head<'a, 'b>(
     Some(((session, key, told), rest))
 }
 
+// Looks at integers and texts, for what each of them is.
+fn see_data(arguments: &[Datum])
+    ensures { Every IsDatum arguments.now }
+{
+    match arguments {
+        [] => {}
+        [first, rest @ ..] => {
+            see_datum(first);
+            see_data(rest);
+        }
+    }
+}
+
+/// Looks at an integer or a text, for what each is: below 2^32, or at most 1,000 bytes from 32 to 126.
+pub(crate) fn see_datum(datum: &Datum)
+    ensures { IsDatum datum.now }
+{
+    match datum {
+        Datum::Integer(_) => {}
+        Datum::Text(text) => {
+            let _bytes = text.bytes();
+        }
+    }
+}
+
 /// The operation that the first word names, and the arguments that the words behind it are, where they fit it.
 pub(crate) fn call_of(
     alloc: Global,
@@ -52,8 +77,7 @@ pub(crate) fn call_of(
     ensures found { (op : ℕ) (arguments : List ADatum) → IsCall (object_of object.now) op arguments →
         words_in words.now ≡ call_words (object_of object.now) op arguments →
         IfOk result (λ found. found ≡ Some (op, arguments)) }
-    ensures told { EachWord (words_in words.now) → IfOk result (λ found. IfSome found (λ c.
-        IsCall (object_of object.now) c.0 c.1)) }
+    ensures told { IfOk result (λ found. IfSome found (λ c. IsCall (object_of object.now) c.0 c.1)) }
 {
     let Some((name, rest)) = bare_of(words) else {
         return Ok(None);
@@ -67,6 +91,7 @@ pub(crate) fn call_of(
     if !arguments_fit(&object.operations[operation as usize], &arguments) {
         return Ok(None);
     }
+    see_data(&arguments);
     let arguments = Slims::new(alloc, &arguments)?;
     Ok(Some((operation, arguments)))
 }

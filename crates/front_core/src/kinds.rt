@@ -5,7 +5,7 @@ ghost use Rattle.decl_core.specs.ObjectMap.{object_of};
 ghost use Rattle.word_core.specs.View.{words_of as words_in};
 ghost use Rattle.front_core.specs.Reads.{run_of as run_in, run_by as run_by_in, client_of as client_in, client_view};
 
-use crate::answer::{answer_front, answer_of};
+use crate::answer::{answer_of, behind_told, is_told, told_front};
 use crate::call::{call_of, carried_head, kept_head};
 use crate::fault::Cause;
 use crate::front::{CarriedCall, Client, KeptCall};
@@ -212,13 +212,19 @@ impl Row for KeptCall {
         if key == 0 || !is_session(session) {
             return Ok(None);
         }
-        let Some((reply, rest)) = answer_front(rest) else {
+        let Some(told_reply) = told_front(rest) else {
             return Ok(None);
         };
+        let Some(rest) = behind_told(rest) else {
+            return Ok(None);
+        };
+        if !is_told(&told_reply) {
+            return Ok(None);
+        }
         let Some((operation, arguments)) = call_of(alloc, object, rest)? else {
             return Ok(None);
         };
-        let answer = answer_of(alloc, &reply)?;
+        let answer = answer_of(alloc, &told_reply)?;
         Ok(Some(KeptCall {
             session,
             key,

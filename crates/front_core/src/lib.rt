@@ -8,6 +8,7 @@
 
 mod answer;
 mod call;
+mod checks;
 pub mod fault;
 pub mod front;
 mod kinds;

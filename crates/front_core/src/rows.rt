@@ -1,9 +1,9 @@
 //! Lines of one kind that stand behind each other.
 
-ghost use Rattle.std.specs.Prelude.{◌≡◌, ◌++◌, ◌∷◌, ◌<◌, ℕ, List, Some, IfOk, IfSome, OnOk, length};
+ghost use Rattle.std.specs.Prelude.{◌≡◌, [], ◌++◌, ◌∷◌, ◌<◌, ℕ, List, Some, IfOk, IfSome, OnOk, length};
 ghost use Rattle.decl_core.specs.ObjectForm.{ObjectForm};
 ghost use Rattle.decl_core.specs.ObjectMap.{object_of};
-ghost use Rattle.word_core.specs.Words.{Word as AWord, bare, EachWord, line_of};
+ghost use Rattle.word_core.specs.Words.{Word as AWord, bare, line_of};
 ghost use Rattle.word_core.specs.View.{words_of as words_in};
 ghost use Rattle.trace_core.specs.Laws.{HasNames};
 ghost use Rattle.trace_core.specs.Text.{lines_of};
@@ -43,8 +43,7 @@ pub(crate) trait Row: Sized + Drop {
     ) -> Result<Option<Self>, AllocError>
         ensures found { (x : Self) → HasNames (object_of object.now) → is (object_of object.now) x →
             words_in behind.now ≡ words (object_of object.now) x → IfOk result (λ found. found ≡ Some x) }
-        ensures told { EachWord (words_in behind.now) → IfOk result (λ found.
-            IfSome found (is (object_of object.now))) };
+        ensures told { IfOk result (λ found. IfSome found (is (object_of object.now))) };
 }
 
 // What the first line of a text tells, and the text behind it.

@@ -7,7 +7,7 @@ ghost use Rattle.std.specs.Str.Parse.{digits_value};
 ghost use Rattle.std.specs.List.{list_all};
 ghost use Rattle.std.specs.Char.{is_ascii_digit};
 ghost use Rattle.line_core.specs.Runs.{NoLineFeed};
-ghost use Rattle.word_core.specs.Words.{Word as AWord, EachWord, line_of};
+ghost use Rattle.word_core.specs.Words.{Word as AWord, line_of};
 ghost use Rattle.word_core.specs.View.{words_of as words_in};
 ghost use Rattle.word_core.specs.Data.{integer_of as integer_in, session_of as session_in};
 ghost use Rattle.path_tree.specs.Known.{place_of};
@@ -41,7 +41,6 @@ pub(crate) fn line_words<'a>(
 ) -> Result<Option<(Vec<Word<'a>>, &'a [u8])>, AllocError>
     ensures found { (words : List AWord) (more : List ℕ) → IsLine words → text.now ≡ line_of words ++ more →
         IfOk result (λ found. MatchOption found ⊥ (λ p. (words_in p.0.items ≡ words) × (p.1.now ≡ more))) }
-    ensures each { IfOk result (λ found. IfSome found (λ p. EachWord (words_in p.0.items))) }
     ensures shorter { IfOk result (λ found. IfSome found (λ p. length p.1.now < length text.now)) }
 {
     let Some((line, rest)) = cut_line(text) else {
