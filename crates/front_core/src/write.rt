@@ -135,8 +135,8 @@ fn push_run(out: &mut Vec<u8>, object: &Object, run: PastRun) -> Result<(), Allo
 pub fn push_past(out: &mut Vec<u8>, object: &Object, past: &[PastRun]) -> Result<(), AllocError>
     ensures { OnOk result (out.new.items ≡ out.old.items ++ runs_text (object_of object.now) past.now) }
 {
-    for place in 0..past.len() {
-        push_run(out, object, past[place])?;
+    for run in past {
+        push_run(out, object, *run)?;
     }
     Ok(())
 }
