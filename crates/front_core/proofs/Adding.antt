@@ -2,7 +2,8 @@
 use Rattle.std.proofs.Common.{◌≡◌, ℕ, ◌+◌, ◌<◌, List, [], ◌∷◌, ◌++◌, length, take, get_or, map, refl, sym, ap, ◌∙◌, append_assoc, arith}
 use Rattle.std.specs.List.{flat_map}
 use Rattle.std.proofs.lemmas.List.{take_more, append-nil}
-use Rattle.word_core.specs.Words.{Word, bare, line_of}
+use Rattle.word_core.specs.Words.{Word, bare, line_of, word_text, behind_word, words_text}
+use Rattle.word_core.proofs.Shown.{behind-append}
 use Rattle.trace_core.specs.Text.{lines_of}
 use Rattle.front_core.specs.Text.{rows}
 use Rattle.front_core.specs.declared.past.PastRun.{PastRun}
@@ -27,3 +28,16 @@ events_push (r ∷ runs) run = ap (λ t. events_of_run r ++ t) (events_push runs
 pub events_more : (before after : List PastEvent) (all : List PastRun) (i : ℕ) (x : PastRun) → i < length all → x ≡ get_or all i x → before ≡ events_in (take i all) → after ≡ before ++ events_in (x ∷ []) → after ≡ events_in (take (i + 1) all)
 events_more before after all i x inside is was more =
     more ∙ ap (λ t. t ++ events_in (x ∷ [])) was ∙ sym (events_push (take i all) x) ∙ ap events_in (ap (λ y. take i all ++ y ∷ []) is ∙ sym (take_more all i x inside))
+
+-- a line that was written in three pieces
+pub in_three : (out one two three : List ℕ) (w : Word) (ws a b : List Word) → one ≡ out ++ words_text (w ∷ ws) → two ≡ one ++ behind_word a → three ≡ two ++ (behind_word b ++ 10 ∷ []) → three ≡ out ++ line_of (w ∷ (ws ++ (a ++ b)))
+in_three out one two three w ws a b first second third =
+    let x = word_text w in
+    let p = behind_word ws in
+    let q = behind_word a in
+    let r = behind_word b ++ 10 ∷ [] in
+    let parts : behind_word (ws ++ (a ++ b)) ≡ p ++ (q ++ behind_word b) = behind-append ws (a ++ b) ∙ ap (λ t. p ++ t) (behind-append a b) in
+    third ∙ ap (λ t. t ++ r) second ∙ ap (λ t. (t ++ q) ++ r) first
+    ∙ append_assoc (out ++ (x ++ p)) q r ∙ append_assoc out (x ++ p) (q ++ r) ∙ ap (λ t. out ++ t) (append_assoc x p (q ++ r))
+    ∙ ap (λ t. out ++ (x ++ t)) (sym (append_assoc p (q ++ behind_word b) (10 ∷ []) ∙ ap (λ t. p ++ t) (append_assoc q (behind_word b) (10 ∷ []))))
+    ∙ ap (λ t. out ++ (x ++ (t ++ 10 ∷ []))) (sym parts) ∙ ap (λ t. out ++ t) (sym (append_assoc x (behind_word (ws ++ (a ++ b))) (10 ∷ [])))
