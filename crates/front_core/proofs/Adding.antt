@@ -15,19 +15,19 @@ rows_push verb words [] x = append-nil (line_of (bare verb ∷ words x))
 rows_push verb words (y ∷ xs) x =
     ap (λ t. line_of (bare verb ∷ words y) ++ t) (rows_push verb words xs x) ∙ sym (append_assoc (line_of (bare verb ∷ words y)) (lines_of (rows verb words xs)) (line_of (bare verb ∷ words x)))
 
-pub rows_more : {X : Type 0} (verb : List ℕ) (words : X → List Word) (first before after : List ℕ) (all : List X) (i : ℕ) (x : X) → i < length all → x ≡ get_or all i x → before ≡ first ++ lines_of (rows verb words (take i all))
+pub rows_more : {X : Type 0} (verb : List ℕ) (words : X → List Word) (first before after : List ℕ) (all : List X) (i : ℕ) (d x : X) → i < length all → x ≡ get_or all i d → before ≡ first ++ lines_of (rows verb words (take i all))
     → after ≡ before ++ line_of (bare verb ∷ words x) → after ≡ first ++ lines_of (rows verb words (take (i + 1) all))
-rows_more verb words first before after all i x inside is was more =
+rows_more verb words first before after all i d x inside is was more =
     more ∙ ap (λ t. t ++ line_of (bare verb ∷ words x)) was ∙ append_assoc first (lines_of (rows verb words (take i all))) (line_of (bare verb ∷ words x))
-    ∙ ap (λ t. first ++ t) (sym (rows_push verb words (take i all) x) ∙ ap (λ xs. lines_of (rows verb words xs)) (ap (λ y. take i all ++ y ∷ []) is ∙ sym (take_more all i x inside)))
+    ∙ ap (λ t. first ++ t) (sym (rows_push verb words (take i all) x) ∙ ap (λ xs. lines_of (rows verb words xs)) (ap (λ y. take i all ++ y ∷ []) is ∙ sym (take_more all i d inside)))
 
 events_push : (runs : List PastRun) (run : PastRun) → events_in (runs ++ run ∷ []) ≡ events_in runs ++ events_in (run ∷ [])
 events_push [] run = refl
 events_push (r ∷ runs) run = ap (λ t. events_of_run r ++ t) (events_push runs run) ∙ sym (append_assoc (events_of_run r) (events_in runs) (events_in (run ∷ [])))
 
-pub events_more : (before after : List PastEvent) (all : List PastRun) (i : ℕ) (x : PastRun) → i < length all → x ≡ get_or all i x → before ≡ events_in (take i all) → after ≡ before ++ events_in (x ∷ []) → after ≡ events_in (take (i + 1) all)
-events_more before after all i x inside is was more =
-    more ∙ ap (λ t. t ++ events_in (x ∷ [])) was ∙ sym (events_push (take i all) x) ∙ ap events_in (ap (λ y. take i all ++ y ∷ []) is ∙ sym (take_more all i x inside))
+pub events_more : (before after : List PastEvent) (all : List PastRun) (i : ℕ) (d x : PastRun) → i < length all → x ≡ get_or all i d → before ≡ events_in (take i all) → after ≡ before ++ events_in (x ∷ []) → after ≡ events_in (take (i + 1) all)
+events_more before after all i d x inside is was more =
+    more ∙ ap (λ t. t ++ events_in (x ∷ [])) was ∙ sym (events_push (take i all) x) ∙ ap events_in (ap (λ y. take i all ++ y ∷ []) is ∙ sym (take_more all i d inside))
 
 -- a line that was written in three pieces
 pub in_three : (out one two three : List ℕ) (w : Word) (ws a b : List Word) → one ≡ out ++ words_text (w ∷ ws) → two ≡ one ++ behind_word a → three ≡ two ++ (behind_word b ++ 10 ∷ []) → three ≡ out ++ line_of (w ∷ (ws ++ (a ++ b)))
