@@ -206,7 +206,7 @@ pub fn push_client(out: &mut Vec<u8>, session: u32, name: &[u8], keys: u64) -> R
 
 // Adds how a remembered call ended behind other words.
 fn push_answer(out: &mut Vec<u8>, reply: Option<&Reply>) -> Result<(), AllocError>
-    ensures { OnOk result (out.new.items ≡ out.old.items ++ behind_word (answer_words (answer_of reply))) }
+    ensures { OnOk result (out.new.items ≡ out.old.items ++ behind_word (answer_words (answer_of reply.entry))) }
 {
     match reply {
         Some(reply) => push_reply(out, reply),
@@ -248,7 +248,7 @@ pub fn push_kept(
           session = session;
           key = key;
           told = told;
-          answer = answer_of reply;
+          answer = answer_of reply.entry;
           operation = operation;
           arguments = arguments.now;
         }))) }
