@@ -186,7 +186,12 @@ pub fn push_carried(
 
 /// Adds the line of a client with a name: its session, its name, and how many keys it has used. The error is that
 /// memory was refused; how much then stands in `out` is not said.
-pub fn push_client(out: &mut Vec<u8>, session: u32, name: &[u8], keys: u64) -> Result<(), AllocError>
+pub fn push_client(
+    out: &mut Vec<u8>,
+    session: u32,
+    name: &[u8],
+    keys: u64,
+) -> Result<(), AllocError>
     ensures { OnOk result (out.new.items ≡ out.old.items ++ line_of (bare (codes "client") ∷ client_words (record {
       session = session;
       name = name.now;

@@ -94,8 +94,7 @@ pub(crate) fn read_base<'a>(alloc: Global, text: &'a [u8]) -> Result<(u64, &'a [
 }
 
 // The number that a word spells in sixteen digits in lower-case hexadecimal.
-fn number_of(word: &[u8]) -> Option<u64>
-{
+fn number_of(word: &[u8]) -> Option<u64> {
     let mut bytes = [0u8; 8];
     match hex::decode_to_slice(word, &mut bytes) {
         Ok(()) => Some(u64::from_be_bytes(bytes)),
