@@ -1,0 +1,4 @@
+pub mod Posts
+pub mod Seen
+pub mod Texts
+pub mod Turns
