@@ -1,5 +1,5 @@
 -- What is owed to connections and to journals.
-use Rattle.std.specs.Prelude.{◌≡◌, ◌<◌, ◌%◌, ℕ, Bool, true, false, List, [], ◌++◌, Option, Some, None, slice_get, length, if◌then◌else◌, ◌==◌}
+use Rattle.std.specs.Prelude.{◌≡◌, ◌⊎◌, ◌<◌, ◌%◌, ℕ, Bool, true, false, List, [], ◌++◌, Option, Some, None, slice_get, length, drop, if◌then◌else◌, ◌==◌}
 use Rattle.keep_loop.specs.Texts.{text_at, to}
 use Rattle.keep_loop.specs.Turns.{Asked, Gives}
 use Rattle.keep_loop.specs.declared.post.Place.{Place}
@@ -14,6 +14,11 @@ stage_in c (Some place) = if place.who == c then place.stage else Gone
 abbrev pub owed_in : Option Place → List ℕ
 owed_in None = []
 owed_in (Some place) = place.owed.items
+
+-- the same, where the one at the place is now so far
+abbrev pub staged : ℕ → Stage → Option Place → Stage
+staged c stage None = Gone
+staged c stage (Some place) = if place.who == c then stage else Gone
 
 -- the place of a connection of this number
 abbrev pub place_at : List Place → ℕ → Option Place
@@ -57,9 +62,34 @@ pub record Tells (old new : Post) (said added : List (ℕ × List ℕ)) : Type 0
   pub owed : (c : ℕ) → is_here old.places.items c ≡ true → owed_to new.places.items c ≡ owed_to old.places.items c ++ to c said
   pub lines : (j : ℕ) → j < length old.lines.items → text_at new.lines.items j ≡ text_at old.lines.items j ++ to j added
 
+-- a connection comes, to which nothing is owed. Another may lose its place, and nothing else changes
+pub record Opens (old new : Post) (who : ℕ) : Type 0 where
+  pub places : length new.places.items ≡ length old.places.items
+  pub lines : new.lines ≡ old.lines
+  pub here : (c : ℕ) → is_here new.places.items c ≡ true → (who ≡ c) ⊎ (is_here old.places.items c ≡ true)
+  pub hears : (c : ℕ) → hears new.places.items c ≡ true → (who ≡ c) ⊎ (hears old.places.items c ≡ true)
+  pub owed : owed_to new.places.items who ≡ []
+  pub others : (c : ℕ) → is_here new.places.items c ≡ true → (who ≡ c) ⊎ (owed_to new.places.items c ≡ owed_to old.places.items c)
+
+-- some connections are there no more, and nothing else changes
+pub record Closes (old new : Post) : Type 0 where
+  pub places : length new.places.items ≡ length old.places.items
+  pub lines : new.lines ≡ old.lines
+  pub here : (c : ℕ) → is_here new.places.items c ≡ true → is_here old.places.items c ≡ true
+  pub hears : (c : ℕ) → hears new.places.items c ≡ true → hears old.places.items c ≡ true
+  pub owed : (c : ℕ) → owed_to new.places.items c ≡ owed_to old.places.items c
+
+-- a connection is owed its first bytes no more, and nothing else changes
+pub record Writes (old new : Post) (who n : ℕ) : Type 0 where
+  pub places : length new.places.items ≡ length old.places.items
+  pub lines : new.lines ≡ old.lines
+  pub stages : (c : ℕ) → stage_of new.places.items c ≡ stage_of old.places.items c
+  pub owed : (c : ℕ) → is_here old.places.items c ≡ true
+      → owed_to new.places.items c ≡ (if who == c then drop n (owed_to old.places.items c) else owed_to old.places.items c)
+
 -- what is asked of an object is done, and told
 pub record Does {S : Type 0} (gives : Gives S) (old : S) (asked : Asked) (new : S) (before after : Post) : Type 0 where
   pub said : List (ℕ × List ℕ)
   pub added : List (ℕ × List ℕ)
-  pub gives : gives old asked said added new
+  pub step : gives old asked said added new
   pub tells : Tells before after said added

@@ -1,5 +1,5 @@
 -- Texts.
-use Rattle.std.specs.Prelude.{◌≡◌, ℕ, Bool, false, List, [], ◌∷◌, ◌++◌, All, ◌==◌, Option, Some, None, slice_get}
+use Rattle.std.specs.Prelude.{◌≡◌, ℕ, Bool, false, List, [], ◌∷◌, ◌++◌, All, if◌then◌else◌, ◌==◌, Option, Some, None, slice_get}
 use Rattle.keep_loop.specs.declared.post.Text.{Text}
 
 -- no byte is an LF

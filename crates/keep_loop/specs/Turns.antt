@@ -70,3 +70,8 @@ note_of (Changes journal front) = []
 abbrev pub notes_by : List Turn → List Note
 notes_by [] = []
 notes_by (t ∷ ts) = note_of t.asked ++ notes_by ts
+
+-- a connection has come in these turns
+abbrev pub has_joined : ℕ → List Turn → Bool
+has_joined c [] = false
+has_joined c (t ∷ ts) = joins c t.asked || has_joined c ts

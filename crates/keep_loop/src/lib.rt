@@ -1,10 +1,16 @@
-//! One loop that serves an object to many connections.
+//! One loop that serves an object to many connections: a line is done at once, its lines join a journal, and its
+//! answers are written after the sync of the round.
 #![tactic(auto)]
 
+mod cut;
+mod keep;
 mod outside;
 mod post;
+mod rounds;
 mod served;
 
+pub use keep::{Limits, MOST_LINE};
 pub use outside::{Fault, Outside, Read};
 pub use post::{Place, Post, Stage, Text};
+pub use rounds::run;
 pub use served::{LineEnd, Note, Served};
