@@ -1,0 +1,10 @@
+pub mod Cuts
+pub mod Grown
+pub mod Heeded
+pub mod Honest
+pub mod Kept
+pub mod Laws
+pub mod Owed
+pub mod Places
+pub mod Stood
+pub mod Turns

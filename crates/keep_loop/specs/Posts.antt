@@ -67,7 +67,8 @@ pub record Opens (old new : Post) (who : ℕ) : Type 0 where
   pub places : length new.places.items ≡ length old.places.items
   pub lines : new.lines ≡ old.lines
   pub here : (c : ℕ) → is_here new.places.items c ≡ true → (who ≡ c) ⊎ (is_here old.places.items c ≡ true)
-  pub hears : (c : ℕ) → hears new.places.items c ≡ true → (who ≡ c) ⊎ (hears old.places.items c ≡ true)
+  pub hears : (c : ℕ) → hears new.places.items c ≡ true
+      → (who ≡ c) ⊎ ((hears old.places.items c ≡ true) × (((who % length old.places.items) == (c % length old.places.items)) ≡ false))
   pub owed : owed_to new.places.items who ≡ []
   pub others : (c : ℕ) → is_here new.places.items c ≡ true → (who ≡ c) ⊎ (owed_to new.places.items c ≡ owed_to old.places.items c)
 

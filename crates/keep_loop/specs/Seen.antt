@@ -1,5 +1,5 @@
 -- What is seen of a server from outside, the newest first.
-use Rattle.std.specs.Prelude.{◌≡◌, ℕ, ◌+◌, Bool, true, false, Option, Some, None, List, [], ◌∷◌, ◌++◌, if◌then◌else◌, ◌==◌}
+use Rattle.std.specs.Prelude.{◌≡◌, ℕ, ◌+◌, Bool, Option, Some, None, List, [], ◌∷◌, ◌++◌, if◌then◌else◌, ◌==◌}
 use Rattle.keep_loop.specs.Turns.{is_joining}
 use Rattle.keep_loop.specs.declared.outside.Read.{Read}
 use Rattle.keep_loop.specs.declared.outside.Read.TheVariants as reads
@@ -98,8 +98,7 @@ stored_in j (Changed journal front ∷ seen) = stored_in j seen
 
 -- the lines for which an answer waits: those that are stored, or, where none waits for the disk, all
 abbrev pub kept_in : Bool → ℕ → List Happened → List ℕ
-kept_in true j seen = stored_in j seen
-kept_in false j seen = added_in j seen
+kept_in waits j seen = if waits then stored_in j seen else added_in j seen
 
 -- how often a connection of this number came
 abbrev pub comings : ℕ → List Note → ℕ

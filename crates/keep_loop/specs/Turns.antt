@@ -5,11 +5,11 @@ use Rattle.keep_loop.specs.declared.served.LineEnd.{LineEnd}
 use Rattle.keep_loop.specs.declared.served.Note.{Note}
 use Rattle.keep_loop.specs.declared.served.Note.TheVariants as notes
 
--- a line of a connection, and how it ended; a note; that a journal begins anew with this front
+-- a line of a connection, and how it ended; a note; that a journal has begun anew with this front, or could not
 pub data Asked : Type 0 where
   Heard : (who : ℕ) → (line : List ℕ) → (end : LineEnd) → Asked
   Noted : (note : Note) → Asked
-  Changes : (journal : ℕ) → (front : List ℕ) → Asked
+  Changes : (journal : ℕ) → (front : List ℕ) → (went : Bool) → Asked
 
 -- from a state, what is asked gives what is said, to whom, and lines that are added, to which journal, and leaves a state
 abbrev pub Gives : Type 0 → Type 1
@@ -35,7 +35,7 @@ is_joining c notes.Ends = false
 abbrev pub joins : ℕ → Asked → Bool
 joins c (Heard who line end) = false
 joins c (Noted note) = is_joining c note
-joins c (Changes journal front) = false
+joins c (Changes journal front went) = false
 
 -- what turns tell a connection that is there, or comes in one of them
 abbrev pub told : Bool → ℕ → List Turn → List ℕ
@@ -49,7 +49,7 @@ said_to c ts = told false c ts
 abbrev pub line_from : ℕ → Asked → List (List ℕ × LineEnd)
 line_from c (Heard who line end) = if who == c then (line, end) ∷ [] else []
 line_from c (Noted note) = []
-line_from c (Changes journal front) = []
+line_from c (Changes journal front went) = []
 
 -- the lines that are heard of a connection
 abbrev pub heard_of : ℕ → List Turn → List (List ℕ × LineEnd)
@@ -64,7 +64,7 @@ added_by j (t ∷ ts) = to j t.added ++ added_by j ts
 abbrev pub note_of : Asked → List Note
 note_of (Heard who line end) = []
 note_of (Noted note) = note ∷ []
-note_of (Changes journal front) = []
+note_of (Changes journal front went) = []
 
 -- the notes, in order
 abbrev pub notes_by : List Turn → List Note

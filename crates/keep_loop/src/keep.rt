@@ -1,6 +1,6 @@
 //! The state of the loop.
 
-ghost use Rattle.std.specs.Prelude.{◌≡◌, ◌⊎◌, ◌<◌, ◌≤◌, ◌%◌, ◌++◌, ◌∷◌, [], ℕ, List, true, false, OnOk, IfOk, IfSome, length, take};
+ghost use Rattle.std.specs.Prelude.{◌≡◌, ◌<◌, ◌≤◌, ◌%◌, ◌++◌, ◌∷◌, [], ℕ, List, true, false, OnOk, IfOk, IfSome, length, take};
 ghost use Rattle.std.specs.Prelude.{if◌then◌else◌, ◌==◌};
 ghost use Rattle.keep_loop.specs.Cuts.{most_line};
 ghost use Rattle.keep_loop.specs.Posts.{Does, is_here, hears, owed_to};
@@ -63,13 +63,11 @@ fn all_places(alloc: Global, count: usize) -> Result<Vec<usize>, AllocError> {
 
 // Lets go what has come of a line of the one who had the place of this number.
 fn let_go(texts: &mut Vec<Text>, who: u64)
+    requires { 0 < length texts.old.items }
     ensures count { length texts.new.items ≡ length texts.old.items }
-    ensures held { held_of texts.new.items who ≡ [] }
-    ensures others { (c : ℕ) → (held_of texts.new.items c ≡ held_of texts.old.items c) ⊎ (held_of texts.new.items c ≡ []) }
+    ensures held { (c : ℕ) → held_of texts.new.items c
+        ≡ (if (who % length texts.old.items) == (c % length texts.old.items) then [] else held_of texts.old.items c) }
 {
-    if texts.is_empty() {
-        return;
-    }
     let at = (who % texts.len() as u64) as usize;
     clear(texts, at);
 }
@@ -125,9 +123,10 @@ impl<O: Served> Keep<O> {
         ensures from { IfSome result (λ numbers. self.now.base ≤ numbers.0) }
         ensures below { IfSome result (λ numbers. numbers.0 < numbers.1) }
         ensures some { IfSome result (λ numbers. 0 < length self.now.post.places.items) }
+        ensures held { IfSome result (λ numbers. 0 < length self.now.held.items) }
     {
         let place = *self.free.last()?;
-        if place >= self.post.places() {
+        if place >= self.post.places() || self.held.is_empty() {
             return None;
         }
         let next = self.base.checked_add(self.post.places() as u64)?;
@@ -139,6 +138,7 @@ impl<O: Served> Keep<O> {
         requires from { self.old.base ≤ who }
         requires below { who < next }
         requires some { 0 < length self.old.post.places.items }
+        requires held { 0 < length self.old.held.items }
         ensures stands { OnOk result ((first : O) (limits : Limits) (seen : List Happened) → Stands O.gives first limits seen self.old
             → Stands O.gives first limits (Noticed (Joins who) ∷ seen) self.new) }
     {
@@ -368,6 +368,33 @@ impl<O: Served> Keep<O> {
             → Stands O.gives first limits seen self.new }
     {
         self.post.next_called()
+    }
+
+    // Whether a connection is not to be read for a while, which is then noted.
+    pub(crate) fn pauses(&mut self, who: u64) -> Result<bool, AllocError>
+        ensures stands { OnOk result ((first : O) (limits : Limits) (seen : List Happened) → Stands O.gives first limits seen self.old
+            → Stands O.gives first limits seen self.new) }
+    {
+        if self.object.may_read(who) {
+            return Ok(false);
+        }
+        self.post.pause(who)?;
+        Ok(true)
+    }
+
+    // Whether the one that waits longest may be read again.
+    pub(crate) fn resume_one(&mut self) -> Result<(), AllocError>
+        ensures stands { OnOk result ((first : O) (limits : Limits) (seen : List Happened) → Stands O.gives first limits seen self.old
+            → Stands O.gives first limits seen self.new) }
+    {
+        match self.post.next_paused() {
+            Some(who) => {
+                let may_read = self.object.may_read(who);
+                self.post.call_or_pause(who, may_read)?;
+                Ok(())
+            }
+            None => Ok(()),
+        }
     }
 
     // A connection that quit, where there is one of which the object was not told.

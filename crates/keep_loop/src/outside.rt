@@ -1,6 +1,6 @@
 //! What is outside of the loop: connections, a clock, and journals.
 
-ghost use Rattle.std.specs.Prelude.{◌≡◌, ◌≤◌, true, false, List, Option, length, take, OnOk, OnErr, IfOk, IfSome, IfNone};
+ghost use Rattle.std.specs.Prelude.{◌≡◌, ◌≤◌, true, false, List, Option, Ok, length, take, OnOk, OnErr, IfOk, IfSome, IfNone};
 ghost use Rattle.keep_loop.specs.Seen.{Happened, Grows, read_of};
 ghost use Rattle.keep_loop.specs.Seen.Happened.{Wrote, Noticed, Added, Stored, Changed};
 ghost use Rattle.keep_loop.specs.declared.served.Note.TheVariants.{Joins, Leaves, Ticks, Ends};
@@ -72,7 +72,7 @@ pub trait Outside {
     fn close(&mut self, who: u64)
         ensures { seen self.new ≡ seen self.old };
 
-    /// The time, where it is time for a tick.
+    /// The time, in seconds since the server began, where it is time for a tick.
     fn tick(&mut self) -> Option<u64>
         ensures ticks { IfSome result (λ time. Grows (Noticed (Ticks time)) (seen self.old) (seen self.new)) }
         ensures none { IfNone result (seen self.new ≡ seen self.old) };
@@ -95,7 +95,10 @@ pub trait Outside {
         ensures ok { OnOk result (Grows (Stored journal) (seen self.old) (seen self.new)) }
         ensures err { OnErr result (seen self.new ≡ seen self.old) };
 
-    /// Begins a journal anew with this front, in one step.
-    fn change(&mut self, journal: usize, front: &[u8]) -> Result<(), Fault>
-        ensures { Grows (Changed journal front.now) (seen self.old) (seen self.new) };
+    /// Begins a journal anew with this front, in one step. `false`: it could not, and the journal is as it was. After an
+    /// `Err` nobody knows.
+    fn change(&mut self, journal: usize, front: &[u8]) -> Result<bool, Fault>
+        ensures went { result ≡ Ok true → Grows (Changed journal front.now) (seen self.old) (seen self.new) }
+        ensures stays { result ≡ Ok false → seen self.new ≡ seen self.old }
+        ensures err { OnErr result (Grows (Changed journal front.now) (seen self.old) (seen self.new)) };
 }

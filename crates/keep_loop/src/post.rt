@@ -52,6 +52,8 @@ pub struct Post {
     pub(crate) told: Vec<u64>,
     // Connections of which something may be read, who waits longest first.
     pub(crate) called: VecDeque<u64>,
+    // Connections that are not to be read for a while.
+    pub(crate) paused: VecDeque<u64>,
     // Connections that quit.
     pub(crate) quits: Vec<u64>,
     // How many bytes of lines there are.
@@ -189,6 +191,27 @@ fn set_broken(places: &mut Vec<Place>, at: usize)
     places[at].is_broken = true;
 }
 
+// There is room to owe so many bytes more to the one at a place.
+fn reserve_owed(places: &mut Vec<Place>, at: usize, more: usize) -> Result<(), AllocError>
+    requires { at < length places.old.items }
+    ensures count { length places.new.items ≡ length places.old.items }
+    ensures owed { (k : ℕ) → owed_in (slice_get places.new.items k) ≡ owed_in (slice_get places.old.items k) }
+    ensures stage { (c k : ℕ) → stage_in c (slice_get places.new.items k) ≡ stage_in c (slice_get places.old.items k) }
+{
+    places[at].owed.reserve(more)?;
+    Ok(())
+}
+
+// There is room for so many bytes more in the text at a place.
+fn reserve(texts: &mut Vec<Text>, at: usize, more: usize) -> Result<(), AllocError>
+    requires { at < length texts.old.items }
+    ensures count { length texts.new.items ≡ length texts.old.items }
+    ensures text { (k : ℕ) → text_at texts.new.items k ≡ text_at texts.old.items k }
+{
+    texts[at].bytes.reserve(more)?;
+    Ok(())
+}
+
 // Places that nobody has yet.
 fn no_places(alloc: Global, count: usize) -> Result<Vec<Place>, AllocError>
     ensures count { IfOk result (λ places. length places.items ≡ count) }
@@ -253,6 +276,7 @@ impl Post {
             lines: no_texts(alloc, journals)?,
             told: Vec::new(alloc),
             called: VecDeque::new(alloc),
+            paused: VecDeque::new(alloc),
             quits: Vec::new(alloc),
             size: 0,
         })
@@ -341,6 +365,27 @@ impl Post {
         }
     }
 
+    /// Sees to it that so many bytes can be told to a connection, and so many added to a journal, without more memory. The
+    /// error is that memory was refused.
+    pub fn make_room(
+        &mut self,
+        who: u64,
+        told: usize,
+        journal: usize,
+        lines: usize,
+    ) -> Result<(), AllocError>
+        ensures { OnOk result (Tells self.old self.new [] []) }
+    {
+        if let Some(at) = find(self.places.as_slice(), who) {
+            reserve_owed(&mut self.places, at, told)?;
+        }
+        self.told.reserve(1)?;
+        if journal < self.lines.len() {
+            reserve(&mut self.lines, journal, lines)?;
+        }
+        Ok(())
+    }
+
     /// Adds lines to a journal. Where there is no such journal, they are let go. The error is that memory was refused.
     pub fn add(&mut self, journal: usize, lines: &[u8]) -> Result<(), AllocError>
         ensures { OnOk result (Tells self.old self.new [] ((journal, lines.now) ∷ [])) }
@@ -401,6 +446,31 @@ impl Post {
             list(&mut self.places, at, false);
         }
         Some(who)
+    }
+
+    // A connection is not to be read for a while.
+    pub(crate) fn pause(&mut self, who: u64) -> Result<(), AllocError>
+        ensures { OnOk result (Tells self.old self.new [] []) }
+    {
+        self.paused.push_back(who)?;
+        Ok(())
+    }
+
+    // A connection is to be read again, or not for a while.
+    pub(crate) fn call_or_pause(&mut self, who: u64, may_read: bool) -> Result<(), AllocError>
+        ensures { OnOk result (Tells self.old self.new [] []) }
+    {
+        if may_read {
+            return self.call_again(who);
+        }
+        self.pause(who)
+    }
+
+    // The one that waits longest to be read again, where there is one.
+    pub(crate) fn next_paused(&mut self) -> Option<u64>
+        ensures { Tells self.old self.new [] [] }
+    {
+        self.paused.pop_front()
     }
 
     // A connection that quit and was not told of, where there is one.

@@ -87,6 +87,9 @@ fn hear_one<O: Served, W: Outside>(
     ensures ok { OnOk result (Keeps O.gives (W.seen outside.old) keep.old (W.seen outside.new) keep.new) }
     ensures err { OnErr result (Fails O.gives (W.seen outside.old) keep.old (W.seen outside.new)) }
 {
+    if keep.pauses(who)? {
+        return Ok(());
+    }
     if !keep.is_to_read(who) {
         return Ok(());
     }
@@ -129,6 +132,17 @@ fn hear<O: Served, W: Outside>(
         if !hear_next(keep, outside, piece)? {
             return Ok(());
         }
+    }
+    Ok(())
+}
+
+// Notes who may be read again that might not for a while.
+fn resume<O: Served, W: Outside>(keep: &mut Keep<O>, outside: &mut W) -> Result<(), Fault>
+    ensures ok { OnOk result (Keeps O.gives (W.seen outside.old) keep.old (W.seen outside.new) keep.new) }
+    ensures err { OnErr result (Fails O.gives (W.seen outside.old) keep.old (W.seen outside.new)) }
+{
+    for _paused in 0..keep.post.paused.len() {
+        keep.resume_one()?;
     }
     Ok(())
 }
@@ -329,6 +343,7 @@ fn listen<O: Served, W: Outside>(
     hear(keep, outside, piece)?;
     part(keep, outside)?;
     tick(keep, outside)?;
+    resume(keep, outside)?;
     Ok(())
 }
 

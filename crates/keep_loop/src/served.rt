@@ -1,6 +1,6 @@
 //! What is served.
 
-ghost use Rattle.std.specs.Prelude.{◌≡◌, [], List, ℕ, OnOk, IfOk, IfNone, IfSome};
+ghost use Rattle.std.specs.Prelude.{[], List, ℕ, OnOk, IfOk, IfSome};
 ghost use Rattle.keep_loop.specs.Posts.{Does};
 ghost use Rattle.keep_loop.specs.Turns.{Asked};
 ghost use Rattle.keep_loop.specs.Turns.Asked.{Heard, Noted, Changes};
@@ -27,7 +27,7 @@ pub enum Note {
     /// Nothing more is heard of a connection: its input ended, it broke, it quits, or a line was too long. What it is
     /// owed is still written, where it does not break.
     Leaves(u64),
-    /// It is this time.
+    /// It is this time, in seconds since the server began. It never falls.
     Ticks(u64),
     /// The server ends: nothing is heard any more, and what is owed is still written.
     Ends,
@@ -54,8 +54,20 @@ pub trait Served {
     fn note(&mut self, note: Note, post: &mut Post) -> Result<(), AllocError>
         ensures { OnOk result (Does gives self.old (Noted note) self.new post.old post.new) };
 
-    /// A journal that is to begin anew, and the front that it begins with, or `None` where none is due.
-    fn due(&mut self, front: &mut Vec<u8>) -> Result<Option<usize>, AllocError>
-        ensures none { IfOk result (λ due. IfNone due (self.new ≡ self.old)) }
-        ensures some { IfOk result (λ due. IfSome due (λ journal. gives self.old (Changes journal front.new.items) [] [] self.new)) };
+    /// Whether a connection may be read. Where it may not, nothing more is read of it until it may again, which is asked
+    /// behind each round.
+    fn may_read(&self, who: u64) -> bool;
+
+    /// This front stands for what the lines of this journal tell.
+    ghost fronts: { Self → ℕ → List ℕ → Type 0 };
+
+    /// A journal that is to begin anew, and the front that it is to begin with, which is put in place of what is in `front`;
+    /// or `None` where none is due.
+    fn due(&self, front: &mut Vec<u8>) -> Result<Option<usize>, AllocError>
+        ensures { IfOk result (λ due. IfSome due (λ journal. fronts self.now journal front.new.items)) };
+
+    /// A journal has begun anew, or it could not (`went` is false), and goes on.
+    fn changed(&mut self, journal: usize, front: &[u8], went: bool) -> Result<(), AllocError>
+        requires { fronts self.old journal front.now }
+        ensures { OnOk result (gives self.old (Changes journal front.now went) [] [] self.new) };
 }
