@@ -11,6 +11,10 @@ abbrev pub stage_in : ℕ → Option Place → Stage
 stage_in c None = Gone
 stage_in c (Some place) = if place.who == c then place.stage else Gone
 
+abbrev pub stage_at : Option Place → Stage
+stage_at None = Gone
+stage_at (Some place) = place.stage
+
 abbrev pub owed_in : Option Place → List ℕ
 owed_in None = []
 owed_in (Some place) = place.owed.items

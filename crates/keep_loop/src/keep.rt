@@ -235,6 +235,7 @@ impl<O: Served> Keep<O> {
         requires hears { hears self.old.post.places.items who ≡ true }
         requires clear { NoLineFeed front.now }
         ensures count { OnOk result (length self.new.held.items ≡ length self.old.held.items) }
+        ensures base { OnOk result (self.new.base ≡ self.old.base) }
         ensures stands { OnOk result ((first : O) (limits : Limits) (seen : List Happened) (done : List ℕ) → ended_in who seen ≡ 0
             → Stands O.gives first limits (Came who done ∷ seen) self.old
             → Stands O.gives first limits (Came who (done ++ front.now ++ 10 ∷ []) ∷ seen) self.new) }

@@ -2,7 +2,7 @@
 
 ghost use Rattle.std.specs.Prelude.{◌≡◌, ◌⊎◌, ◌<◌, ◌≤◌, ◌%◌, ◌++◌, ◌∷◌, [], ℕ, true, false, OnOk, IfOk, IfSome, IfNone, length, drop};
 ghost use Rattle.std.specs.Prelude.{slice_get, if◌then◌else◌, ◌==◌};
-ghost use Rattle.keep_loop.specs.Posts.{is_here_in, hears_in, stage_in, owed_in, staged, stage_of, owed_to, is_here, hears};
+ghost use Rattle.keep_loop.specs.Posts.{is_here_in, hears_in, stage_in, stage_at, owed_in, staged, stage_of, owed_to, is_here, hears};
 ghost use Rattle.keep_loop.specs.Posts.{Tells, Opens, Closes, Writes};
 ghost use Rattle.keep_loop.specs.Texts.{text_at};
 ghost use Rattle.keep_loop.specs.declared.post.Stage.TheVariants.{Gone, Hears};
@@ -173,12 +173,13 @@ fn open(places: &mut Vec<Place>, at: usize, who: u64)
     ensures stage { (c k : ℕ) → stage_in c (slice_get places.new.items k)
         ≡ (if at == k then (if who == c then Hears else Gone) else stage_in c (slice_get places.old.items k)) }
 {
-    places[at].who = who;
-    places[at].stage = Stage::Hears;
-    places[at].owed.clear();
-    places[at].is_listed = false;
-    places[at].is_called = false;
-    places[at].is_broken = false;
+    let place = &mut places[at];
+    place.who = who;
+    place.stage = Stage::Hears;
+    place.owed.clear();
+    place.is_listed = false;
+    place.is_called = false;
+    place.is_broken = false;
 }
 
 // The one at a place broke.
@@ -215,7 +216,7 @@ fn reserve(texts: &mut Vec<Text>, at: usize, more: usize) -> Result<(), AllocErr
 // Places that nobody has yet.
 fn no_places(alloc: Global, count: usize) -> Result<Vec<Place>, AllocError>
     ensures count { IfOk result (λ places. length places.items ≡ count) }
-    ensures none { IfOk result (λ places. (c k : ℕ) → stage_in c (slice_get places.items k) ≡ Gone) }
+    ensures none { IfOk result (λ places. (k : ℕ) → stage_at (slice_get places.items k) ≡ Gone) }
 {
     let mut places = Vec::new(alloc);
     for _place in 0..count {
@@ -264,6 +265,7 @@ pub(crate) fn clear(texts: &mut Vec<Text>, at: usize)
 }
 
 impl Post {
+    #[tactic(auto, using(crate::proofs::Slots::nobody))]
     /// A post of so many places and journals, to which nothing is owed. The error is that memory was refused.
     pub fn new(alloc: Global, places: usize, journals: usize) -> Result<Post, AllocError>
         ensures places { IfOk result (λ post. length post.places.items ≡ places) }

@@ -48,13 +48,13 @@ impl Watch {
         Duration::from_millis(next.saturating_sub(self.now))
     }
 
-    /// The time, in milliseconds since the server began, where the object is to be told. It never falls.
+    /// The time, in seconds since the server began, where the object is to be told. It never falls.
     pub fn tick(&mut self) -> Option<u64> {
         if self.now < self.tick_at {
             return None;
         }
         self.tick_at = self.now.saturating_add(self.pace.tick);
-        Some(self.now)
+        Some(self.now / 1_000)
     }
 
     /// Whether journals are to be stored.

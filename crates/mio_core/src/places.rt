@@ -28,10 +28,10 @@ pub(crate) struct Places {
 
 /// What came of a read.
 pub(crate) enum Got {
-    /// So many bytes, and maybe more.
-    Some(usize),
-    /// So many bytes, and no more for now.
-    All(usize),
+    /// Some bytes, and maybe more.
+    Some,
+    /// Some bytes, which may be none, and no more for now.
+    All,
     End,
     Broken,
 }
@@ -105,14 +105,14 @@ impl Places {
                 let got = n.min(self.piece.len());
                 piece.extend_from_slice(&self.piece[..got])?;
                 if got == self.piece.len() || wire.is_ending {
-                    Ok(Got::Some(got))
+                    Ok(Got::Some)
                 } else {
-                    Ok(Got::All(got))
+                    Ok(Got::All)
                 }
             }
             Err(error) => match error.kind() {
-                ErrorKind::WouldBlock => Ok(Got::All(0)),
-                ErrorKind::Interrupted => Ok(Got::Some(0)),
+                ErrorKind::WouldBlock => Ok(Got::All),
+                ErrorKind::Interrupted => Ok(Got::Some),
                 _ => Ok(Got::Broken),
             },
         }

@@ -1,4 +1,4 @@
-use Rattle.keep_loop.proofs.Laws.{survives}
+use Rattle.keep_loop.proofs.Crashed.{survives}
 use Rattle.keep_loop.proofs.laws.crash_keeps_what_was_answered.Goals as goal
 
 pub returns : goal.returns
