@@ -17,7 +17,7 @@ use Rattle.keep_loop.proofs.Cuts.{fed_nothing}
 use Rattle.keep_loop.proofs.Places.{by_who}
 
 counted : (b : Bool) (n m : ℕ) → m ≡ n + (if b then 1 else 0) → n ≤ 1 → (b ≡ true → n ≡ 0) → m ≤ 1
-counted true n m is le none = (let no = none refl in omega (arith, is, no))
+counted true n m is le none = (let zero_is = none refl in omega (arith, is, zero_is))
 counted false n m is le none = omega (arith, is, le)
 
 uncounted : (b : Bool) (n m : ℕ) → m ≡ n + (if b then 1 else 0) → n ≡ 0 → b ≡ false → m ≡ 0

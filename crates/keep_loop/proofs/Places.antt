@@ -12,12 +12,12 @@ use Rattle.keep_loop.specs.declared.post.Stage.TheVariants.{Gone, Hears, Quits, 
 use Rattle.keep_loop.proofs.Turns.{to_more}
 
 by_who_if : (who c : ℕ) (P : ℕ → Type 0) (b : Bool) → (who == c) ≡ b → P who → ((who == c) ≡ false → P c) → P c
-by_who_if who c P true is yes no = subst P (eqb-true who c is) yes
-by_who_if who c P false is yes no = no is
+by_who_if who c P true is holds fails = subst P (eqb-true who c is) holds
+by_who_if who c P false is holds fails = fails is
 
 -- this number, or another
 pub by_who : (who c : ℕ) (P : ℕ → Type 0) → P who → ((who == c) ≡ false → P c) → P c
-by_who who c P yes no = by_who_if who c P (who == c) refl yes no
+by_who who c P holds fails = by_who_if who c P (who == c) refl holds fails
 
 pub is_same : (a : ℕ) → (a == a) ≡ true
 is_same a = eq-eqb a a refl
@@ -143,8 +143,8 @@ tells_added old new journal bytes places count lines = record {
 }
 
 other_by : (journal j : ℕ) (b : Bool) (bytes : List ℕ) → (journal == j) ≡ b → b ≡ false → [] ≡ (if journal == j then bytes else []) ++ []
-other_by journal j true bytes is no = absurd (true≢false no)
-other_by journal j false bytes is no = ap (λ b. (if b then bytes else []) ++ []) (sym is)
+other_by journal j true bytes is fails = absurd (true≢false fails)
+other_by journal j false bytes is fails = ap (λ b. (if b then bytes else []) ++ []) (sym is)
 
 less_not : (j journal n : ℕ) (b : Bool) → (journal == j) ≡ b → j < n → (journal < n → ⊥) → b ≡ false
 less_not j journal n true is lt not = absurd (not (subst (λ k. k < n) (sym (eqb-true journal j is)) lt))
@@ -177,8 +177,8 @@ tells_nobody post who bytes not = record {
 }
   where
     not_it : (who c : ℕ) (b : Bool) → (who == c) ≡ b → is_here post.places.items who ≡ false → is_here post.places.items c ≡ true → b ≡ false
-    not_it who c true is no yes = sym yes ∙ ap (λ k. is_here post.places.items k) (sym (eqb-true who c is)) ∙ no
-    not_it who c false is no yes = refl
+    not_it who c true is fails holds = sym holds ∙ ap (λ k. is_here post.places.items k) (sym (eqb-true who c is)) ∙ fails
+    not_it who c false is fails holds = refl
 
 restaged_here : (o : Option Place) (who c : ℕ) (s : Stage) → is_here_in (stage_in who o) ≡ true → is_here_in s ≡ true →
     is_here_in (staged c s o) ≡ is_here_in (stage_in c o)

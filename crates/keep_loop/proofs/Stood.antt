@@ -8,7 +8,8 @@ use Rattle.keep_loop.specs.Turns.Asked.{Heard, Noted}
 use Rattle.keep_loop.specs.Seen.{Happened, came_from, ended_in, written_to, notes_in, added_in, stored_in, kept_in, comings, read_of}
 use Rattle.keep_loop.specs.Seen.Happened.{Came, Ended, Broke, Wrote, Noticed, Added, Stored}
 use Rattle.keep_loop.specs.Cuts.{IsCut, IsFed, most_line}
-use Rattle.keep_loop.specs.Posts.{is_here_in, hears_in, is_here, hears, owed_to, Tells, Opens, Closes, Writes, Does}
+use Rattle.keep_loop.specs.declared.post.Stage.TheVariants.{Gone}
+use Rattle.keep_loop.specs.Posts.{is_here_in, hears_in, stage_of, is_here, hears, owed_to, Tells, Opens, Closes, Writes, Does}
 use Rattle.keep_loop.specs.Stands.{Owes, Heeds, Stands, Rests, held_of}
 use Rattle.keep_loop.specs.declared.keep.Keep.{Keep}
 use Rattle.keep_loop.specs.declared.keep.Limits.{Limits}
@@ -50,7 +51,7 @@ more_ended false n = omega arith
 
 ended_other : (b : Bool) (n : ℕ) → b ≡ false → (if b then 1 else 0) + n ≡ n
 ended_other true n is = absurd (true≢false is)
-ended_other false n is = refl
+ended_other false n is = omega arith
 
 ended_one : (b : Bool) (n : ℕ) → b ≡ true → 0 < (if b then 1 else 0) + n
 ended_one true n is = omega arith
@@ -234,11 +235,11 @@ module _ {S : Type 0} (gives : Gives S) (first : S) (limits : Limits) where
       new.base ≡ keep.base → new.limits ≡ keep.limits → length new.held.items ≡ length keep.held.items →
       ((c : ℕ) → held_of new.held.items c ≡ (if (who % length keep.held.items) == (c % length keep.held.items) then [] else held_of keep.held.items c)) →
       Does gives keep.object (Heard who (held_of keep.held.items who ++ front) Feed) new.object keep.post new.post →
-      Stands gives first limits (Came who done ∷ seen) keep → Stands gives first limits (Came who (done ++ front ++ 10 ∷ []) ∷ seen) new
+      Stands gives first limits (Came who done ∷ seen) keep → Stands gives first limits (Came who (done ++ (front ++ 10 ∷ [])) ∷ seen) new
   stands_line seen keep new who done front hearing unended clear small base limited held_count held does =
       let mine : List ℕ = held_of keep.held.items who in
       stands_said seen keep new who done (front ++ 10 ∷ []) (mine ++ front) Feed hearing unended base limited held_count held does
-      (λ ended came lines f. cut_of_fed ended (came ++ front ++ 10 ∷ []) (lines ++ (mine ++ front, Feed) ∷ []) [] (fed_line came lines mine front f clear small))
+      (λ ended came lines f. cut_of_fed ended (came ++ (front ++ 10 ∷ [])) (lines ++ (mine ++ front, Feed) ∷ []) [] (fed_line came lines mine front f clear small))
       (λ is came lines f. fed_line came lines mine front f clear small)
 
   -- a line that has too many bytes
@@ -247,7 +248,7 @@ module _ {S : Type 0} (gives : Gives S) (first : S) (limits : Limits) where
       new.base ≡ keep.base → new.limits ≡ keep.limits → length new.held.items ≡ length keep.held.items →
       ((c : ℕ) → held_of new.held.items c ≡ (if (who % length keep.held.items) == (c % length keep.held.items) then [] else held_of keep.held.items c)) →
       Does gives keep.object (Heard who (held_of keep.held.items who ++ front) TooLong) new.object keep.post new.post → hears new.post.places.items who ≡ false →
-      Stands gives first limits (Came who done ∷ seen) keep → Stands gives first limits (Came who (done ++ front ++ rest) ∷ seen) new
+      Stands gives first limits (Came who done ∷ seen) keep → Stands gives first limits (Came who (done ++ (front ++ rest)) ∷ seen) new
   stands_long seen keep new who done front rest hearing unended clear long base limited held_count held does deaf =
       let mine : List ℕ = held_of keep.held.items who in
       stands_said seen keep new who done (front ++ rest) (mine ++ front) TooLong hearing unended base limited held_count held does
@@ -326,6 +327,7 @@ module _ {S : Type 0} (gives : Gives S) (first : S) (limits : Limits) where
   pub stands_ended : (seen : List Happened) (keep new : Keep S) (who : ℕ) → hears keep.post.places.items who ≡ true → hears new.post.places.items who ≡ false →
       new.object ≡ keep.object → new.held ≡ keep.held → new.base ≡ keep.base → new.limits ≡ keep.limits → Tells keep.post new.post [] [] →
       Stands gives first limits seen keep → Stands gives first limits (Ended who ∷ seen) new
+  unfolding stands_same
   stands_ended seen keep new who hearing deaf object held base limited tells s =
       let all : List Turn = s.kept_turns ++ s.later in
       let still : Stands gives first limits seen new = stands_same seen keep new object held base limited tells s in
@@ -436,3 +438,104 @@ module _ {S : Type 0} (gives : Gives S) (first : S) (limits : Limits) where
         };
         none = refl;
       }
+
+  both_none : (waits : Bool) → (if waits then [] else []) ≡ []
+  both_none true = refl
+  both_none false = refl
+
+  -- nobody has come
+  pub stands_none : (keep : Keep S) → keep.object ≡ first → keep.limits ≡ limits → length keep.held.items ≡ length keep.post.places.items →
+      length keep.post.lines.items ≡ limits.journals → ((c : ℕ) → stage_of keep.post.places.items c ≡ Gone) → ((j : ℕ) → text_at keep.post.lines.items j ≡ []) →
+      Stands gives first limits [] keep
+  stands_none keep object limited count journals nobody empty = record {
+    kept_turns = [];
+    later = [];
+    limited = limited;
+    runs = object;
+    owes = record {
+      journals = journals;
+      begun_kept = λ j is. ([], both_none limits.waits);
+      even = λ j is. both_none limits.waits;
+      lines = λ j is. empty j;
+      here = λ c is. absurd (true≢false (sym is ∙ ap is_here_in (nobody c)));
+      begun = λ c. ([], refl);
+      owed = λ c is. absurd (true≢false (sym is ∙ ap is_here_in (nobody c)));
+      fresh = λ c is. refl;
+      unwritten = λ c is. refl;
+    };
+    heeds = record {
+      places = count;
+      heard = λ c. tt;
+      fed = λ c is. absurd (true≢false (sym is ∙ ap hears_in (nobody c)));
+      unended = λ c is. absurd (true≢false (sym is ∙ ap hears_in (nobody c)));
+      noted = refl;
+      once = λ c. omega arith;
+      below = λ c is. absurd (true≢false (sym is ∙ ap is_here_in (nobody c)));
+      fresh = λ c is. refl;
+      unheard = λ c is. (refl, refl, refl);
+    };
+  }
+
+  pub rests_same : (seen : List Happened) (keep new : Keep S) → new.object ≡ keep.object → new.held ≡ keep.held → new.base ≡ keep.base → new.limits ≡ keep.limits →
+      Tells keep.post new.post [] [] → Rests gives first limits seen keep → Rests gives first limits seen new
+  unfolding stands_same
+  rests_same seen keep new object held base limited tells r = record { stands = stands_same seen keep new object held base limited tells r.stands; none = r.none }
+
+  pub rests_closes : (seen : List Happened) (keep new : Keep S) → new.object ≡ keep.object → new.held ≡ keep.held → new.base ≡ keep.base → new.limits ≡ keep.limits →
+      Closes keep.post new.post → Rests gives first limits seen keep → Rests gives first limits seen new
+  unfolding stands_closes
+  rests_closes seen keep new object held base limited closes r = record { stands = stands_closes seen keep new object held base limited closes r.stands; none = r.none }
+
+  handed_lines : (seen : List Happened) (journal j : ℕ) (lines mine : List ℕ) → lines ≡ mine →
+      added_in j seen ++ (if journal == j then lines else []) ≡ added_in j seen ++ (if journal == j then mine else [])
+  handed_lines seen journal j lines mine are = ap (λ l. added_in j seen ++ (if journal == j then l else [])) are
+
+  -- a journal was handed its lines, and no answer waits for the disk
+  pub stands_added : (seen : List Happened) (keep new : Keep S) (journal : ℕ) (lines : List ℕ) → limits.waits ≡ false → lines ≡ text_at keep.post.lines.items journal →
+      new.object ≡ keep.object → new.held ≡ keep.held → new.base ≡ keep.base → new.limits ≡ keep.limits → new.post.places ≡ keep.post.places →
+      length new.post.lines.items ≡ length keep.post.lines.items →
+      ((j : ℕ) → text_at new.post.lines.items j ≡ (if journal == j then [] else text_at keep.post.lines.items j)) →
+      Stands gives first limits seen keep → Stands gives first limits (Added journal lines ∷ seen) new
+  stands_added seen keep new journal lines waits are object held base limited places count texts s = record {
+    kept_turns = s.kept_turns;
+    later = s.later;
+    limited = limited ∙ s.limited;
+    runs = subst (λ o. Runs gives first (s.kept_turns ++ s.later) o) (sym object) s.runs;
+    owes = subst (λ b. Owes limits (λ c. written_to c seen) (λ j. kept_in limits.waits j (Added journal lines ∷ seen)) (λ j. added_in j (Added journal lines ∷ seen)) new.post b s.kept_turns s.later) (sym base)
+        (owes_handed limits (λ c. written_to c seen) (λ j. kept_in limits.waits j seen) (λ j. added_in j seen)
+        (λ j. kept_in limits.waits j (Added journal lines ∷ seen)) (λ j. added_in j (Added journal lines ∷ seen)) keep.post new.post keep.base journal s.kept_turns s.later places count texts
+        (λ j. handed_lines seen journal j lines (text_at keep.post.lines.items journal) are)
+        (λ j is. ap (λ w. if w then stored_in j seen else added_in j (Added journal lines ∷ seen)) waits) s.owes);
+    heeds = subst (λ b. Heeds (λ c. came_from c seen) (λ c. ended_in c seen) (notes_in seen) new.post new.held.items b (s.kept_turns ++ s.later)) (sym base)
+        (subst (λ h. Heeds (λ c. came_from c seen) (λ c. ended_in c seen) (notes_in seen) new.post h.items keep.base (s.kept_turns ++ s.later)) (sym held)
+        (heeds_same (λ c. came_from c seen) (λ c. ended_in c seen) (notes_in seen) keep.post new.post keep.held.items keep.base (s.kept_turns ++ s.later) (ap (λ p. length p.items) places)
+        (λ c is. ap (λ p. is_here p.items c) (sym places) ∙ is) (λ c is. ap (λ p. hears p.items c) (sym places) ∙ is) s.heeds));
+  }
+
+  even_stored : (seen : List Happened) (journal j : ℕ) (lines : List ℕ) → stored_in j seen ≡ added_in j seen → (b : Bool) → (journal == j) ≡ b →
+      (if b then added_in j seen ++ (if journal == j then lines else []) else stored_in j seen) ≡ added_in j seen ++ (if journal == j then lines else [])
+  even_stored seen journal j lines even true is = refl
+  even_stored seen journal j lines even false is = even ∙ sym (append-nil (added_in j seen)) ∙ ap (λ b. added_in j seen ++ (if b then lines else [])) (sym is)
+
+  -- and it was stored
+  pub stands_stored : (seen : List Happened) (keep new : Keep S) (journal : ℕ) (lines : List ℕ) → limits.waits ≡ true → lines ≡ text_at keep.post.lines.items journal →
+      new.object ≡ keep.object → new.held ≡ keep.held → new.base ≡ keep.base → new.limits ≡ keep.limits → new.post.places ≡ keep.post.places →
+      length new.post.lines.items ≡ length keep.post.lines.items →
+      ((j : ℕ) → text_at new.post.lines.items j ≡ (if journal == j then [] else text_at keep.post.lines.items j)) →
+      Stands gives first limits seen keep → Stands gives first limits (Stored journal ∷ Added journal lines ∷ seen) new
+  stands_stored seen keep new journal lines waits are object held base limited places count texts s = record {
+    kept_turns = s.kept_turns;
+    later = s.later;
+    limited = limited ∙ s.limited;
+    runs = subst (λ o. Runs gives first (s.kept_turns ++ s.later) o) (sym object) s.runs;
+    owes = subst (λ b. Owes limits (λ c. written_to c seen) (λ j. kept_in limits.waits j (Stored journal ∷ Added journal lines ∷ seen)) (λ j. added_in j (Added journal lines ∷ seen)) new.post b s.kept_turns s.later) (sym base)
+        (owes_handed limits (λ c. written_to c seen) (λ j. kept_in limits.waits j seen) (λ j. added_in j seen)
+        (λ j. kept_in limits.waits j (Stored journal ∷ Added journal lines ∷ seen)) (λ j. added_in j (Added journal lines ∷ seen)) keep.post new.post keep.base journal s.kept_turns s.later places count texts
+        (λ j. handed_lines seen journal j lines (text_at keep.post.lines.items journal) are)
+        (λ j is. ap (λ w. if w then (if journal == j then added_in j (Added journal lines ∷ seen) else stored_in j seen) else added_in j (Added journal lines ∷ seen)) waits
+          ∙ even_stored seen journal j lines (sym (ap (λ w. if w then stored_in j seen else added_in j seen) waits) ∙ s.owes.even j is) (journal == j) refl) s.owes);
+    heeds = subst (λ b. Heeds (λ c. came_from c seen) (λ c. ended_in c seen) (notes_in seen) new.post new.held.items b (s.kept_turns ++ s.later)) (sym base)
+        (subst (λ h. Heeds (λ c. came_from c seen) (λ c. ended_in c seen) (notes_in seen) new.post h.items keep.base (s.kept_turns ++ s.later)) (sym held)
+        (heeds_same (λ c. came_from c seen) (λ c. ended_in c seen) (notes_in seen) keep.post new.post keep.held.items keep.base (s.kept_turns ++ s.later) (ap (λ p. length p.items) places)
+        (λ c is. ap (λ p. is_here p.items c) (sym places) ∙ is) (λ c is. ap (λ p. hears p.items c) (sym places) ∙ is) s.heeds));
+  }

@@ -238,7 +238,7 @@ impl<O: Served> Keep<O> {
         ensures base { OnOk result (self.new.base ≡ self.old.base) }
         ensures stands { OnOk result ((first : O) (limits : Limits) (seen : List Happened) (done : List ℕ) → ended_in who seen ≡ 0
             → Stands O.gives first limits (Came who done ∷ seen) self.old
-            → Stands O.gives first limits (Came who (done ++ front.now ++ 10 ∷ []) ∷ seen) self.new) }
+            → Stands O.gives first limits (Came who (done ++ (front.now ++ 10 ∷ [])) ∷ seen) self.new) }
     {
         if is_too_long(self.held(who), front) {
             self.answer_last(who, front, LineEnd::TooLong)?;

