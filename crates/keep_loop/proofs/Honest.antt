@@ -32,9 +32,9 @@ one_more : (b : Bool) (n m : ℕ) → m ≡ n + (if b then 1 else 0) → n ≤ 1
 one_more true n m is le none = (let zero_is = none refl in omega (arith, is, zero_is))
 one_more false n m is le none = omega (arith, is, le)
 
-both_none : (waits : Bool) → (if waits then [] else []) ≡ []
-both_none true = refl
-both_none false = refl
+both_same : (waits : Bool) (l : List ℕ) → (if waits then l else l) ≡ l
+both_same true l = refl
+both_same false l = refl
 
 module _ {S : Type 0} (gives : Gives S) (first : S) (limits : Limits) where
   -- from the parts
@@ -158,7 +158,7 @@ module _ {S : Type 0} (gives : Gives S) (first : S) (limits : Limits) where
     heard = λ c. tt;
     noted = ([], refl);
     once = λ c. omega arith;
-    kept = λ j is. ([], both_none limits.waits);
+    kept = λ j is. ([], both_same limits.waits []);
     added = λ j is. ([], refl);
     written = λ c. ([], refl);
   }

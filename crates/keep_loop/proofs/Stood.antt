@@ -439,9 +439,9 @@ module _ {S : Type 0} (gives : Gives S) (first : S) (limits : Limits) where
         none = refl;
       }
 
-  both_none : (waits : Bool) → (if waits then [] else []) ≡ []
-  both_none true = refl
-  both_none false = refl
+  both_same : (waits : Bool) (l : List ℕ) → (if waits then l else l) ≡ l
+  both_same true l = refl
+  both_same false l = refl
 
   -- nobody has come
   pub stands_none : (keep : Keep S) → keep.object ≡ first → keep.limits ≡ limits → length keep.held.items ≡ length keep.post.places.items →
@@ -454,8 +454,8 @@ module _ {S : Type 0} (gives : Gives S) (first : S) (limits : Limits) where
     runs = object;
     owes = record {
       journals = journals;
-      begun_kept = λ j is. ([], both_none limits.waits);
-      even = λ j is. both_none limits.waits;
+      begun_kept = λ j is. ([], both_same limits.waits []);
+      even = λ j is. both_same limits.waits [];
       lines = λ j is. empty j;
       here = λ c is. absurd (true≢false (sym is ∙ ap is_here_in (nobody c)));
       begun = λ c. ([], refl);
