@@ -17,7 +17,6 @@ use Rattle.keep_loop.proofs.Owed.{owes_handed}
 use Rattle.keep_loop.proofs.Stood.{rests_kept, stands_added, stands_stored}
 use Rattle.keep_loop.proofs.Honest.{honest, honest_read, honest_noticed, honest_added, honest_wrote}
 
-
 module _ {S : Type 0} (gives : Gives S) where
   -- nothing was seen
   pub keeps_quiet : (before after : Option (List Happened)) (old new : Keep S) → after ≡ before →
@@ -135,16 +134,20 @@ module _ {S : Type 0} (gives : Gives S) where
       (λ t p. (p.0, (honest gives first limits (Stored journal ∷ t) new p.0, p.1)))
       (grown (Added journal lines) before mid adds (λ t. Stands gives first limits t old × Always (IsHonest gives first limits) t)
       (λ t. Stands gives first limits (Stored journal ∷ t) new × Always (IsHonest gives first limits) t)
-      (λ t p. (stands_stored gives first limits t old new journal lines (sym (ap (λ l. l.waits) p.0.limited) ∙ waits) are object held base limited places count texts p.0,
-        (honest_added gives first limits t old journal lines are p.0, p.1))) good)
+      (λ t p. (
+        stands_stored gives first limits t old new journal lines (sym (ap (λ l. l.waits) p.0.limited) ∙ waits) are object held base limited places count texts p.0,
+        (honest_added gives first limits t old journal lines are p.0, p.1),
+      )) good)
   settled_by false journal lines before mid after old new waits adds stores stays are object held base limited places count texts first limits good =
       same mid after (stays refl)
       (λ t. Stands gives first limits t new × Always (IsHonest gives first limits) t)
       (λ t. Stands gives first limits t new × Always (IsHonest gives first limits) t) (λ t p. p)
       (grown (Added journal lines) before mid adds (λ t. Stands gives first limits t old × Always (IsHonest gives first limits) t)
       (λ t. Stands gives first limits t new × Always (IsHonest gives first limits) t)
-      (λ t p. (stands_added gives first limits t old new journal lines (sym (ap (λ l. l.waits) p.0.limited) ∙ waits) are object held base limited places count texts p.0,
-        (honest_added gives first limits t old journal lines are p.0, p.1))) good)
+      (λ t p. (
+        stands_added gives first limits t old new journal lines (sym (ap (λ l. l.waits) p.0.limited) ∙ waits) are object held base limited places count texts p.0,
+        (honest_added gives first limits t old journal lines are p.0, p.1),
+      )) good)
 
   -- a journal was handed its lines, and stored where answers wait for that
   pub keeps_settled : (journal : ℕ) (lines : List ℕ) (before mid after : Option (List Happened)) (old new : Keep S) →

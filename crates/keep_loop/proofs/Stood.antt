@@ -136,7 +136,7 @@ module _ {S : Type 0} (gives : Gives S) (first : S) (limits : Limits) where
             (does.tells.journals ∙ ap (λ l. length l.items) opens.lines)
             (λ j is. does.tells.lines j (subst (λ l. j < length l.items) (sym opens.lines) is) ∙ ap (λ l. text_at l.items j ++ to j does.added) opens.lines)
             (λ c is. (let was : is_here mid.places.items c ≡ true = sym (does.tells.here c) ∙ is in
-              goes c was (does.tells.owed c was) (opens.here c was) (opens.others c was)))
+            goes c was (does.tells.owed c was) (opens.here c was) (opens.others c was)))
             (λ c far. later_not c far (who == c) refl) s.owes);
         heeds = subst (λ ts. Heeds (λ c. came_from c seen) (λ c. ended_in c seen) (notes_in seen ++ Joins who ∷ []) new.post new.held.items new.base ts) on
             (subst (λ b. Heeds (λ c. came_from c seen) (λ c. ended_in c seen) (notes_in seen ++ Joins who ∷ []) new.post new.held.items b (all ++ t ∷ [])) (sym base)
@@ -152,28 +152,34 @@ module _ {S : Type 0} (gives : Gives S) (first : S) (limits : Limits) where
       later_not : (c : ℕ) → next ≤ c → (b : Bool) → (who == c) ≡ b → b ≡ false
       later_not c far true is = absurd (let e = eqb-true who c is in omega (arith, e, below, far))
       later_not c far false is = refl
+
       goes : (c : ℕ) → is_here mid.places.items c ≡ true → owed_to new.post.places.items c ≡ owed_to mid.places.items c ++ to c does.said →
           (who ≡ c) ⊎ (is_here keep.post.places.items c ≡ true) → (who ≡ c) ⊎ (owed_to mid.places.items c ≡ owed_to keep.post.places.items c) →
           ((is_here keep.post.places.items c ≡ true) × (owed_to new.post.places.items c ≡ owed_to keep.post.places.items c ++ to c does.said))
           ⊎ ((keep.base ≤ c) × ((who == c) ≡ true) × (owed_to new.post.places.items c ≡ to c does.said))
       goes c was owed (inl is) others = inr (
-          subst (λ k. keep.base ≤ k) is from,
-          subst (λ k. (who == k) ≡ true) is (is_same who),
-          owed ∙ ap (λ (l : List ℕ). l ++ to c does.said) (subst (λ k. owed_to mid.places.items k ≡ []) is opens.owed),
+        subst (λ k. keep.base ≤ k) is from,
+        subst (λ k. (who == k) ≡ true) is (is_same who),
+        owed ∙ ap (λ (l : List ℕ). l ++ to c does.said) (subst (λ k. owed_to mid.places.items k ≡ []) is opens.owed),
       )
       goes c was owed (inr here) (inl is) = inr (
-          subst (λ k. keep.base ≤ k) is from,
-          subst (λ k. (who == k) ≡ true) is (is_same who),
-          owed ∙ ap (λ (l : List ℕ). l ++ to c does.said) (subst (λ k. owed_to mid.places.items k ≡ []) is opens.owed),
+        subst (λ k. keep.base ≤ k) is from,
+        subst (λ k. (who == k) ≡ true) is (is_same who),
+        owed ∙ ap (λ (l : List ℕ). l ++ to c does.said) (subst (λ k. owed_to mid.places.items k ≡ []) is opens.owed),
       )
       goes c was owed (inr here) (inr same) = inl (here, owed ∙ ap (λ (l : List ℕ). l ++ to c does.said) same)
+
       held_none : held_of new.held.items who ≡ []
       held_none = held who ∙ ap (λ b. if b then [] else held_of keep.held.items who) (is_same (who % length keep.held.items))
+
       hearing : (c : ℕ) → (who ≡ c) ⊎ ((hears keep.post.places.items c ≡ true) × (((who % length keep.post.places.items) == (c % length keep.post.places.items)) ≡ false)) →
           ((hears keep.post.places.items c ≡ true) × (held_of new.held.items c ≡ held_of keep.held.items c)) ⊎ ((keep.base ≤ c) × (held_of new.held.items c ≡ []))
       hearing c (inl is) = inr (subst (λ k. keep.base ≤ k) is from, subst (λ k. held_of new.held.items k ≡ []) is held_none)
-      hearing c (inr was) = inl (was.0,
-          held c ∙ ap (λ n. if (who % n) == (c % n) then [] else held_of keep.held.items c) s.heeds.places ∙ ap (λ b. if b then [] else held_of keep.held.items c) was.1)
+      hearing c (inr was) = inl (
+        was.0,
+        held c ∙ ap (λ n. if (who % n) == (c % n) then [] else held_of keep.held.items c) s.heeds.places ∙ ap (λ b. if b then [] else held_of keep.held.items c) was.1,
+      )
+
       there : (c : ℕ) → (who ≡ c) ⊎ (is_here keep.post.places.items c ≡ true) → (is_here keep.post.places.items c ≡ true) ⊎ (c < next)
       there c (inl is) = inr (subst (λ k. k < next) is below)
       there c (inr was) = inl was
@@ -191,7 +197,7 @@ module _ {S : Type 0} (gives : Gives S) (first : S) (limits : Limits) where
       Does gives keep.object (Heard who line end) new.object keep.post new.post →
       ((ended : ℕ) (came : List ℕ) (lines : List (List ℕ × LineEnd)) → IsFed came lines (held_of keep.held.items who) → IsCut ended (came ++ more) (lines ++ (line, end) ∷ [])) →
       (hears new.post.places.items who ≡ true → (came : List ℕ) (lines : List (List ℕ × LineEnd)) → IsFed came lines (held_of keep.held.items who) →
-        IsFed (came ++ more) (lines ++ (line, end) ∷ []) []) →
+      IsFed (came ++ more) (lines ++ (line, end) ∷ []) []) →
       Stands gives first limits (Came who done ∷ seen) keep → Stands gives first limits (Came who (done ++ more) ∷ seen) new
   stands_said seen keep new who done more line end hearing unended base limited held_count held does cut fed s =
       let t : Turn = record { asked = Heard who line end; said = does.said; added = does.added } in
@@ -217,12 +223,12 @@ module _ {S : Type 0} (gives : Gives S) (first : S) (limits : Limits) where
             (λ c is. sym (does.tells.here c) ∙ is) does.tells.hears
             (λ c not. (came_same (who == c) (came_from c seen) (done ++ more) done not, refl, heard_last c all t ∙ heard_other (who == c) line end (heard_of c all) not))
             (λ c not is. held_apart keep.post.places.items keep.held.items new.held.items who c s.heeds.places (here_of_hears keep.post.places.items who hearing)
-              (here_of_hears keep.post.places.items c (does.tells.hears c is)) not [] (held c))
+            (here_of_hears keep.post.places.items c (does.tells.hears c is)) not [] (held c))
             (subst (λ l. IsCut (ended_in who seen) (came_from who seen ++ (if who == who then done ++ more else [])) l) (sym lines)
-              (subst (λ l. IsCut (ended_in who seen) l (heard_of who all ++ (line, end) ∷ [])) (sym now) (cut (ended_in who seen) was (heard_of who all) before)))
+            (subst (λ l. IsCut (ended_in who seen) l (heard_of who all ++ (line, end) ∷ [])) (sym now) (cut (ended_in who seen) was (heard_of who all) before)))
             (λ is. subst (λ l. IsFed (came_from who seen ++ (if who == who then done ++ more else [])) l (held_of new.held.items who)) (sym lines)
-              (subst (λ l. IsFed l (heard_of who all ++ (line, end) ∷ []) (held_of new.held.items who)) (sym now)
-              (subst (λ l. IsFed (was ++ more) (heard_of who all ++ (line, end) ∷ []) l) (sym held_none) (fed is was (heard_of who all) before))))
+            (subst (λ l. IsFed l (heard_of who all ++ (line, end) ∷ []) (held_of new.held.items who)) (sym now)
+            (subst (λ l. IsFed (was ++ more) (heard_of who all ++ (line, end) ∷ []) l) (sym held_none) (fed is was (heard_of who all) before))))
             (λ is. unended) s.heeds));
       }
     where
@@ -260,7 +266,7 @@ module _ {S : Type 0} (gives : Gives S) (first : S) (limits : Limits) where
       new.object ≡ keep.object → new.post ≡ keep.post → new.base ≡ keep.base → new.limits ≡ keep.limits → length new.held.items ≡ length keep.held.items →
       (length keep.held.items ≡ length keep.post.places.items → (c : ℕ) → (who == c) ≡ false → hears keep.post.places.items c ≡ true → held_of new.held.items c ≡ held_of keep.held.items c) →
       (hears keep.post.places.items who ≡ true → (came : List ℕ) (lines : List (List ℕ × LineEnd)) → IsFed came lines (held_of keep.held.items who) →
-        IsFed (came ++ more) lines (held_of new.held.items who)) →
+      IsFed (came ++ more) lines (held_of new.held.items who)) →
       Stands gives first limits (Came who done ∷ seen) keep → Stands gives first limits (Came who (done ++ more) ∷ seen) new
   stands_more seen keep new who done more below unended object post base limited held_count held fed s =
       let all : List Turn = s.kept_turns ++ s.later in
@@ -281,7 +287,7 @@ module _ {S : Type 0} (gives : Gives S) (first : S) (limits : Limits) where
             (λ c not. (came_same (who == c) (came_from c seen) (done ++ more) done not, refl, refl))
             (held s.heeds.places)
             (subst (λ l. IsCut (ended_in who seen) l (heard_of who all)) (sym now)
-              (subst (λ n. IsCut n (was ++ more) (heard_of who all)) (sym unended) (cut_more was more (heard_of who all) (subst (λ n. IsCut n was (heard_of who all)) unended (s.heeds.heard who)))))
+            (subst (λ n. IsCut n (was ++ more) (heard_of who all)) (sym unended) (cut_more was more (heard_of who all) (subst (λ n. IsCut n was (heard_of who all)) unended (s.heeds.heard who)))))
             (λ is. subst (λ l. IsFed l (heard_of who all) (held_of new.held.items who)) (sym now) (fed is was (heard_of who all) (s.heeds.fed who is)))
             (λ is. unended) s.heeds));
       }
@@ -295,10 +301,10 @@ module _ {S : Type 0} (gives : Gives S) (first : S) (limits : Limits) where
   stands_hold seen keep new who done rest hearing unended clear small object post base limited held_count held s =
       let mine : List ℕ = held_of keep.held.items who in
       let now : held_of new.held.items who ≡ mine ++ rest =
-        held who ∙ ap (λ b. mine ++ (if b then rest else [])) (is_same (who % length keep.held.items)) in
+      held who ∙ ap (λ b. mine ++ (if b then rest else [])) (is_same (who % length keep.held.items)) in
       stands_more seen keep new who done rest (s.heeds.below who (here_of_hears keep.post.places.items who hearing)) unended object post base limited held_count
       (λ count c not is. held_apart_more keep.post.places.items keep.held.items new.held.items who c count (here_of_hears keep.post.places.items who hearing)
-        (here_of_hears keep.post.places.items c is) not rest (held c))
+      (here_of_hears keep.post.places.items c is) not rest (held c))
       (λ is came lines f. subst (λ l. IsFed (came ++ rest) lines l) (sym now) (fed_more came lines mine rest f clear small)) s
 
   -- the connection is heard no more
@@ -375,10 +381,10 @@ module _ {S : Type 0} (gives : Gives S) (first : S) (limits : Limits) where
             (λ c is. sym (does.tells.here c) ∙ is) does.tells.hears
             (λ c not. (refl, ended_other (who == c) (ended_in c seen) not, heard_last c all t ∙ heard_other (who == c) line Input (heard_of c all) not))
             (λ c not is. held_apart keep.post.places.items keep.held.items new.held.items who c s.heeds.places (here_of_hears keep.post.places.items who hearing)
-              (here_of_hears keep.post.places.items c (does.tells.hears c is)) not [] (held c))
+            (here_of_hears keep.post.places.items c (does.tells.hears c is)) not [] (held c))
             (subst (λ l. IsCut ended (came_from who seen) l) (sym lines)
-              (subst (λ l. IsCut ended (came_from who seen) (heard_of who all ++ (l, Input) ∷ [])) (sym is_line)
-              (cut_last ended (came_from who seen) (heard_of who all) (held_of keep.held.items who) (s.heeds.fed who hearing) (ended_one (who == who) (ended_in who seen) (is_same who)))))
+            (subst (λ l. IsCut ended (came_from who seen) (heard_of who all ++ (l, Input) ∷ [])) (sym is_line)
+            (cut_last ended (came_from who seen) (heard_of who all) (held_of keep.held.items who) (s.heeds.fed who hearing) (ended_one (who == who) (ended_in who seen) (is_same who)))))
             (λ is. absurd (true≢false (sym is ∙ deaf))) (λ is. absurd (true≢false (sym is ∙ deaf))) s.heeds));
       }
 
@@ -533,7 +539,7 @@ module _ {S : Type 0} (gives : Gives S) (first : S) (limits : Limits) where
         (λ j. kept_in limits.waits j (Stored journal ∷ Added journal lines ∷ seen)) (λ j. added_in j (Added journal lines ∷ seen)) keep.post new.post keep.base journal s.kept_turns s.later places count texts
         (λ j. handed_lines seen journal j lines (text_at keep.post.lines.items journal) are)
         (λ j is. ap (λ w. if w then (if journal == j then added_in j (Added journal lines ∷ seen) else stored_in j seen) else added_in j (Added journal lines ∷ seen)) waits
-          ∙ even_stored seen journal j lines (sym (ap (λ w. if w then stored_in j seen else added_in j seen) waits) ∙ s.owes.even j is) (journal == j) refl) s.owes);
+        ∙ even_stored seen journal j lines (sym (ap (λ w. if w then stored_in j seen else added_in j seen) waits) ∙ s.owes.even j is) (journal == j) refl) s.owes);
     heeds = subst (λ b. Heeds (λ c. came_from c seen) (λ c. ended_in c seen) (notes_in seen) new.post new.held.items b (s.kept_turns ++ s.later)) (sym base)
         (subst (λ h. Heeds (λ c. came_from c seen) (λ c. ended_in c seen) (notes_in seen) new.post h.items keep.base (s.kept_turns ++ s.later)) (sym held)
         (heeds_same (λ c. came_from c seen) (λ c. ended_in c seen) (notes_in seen) keep.post new.post keep.held.items keep.base (s.kept_turns ++ s.later) (ap (λ p. length p.items) places)

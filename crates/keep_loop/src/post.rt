@@ -552,9 +552,9 @@ impl Post {
 
     // Whether something is owed to a connection.
     pub(crate) fn owes(&self) -> bool {
-        self.places
-            .iter()
-            .any(|place| place.stage != Stage::Gone && !place.is_broken && !place.owed.is_empty())
+        self.places.iter().any(|place| place.stage != Stage::Gone
+            && !place.is_broken
+            && !place.owed.is_empty())
     }
 
     // Of a connection more may be read, where this is so.

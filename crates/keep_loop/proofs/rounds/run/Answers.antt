@@ -16,6 +16,8 @@ returns g c = record {
   honest = c.serve.ensures c.args.object c.args.limits
       (same (g.W.Outside.seen c.args.outside.now) (g.W.Outside.seen c.args.outside.now) refl (λ t. t ≡ [])
       (λ t. Stands g.O.Served.gives c.args.object c.args.limits t c.in_ok-keep.keep × Always (IsHonest g.O.Served.gives c.args.object c.args.limits) t)
-      (λ t is. (subst (λ s. Stands g.O.Served.gives c.args.object c.args.limits s c.in_ok-keep.keep) (sym is) c.in_ok-keep.ensures.stands,
-        subst (λ s. Always (IsHonest g.O.Served.gives c.args.object c.args.limits) s) (sym is) (honest_none g.O.Served.gives c.args.object c.args.limits))) c.requires);
+      (λ t is. (
+        subst (λ s. Stands g.O.Served.gives c.args.object c.args.limits s c.in_ok-keep.keep) (sym is) c.in_ok-keep.ensures.stands,
+        subst (λ s. Always (IsHonest g.O.Served.gives c.args.object c.args.limits) s) (sym is) (honest_none g.O.Served.gives c.args.object c.args.limits),
+      )) c.requires);
 }

@@ -10,8 +10,8 @@ returns-in_err-append-clause-err g c =
 pub returns-in_err-sync_if-clause-err : goal.returns-in_err-sync_if-clause-err
 returns-in_err-sync_if-clause-err g c =
     let failed : Fails g.O.Served.gives (g.W.Outside.seen c.args.outside.now) c.args.keep.now (g.W.Outside.seen c.sync_if.new.outside) =
-      λ first limits good. subst (λ o. Honest g.O.Served.gives first limits o) (sym c.in_err-sync_if.ensures.err)
-      (fails_added g.O.Served.gives c.args.journal c.lines-2.result.now (g.W.Outside.seen c.args.outside.now) (g.W.Outside.seen c.append.new.self) c.args.keep.now c.append.ensures c.lines-2.ensures first limits good) in
+    λ first limits good. subst (λ o. Honest g.O.Served.gives first limits o) (sym c.in_err-sync_if.ensures.err)
+    (fails_added g.O.Served.gives c.args.journal c.lines-2.result.now (g.W.Outside.seen c.args.outside.now) (g.W.Outside.seen c.append.new.self) c.args.keep.now c.append.ensures c.lines-2.ensures first limits good) in
     on_err _ failed
 
 pub returns-clause-ok : goal.returns-clause-ok
