@@ -128,3 +128,18 @@ module _ (came : ℕ → List ℕ) (ended : ℕ → ℕ) (notes : List Note) whe
     fresh = h.fresh;
     unheard = λ c is. (let u = h.unheard c is in (same c ∙ u.0, u.1, u.2));
   }
+
+  -- a turn of which nobody is heard
+  pub heeds_turn : (post : Post) (held : List Text) (base : ℕ) (all all_now : List Turn) → ((c : ℕ) → heard_of c all_now ≡ heard_of c all) → notes_by all_now ≡ notes_by all →
+      Heeds came ended notes post held base all → Heeds came ended notes post held base all_now
+  heeds_turn post held base all all_now same no_note h = record {
+    places = h.places;
+    heard = λ c. subst (λ l. IsCut (ended c) (came c) l) (sym (same c)) (h.heard c);
+    fed = λ c is. subst (λ l. IsFed (came c) l (held_of held c)) (sym (same c)) (h.fed c is);
+    unended = h.unended;
+    noted = h.noted ∙ sym no_note;
+    once = h.once;
+    below = h.below;
+    fresh = h.fresh;
+    unheard = λ c is. (let u = h.unheard c is in (u.0, same c ∙ u.1, u.2));
+  }

@@ -4,8 +4,8 @@ use Rattle.std.specs.Prelude.{Bool, true, false, Option, Result, Ok, Err, OnErr,
 use Rattle.std.proofs.lemmas.List.{append-nil}
 use Rattle.keep_loop.specs.Texts.{text_at}
 use Rattle.keep_loop.specs.Turns.{Turn, Gives, is_joining}
-use Rattle.keep_loop.specs.Seen.{Happened, Grows, Always, added_in, stored_in, kept_in, notes_in, came_from, ended_in, written_to, read_of}
-use Rattle.keep_loop.specs.Seen.Happened.{Wrote, Noticed, Added, Stored}
+use Rattle.keep_loop.specs.Seen.{Happened, Grows, GrowsIf, Always, added_in, stored_in, kept_in, notes_in, came_from, ended_in, written_to, read_of}
+use Rattle.keep_loop.specs.Seen.Happened.{Wrote, Noticed, Added, Stored, Changed}
 use Rattle.keep_loop.specs.Posts.{is_here, hears, owed_to}
 use Rattle.keep_loop.specs.Stands.{Owes, Heeds, Stands, Rests, IsHonest, Good, Rested, Honest, Keeps, Settles, Sends, Fails, FailsRested}
 use Rattle.keep_loop.specs.declared.keep.Keep.{Keep}
@@ -14,7 +14,7 @@ use Rattle.keep_loop.specs.declared.outside.Read.{Read}
 use Rattle.keep_loop.specs.declared.served.Note.{Note}
 use Rattle.keep_loop.proofs.Grown.{grown, same}
 use Rattle.keep_loop.proofs.Owed.{owes_handed}
-use Rattle.keep_loop.proofs.Stood.{rests_kept, stands_added, stands_stored}
+use Rattle.keep_loop.proofs.Stood.{rests_kept, stands_added, stands_stored, stands_changed}
 use Rattle.keep_loop.proofs.Honest.{honest, honest_read, honest_noticed, honest_added, honest_wrote}
 
 module _ {S : Type 0} (gives : Gives S) where
@@ -164,6 +164,21 @@ module _ {S : Type 0} (gives : Gives S) where
   settles_all a b one two step none first limits good =
       same b b refl (λ s. Stands gives first limits s two × Always (IsHonest gives first limits) s) (λ s. Rests gives first limits s two × Always (IsHonest gives first limits) s)
       (λ seen p. (rests_kept gives first limits seen two (λ j is. none j (subst (λ n. j < n) (sym p.0.owes.journals) is)) p.0, p.1)) (step first limits good)
+
+  changed_by : (journal : ℕ) (front : List ℕ) (went : Bool) (before after : Option (List Happened)) (old new : Keep S) → GrowsIf went (Changed journal front) before after →
+      ((first : S) (limits : Limits) (seen : List Happened) → Stands gives first limits seen old → Stands gives first limits seen new) → Keeps gives before old after new
+  changed_by journal front true before after old new is step =
+      keeps_event (Changed journal front) before after old new is (λ first limits seen s. step first limits (Changed journal front ∷ seen) (stands_changed gives first limits seen old journal front s))
+  changed_by journal front false before after old new is step = keeps_quiet before after old new is step
+
+  -- a journal has begun anew, or could not
+  pub keeps_changed : (journal : ℕ) (front : List ℕ) (went : Bool) (before after : Option (List Happened)) (old new : Keep S) → GrowsIf went (Changed journal front) before after →
+      ((first : S) (limits : Limits) (seen : List Happened) → Stands gives first limits seen old → Stands gives first limits seen new) → Keeps gives before old after new
+  keeps_changed journal front went before after old new is step = changed_by journal front went before after old new is step
+
+  pub fails_changed : (journal : ℕ) (front : List ℕ) (before after : Option (List Happened)) (old : Keep S) → Grows (Changed journal front) before after → Fails gives before old after
+  fails_changed journal front before after old is =
+      fails_event (Changed journal front) before after old is (λ first limits seen s. honest gives first limits (Changed journal front ∷ seen) old (stands_changed gives first limits seen old journal front s))
 
 pub on_err : {T E X : Type 0} (r : Result T E) → X → OnErr r X
 on_err (Ok t) x = tt

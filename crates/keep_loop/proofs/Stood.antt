@@ -4,9 +4,9 @@ use Rattle.std.specs.Prelude.{Bool, true, false, if◌then◌else◌, ◌==◌}
 use Rattle.std.proofs.lemmas.List.{append-nil}
 use Rattle.keep_loop.specs.Texts.{NoLineFeed, Begins, text_at, to}
 use Rattle.keep_loop.specs.Turns.{Turn, Gives, Runs, Asked, heard_of, notes_by, is_joining, joins, said_to, added_by, has_joined}
-use Rattle.keep_loop.specs.Turns.Asked.{Heard, Noted}
+use Rattle.keep_loop.specs.Turns.Asked.{Heard, Noted, Changes}
 use Rattle.keep_loop.specs.Seen.{Happened, came_from, ended_in, written_to, notes_in, added_in, stored_in, kept_in, comings, read_of}
-use Rattle.keep_loop.specs.Seen.Happened.{Came, Ended, Broke, Wrote, Noticed, Added, Stored}
+use Rattle.keep_loop.specs.Seen.Happened.{Came, Ended, Broke, Wrote, Noticed, Added, Stored, Changed}
 use Rattle.keep_loop.specs.Cuts.{IsCut, IsFed, most_line}
 use Rattle.keep_loop.specs.declared.post.Stage.TheVariants.{Gone}
 use Rattle.keep_loop.specs.Posts.{is_here_in, hears_in, stage_of, is_here, hears, owed_to, Tells, Opens, Closes, Writes, Does}
@@ -23,7 +23,7 @@ use Rattle.keep_loop.proofs.Turns.{runs_last, heard_last, notes_last}
 use Rattle.keep_loop.proofs.Cuts.{cut_of_fed, fed_more, fed_line, cut_long, cut_last, cut_more, cut_later}
 use Rattle.keep_loop.proofs.Places.{same_place, here_of_hears, is_same}
 use Rattle.keep_loop.proofs.Owed.{owes_turn, owes_same, owes_handed, owes_kept, owes_wrote}
-use Rattle.keep_loop.proofs.Heeded.{heeds_note, heeds_one, heeds_same, heeds_came}
+use Rattle.keep_loop.proofs.Heeded.{heeds_note, heeds_one, heeds_same, heeds_came, heeds_turn}
 
 came_next : (b : Bool) (came done more : List ℕ) → b ≡ true → came ++ (if b then done ++ more else []) ≡ (came ++ (if b then done else [])) ++ more
 came_next true came done more is = sym (append_assoc came done more)
@@ -545,3 +545,31 @@ module _ {S : Type 0} (gives : Gives S) (first : S) (limits : Limits) where
         (heeds_same (λ c. came_from c seen) (λ c. ended_in c seen) (notes_in seen) keep.post new.post keep.held.items keep.base (s.kept_turns ++ s.later) (ap (λ p. length p.items) places)
         (λ c is. ap (λ p. is_here p.items c) (sym places) ∙ is) (λ c is. ap (λ p. hears p.items c) (sym places) ∙ is) s.heeds));
   }
+
+  -- a journal has begun anew, or could not
+  pub stands_changes : (seen : List Happened) (keep new : Keep S) (journal : ℕ) (front : List ℕ) (went : Bool) → new.post ≡ keep.post → new.held ≡ keep.held → new.base ≡ keep.base →
+      new.limits ≡ keep.limits → gives keep.object (Changes journal front went) [] [] new.object → Stands gives first limits seen keep → Stands gives first limits seen new
+  stands_changes seen keep new journal front went post held base limited step s =
+      let t : Turn = record { asked = Changes journal front went; said = []; added = [] } in
+      let all : List Turn = s.kept_turns ++ s.later in
+      let on : all ++ t ∷ [] ≡ s.kept_turns ++ (s.later ++ t ∷ []) = append_assoc s.kept_turns s.later (t ∷ []) in
+      record {
+        kept_turns = s.kept_turns;
+        later = s.later ++ t ∷ [];
+        limited = limited ∙ s.limited;
+        runs = subst (λ ts. Runs gives first ts new.object) on (runs_last gives first all keep.object t new.object s.runs step);
+        owes = subst (λ b. Owes limits (λ c. written_to c seen) (λ j. kept_in limits.waits j seen) (λ j. added_in j seen) new.post b s.kept_turns (s.later ++ t ∷ [])) (sym base)
+            (subst (λ p. Owes limits (λ c. written_to c seen) (λ j. kept_in limits.waits j seen) (λ j. added_in j seen) p keep.base s.kept_turns (s.later ++ t ∷ [])) (sym post)
+            (owes_turn limits (λ c. written_to c seen) (λ j. kept_in limits.waits j seen) (λ j. added_in j seen) keep.post keep.post keep.base keep.base s.kept_turns s.later t (omega arith)
+            refl (λ j is. sym (append-nil (text_at keep.post.lines.items j)))
+            (λ c is. inl (is, sym (append-nil (owed_to keep.post.places.items c)))) (λ c far. refl) s.owes));
+        heeds = subst (λ ts. Heeds (λ c. came_from c seen) (λ c. ended_in c seen) (notes_in seen) new.post new.held.items new.base ts) on
+            (subst (λ b. Heeds (λ c. came_from c seen) (λ c. ended_in c seen) (notes_in seen) new.post new.held.items b (all ++ t ∷ [])) (sym base)
+            (subst (λ p. Heeds (λ c. came_from c seen) (λ c. ended_in c seen) (notes_in seen) p new.held.items keep.base (all ++ t ∷ [])) (sym post)
+            (subst (λ h. Heeds (λ c. came_from c seen) (λ c. ended_in c seen) (notes_in seen) keep.post h.items keep.base (all ++ t ∷ [])) (sym held)
+            (heeds_turn (λ c. came_from c seen) (λ c. ended_in c seen) (notes_in seen) keep.post keep.held.items keep.base all (all ++ t ∷ [])
+            (λ c. heard_last c all t ∙ append-nil (heard_of c all)) (notes_last all t ∙ append-nil (notes_by all)) s.heeds))));
+      }
+
+  pub stands_changed : (seen : List Happened) (keep : Keep S) (journal : ℕ) (front : List ℕ) → Stands gives first limits seen keep → Stands gives first limits (Changed journal front ∷ seen) keep
+  stands_changed seen keep journal front s = record { kept_turns = s.kept_turns; later = s.later; limited = s.limited; runs = s.runs; owes = s.owes; heeds = s.heeds }

@@ -368,7 +368,7 @@ impl Post {
     }
 
     /// Sees to it that so many bytes can be told to a connection, and so many added to a journal, without more memory. The
-    /// error is that memory was refused.
+    /// error is that memory was refused; then too nothing is told.
     pub fn make_room(
         &mut self,
         who: u64,
@@ -376,7 +376,7 @@ impl Post {
         journal: usize,
         lines: usize,
     ) -> Result<(), AllocError>
-        ensures { OnOk result (Tells self.old self.new [] []) }
+        ensures { Tells self.old self.new [] [] }
     {
         if let Some(at) = find(self.places.as_slice(), who) {
             reserve_owed(&mut self.places, at, told)?;
@@ -482,8 +482,8 @@ impl Post {
         self.quits.pop()
     }
 
-    // A connection comes.
-    pub(crate) fn open(&mut self, who: u64)
+    /// A connection comes, under this number. The loop does so; it is for tests of what is served.
+    pub fn open(&mut self, who: u64)
         requires { 0 < length self.old.places.items }
         ensures { Opens self.old self.new who }
     {
