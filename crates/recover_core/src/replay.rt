@@ -1,0 +1,287 @@
+//! An epoch that is played again, line by line.
+
+ghost use Rattle.std.specs.Prelude.{◌≡◌, ℕ, ◌≤◌, ◌<◌, ◌+◌, ◌∷◌, ◌↔◌, IsTrue, IfOk, IfSome, OnOk, MatchOption};
+ghost use Rattle.std.specs.Prelude.{IfNone, length};
+ghost use Rattle.decl_core.specs.ObjectMap.{object_of};
+
+use crate::carried::is_as_carried;
+use crate::counts::Counts;
+use crate::numbers::Numbers;
+use crate::said::{Asked, Said, read_line};
+use audit_core::calls::Running;
+use audit_core::replay::is_right;
+use audit_core::start::operation_for;
+use audit_core::told::ToldReply;
+use audit_core::verdict::Fault;
+use decl_core::object::{Object, Part};
+use live_core::call::Carried;
+use past_core::past::PastEvent;
+use path_tree::node::OpId;
+use std::alloc::{AllocError, Global};
+use value_core::value::Value;
+
+/// A call that a line told of.
+#[derive(Drop)]
+pub struct Known {
+    /// Its number in this epoch.
+    pub number: u32,
+    /// Its session, operation and arguments.
+    pub call: Running,
+}
+
+/// What a line told.
+#[derive(Drop)]
+pub enum Note<'a> {
+    /// A call started. Its end is to follow.
+    Began,
+    /// The call that had started ended with this reply.
+    Ran(Known, ToldReply),
+    /// A call that waited was cancelled.
+    Cancelled(Known),
+    /// This session got a name.
+    Named(u32, &'a [u8]),
+}
+
+/// An epoch up to some line.
+#[derive(Drop)]
+pub struct Replay {
+    alloc: Global,
+    // what the paths have counted of the past and of the calls that ended
+    counts: Counts,
+    // the values of all parts
+    parts: Vec<Value>,
+    // the numbers of calls that ended or were cancelled
+    numbers: Numbers,
+    // the calls that waited when the epoch began: their numbers are those from 1
+    carried: Vec<Carried>,
+    // the call that has started and not ended
+    running: Option<Known>,
+    // the past, and the starts and ends of calls that ended
+    long: Vec<PastEvent>,
+}
+
+// Whether values are of the kinds of parts, in order.
+fn are_of(values: &[Value], parts: &[Part]) -> bool
+    ensures { IsTrue result ↔ (map kind_of values.now ≡ map (λ p. p.1) (parts_of parts.now)) }
+{
+    match (values, parts) {
+        ([], []) => true,
+        ([value, values @ ..], [part, parts @ ..]) => value.kind() == part.kind
+            && are_of(values, parts),
+        _ => false,
+    }
+}
+
+// Whether a call may have this number.
+fn is_call_number(number: u32) -> bool
+    ensures { IsTrue result ↔ ((1 ≤ number) × (number ≤ 65536)) }
+{
+    number >= 1 && number <= 65536
+}
+
+// Whether there is this session behind a front.
+fn is_session(session: u32) -> bool
+    ensures { IsTrue result ↔ ((1 ≤ session) × (session ≤ 65535)) }
+{
+    session >= 1 && session <= 65535
+}
+
+impl Replay {
+    ghost use Rattle.std.specs.Prelude.{ℕ, List, [], ◌≡◌};
+    ghost use Rattle.decl_core.specs.ObjectMap.{parts_of};
+    ghost use Rattle.recover_core.specs.Said.{Asked as Asked_of, a_start, an_end, a_cancel, a_name};
+    ghost use Rattle.recover_core.specs.Steps.{Begun, Heard, nothing_heard};
+    ghost use Rattle.recover_core.specs.Tells.{IsCall};
+    ghost use Rattle.recover_core.specs.View.{asked_view};
+    ghost use Rattle.recover_core.specs.Stands.{Stands, Hears, HearsSaid, begun_with, known_call};
+    ghost use Rattle.audit_core.specs.View.{told_view};
+
+    /// An epoch before its first line: with this past, the oldest event first, these values, and these calls that wait,
+    /// which have the numbers from 1. `None`: a value is not of its part's kind, the paths did not let the past happen,
+    /// more than 65,536 calls start in it, or a call runs at its end. The error is that memory was refused.
+    pub fn behind(
+        alloc: Global,
+        object: &Object,
+        past: Vec<PastEvent>,
+        parts: Vec<Value>,
+        carried: Vec<Carried>,
+    ) -> Result<Option<Replay>, AllocError>
+        ensures { IfOk result (λ found. IfSome found (λ r.
+            Stands (object_of object.now) (begun_with past.items parts.items carried.items) r nothing_heard)) }
+    {
+        if !are_of(&parts, &object.parts) {
+            return Ok(None);
+        }
+        let operations = object.operations.len() as OpId;
+        let Some(counts) = Counts::behind(alloc, &object.paths, operations, &past)? else {
+            return Ok(None);
+        };
+        Ok(Some(Replay {
+            alloc,
+            counts,
+            parts,
+            numbers: Numbers::new(alloc),
+            carried,
+            running: None,
+            long: past,
+        }))
+    }
+
+    /// Hears a line, and answers what it told, or its fault; after a fault, and where memory is refused, the state is
+    /// open.
+    pub fn hear<'a>(
+        &mut self,
+        object: &Object,
+        line: &'a [u8],
+    ) -> Result<Result<Note<'a>, Fault>, AllocError>
+        ensures { IfOk result (λ found. Hears (object_of object.now) line.now self.old found self.new) }
+    {
+        match read_line(self.alloc, line)? {
+            None => Ok(Err(Fault::Bad)),
+            Some(Said::Start(asked)) => Ok(self.hear_start(object, asked)),
+            Some(Said::End(number, told)) => self.hear_end(object, number, told),
+            Some(Said::Cancel(asked)) => self.hear_cancel(object, asked),
+            Some(Said::Name(session, client)) => Ok(self.hear_name(session, client)),
+        }
+    }
+
+    // The operation of a call of which a line may tell.
+    fn place_for(&self, object: &Object, asked: &Asked) -> Option<OpId>
+        ensures { (e : Begun) (heard : Heard) → Stands (object_of object.now) e self.now heard →
+            MatchOption result ((call : Called) →
+            IsCall (object_of object.now) e heard (asked_view asked.now) call → ⊥)
+            (λ place. IsCall (object_of object.now) e heard (asked_view asked.now) (record {
+              number = asked.now.number;
+              session = asked.now.session;
+              operation = place;
+              arguments = asked.now.arguments.items;
+            })) }
+    {
+        if self.running.is_some() || !is_call_number(asked.number) || !is_session(asked.session) {
+            return None;
+        }
+        if !self.numbers.is_new(asked.number) {
+            return None;
+        }
+        let operation = operation_for(&object.operations, asked.name, &asked.arguments)?;
+        if !is_as_carried(
+            &self.carried,
+            asked.number,
+            asked.session,
+            operation,
+            &asked.arguments,
+        ) {
+            return None;
+        }
+        Some(operation)
+    }
+
+    // Hears a start.
+    fn hear_start<'a>(&mut self, object: &Object, asked: Asked) -> Result<Note<'a>, Fault>
+        ensures { HearsSaid (object_of object.now) (a_start (asked_view asked)) self.old result self.new }
+    {
+        let Some(operation) = self.place_for(object, &asked) else {
+            return Err(Fault::Bad);
+        };
+        if self.counts.is_spent() {
+            return Err(Fault::Bad);
+        }
+        if let Some(path) = self.counts.refusing(operation) {
+            return Err(Fault::Breaks(path));
+        }
+        self.running = Some(known(asked, operation));
+        Ok(Note::Began)
+    }
+
+    // Hears an end.
+    fn hear_end<'a>(
+        &mut self,
+        object: &Object,
+        number: u32,
+        told: ToldReply,
+    ) -> Result<Result<Note<'a>, Fault>, AllocError>
+        ensures { IfOk result (λ found.
+            HearsSaid (object_of object.now) (an_end number (told_view told)) self.old found self.new) }
+    {
+        let Some(known) = self.take_running(number) else {
+            return Ok(Err(Fault::Stranger));
+        };
+        if !is_right(self.alloc, object, &known.call, &told, &mut self.parts)? {
+            return Ok(Err(Fault::Wrong));
+        }
+        self.count(number, known.call.operation)?;
+        Ok(Ok(Note::Ran(known, told)))
+    }
+
+    // Hears that a call that waited was cancelled.
+    fn hear_cancel<'a>(
+        &mut self,
+        object: &Object,
+        asked: Asked,
+    ) -> Result<Result<Note<'a>, Fault>, AllocError>
+        ensures { IfOk result (λ found.
+            HearsSaid (object_of object.now) (a_cancel (asked_view asked)) self.old found self.new) }
+    {
+        let Some(operation) = self.place_for(object, &asked) else {
+            return Ok(Err(Fault::Bad));
+        };
+        self.numbers.take(asked.number)?;
+        Ok(Ok(Note::Cancelled(known(asked, operation))))
+    }
+
+    // Hears that a session got a name.
+    fn hear_name<'a>(&self, session: u32, client: &'a [u8]) -> Result<Note<'a>, Fault>
+        ensures { (o : ObjectForm) → HearsSaid o (a_name session client.now) self.now result self.now }
+    {
+        if self.running.is_some() || !is_session(session) {
+            return Err(Fault::Bad);
+        }
+        Ok(Note::Named(session, client))
+    }
+
+    // The call that runs, where it has this number; it runs no more then.
+    fn take_running(&mut self, number: u32) -> Option<Known>
+        ensures some { IfSome result (λ k. (self.old.running ≡ Some k) × (k.number ≡ number)
+            × (self.new ≡ record self.old { running = None })) }
+        ensures none { IfNone result ((k : Known_of) → self.old.running ≡ Some k → k.number ≢ number) }
+    {
+        match self.running.take() {
+            None => None,
+            Some(known) => {
+                if known.number == number {
+                    return Some(known);
+                }
+                None
+            }
+        }
+    }
+
+    // Counts a call of this number and operation, which every path admits.
+    fn count(&mut self, number: u32, operation: OpId) -> Result<(), AllocError>
+    {
+        self.numbers.take(number)?;
+        self.long.push(PastEvent::Start(operation))?;
+        self.long.push(PastEvent::End(operation))?;
+        self.counts.pass(operation);
+        Ok(())
+    }
+}
+
+// A call that was asked, of the operation at this place.
+fn known(asked: Asked, operation: OpId) -> Known
+    ensures { known_call result ≡ record {
+      number = asked.number;
+      session = asked.session;
+      operation = operation;
+      arguments = asked.arguments.items;
+    } }
+{
+    Known {
+        number: asked.number,
+        call: Running {
+            session: asked.session,
+            operation,
+            arguments: asked.arguments,
+        },
+    }
+}
