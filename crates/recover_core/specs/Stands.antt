@@ -9,8 +9,7 @@ use Rattle.apply_core.specs.History.{IsLegal}
 use Rattle.trace_core.specs.Events.{Called, history_of, body_at}
 use Rattle.past_core.specs.declared.past.PastEvent.{PastEvent}
 use Rattle.past_core.specs.Past.{events_of, AreBefore}
-use Rattle.live_core.specs.declared.call.Carried.{Carried}
-use Rattle.live_core.specs.Answers.{carried_from}
+use Rattle.front_core.specs.declared.front.CarriedCall.{CarriedCall}
 use Rattle.audit_core.specs.Calls.{called}
 use Rattle.audit_core.specs.Counting.{AllMayStart}
 use Rattle.audit_core.specs.Tells.{IsCallNumber}
@@ -24,12 +23,14 @@ use Rattle.recover_core.specs.Steps.{Step, ran, cancelled, named, Begun, Heard, 
 use Rattle.recover_core.specs.Steps.{contents_by, long_past, ended_in}
 use Rattle.recover_core.specs.Numbers.{AreNumbers}
 use Rattle.recover_core.specs.Counts.{Counted}
+use Rattle.recover_core.specs.Carried.{carried_calls}
+use Rattle.recover_core.specs.Said as said
 use Rattle.recover_core.specs.Tells.{Tells}
 use Rattle.recover_core.specs.Sound.{IsFault}
 
 -- an epoch with this past, these contents, and these calls that waited, numbered from 1
-abbrev pub begun_with : List PastEvent → List Contents → List Carried → Begun
-begun_with past opening carried = record { past = past; opening = opening; carried = carried_from 0 carried }
+abbrev pub begun_with : List PastEvent → List Contents → List CarriedCall → Begun
+begun_with past opening carried = record { past = past; opening = opening; carried = carried_calls carried }
 
 -- a call that was told of
 abbrev pub known_call : Known → Called
@@ -54,7 +55,7 @@ pub record Stands (o : ObjectForm) (e : Begun) (r : Replay) (heard : Heard) : Ty
   pub contents : r.parts.items ≡ contents_by o e heard.steps
   pub kinds : map kind_of r.parts.items ≡ map (λ p. p.1) o.parts
   pub numbers : AreNumbers r.numbers.used.items r.numbers.greatest heard.steps
-  pub carried : e.carried ≡ carried_from 0 r.carried.items
+  pub carried : e.carried ≡ carried_calls r.carried.items
   pub running : MatchOption r.running (heard.running ≡ None) (λ k. IsPending o e heard (known_call k))
   pub long : r.long.items ≡ long_past e heard.steps
 
@@ -67,8 +68,17 @@ IsNote heard (notes.Cancelled known) after = after ≡ record heard { steps = ca
 IsNote heard (notes.Named session client) after =
     after ≡ record heard { steps = named session client.now ∷ heard.steps }
 
+-- what was found in a line behind those that told this
+abbrev pub Found : ObjectForm → Begun → Heard → List ℕ → Result Note Fault → Replay → Type 0
+Found o e heard line found new = MatchResult found
+    (λ note. (after : Heard) × Tells o e heard line after × IsNote heard note after × Stands o e new after)
+    (λ fault. IsFault o e heard line fault)
+
 -- what was found in a line
 abbrev pub Hears : ObjectForm → List ℕ → Replay → Result Note Fault → Replay → Type 0
-Hears o line old found new = (e : Begun) (heard : Heard) → Stands o e old heard →
-    MatchResult found (λ note. (after : Heard) × Tells o e heard line after × IsNote heard note after × Stands o e new after)
-    (λ fault. IsFault o e heard line fault)
+Hears o line old found new = (e : Begun) (heard : Heard) → Stands o e old heard → Found o e heard line found new
+
+-- what was found in a line that says this
+abbrev pub HearsSaid : ObjectForm → said.Said → Replay → Result Note Fault → Replay → Type 0
+HearsSaid o what old found new = (line : List ℕ) (e : Begun) (heard : Heard) → Stands o e old heard →
+    said.Says line what → Found o e heard line found new

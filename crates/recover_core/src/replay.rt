@@ -1,7 +1,12 @@
 //! An epoch that is played again, line by line.
 
 ghost use Rattle.std.specs.Prelude.{◌≡◌, ℕ, ◌≤◌, ◌<◌, ◌+◌, ◌∷◌, ◌↔◌, IsTrue, IfOk, IfSome, OnOk, MatchOption};
-ghost use Rattle.std.specs.Prelude.{IfNone, length};
+ghost use Rattle.std.specs.Prelude.{IfNone, length, map, ◌≢◌};
+ghost use Rattle.value_core.specs.Contents.{kind_of};
+ghost use Rattle.decl_core.specs.ObjectForm.{ObjectForm};
+ghost use Rattle.decl_core.specs.ObjectMap.{parts_of};
+ghost use Rattle.recover_core.specs.Stands.{known_call};
+ghost use Rattle.recover_core.specs.declared.replay.Known.{Known as Known_of};
 ghost use Rattle.decl_core.specs.ObjectMap.{object_of};
 
 use crate::carried::is_as_carried;
@@ -14,7 +19,7 @@ use audit_core::start::operation_for;
 use audit_core::told::ToldReply;
 use audit_core::verdict::Fault;
 use decl_core::object::{Object, Part};
-use live_core::call::Carried;
+use front_core::front::CarriedCall;
 use past_core::past::PastEvent;
 use path_tree::node::OpId;
 use std::alloc::{AllocError, Global};
@@ -53,7 +58,7 @@ pub struct Replay {
     // the numbers of calls that ended or were cancelled
     numbers: Numbers,
     // the calls that waited when the epoch began: their numbers are those from 1
-    carried: Vec<Carried>,
+    carried: Vec<CarriedCall>,
     // the call that has started and not ended
     running: Option<Known>,
     // the past, and the starts and ends of calls that ended
@@ -88,12 +93,11 @@ fn is_session(session: u32) -> bool
 
 impl Replay {
     ghost use Rattle.std.specs.Prelude.{ℕ, List, [], ◌≡◌};
-    ghost use Rattle.decl_core.specs.ObjectMap.{parts_of};
     ghost use Rattle.recover_core.specs.Said.{Asked as Asked_of, a_start, an_end, a_cancel, a_name};
     ghost use Rattle.recover_core.specs.Steps.{Begun, Heard, nothing_heard};
     ghost use Rattle.recover_core.specs.Tells.{IsCall};
     ghost use Rattle.recover_core.specs.View.{asked_view};
-    ghost use Rattle.recover_core.specs.Stands.{Stands, Hears, HearsSaid, begun_with, known_call};
+    ghost use Rattle.recover_core.specs.Stands.{Stands, Hears, HearsSaid, begun_with};
     ghost use Rattle.audit_core.specs.View.{told_view};
 
     /// An epoch before its first line: with this past, the oldest event first, these values, and these calls that wait,
@@ -104,7 +108,7 @@ impl Replay {
         object: &Object,
         past: Vec<PastEvent>,
         parts: Vec<Value>,
-        carried: Vec<Carried>,
+        carried: Vec<CarriedCall>,
     ) -> Result<Option<Replay>, AllocError>
         ensures { IfOk result (λ found. IfSome found (λ r.
             Stands (object_of object.now) (begun_with past.items parts.items carried.items) r nothing_heard)) }
@@ -257,8 +261,7 @@ impl Replay {
     }
 
     // Counts a call of this number and operation, which every path admits.
-    fn count(&mut self, number: u32, operation: OpId) -> Result<(), AllocError>
-    {
+    fn count(&mut self, number: u32, operation: OpId) -> Result<(), AllocError> {
         self.numbers.take(number)?;
         self.long.push(PastEvent::Start(operation))?;
         self.long.push(PastEvent::End(operation))?;
