@@ -30,9 +30,16 @@ asked_in (audit.an_object name) = None
 asked_in (audit.a_part name hex) = None
 asked_in (audit.an_end number reply) = None
 
--- what stands behind `start` and behind `cancel`
+-- the words `N sK OP ARG ..`
 abbrev pub asked_of : List Word → Option Asked
 asked_of words = audit.start_said words >>= asked_in
+
+-- what stands behind `start`, and behind `cancel`
+abbrev pub start_of : List Word → Option Said
+start_of words = asked_of words >>= λ asked. Some (a_start asked)
+
+abbrev pub cancel_of : List Word → Option Said
+cancel_of words = asked_of words >>= λ asked. Some (a_cancel asked)
 
 -- the end that an end line of a trace has
 abbrev pub end_in : audit.Said → Option Said
@@ -56,9 +63,9 @@ name_of words = bare_of words >>= λ s. name_by s.0 s.1
 -- what stands behind this word
 abbrev pub said_by : List ℕ → List Word → Option Said
 said_by verb words =
-    if bytes_eq verb (codes "start") then (asked_of words >>= λ asked. Some (a_start asked))
+    if bytes_eq verb (codes "start") then start_of words
     else if bytes_eq verb (codes "end") then end_of words
-    else if bytes_eq verb (codes "cancel") then (asked_of words >>= λ asked. Some (a_cancel asked))
+    else if bytes_eq verb (codes "cancel") then cancel_of words
     else if bytes_eq verb (codes "name") then name_of words
     else None
 

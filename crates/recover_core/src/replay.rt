@@ -193,7 +193,7 @@ impl Replay {
         if let Some(path) = self.counts.refusing(operation) {
             return Err(Fault::Breaks(path));
         }
-        self.running = Some(known(asked, operation));
+        self.running = Some(make_known(asked, operation));
         Ok(Note::Began)
     }
 
@@ -230,7 +230,7 @@ impl Replay {
             return Ok(Err(Fault::Bad));
         };
         self.numbers.take(asked.number)?;
-        Ok(Ok(Note::Cancelled(known(asked, operation))))
+        Ok(Ok(Note::Cancelled(make_known(asked, operation))))
     }
 
     // Hears that a session got a name.
@@ -271,7 +271,7 @@ impl Replay {
 }
 
 // A call that was asked, of the operation at this place.
-fn known(asked: Asked, operation: OpId) -> Known
+fn make_known(asked: Asked, operation: OpId) -> Known
     ensures { known_call result ≡ record {
       number = asked.number;
       session = asked.session;

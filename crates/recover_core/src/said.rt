@@ -1,8 +1,8 @@
 //! What a line behind a front says.
 
-ghost use Rattle.std.specs.Prelude.{IfOk, codes};
+ghost use Rattle.std.specs.Prelude.{IfOk};
 ghost use Rattle.line_read.specs.Reads.{Reads};
-ghost use Rattle.recover_core.specs.Said.{asked_of, end_of, name_of as name_in, name_by as name_by_words};
+ghost use Rattle.recover_core.specs.Said.{asked_of, start_of, cancel_of, end_of, name_of as name_in, name_by as name_by_words};
 ghost use Rattle.recover_core.specs.Said.{said_by as said_in};
 ghost use Rattle.recover_core.specs.View.{asked_view, said_view, IsSaid};
 
@@ -85,7 +85,7 @@ fn call_said(alloc: Global, line: &[u8]) -> Result<Option<Asked<'_>>, AllocError
 }
 
 fn start_said(alloc: Global, line: &[u8]) -> Result<Option<Said<'_>>, AllocError>
-    ensures { IfOk result (Reads (said_in (codes "start")) said_view line.now) }
+    ensures { IfOk result (Reads start_of said_view line.now) }
 {
     match call_said(alloc, line)? {
         Some(asked) => Ok(Some(Said::Start(asked))),
@@ -94,7 +94,7 @@ fn start_said(alloc: Global, line: &[u8]) -> Result<Option<Said<'_>>, AllocError
 }
 
 fn cancel_said(alloc: Global, line: &[u8]) -> Result<Option<Said<'_>>, AllocError>
-    ensures { IfOk result (Reads (said_in (codes "cancel")) said_view line.now) }
+    ensures { IfOk result (Reads cancel_of said_view line.now) }
 {
     match call_said(alloc, line)? {
         Some(asked) => Ok(Some(Said::Cancel(asked))),

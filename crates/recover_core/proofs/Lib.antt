@@ -1,0 +1,5 @@
+pub mod Saying
+pub mod Marks
+pub mod Paths
+pub mod Standing
+pub mod Hearing
