@@ -1,6 +1,6 @@
 //! What an epoch of a kept object begins with.
 
-use past_core::past::PastEvent;
+use crate::past::PastRun;
 use path_tree::name::Name;
 use path_tree::node::OpId;
 use short_core::short::Short;
@@ -16,8 +16,9 @@ pub struct Front {
     pub source: u64,
     /// The values of the parts, in order of declaration.
     pub parts: Vec<Value>,
-    /// A past that leaves what the paths have counted, the oldest event first; at most 131,072 events.
-    pub past: Vec<PastEvent>,
+    /// A past that leaves what the paths have counted, the oldest first; at most 131,072 events.
+    /// `past::events_of` gives these.
+    pub past: Vec<PastRun>,
     /// What is added to the number of a call of this epoch where the number is told to a client.
     pub base: u64,
     /// The calls that wait, by their numbers from 1; at most one of a session.

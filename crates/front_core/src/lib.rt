@@ -8,6 +8,7 @@
 
 pub mod fault;
 pub mod front;
+pub mod past;
 pub mod read;
 pub mod source;
 pub mod write;
