@@ -36,11 +36,13 @@ pub one_marked : (old new : List Bool) (greatest now number : ℕ) (steps : List
 one_marked old new greatest now number steps step here others is has are = record {
   marked = λ n. elim (cases_eq n number) [
     | inl same ↦ (
-        (λ h. absurd (false≢true (sym h ∙ subst (λ m. slice_index_or new m false ≡ true) (sym same) here))),
-        (λ unused. absurd (used_with number step steps has (subst (λ m. IsUnused m (step ∷ steps)) same unused))))
+      (λ h. absurd (false≢true (sym h ∙ subst (λ m. slice_index_or new m false ≡ true) (sym same) here))),
+      (λ unused. absurd (used_with number step steps has (subst (λ m. IsUnused m (step ∷ steps)) same unused))),
+    )
     | inr other ↦ (
-        (λ h. unused_with number n step steps has other ((are.marked n).0 (sym (others n other) ∙ h))),
-        (λ unused. others n other ∙ (are.marked n).1 (unused_before number n step steps has unused)))
+      (λ h. unused_with number n step steps has other ((are.marked n).0 (sym (others n other) ∙ h))),
+      (λ unused. others n other ∙ (are.marked n).1 (unused_before number n step steps has unused)),
+    )
   ];
   most = is ∙ ap (max number) are.most ∙ sym (greatest_with number step steps has);
 }

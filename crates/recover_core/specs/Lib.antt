@@ -7,3 +7,5 @@ pub mod Counts
 pub mod Tells
 pub mod Sound
 pub mod Stands
+pub mod Clients
+pub mod Recovered

@@ -8,7 +8,11 @@
 #![tactic(auto)]
 
 mod carried;
+pub mod clients;
 mod counts;
 mod numbers;
+pub mod recover;
 pub mod replay;
 pub mod said;
+#[cfg(test)]
+mod tests;

@@ -21,6 +21,7 @@ use audit_core::verdict::Fault;
 use decl_core::object::{Object, Part};
 use front_core::front::CarriedCall;
 use past_core::past::PastEvent;
+use path_count::counters::Counters;
 use path_tree::node::OpId;
 use std::alloc::{AllocError, Global};
 use value_core::value::Value;
@@ -65,6 +66,19 @@ pub struct Replay {
     long: Vec<PastEvent>,
 }
 
+/// What an epoch came to.
+#[derive(Drop)]
+pub struct Played {
+    /// The values of all parts.
+    pub contents: Vec<Value>,
+    /// What the paths have counted of the past and of all calls since.
+    pub counters: Counters,
+    /// The past of the epoch, and the starts and ends since, the oldest first.
+    pub long: Vec<PastEvent>,
+    /// The greatest number of a call that ended or was cancelled; 0 where there is none.
+    pub greatest: u32,
+}
+
 // Whether values are of the kinds of parts, in order.
 fn are_of(values: &[Value], parts: &[Part]) -> bool
     ensures { IsTrue result ↔ (map kind_of values.now ≡ map (λ p. p.1) (parts_of parts.now)) }
@@ -99,6 +113,14 @@ impl Replay {
     ghost use Rattle.recover_core.specs.View.{asked_view};
     ghost use Rattle.recover_core.specs.Stands.{Stands, Hears, HearsSaid, begun_with};
     ghost use Rattle.audit_core.specs.View.{told_view};
+    ghost use Rattle.past_core.specs.declared.past.PastEvent.TheVariants as past;
+    ghost use Rattle.path_tree.specs.Path.{Path};
+    ghost use Rattle.path_tree.specs.Trace.{Call, Event, Start, End, IsFresh};
+    ghost use Rattle.path_count.specs.Stands.{started_calls};
+    ghost use Rattle.audit_core.specs.Counting.{AllMayStart};
+    ghost use Rattle.recover_core.specs.Counts.{Counted};
+    ghost use Rattle.recover_core.specs.Numbers.{AreNumbers, HasNumber};
+    ghost use Rattle.recover_core.specs.Steps.{Step};
 
     /// An epoch before its first line: with this past, the oldest event first, these values, and these calls that wait,
     /// which have the numbers from 1. `None`: a value is not of its part's kind, the paths did not let the past happen,
@@ -243,6 +265,30 @@ impl Replay {
         Ok(Note::Named(session, client))
     }
 
+    /// What the epoch came to, up to the last line at which no call runs.
+    pub fn end(self) -> Played
+        ensures { result ≡ record {
+          contents = self.parts;
+          counters = self.counts.all;
+          long = self.long;
+          greatest = self.numbers.greatest;
+        } }
+    {
+        let Replay {
+            counts,
+            parts,
+            numbers,
+            long,
+            ..
+        } = self;
+        Played {
+            contents: parts,
+            counters: counts.all(),
+            long,
+            greatest: numbers.greatest(),
+        }
+    }
+
     // The call that runs, where it has this number; it runs no more then.
     fn take_running(&mut self, number: u32) -> Option<Known>
         ensures some { IfSome result (λ k. (self.old.running ≡ Some k) × (k.number ≡ number)
@@ -261,7 +307,20 @@ impl Replay {
     }
 
     // Counts a call of this number and operation, which every path admits.
-    fn count(&mut self, number: u32, operation: OpId) -> Result<(), AllocError> {
+    fn count(&mut self, number: u32, operation: OpId) -> Result<(), AllocError>
+        ensures numbers { OnOk result ((steps : List Step) (step : Step) → HasNumber number step →
+            AreNumbers self.old.numbers.used.items self.old.numbers.greatest steps →
+            AreNumbers self.new.numbers.used.items self.new.numbers.greatest (step ∷ steps)) }
+        ensures long { OnOk result (self.new.long.items
+            ≡ self.old.long.items ++ past.Start operation ∷ past.End operation ∷ []) }
+        ensures counted { OnOk result ((n : ℕ) (paths : List Path) (t : List Event) (call : Call) →
+            Counted self.old.counts.all self.old.counts.each.items n paths t →
+            call.operation ≡ operation → operation < n → AllMayStart paths operation t → started_calls t < 65536 →
+            IsFresh call.number t →
+            Counted self.new.counts.all self.new.counts.each.items n paths (End call ∷ Start call ∷ t)) }
+        ensures same { (self.new.parts ≡ self.old.parts) × (self.new.carried ≡ self.old.carried)
+            × (self.new.running ≡ self.old.running) }
+    {
         self.numbers.take(number)?;
         self.long.push(PastEvent::Start(operation))?;
         self.long.push(PastEvent::End(operation))?;

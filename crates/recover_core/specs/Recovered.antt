@@ -1,0 +1,74 @@
+-- What the text of an epoch comes to.
+use Rattle.std.specs.Prelude.{◌≡◌, ◌≢◌, ℕ, ◌+◌, List, [], ◌∷◌, ◌++◌, length, map, None, Some, Option, MatchOption}
+use Rattle.std.specs.Str.Lines.{lines}
+use Rattle.path_tree.specs.Trace.{running_calls}
+use Rattle.path_count.specs.Stands.{StandsFor}
+use Rattle.decl_core.specs.ObjectForm.{ObjectForm}
+use Rattle.audit_core.specs.declared.verdict.Fault.{Fault}
+use Rattle.front_core.specs.declared.front.Front.{Front}
+use Rattle.front_core.specs.declared.front.CarriedCall.{CarriedCall}
+use Rattle.front_core.specs.Past.{events_in}
+use Rattle.guest_core.specs.Guests.{Guests}
+use Rattle.recover_core.specs.declared.clients.House.{House}
+use Rattle.recover_core.specs.declared.recover.Recovered.{Recovered}
+use Rattle.recover_core.specs.declared.recover.Refusal.{Refusal}
+use Rattle.recover_core.specs.declared.recover.Refusal.TheVariants as refusals
+use Rattle.recover_core.specs.declared.replay.Played.{Played}
+use Rattle.recover_core.specs.Steps.{Step, Begun, Heard, nothing_heard, trace_by, contents_by, long_past}
+use Rattle.recover_core.specs.Numbers.{greatest_in}
+use Rattle.recover_core.specs.Carried.{carried_calls}
+use Rattle.recover_core.specs.Tells.{Tell, Tells}
+use Rattle.recover_core.specs.Sound.{IsSound, IsPlayed, IsFirstFault}
+use Rattle.recover_core.specs.Clients.{ComeFrom, AfterSteps}
+
+-- what a front says an epoch began with
+abbrev pub begun_of : Front → Begun
+begun_of f =
+    record { past = events_in f.past.items; opening = f.parts.items; carried = carried_calls f.carried.items }
+
+-- the numbers that were told of the calls that waited then
+abbrev pub told_in : Front → List ℕ
+told_in f = map (λ (c : CarriedCall). c.told) f.carried.items
+
+-- what was played stands where these steps lead: nothing runs
+pub record HasPlayed (o : ObjectForm) (e : Begun) (steps : List Step) (p : Played) : Type 0 where
+  pub contents : p.contents.items ≡ contents_by o e steps
+  pub counters : StandsFor p.counters (length o.operations) o.paths (trace_by e steps)
+  pub quiet : running_calls (trace_by e steps) ≡ []
+  pub long : p.long.items ≡ long_past e steps
+  pub greatest : p.greatest ≡ greatest_in steps
+
+-- the clients of a front, and what steps made of them
+pub record HasClients (house : House) (f : Front) (steps : List Step) (guests : Guests) : Type 0 where
+  pub first : Guests
+  pub come : ComeFrom house.sessions house.names house.now f first
+  pub after : AfterSteps (told_in f) f.base house.now first steps guests
+
+-- The lines behind a front are sound, and this is what they come to.
+pub record IsRecovered (o : ObjectForm) (house : House) (f : Front) (text : List ℕ) (r : Recovered) : Type 0 where
+  pub steps : List Step
+  pub played : IsPlayed o (begun_of f) (lines text) (record { steps = steps; running = None })
+  pub has : HasPlayed o (begun_of f) steps r.played
+  pub clients : HasClients house f steps r.guests
+  pub epoch : r.epoch ≡ f.epoch
+  pub source : r.source ≡ f.source
+  pub base : r.base ≡ f.base
+
+-- a line that its clients do not let be: the lines up to it are sound
+pub record IsClientFault (o : ObjectForm) (e : Begun) (all : List (List ℕ)) (number : ℕ) : Type 0 where
+  pub before : List (List ℕ)
+  pub line : List ℕ
+  pub after : List (List ℕ)
+  pub cut : all ≡ before ++ line ∷ after
+  pub counted : number ≡ length before + 1
+  pub heard : Heard
+  pub told : Tell o e nothing_heard (before ++ line ∷ []) heard
+  pub sound : IsSound o e heard
+
+-- why lines are refused
+abbrev pub IsRefused : ObjectForm → Begun → List ℕ → Refusal → Type 0
+IsRefused o e text (refusals.Front fault) = ⊥
+IsRefused o e text refusals.Clients = Unit {0}
+IsRefused o e text refusals.Past = Unit {0}
+IsRefused o e text (refusals.Line number fault) = IsFirstFault o e (lines text) number fault
+IsRefused o e text (refusals.Client number) = IsClientFault o e (lines text) number

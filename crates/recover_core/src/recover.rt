@@ -1,0 +1,171 @@
+//! The text of an epoch, played again.
+
+ghost use Rattle.std.specs.Prelude.{◌≡◌, ◌+◌, ◌≤◌, ◌<◌, ℕ, length, IfOk, IfSome, MatchResult, MatchOption, List, [], ◌∷◌};
+ghost use Rattle.std.specs.Str.Lines.{lines};
+ghost use Rattle.decl_core.specs.ObjectMap.{object_of};
+ghost use Rattle.recover_core.specs.Recovered.{IsRecovered, IsRefused, begun_of, Followed};
+ghost use Rattle.recover_core.specs.Steps.{Begun, nothing_heard};
+ghost use Rattle.recover_core.specs.Stands.{Stands};
+
+use crate::clients::{Clients, House};
+use crate::replay::{Played, Replay};
+use audit_core::verdict::Fault;
+use decl_core::object::Object;
+use front_core::fault::FrontFault;
+use front_core::front::Front;
+use front_core::past::events_of;
+use front_core::read::read_front;
+use guest_core::guests::Guests;
+use line_core::next_line;
+use past_core::past::PastEvent;
+use path_count::counters::Counters;
+use std::alloc::{AllocError, Global};
+use value_core::value::Value;
+
+/// Why a text is refused. Lines count from 1, at the first line of the front.
+#[derive(Clone, Copy, Debug, PartialEq, Eq)]
+pub enum Refusal {
+    /// It does not begin with a front of the object.
+    Front(FrontFault),
+    /// A session of a client of the front is not one that a client may have, or a remembered call has not the key that is
+    /// next.
+    Clients,
+    /// The paths of the object do not let the past of the front happen, or a call of it runs at its end.
+    Past,
+    /// This line has a fault.
+    Line(u64, Fault),
+    /// This line is of a client that cannot be: the session of a name is not free, or keys are spent.
+    Client(u64),
+}
+
+/// What the text of an epoch came to.
+#[derive(Drop)]
+pub struct Recovered {
+    /// Which epoch it is, from 1.
+    pub epoch: u64,
+    /// The number that the declaration of the object gave when the front was written: `front_core::source`.
+    pub source: u64,
+    /// What is added to a number of this epoch where it is told.
+    pub base: u64,
+    /// The values, the counters, the past with all starts and ends since, and the greatest number.
+    pub played: Played,
+    /// The clients: each that has a name is away.
+    pub guests: Guests,
+}
+
+/// What is wrong with a line.
+#[derive(Clone, Copy, Debug, PartialEq, Eq)]
+enum Wrong {
+    Line(u64, Fault),
+    Client(u64),
+}
+
+// Plays lines, the first of which has the number behind this one.
+fn follow(
+    object: &Object,
+    replay: &mut Replay,
+    clients: &mut Clients,
+    text: &[u8],
+) -> Result<Option<Wrong>, AllocError>
+{
+    let mut number: u64 = 0;
+    let mut rest = text;
+    'lines: while let Some((line, tail)) = next_line(rest) {
+        number += 1;
+        let note = match replay.hear(object, line)? {
+            Ok(note) => note,
+            Err(fault) => return Ok(Some(Wrong::Line(number, fault))),
+        };
+        if !clients.hear(&note)? {
+            return Ok(Some(Wrong::Client(number)));
+        }
+        rest = tail;
+    }
+    Ok(None)
+}
+
+// The lines of a text.
+fn count_lines(text: &[u8]) -> u64
+    ensures { result ≡ length (lines text.now) }
+{
+    let mut count: u64 = 0;
+    let mut rest = text;
+    'lines: while let Some((_, tail)) = next_line(rest) {
+        count += 1;
+        rest = tail;
+    }
+    count
+}
+
+// An epoch that begins with this front, before its first line.
+fn begin(
+    alloc: Global,
+    object: &Object,
+    house: House,
+    front: Front,
+) -> Result<Result<(Replay, Clients), Refusal>, AllocError>
+{
+    let Some(clients) = Clients::of_front(alloc, house, &front)? else {
+        return Ok(Err(Refusal::Clients));
+    };
+    let past = events_of(alloc, &front.past)?;
+    let Front { parts, carried, .. } = front;
+    let Some(replay) = Replay::behind(alloc, object, past, parts, carried)? else {
+        return Ok(Err(Refusal::Past));
+    };
+    Ok(Ok((replay, clients)))
+}
+
+/// Plays the lines behind a front, and answers what they come to: the values, the counters, the clients.
+///
+/// What is accepted is sound; where a call has started and not ended by the last line, it is left out. A refusal tells the
+/// first line that has a fault, counted from 1 behind the front, and the outer error that memory was refused.
+pub fn play(
+    alloc: Global,
+    object: &Object,
+    house: House,
+    front: Front,
+    text: &[u8],
+) -> Result<Result<Recovered, Refusal>, AllocError>
+{
+    let epoch = front.epoch;
+    let source = front.source;
+    let base = front.base;
+    let (mut replay, mut clients) = match begin(alloc, object, house, front)? {
+        Ok(begun) => begun,
+        Err(refusal) => return Ok(Err(refusal)),
+    };
+    match follow(object, &mut replay, &mut clients, text)? {
+        Some(Wrong::Line(number, fault)) => Ok(Err(Refusal::Line(number, fault))),
+        Some(Wrong::Client(number)) => Ok(Err(Refusal::Client(number))),
+        None => Ok(Ok(Recovered {
+            epoch,
+            source,
+            base,
+            played: replay.end(),
+            guests: clients.guests(),
+        })),
+    }
+}
+
+/// Reads the text of an epoch of an object, a front and the lines behind it, and answers what it comes to.
+///
+/// The errors are those of [`Refusal`], in their order; the outer one is that memory was refused.
+pub fn recover(
+    alloc: Global,
+    object: &Object,
+    house: House,
+    text: &[u8],
+) -> Result<Result<Recovered, Refusal>, AllocError>
+{
+    let (front, size) = match read_front(alloc, object, text)? {
+        Ok(found) => found,
+        Err(fault) => return Ok(Err(Refusal::Front(fault))),
+    };
+    let (head, behind) = text.split_at(size);
+    match play(alloc, object, house, front, behind)? {
+        Err(Refusal::Line(number, fault)) => Ok(Err(Refusal::Line(count_lines(head) + number, fault))),
+        Err(Refusal::Client(number)) => Ok(Err(Refusal::Client(count_lines(head) + number))),
+        other => Ok(other),
+    }
+}
