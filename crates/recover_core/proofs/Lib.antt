@@ -3,3 +3,4 @@ pub mod Marks
 pub mod Paths
 pub mod Standing
 pub mod Hearing
+pub mod Following

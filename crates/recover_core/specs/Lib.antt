@@ -9,3 +9,4 @@ pub mod Sound
 pub mod Stands
 pub mod Clients
 pub mod Recovered
+pub mod Follow

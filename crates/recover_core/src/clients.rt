@@ -1,6 +1,6 @@
 //! What the lines of an epoch make of its clients.
 
-ghost use Rattle.std.specs.Prelude.{◌≡◌, ◌≤◌, ◌×◌, ℕ, Bool, IsTrue, IfOk, IfSome, map, Some, Ok, length};
+ghost use Rattle.std.specs.Prelude.{◌≡◌, ◌≤◌, ℕ, Bool, IsTrue, IfOk, IfSome, map, Some, Ok, length};
 ghost use Rattle.std.specs.Str.{str_to_ascii_lowercase};
 ghost use Rattle.audit_core.specs.View.{told_view};
 ghost use Rattle.front_core.specs.declared.front.CarriedCall.{CarriedCall as ACarried};

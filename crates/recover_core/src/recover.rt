@@ -1,11 +1,13 @@
 //! The text of an epoch, played again.
 
-ghost use Rattle.std.specs.Prelude.{◌≡◌, ◌+◌, ◌≤◌, ◌<◌, ℕ, length, IfOk, IfSome, MatchResult, MatchOption, List, [], ◌∷◌};
+ghost use Rattle.std.specs.Prelude.{◌≡◌, ◌⊎◌, length, take, drop, IfOk, MatchResult};
 ghost use Rattle.std.specs.Str.Lines.{lines};
 ghost use Rattle.decl_core.specs.ObjectMap.{object_of};
-ghost use Rattle.recover_core.specs.Recovered.{IsRecovered, IsRefused, begun_of, Followed};
+ghost use Rattle.recover_core.specs.Recovered.{IsRecovered, IsRefused, begun_of};
+ghost use Rattle.recover_core.specs.Follow.{IsFollowed, HasBegun};
 ghost use Rattle.recover_core.specs.Steps.{Begun, nothing_heard};
 ghost use Rattle.recover_core.specs.Stands.{Stands};
+ghost use Rattle.recover_core.specs.declared.recover.Refusal.TheVariants.{Clients as NoClients, Past as NoPast};
 
 use crate::clients::{Clients, House};
 use crate::replay::{Played, Replay};
@@ -67,6 +69,8 @@ fn follow(
     clients: &mut Clients,
     text: &[u8],
 ) -> Result<Option<Wrong>, AllocError>
+    ensures { IfOk result (λ found. (e : Begun) → Stands (object_of object.now) e replay.old nothing_heard →
+        IsFollowed (object_of object.now) e text.now found replay.new clients.old clients.new) }
 {
     let mut number: u64 = 0;
     let mut rest = text;
@@ -104,6 +108,8 @@ fn begin(
     house: House,
     front: Front,
 ) -> Result<Result<(Replay, Clients), Refusal>, AllocError>
+    ensures { IfOk result (λ found. MatchResult found (λ p. HasBegun (object_of object.now) house front p.0 p.1)
+        (λ r. (r ≡ NoClients) ⊎ (r ≡ NoPast))) }
 {
     let Some(clients) = Clients::of_front(alloc, house, &front)? else {
         return Ok(Err(Refusal::Clients));
@@ -127,6 +133,8 @@ pub fn play(
     front: Front,
     text: &[u8],
 ) -> Result<Result<Recovered, Refusal>, AllocError>
+    ensures { IfOk result (λ found. MatchResult found (IsRecovered (object_of object.now) house front text.now)
+        (IsRefused (object_of object.now) (begun_of front) text.now)) }
 {
     let epoch = front.epoch;
     let source = front.source;
