@@ -8,6 +8,7 @@ use Rattle.guest_core.specs.declared.guests.EnterFault.TheVariants.{InUse, Full,
 use Rattle.guest_core.specs.declared.guests.AdmitFault.{AdmitFault}
 use Rattle.guest_core.specs.declared.guests.AdmitFault.TheVariants as admit
 use Rattle.guest_core.specs.declared.seats.Seat.TheVariants.{Free, Nameless, Named}
+use Rattle.guest_core.specs.Keys.{fresh_keys}
 use Rattle.guest_core.specs.Seats.{IsLeastFree, NoneIsFree}
 use Rattle.guest_core.specs.Guests.{Guests, IsAt, IsNamed, IsUnknown, with_away, with_seat, with_guest, with_other, guest_of}
 
@@ -78,7 +79,8 @@ GetsName old g new =
 -- nothing.
 abbrev pub Admits : Guests → Guest → Result (Unit {0}) AdmitFault → Guests → Type 0
 Admits old g (Ok done) new =
-    (0 < g.keys.next) × (slice_get old.seats g.session ≡ Some Free) × GetsName old g new
+    (g.keys ≡ fresh_keys g.keys.next) × (0 < g.keys.next) × (slice_get old.seats g.session ≡ Some Free)
+    × GetsName old g new
 Admits old g (Err admit.BadKey) new = (g.keys.next ≡ 0) × (new ≡ old)
 Admits old g (Err admit.Taken) new =
     (0 < g.keys.next) × (slice_get old.seats g.session ≢ Some Free) × (new ≡ old)

@@ -1,6 +1,9 @@
-pub mod Keys
-pub mod View
-pub mod Seats
-pub mod Guests
 pub mod Entering
+pub mod Guests
+pub mod GuestsView
+pub mod Keys
+pub mod KeysView
+pub mod RollView
+pub mod Seats
+pub mod SeatsView
 pub mod Steps

@@ -1,6 +1,6 @@
 //! Who the clients of an object are.
 
-ghost use Rattle.std.specs.Prelude.{◌≡◌, ◌≢◌, ◌<◌, ◌×◌, ℕ, [], map, IfOk, IfSome, IfNone, Some, None, Ok};
+ghost use Rattle.std.specs.Prelude.{◌≡◌, ◌≢◌, ◌<◌, ℕ, [], map, IfOk, IfSome, IfNone, Some, None, Ok};
 ghost use Rattle.std.specs.Prelude.{slice_get, length, OnOk, OnErr, true, false};
 ghost use Rattle.guest_core.specs.declared.guest.Guest.{Guest as AGuest};
 ghost use Rattle.guest_core.specs.declared.keys.Judged.TheVariants.{BadKey as IsBadKey};
@@ -87,7 +87,7 @@ pub struct Guests {
 impl Model for Guests {
     ghost use Rattle.std.specs.Coded.{codes};
     ghost use Rattle.guest_core.specs.Guests.{Guests as AllGuests};
-    ghost use Rattle.guest_core.specs.View.{guests_of, IsWhole};
+    ghost use Rattle.guest_core.specs.GuestsView.{guests_of, IsWhole};
     ghost use Rattle.guest_core.specs.contracts.guest.Guest as g;
     ghost use Rattle.guest_core.specs.contracts.seats.Seat as s;
 

@@ -64,7 +64,7 @@ impl Model for Keys {
     ghost use Rattle.std.specs.Coded.{codes};
     ghost use Rattle.apply_core.specs.contracts.reply.Reply as r;
     ghost use Rattle.guest_core.specs.Keys.{Keys as AKeys};
-    ghost use Rattle.guest_core.specs.View.{keys_of, CanRemember};
+    ghost use Rattle.guest_core.specs.KeysView.{keys_of, CanRemember};
 
     ghost Value = { AKeys };
 

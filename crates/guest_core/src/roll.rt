@@ -1,6 +1,6 @@
 //! The clients that have names, each found by its name.
 
-ghost use Rattle.std.specs.Prelude.{◌≡◌, ◌≢◌, ◌⊎◌, ℕ, ◌<◌, ◌≤◌, ◌↔◌, ◌×◌, [], ◌∷◌, ◌++◌, length, IsTrue, IfOk, IfSome, IfNone};
+ghost use Rattle.std.specs.Prelude.{◌≡◌, ◌≢◌, ◌⊎◌, ℕ, ◌<◌, ◌≤◌, ◌↔◌, [], ◌∷◌, ◌++◌, length, IsTrue, IfOk, IfSome, IfNone};
 ghost use Rattle.std.specs.Prelude.{OnOk, OnErr, Some, None, slice_get, slice_set, false};
 ghost use Rattle.guest_core.specs.declared.guest.Guest.{Guest as AGuest};
 ghost use Rattle.guest_core.specs.declared.roll.Away.{Away as AnAway};
@@ -35,7 +35,7 @@ impl Model for Roll {
     ghost use Rattle.std.specs.Coded.{codes};
     ghost use Rattle.guest_core.specs.declared.guest.Guest.{Guest};
     ghost use Rattle.guest_core.specs.contracts.guest.Guest as g;
-    ghost use Rattle.guest_core.specs.View.{AreFound};
+    ghost use Rattle.guest_core.specs.RollView.{AreFound};
 
     ghost Value = { List Guest };
 

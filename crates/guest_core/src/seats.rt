@@ -37,7 +37,7 @@ impl Model for Seats {
     ghost use Rattle.std.specs.Coded.{codes};
     ghost use Rattle.guest_core.specs.declared.seats.Seat.{Seat};
     ghost use Rattle.guest_core.specs.contracts.seats.Seat as s;
-    ghost use Rattle.guest_core.specs.View.{AreSeats};
+    ghost use Rattle.guest_core.specs.SeatsView.{AreSeats};
 
     ghost Value = { List Seat };
 
