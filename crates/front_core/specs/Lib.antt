@@ -1,3 +1,4 @@
 pub mod Front
 pub mod Past
+pub mod Reads
 pub mod Text

@@ -6,9 +6,16 @@
 //! and refuses each text that no front is written as.
 #![tactic(auto)]
 
+mod answer;
+mod call;
 pub mod fault;
 pub mod front;
+mod kinds;
+mod lines;
 pub mod past;
 pub mod read;
+mod rows;
 pub mod source;
+mod stop;
+mod words;
 pub mod write;
