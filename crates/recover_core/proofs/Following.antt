@@ -3,6 +3,7 @@ use Rattle.std.proofs.Common.{◌≡◌, ℕ, ◌+◌, List, [], ◌∷◌, ◌+
 use Rattle.std.specs.Prelude.{Option, Some, None, Result, Ok, Err, IsTrue}
 use Rattle.std.specs.Str.Lines.{lines}
 use Rattle.std.proofs.lemmas.List.{append-nil}
+use Rattle.path_count.specs.Stands.{StandsFor}
 use Rattle.decl_core.specs.ObjectForm.{ObjectForm}
 use Rattle.trace_core.specs.Events.{Called}
 use Rattle.audit_core.specs.declared.verdict.Fault.{Fault}
@@ -10,19 +11,20 @@ use Rattle.front_core.specs.declared.front.Front.{Front}
 use Rattle.guest_core.specs.Guests.{Guests}
 use Rattle.recover_core.specs.declared.clients.Clients.{Clients}
 use Rattle.recover_core.specs.declared.clients.House.{House}
-use Rattle.recover_core.specs.declared.replay.Note.{Note}
-use Rattle.recover_core.specs.declared.replay.Note.TheVariants as notes
-use Rattle.recover_core.specs.declared.replay.Replay.{Replay}
-use Rattle.recover_core.specs.declared.replay.Played.{Played}
+use Rattle.replay_core.specs.declared.replay.Note.{Note}
+use Rattle.replay_core.specs.declared.replay.Note.TheVariants as notes
+use Rattle.replay_core.specs.declared.replay.Replay.{Replay}
+use Rattle.replay_core.specs.declared.replay.Played.{Played}
 use Rattle.recover_core.specs.declared.recover.Recovered.{Recovered}
-use Rattle.recover_core.specs.Steps.{Step, Begun, Heard, nothing_heard}
-use Rattle.recover_core.specs.Tells.{Tells, Tell, start_told, end_told, cancel_told, name_told}
-use Rattle.recover_core.specs.Sound.{IsSound, IsCut, IsPlayed, IsFirstFault}
-use Rattle.recover_core.specs.Stands.{Stands, Hears, IsNote}
+use Rattle.replay_core.specs.Steps.{Step, Begun, Heard, nothing_heard, trace_by}
+use Rattle.replay_core.specs.Tells.{Tells, Tell, start_told, end_told, cancel_told, name_told}
+use Rattle.replay_core.specs.Sound.{IsSound, IsCut, IsPlayed, IsFirstFault}
+use Rattle.replay_core.specs.Stands.{Stands, Hears, IsNote}
 use Rattle.recover_core.specs.Clients.{AfterSteps, AfterNote}
 use Rattle.recover_core.specs.Recovered.{IsClientFault, IsRecovered, begun_of, told_in}
 use Rattle.recover_core.specs.Follow.{HasFollowed, HasBegun}
-use Rattle.recover_core.proofs.Standing.{stands_sound}
+use Rattle.replay_core.proofs.Standing.{stands_sound}
+use Rattle.replay_core.proofs.Cutting.{told_played}
 
 -- the lines before this rest were played
 pub record Follows (o : ObjectForm) (e : Begun) (text rest : List ℕ) (replay : Replay) (old new : Clients) (number : ℕ) : Type 0 where
@@ -61,8 +63,8 @@ module _ (o : ObjectForm) (e : Begun) (text rest line tail : List ℕ) (old new 
       let h = f.has in
       let found = hears e h.heard h.stands in
       let here = subst (λ (x : ℕ). AfterNote first.carried.items x first.now clients.guests note after.guests) h.same.1
-          (subst (λ (x : ℕ). AfterNote first.carried.items clients.base x clients.guests note after.guests) h.same.2
-          (subst (λ v. AfterNote v.items clients.base clients.now clients.guests note after.guests) h.same.0 one)) in
+      (subst (λ (x : ℕ). AfterNote first.carried.items clients.base x clients.guests note after.guests) h.same.2
+      (subst (λ v. AfterNote v.items clients.base clients.now clients.guests note after.guests) h.same.0 one)) in
       record {
         before = f.before ++ line ∷ [];
         cut = moved ∙ sym (append_assoc f.before (line ∷ []) (lines tail));
@@ -108,49 +110,6 @@ follow_whole o e text rest replay old new number f none =
     let is : lines text ≡ f.before = f.cut ∙ ap (λ ls. f.before ++ ls) none ∙ append-nil f.before in
     subst (λ ls. HasFollowed o e ls replay old new) (sym is) f.has
 
--- up to the last line at which no call runs
-
-rested : Heard → Heard
-rested h = record { steps = h.steps; running = None }
-
-some_none : {X : Type 0} {x : X} → ◌≡◌ {A = Option X} None (Some x) → ⊥
-some_none is = cc
-
-last_of : (o : ObjectForm) (e : Begun) (first after : Heard) (line : List ℕ) (c : Called) → Tells o e first line after → after.running ≡ Some c → record { steps = after.steps; running = None } ≡ first
-last_of o e first after line c (start_told says is few) runs = ap (λ x. record { steps = first.steps; running = x }) (sym is.rests)
-last_of o e first after line c (end_told says was same) runs = absurd (some_none runs)
-last_of o e first after line c (cancel_told says is) runs = absurd (some_none (sym is.rests ∙ runs))
-last_of o e first after line c (name_told says rests is) runs = absurd (some_none (sym rests ∙ runs))
-
--- all but the last of these lines
-record AllButOne (o : ObjectForm) (e : Begun) (first after : Heard) (all : List (List ℕ)) : Type 0 where
-  pub kept : List (List ℕ)
-  pub last : List ℕ
-  pub cut : all ≡ kept ++ last ∷ []
-  pub told : Tell o e first kept (record { steps = after.steps; running = None })
-
-but_one : (o : ObjectForm) (e : Begun) (first after : Heard) (line : List ℕ) (more : List (List ℕ)) (c : Called) → Tell o e first (line ∷ more) after → after.running ≡ Some c → AllButOne o e first after (line ∷ more)
-but_one o e first after line [] c told runs =
-    let one : Tells o e first line after = subst (Tells o e first line) (sym told.2) told.1 in
-    record { kept = []; last = line; cut = refl; told = last_of o e first after line c one runs }
-but_one o e first after line (l ∷ more) c told runs =
-    let rest = but_one o e told.0 after l more c told.2 runs in
-    record { kept = line ∷ rest.kept; last = rest.last; cut = ap (λ ls. line ∷ ls) rest.cut; told = (told.0, told.1, rest.told) }
-
-played_by : (o : ObjectForm) (e : Begun) (all : List (List ℕ)) (heard : Heard) (running : Option Called) → heard.running ≡ running → Tell o e nothing_heard all heard → IsSound o e (record { steps = heard.steps; running = None }) →
-    IsPlayed o e all (record { steps = heard.steps; running = None })
-played_by o e all heard None is told sound = record {
-  kept = all;
-  cut = inl refl;
-  told = subst (Tell o e nothing_heard all) (ap (λ x. record { steps = heard.steps; running = x }) is) told;
-  rests = refl;
-  sound = sound;
-}
-played_by o e [] heard (Some c) is told sound = absurd (some_none (sym (ap (λ (h : Heard). h.running) told) ∙ is))
-played_by o e (line ∷ more) heard (Some c) is told sound =
-    let one = but_one o e nothing_heard heard line more c told is in
-    record { kept = one.kept; cut = inr (one.last, one.cut); told = one.told; rests = refl; sound = sound }
-
 -- what lines come to that were all played
 pub recovered : (o : ObjectForm) (house : House) (f : Front) (text : List ℕ) (first : Replay) (old new : Clients) (replay : Replay) (r : Recovered) → HasBegun o house f first old → HasFollowed o (begun_of f) (lines text) replay old new →
     r.played ≡ record { contents = replay.parts; counters = replay.counts.all; long = replay.long; greatest = replay.numbers.greatest } → r.guests ≡ new.guests → r.epoch ≡ f.epoch → r.source ≡ f.source → r.base ≡ f.base → IsRecovered o house f text r
@@ -159,10 +118,10 @@ recovered o house f text first old new replay r begun has played guests epoch so
     let told = has.heard in
     record {
       steps = told.steps;
-      played = played_by o (begun_of f) (lines text) told told.running refl has.told (record { satisfied = s.counted.together.satisfied; legal = s.legal });
+      played = told_played o (begun_of f) (lines text) told has.told (stands_sound o (begun_of f) replay told s);
       has = record {
         contents = ap (λ (p : Played). p.contents.items) played ∙ s.contents;
-        counters = subst (λ (p : Played). _) (sym played) s.counted.together;
+        counters = subst (λ (p : Played). StandsFor p.counters (length o.operations) o.paths (trace_by (begun_of f) told.steps)) (sym played) s.counted.together;
         quiet = s.quiet;
         long = ap (λ (p : Played). p.long.items) played ∙ s.long;
         greatest = ap (λ (p : Played). p.greatest) played ∙ s.numbers.most;

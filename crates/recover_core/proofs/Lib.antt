@@ -1,6 +1,2 @@
-pub mod Saying
-pub mod Marks
-pub mod Paths
-pub mod Standing
-pub mod Hearing
 pub mod Following
+pub mod Remembering

@@ -1,7 +1,6 @@
 -- What the lines of an epoch make of its clients.
 use Rattle.std.specs.Prelude.{◌≡◌, ℕ, ◌+◌, ◌-◌, ◌==◌, List, [], ◌∷◌, length, Option, Some, None, Ok, slice_index_or}
 use Rattle.std.specs.Prelude.{if◌then◌else◌, map}
-use Rattle.std.specs.Str.{str_to_ascii_lowercase}
 use Rattle.apply_core.specs.declared.reply.Reply.{Reply}
 use Rattle.trace_core.specs.Events.{Called}
 use Rattle.audit_core.specs.View.{told_view}
@@ -15,10 +14,10 @@ use Rattle.guest_core.specs.Guests.{Guests, IsNamed, HasNoName, with_keys, guest
 use Rattle.guest_core.specs.Keys.{asks, remembered}
 use Rattle.guest_core.specs.Entering.{Admits}
 use Rattle.guest_core.specs.Seats.{free_seats}
-use Rattle.recover_core.specs.declared.replay.Note.{Note}
-use Rattle.recover_core.specs.declared.replay.Note.TheVariants as notes
-use Rattle.recover_core.specs.Stands.{known_call}
-use Rattle.recover_core.specs.Steps.{Step, ran, cancelled, named}
+use Rattle.replay_core.specs.declared.replay.Note.{Note}
+use Rattle.replay_core.specs.declared.replay.Note.TheVariants as notes
+use Rattle.replay_core.specs.Stands.{known_call}
+use Rattle.replay_core.specs.Steps.{Step, ran, cancelled, named}
 
 -- the number that was told of a call: one of the calls that waited when the epoch began has its own, each other one has
 -- its number behind the base
@@ -36,7 +35,7 @@ abbrev pub AfterStep : List ℕ → ℕ → ℕ → Guests → Step → Guests �
 AfterStep carried base now old (ran c reply) new = Remembers old c (told_for carried base c.number) (Some reply) new
 AfterStep carried base now old (cancelled c) new = Remembers old c (told_for carried base c.number) None new
 AfterStep carried base now old (named session client) new =
-    Admits old (guest_of (str_to_ascii_lowercase client) session (Some now) 1) (Ok tt) new
+    Admits old (guest_of client session (Some now) 1) (Ok tt) new
 
 -- what steps make of them, the newest first
 abbrev pub AfterSteps : List ℕ → ℕ → ℕ → Guests → List Step → Guests → Type 0
@@ -88,4 +87,4 @@ AfterNote carried base now old (notes.Ran known reply) new =
     AfterStep carried base now old (ran (known_call known) (told_view reply)) new
 AfterNote carried base now old (notes.Cancelled known) new = AfterStep carried base now old (cancelled (known_call known)) new
 AfterNote carried base now old (notes.Named session client) new =
-    AfterStep carried base now old (named session client.now) new
+    AfterStep carried base now old (named session client) new

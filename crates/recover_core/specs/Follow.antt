@@ -5,14 +5,14 @@ use Rattle.decl_core.specs.ObjectForm.{ObjectForm}
 use Rattle.front_core.specs.declared.front.Front.{Front}
 use Rattle.recover_core.specs.declared.clients.Clients.{Clients}
 use Rattle.recover_core.specs.declared.clients.House.{House}
-use Rattle.recover_core.specs.declared.replay.Replay.{Replay}
+use Rattle.replay_core.specs.declared.replay.Replay.{Replay}
 use Rattle.recover_core.specs.declared.recover.Wrong.{Wrong}
 use Rattle.recover_core.specs.declared.recover.Wrong.TheVariants as wrongs
 use Rattle.recover_core.specs.declared.recover.Refusal.{Refusal}
-use Rattle.recover_core.specs.Steps.{Begun, Heard, nothing_heard}
-use Rattle.recover_core.specs.Tells.{Tell}
-use Rattle.recover_core.specs.Sound.{IsFirstFault}
-use Rattle.recover_core.specs.Stands.{Stands}
+use Rattle.replay_core.specs.Steps.{Begun, Heard, nothing_heard}
+use Rattle.replay_core.specs.Tells.{Tell}
+use Rattle.replay_core.specs.Sound.{IsFirstFault}
+use Rattle.replay_core.specs.Stands.{Stands}
 use Rattle.recover_core.specs.Clients.{ComeFrom, AfterSteps}
 use Rattle.recover_core.specs.Recovered.{begun_of, told_in, IsClientFault}
 

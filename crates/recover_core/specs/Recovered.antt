@@ -4,6 +4,7 @@ use Rattle.std.specs.Str.Lines.{lines}
 use Rattle.path_tree.specs.Trace.{running_calls}
 use Rattle.path_count.specs.Stands.{StandsFor}
 use Rattle.decl_core.specs.ObjectForm.{ObjectForm}
+use Rattle.trace_core.specs.Events.{Called}
 use Rattle.audit_core.specs.declared.verdict.Fault.{Fault}
 use Rattle.front_core.specs.declared.front.Front.{Front}
 use Rattle.front_core.specs.declared.front.CarriedCall.{CarriedCall}
@@ -13,18 +14,21 @@ use Rattle.recover_core.specs.declared.clients.House.{House}
 use Rattle.recover_core.specs.declared.recover.Recovered.{Recovered}
 use Rattle.recover_core.specs.declared.recover.Refusal.{Refusal}
 use Rattle.recover_core.specs.declared.recover.Refusal.TheVariants as refusals
-use Rattle.recover_core.specs.declared.replay.Played.{Played}
-use Rattle.recover_core.specs.Steps.{Step, Begun, Heard, nothing_heard, trace_by, contents_by, long_past}
-use Rattle.recover_core.specs.Numbers.{greatest_in}
-use Rattle.recover_core.specs.Carried.{carried_calls}
-use Rattle.recover_core.specs.Tells.{Tell, Tells}
-use Rattle.recover_core.specs.Sound.{IsSound, IsPlayed, IsFirstFault}
+use Rattle.replay_core.specs.declared.replay.Played.{Played}
+use Rattle.replay_core.specs.Steps.{Step, Begun, Heard, nothing_heard, trace_by, contents_by, long_past}
+use Rattle.replay_core.specs.Numbers.{greatest_in}
+use Rattle.replay_core.specs.Tells.{Tell, Tells}
+use Rattle.replay_core.specs.Sound.{IsSound, IsPlayed, IsFirstFault}
 use Rattle.recover_core.specs.Clients.{ComeFrom, AfterSteps}
+
+-- the calls that waited, without the numbers that were told of them
+abbrev pub calls_in : List CarriedCall → List Called
+calls_in all = map (λ c. record { number = c.number; session = c.session; operation = c.operation; arguments = c.arguments }) all
 
 -- what a front says an epoch began with
 abbrev pub begun_of : Front → Begun
 begun_of f =
-    record { past = events_in f.past.items; opening = f.parts.items; carried = carried_calls f.carried.items }
+    record { past = events_in f.past.items; opening = f.parts.items; carried = calls_in f.carried.items }
 
 -- the numbers that were told of the calls that waited then
 abbrev pub told_in : Front → List ℕ

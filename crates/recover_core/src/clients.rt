@@ -1,7 +1,6 @@
 //! What the lines of an epoch make of its clients.
 
 ghost use Rattle.std.specs.Prelude.{◌≡◌, ◌≤◌, ℕ, Bool, IsTrue, IfOk, IfSome, map, Some, Ok, length};
-ghost use Rattle.std.specs.Str.{str_to_ascii_lowercase};
 ghost use Rattle.audit_core.specs.View.{told_view};
 ghost use Rattle.front_core.specs.declared.front.CarriedCall.{CarriedCall as ACarried};
 ghost use Rattle.guest_core.specs.declared.guest.Guest.{Guest as AGuest};
@@ -10,9 +9,8 @@ ghost use Rattle.guest_core.specs.Guests.{IsNamed, HasNoName, with_keys, guest_o
 ghost use Rattle.guest_core.specs.Keys.{Keys as AKeys, Ends};
 ghost use Rattle.recover_core.specs.Clients.{told_for, kept_by, Remembers, AfterClients, AfterKept, ComeFrom, AfterNote};
 ghost use Rattle.recover_core.specs.Clients.{reply_in as reply_in_front};
-ghost use Rattle.recover_core.specs.Stands.{known_call};
+ghost use Rattle.replay_core.specs.Stands.{known_call};
 
-use crate::replay::{Known, Note};
 use apply_core::reply::Reply;
 use audit_core::told::ToldReply;
 use front_core::front::{Answer, CarriedCall, Client, Front, KeptCall};
@@ -20,6 +18,7 @@ use guest_core::guests::{AdmitFault, Guests};
 use guest_core::keys::AskFault;
 use path_tree::name::Name;
 use path_tree::node::OpId;
+use replay_core::replay::{Known, Note};
 use std::alloc::{AllocError, Global};
 use value_core::datum::Datum;
 
@@ -38,7 +37,6 @@ pub struct House {
 // The clients of an epoch up to some line.
 #[derive(Drop)]
 pub(crate) struct Clients {
-    alloc: Global,
     guests: Guests,
     // the numbers that were told of the calls that waited when the epoch began
     carried: Vec<u64>,
@@ -221,8 +219,10 @@ fn told_of(alloc: Global, carried: &[CarriedCall]) -> Result<Vec<u64>, AllocErro
     ensures { IfOk result (λ v. v.items ≡ map (λ (c : ACarried). c.told) carried.now) }
 {
     let mut all = Vec::new(alloc);
-    for place in 0..carried.len() {
-        all.push(carried[place].told)?;
+    let mut rest = carried;
+    'calls: while let Some((call, tail)) = rest.split_first() {
+        all.push(call.told)?;
+        rest = tail;
     }
     Ok(all)
 }
@@ -249,7 +249,6 @@ impl Clients {
         }
         let carried = told_of(alloc, &front.carried)?;
         Ok(Some(Clients {
-            alloc,
             guests,
             carried,
             base: front.base,
@@ -292,17 +291,13 @@ impl Clients {
     }
 
     // A session gets a name.
-    fn name(&mut self, session: u32, client: &[u8]) -> Result<bool, AllocError>
+    fn name(&mut self, session: u32, name: &Name) -> Result<bool, AllocError>
         ensures done { IfOk result (λ yes. IsTrue yes →
-            Admits self.old.guests (guest_of (str_to_ascii_lowercase client.now) session (Some self.old.now) 1) (Ok tt)
-            self.new.guests) }
+            Admits self.old.guests (guest_of name.now session (Some self.old.now) 1) (Ok tt) self.new.guests) }
         ensures same { (self.new.carried ≡ self.old.carried) × (self.new.base ≡ self.old.base)
             × (self.new.now ≡ self.old.now) }
     {
-        let Some(name) = Name::read(self.alloc, client)? else {
-            return Ok(false);
-        };
-        admit(&mut self.guests, &name, session, 1, self.now)
+        admit(&mut self.guests, name, session, 1, self.now)
     }
 
     // What a line told. False: the clients do not let it be.
@@ -319,7 +314,7 @@ impl Clients {
                 self.remember(known, Some(reply))
             }
             Note::Cancelled(known) => self.remember(known, None),
-            Note::Named(session, client) => self.name(*session, client),
+            Note::Named(session, name) => self.name(*session, name),
         }
     }
 

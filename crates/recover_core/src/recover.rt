@@ -3,26 +3,26 @@
 ghost use Rattle.std.specs.Prelude.{◌≡◌, ◌⊎◌, length, take, drop, IfOk, MatchResult};
 ghost use Rattle.std.specs.Str.Lines.{lines};
 ghost use Rattle.decl_core.specs.ObjectMap.{object_of};
-ghost use Rattle.recover_core.specs.Recovered.{IsRecovered, IsRefused, begun_of};
+ghost use Rattle.recover_core.specs.Recovered.{IsRecovered, IsRefused, begun_of, calls_in};
+ghost use Rattle.replay_core.specs.Carried.{carried_calls};
 ghost use Rattle.recover_core.specs.Follow.{IsFollowed, HasBegun};
-ghost use Rattle.recover_core.specs.Steps.{Begun, nothing_heard};
-ghost use Rattle.recover_core.specs.Stands.{Stands};
+ghost use Rattle.replay_core.specs.Steps.{Begun, nothing_heard};
+ghost use Rattle.replay_core.specs.Stands.{Stands};
 ghost use Rattle.recover_core.specs.declared.recover.Refusal.TheVariants.{Clients as NoClients, Past as NoPast};
 
 use crate::clients::{Clients, House};
-use crate::replay::{Played, Replay};
 use audit_core::verdict::Fault;
 use decl_core::object::Object;
 use front_core::fault::FrontFault;
-use front_core::front::Front;
+use front_core::front::{CarriedCall, Front};
 use front_core::past::events_of;
 use front_core::read::read_front;
 use guest_core::guests::Guests;
 use line_core::next_line;
-use past_core::past::PastEvent;
-use path_count::counters::Counters;
+use replay_core::carried::Carried;
+use replay_core::replay::{Played, Replay};
+use short_core::slim::Slims;
 use std::alloc::{AllocError, Global};
-use value_core::value::Value;
 
 /// Why a text is refused. Lines count from 1, at the first line of the front.
 #[derive(Clone, Copy, Debug, PartialEq, Eq)]
@@ -101,6 +101,35 @@ fn count_lines(text: &[u8]) -> u64
     count
 }
 
+// The calls that waited, without the numbers that were told of them.
+fn waiting_of(alloc: Global, carried: &[CarriedCall]) -> Result<Vec<Carried>, AllocError>
+    ensures { IfOk result (λ v. carried_calls v.items ≡ calls_in carried.now) }
+{
+    let mut all = Vec::new(alloc);
+    let mut rest = carried;
+    'calls: while let Some((call, tail)) = rest.split_first() {
+        let one = waiting(alloc, call)?;
+        all.push(one)?;
+        rest = tail;
+    }
+    Ok(all)
+}
+
+// A call that waited, without the number that was told of it.
+fn waiting(alloc: Global, call: &CarriedCall) -> Result<Carried, AllocError>
+    ensures { IfOk result (λ c. (c.number ≡ call.now.number) × (c.session ≡ call.now.session)
+        × (c.operation ≡ call.now.operation) × (c.arguments ≡ call.now.arguments)) }
+{
+    let arguments = call.arguments.list(alloc)?;
+    let arguments = Slims::new(alloc, &arguments)?;
+    Ok(Carried {
+        number: call.number,
+        session: call.session,
+        operation: call.operation,
+        arguments,
+    })
+}
+
 // An epoch that begins with this front, before its first line.
 fn begin(
     alloc: Global,
@@ -115,7 +144,8 @@ fn begin(
         return Ok(Err(Refusal::Clients));
     };
     let past = events_of(alloc, &front.past)?;
-    let Front { parts, carried, .. } = front;
+    let carried = waiting_of(alloc, &front.carried)?;
+    let Front { parts, .. } = front;
     let Some(replay) = Replay::behind(alloc, object, past, parts, carried)? else {
         return Ok(Err(Refusal::Past));
     };
@@ -164,15 +194,17 @@ pub fn recover(
     object: &Object,
     house: House,
     text: &[u8],
-) -> Result<Result<Recovered, Refusal>, AllocError>
-{
+) -> Result<Result<Recovered, Refusal>, AllocError> {
     let (front, size) = match read_front(alloc, object, text)? {
         Ok(found) => found,
         Err(fault) => return Ok(Err(Refusal::Front(fault))),
     };
     let (head, behind) = text.split_at(size);
     match play(alloc, object, house, front, behind)? {
-        Err(Refusal::Line(number, fault)) => Ok(Err(Refusal::Line(count_lines(head) + number, fault))),
+        Err(Refusal::Line(number, fault)) => Ok(Err(Refusal::Line(
+            count_lines(head) + number,
+            fault,
+        ))),
         Err(Refusal::Client(number)) => Ok(Err(Refusal::Client(count_lines(head) + number))),
         other => Ok(other),
     }
