@@ -1,3 +1,1 @@
-mod Cutting
-mod Finding
-mod Safe
+mod Adding

@@ -1,4 +1,3 @@
 pub mod Front
 pub mod Past
-pub mod Reads
 pub mod Text
