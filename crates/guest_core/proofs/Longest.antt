@@ -36,19 +36,25 @@ best_same guests now count g None there not best = λ q t h within is may. elim 
   | inl same ↦ not t (subst (λ x. MayForget now x t) (one_item guests count h g (subst (λ k. slice_get guests k ≡ Some h) same is) there) may)
   | inr other ↦ best q t h (omega (arith, within, other)) is may
 ]
-best_same guests now count g (Some a) there not best = (best.0, λ q t h within is may. elim (cases_eq q count) [
-  | inl same ↦ absurd (not t (subst (λ x. MayForget now x t) (one_item guests count h g (subst (λ k. slice_get guests k ≡ Some h) same is) there) may))
-  | inr other ↦ best.1 q t h (omega (arith, within, other)) is may
-])
+best_same guests now count g (Some a) there not best = (
+  best.0,
+  λ q t h within is may. elim (cases_eq q count) [
+    | inl same ↦ absurd (not t (subst (λ x. MayForget now x t) (one_item guests count h g (subst (λ k. slice_get guests k ≡ Some h) same is) there) may))
+    | inr other ↦ best.1 q t h (omega (arith, within, other)) is may
+  ],
+)
 
 -- one client more, which is away less long
 best_stays : (guests : List Guest) (now count u : ℕ) (g : Guest) (a : Away) → slice_get guests count ≡ Some g → MayForget now g u → a.since ≤ u → IsBest guests now count (Some a) → IsBest guests now (count + 1) (Some a)
-best_stays guests now count u g a there own less best = (best.0, λ q t h within is may. elim (cases_eq q count) [
-  | inl same ↦
-      let e : u ≡ t = same_since now g u t own (subst (λ x. MayForget now x t) (one_item guests count h g (subst (λ k. slice_get guests k ≡ Some h) same is) there) may) in
-      omega (arith, less, e)
-  | inr other ↦ best.1 q t h (omega (arith, within, other)) is may
-])
+best_stays guests now count u g a there own less best = (
+  best.0,
+  λ q t h within is may. elim (cases_eq q count) [
+    | inl same ↦
+        let e : u ≡ t = same_since now g u t own (subst (λ x. MayForget now x t) (one_item guests count h g (subst (λ k. slice_get guests k ≡ Some h) same is) there) may) in
+        omega (arith, less, e)
+    | inr other ↦ best.1 q t h (omega (arith, within, other)) is may
+  ],
+)
 
 -- one client more, which is away longer than all before
 best_new : (guests : List Guest) (now count place u : ℕ) (g : Guest) → slice_get guests count ≡ Some g → place ≡ count → MayForget now g u
@@ -86,12 +92,15 @@ pub best_none : (guests : List Guest) (now count : ℕ) → length guests ≤ co
 best_none guests now count all best = λ q t h is may. best q t h (omega (arith, all, get_within guests q h is)) is may
 
 pub best_some : (guests : List Guest) (now count : ℕ) (a : Away) → length guests ≤ count → IsBest guests now count (Some a) → (g : Guest) × IsLongestAway guests now a.place g
-best_some guests now count a all best = (best.0.0, record {
-  since = a.since;
-  there = best.0.1;
-  may = best.0.2;
-  longest = λ q t h is may. best.1 q t h (omega (arith, all, get_within guests q h is)) is may;
-})
+best_some guests now count a all best = (
+  best.0.0,
+  record {
+    since = a.since;
+    there = best.0.1;
+    may = best.0.2;
+    longest = λ q t h is may. best.1 q t h (omega (arith, all, get_within guests q h is)) is may;
+  },
+)
 
 -- at the beginning
 pub best_begin : (guests : List Guest) (now : ℕ) → IsBest guests now 0 None

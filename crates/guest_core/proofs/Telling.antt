@@ -15,11 +15,11 @@ use Rattle.guest_core.specs.declared.keys.AskFault.TheVariants.{SessionBusy, Key
 use Rattle.guest_core.specs.Guests.{Guests, IsAt, IsNamed, IsSound, IsUnknown, HasNoName, with_keys, with_seat, with_guest, with_other, with_away}
 use Rattle.guest_core.specs.Keys.{Keys, Asks, Ends, withdrawn, remembered, fresh_keys}
 use Rattle.guest_core.specs.Entering.{Enters, Admits, Leaves, GetsName, GetsPlace, ComesNew}
-use Rattle.guest_core.specs.Steps.{Step, entered, admitted, seated, left, asked, withdrew, ended, renews, AtName, Does, Told, Stands, StandsSo, HasEnded, Tells, comes, named as gets_name, forgotten, ends, nothing, Plays, begins, goes, TellsAll, nothing_yet, more, KeysAreConsecutive}
+use Rattle.guest_core.specs.Steps.{Step, entered, admitted, seated, left, asked, withdrew, ended, renews, AtName, Does, Told, Stands, StandsSo, HasEnded, Tells, comes, named as gets_name, forgotten, ends, nothing, Plays, begins, goes, TellsAll, nothing_yet, further, KeysAreConsecutive}
 use Rattle.guest_core.proofs.Items.{get_more, get_set, get_front, get_last, get_here, get_there, one_item}
 use Rattle.guest_core.proofs.Finding.{which}
 
-name_of : Guest → List ℕ
+abbrev name_of : Guest → List ℕ
 name_of g = g.name
 
 -- the calls of a client are known as they were
@@ -39,10 +39,6 @@ still old new name (Some t) same stands =
     let to = same.onward stands.place stands.guest stands.at in
     record { place = to.0; guest = to.1; at = to.2; next = to.3.next ∙ stands.next; kept = to.3.kept ∙ stands.kept }
 
--- nothing is told
-quiet : (old new : Guests) (name : List ℕ) (step : Step) (t : Option Told) → IsSameOf old new name → StandsSo old name t → (u : Option Told) × Tells old name step t u × StandsSo new name u
-quiet old new name step t same stands = (t, nothing, still old new name t same stands)
-
 like_self : (g : Guest) → IsAlike g g
 like_self g = record { named = refl; next = refl; kept = refl }
 
@@ -59,9 +55,12 @@ client_changes : (old new : Guests) (name : List ℕ) (p : ℕ) (g h : Guest) �
 client_changes old new name p g h there set named alike = record {
   onward = λ q x at. elim (cases_eq q p) [
     | inl same ↦
-        let e : x ≡ g = one_item old.guests p x g (subst (λ k. slice_get old.guests k ≡ Some x) same at.there) there in
-        (p, h, record { there = ap (λ gs. slice_get gs p) set ∙ get_here old.guests p g h there; named = named ∙ sym (ap name_of e) ∙ at.named },
-          subst (λ y. IsAlike y h) (sym e) (alike (sym (ap name_of e) ∙ at.named)))
+        let e : x ≡ g = one_item old.guests p x g (subst (λ k. slice_get old.guests k ≡ Some x) same at.there) there in (
+          p,
+          h,
+          record { there = ap (λ gs. slice_get gs p) set ∙ get_here old.guests p g h there; named = named ∙ sym (ap name_of e) ∙ at.named },
+          subst (λ y. IsAlike y h) (sym e) (alike (sym (ap name_of e) ∙ at.named)),
+        )
     | inr other ↦ (q, x, record { there = ap (λ gs. slice_get gs q) set ∙ get_there old.guests p h q other ∙ at.there; named = at.named }, like_self x)
   ];
   back = λ q x at. elim (get_set old.guests p h q x (ap (λ gs. slice_get gs q) (sym set) ∙ at.there)) [
@@ -72,9 +71,9 @@ client_changes old new name p g h there set named alike = record {
 
 -- a client of another name joins
 client_joins : (old new : Guests) (name : List ℕ) (g : Guest) → new.guests ≡ old.guests ++ g ∷ [] → g.name ≢ name → IsSameOf old new name
-client_joins old new name g more other = record {
-  onward = λ p x at. (p, x, record { there = ap (λ gs. slice_get gs p) more ∙ get_front old.guests (g ∷ []) p x at.there; named = at.named }, like_self x);
-  back = λ q x at. elim (get_more old.guests g q x (ap (λ gs. slice_get gs q) (sym more) ∙ at.there)) [
+client_joins old new name g joins other = record {
+  onward = λ p x at. (p, x, record { there = ap (λ gs. slice_get gs p) joins ∙ get_front old.guests (g ∷ []) p x at.there; named = at.named }, like_self x);
+  back = λ q x at. elim (get_more old.guests g q x (ap (λ gs. slice_get gs q) (sym joins) ∙ at.there)) [
     | inl was ↦ (q, x, record { there = was; named = at.named })
     | inr last ↦ absurd (other (ap name_of last.1 ∙ at.named))
   ];
@@ -83,10 +82,15 @@ client_joins old new name g more other = record {
 -- a client of another name has the place of one of another name
 client_follows : (old new : Guests) (name : List ℕ) (p : ℕ) (f g : Guest) → slice_get old.guests p ≡ Some f → new.guests ≡ slice_set old.guests p g → f.name ≢ name → g.name ≢ name → IsSameOf old new name
 client_follows old new name p f g there set was is_now = record {
-  onward = λ q x at. (q, x, record {
-    there = ap (λ gs. slice_get gs q) set ∙ get_there old.guests p g q (λ same. was (ap name_of (one_item old.guests p f x there (subst (λ k. slice_get old.guests k ≡ Some x) same at.there)) ∙ at.named)) ∙ at.there;
-    named = at.named;
-  }, like_self x);
+  onward = λ q x at. (
+    q,
+    x,
+    record {
+      there = ap (λ gs. slice_get gs q) set ∙ get_there old.guests p g q (λ same. was (ap name_of (one_item old.guests p f x there (subst (λ k. slice_get old.guests k ≡ Some x) same at.there)) ∙ at.named)) ∙ at.there;
+      named = at.named;
+    },
+    like_self x,
+  );
   back = λ q x at. elim (get_set old.guests p g q x (ap (λ gs. slice_get gs q) (sym set) ∙ at.there)) [
     | inl here ↦ absurd (is_now (ap name_of here.1 ∙ at.named))
     | inr other ↦ (q, x, record { there = other.1; named = at.named })
@@ -118,9 +122,11 @@ fresh_at new name p first g there named fresh =
 
 new_told : (old new : Guests) (n name : List ℕ) (now p : ℕ) (a : Entered) (g : Guest) (t : Option Told) → a.is_new ≡ true → IsUnknown old n → n ≡ name → slice_get new.guests p ≡ Some g → g.name ≡ n → g.keys ≡ fresh_keys 1 → StandsSo old name t
     → Goes old new name (entered n now (Ok a)) t
-new_told old new n name now p a g None is_new unknown same there named fresh stands =
-    (Some (record { first = 1; calls = [] }), subst (λ m. Tells old name (entered m now (Ok a)) None (Some (record { first = 1; calls = [] }))) (sym same) (comes now a is_new),
-      fresh_at new name p 1 g there (named ∙ same) fresh)
+new_told old new n name now p a g None is_new unknown same there named fresh stands = (
+  Some (record { first = 1; calls = [] }),
+  subst (λ m. Tells old name (entered m now (Ok a)) None (Some (record { first = 1; calls = [] }))) (sym same) (comes now a is_new),
+  fresh_at new name p 1 g there (named ∙ same) fresh,
+)
 new_told old new n name now p a g (Some t) is_new unknown same there named fresh stands = absurd (unknown stands.place stands.guest stands.at.there (stands.at.named ∙ sym same))
 
 -- the clients keep their names, and one of these two is gone
@@ -150,10 +156,10 @@ new_comes old new n name now a t sound new_one stands = elim new_one.place [
         | inr other ↦ quiet old new name (entered n now (Ok a)) t (client_joins old new name _ set other) stands
       ]
   | inr takes ↦
-      let p = takes.1 in
-      let f = takes.2 in
-      let there = takes.3.there in
-      let set = ap (λ (v : Guests). v.guests) takes.4 in
+      let p = takes.1.0 in
+      let f = takes.1.1 in
+      let there = takes.1.2.there in
+      let set = ap (λ (v : Guests). v.guests) takes.1.3 in
       elim (which n name) [
         | inl same ↦ new_told old new n name now p a _ t new_one.is_new new_one.unknown same (ap (λ gs. slice_get gs p) set ∙ get_here old.guests p f _ there) refl refl stands
         | inr other ↦ displaced old new n name now p a f _ t sound new_one.is_new other there set refl stands
@@ -196,7 +202,7 @@ admitting old new name g (Err admit.Taken) t does stands = unchanged old new nam
 admitting old new name g (Err admit.Full) t does stands = unchanged old new name (admitted g (Err admit.Full)) t does.4 stands
 admitting old new name g (Err admit.Memory) t does stands = unchanged old new name (admitted g (Err admit.Memory)) t does.2 stands
 
-leaving : (old new : Guests) (name : List ℕ) (session now : ℕ) (yes : Bool) (t : Option Told) → Leaves old session now yes new → StandsSo old name t → Goes old new name (left session now yes) t
+leaving : (old new : Guests) (name : List ℕ) (session now : ℕ) (so : Bool) (t : Option Told) → Leaves old session now so new → StandsSo old name t → Goes old new name (left session now so) t
 leaving old new name session now true t does stands = elim does [
   | inl gone ↦ quiet old new name (left session now true) t
       (client_changes old new name gone.0 gone.1 (record gone.1 { away = Some now }) gone.2.there (ap (λ (v : Guests). v.guests) gone.4) refl (λ _. record { named = refl; next = refl; kept = refl })) stands
@@ -241,8 +247,8 @@ end_told old new name session told p reply g a (Some t) by same waits is sound s
     let c : Kept = record { asked = a; told = told; reply = reply } in
     let own : stands.guest ≡ g = one_item old.guests p stands.guest g (subst (λ k. slice_get old.guests k ≡ Some stands.guest) (sound.once stands.place p stands.guest g stands.at.there by.there (stands.at.named ∙ sym same)) stands.at.there) by.there in
     let next : g.keys.next ≡ t.first + length t.calls = subst (λ (x : Guest). x.keys.next ≡ t.first + length t.calls) own stands.next in
-    let kept : g.keys.kept ≡ take 16 t.calls = subst (λ (x : Guest). x.keys.kept ≡ take 16 t.calls) own stands.kept in
-    (Some (record t { calls = c ∷ t.calls }),
+    let kept : g.keys.kept ≡ take 16 t.calls = subst (λ (x : Guest). x.keys.kept ≡ take 16 t.calls) own stands.kept in (
+      Some (record t { calls = c ∷ t.calls }),
       ends session told reply c (record { place = p; guest = g; by = by; named = same; call = a; waited = waits; is = refl }),
       record {
         place = p;
@@ -250,10 +256,11 @@ end_told old new name session told p reply g a (Some t) by same waits is sound s
         at = record { there = ap (λ (v : Guests). slice_get v.guests p) is ∙ get_here old.guests p g (record g { keys = remembered g.keys c }) by.there; named = same };
         next = omega (arith, next);
         kept = ap (λ xs. c ∷ take 15 xs) kept ∙ ap (λ xs. c ∷ xs) (take_less 15 t.calls);
-      })
+      },
+    )
 
-ending : (old new : Guests) (name : List ℕ) (session told p : ℕ) (reply : Option Reply) (yes : Bool) (g : Guest) (keys : Keys) (t : Option Told) → IsNamed old session p g → Ends g.keys told reply yes keys → new ≡ with_keys old p g keys → IsSound old → StandsSo old name t
-    → Goes old new name (ended session told reply yes) t
+ending : (old new : Guests) (name : List ℕ) (session told p : ℕ) (reply : Option Reply) (so : Bool) (g : Guest) (keys : Keys) (t : Option Told) → IsNamed old session p g → Ends g.keys told reply so keys → new ≡ with_keys old p g keys → IsSound old → StandsSo old name t
+    → Goes old new name (ended session told reply so) t
 ending old new name session told p reply true g keys t by does is sound stands = elim (which g.name name) [
   | inl same ↦ end_told old new name session told p reply g does.0 t by same does.1 (is ∙ ap (with_keys old p g) does.2) sound stands
   | inr other ↦ keys_change old new name session p g keys (ended session told reply true) t by is (λ same. absurd (other same)) stands
@@ -266,7 +273,7 @@ one_step : (old new : Guests) (name : List ℕ) (step : Step) (t : Option Told) 
 one_step old new name (entered n now answer) t sound does stands = entering old new n name now answer t sound does stands
 one_step old new name (admitted g answer) t sound does stands = admitting old new name g answer t does stands
 one_step old new name (seated session) t sound does stands = quiet old new name (seated session) t (guests_stay old new name (ap (λ (v : Guests). v.guests) does.1)) stands
-one_step old new name (left session now yes) t sound does stands = leaving old new name session now yes t does stands
+one_step old new name (left session now so) t sound does stands = leaving old new name session now so t does stands
 one_step old new name (asked session a answer) t sound does stands = elim (whose old session sound) [
   | inl by ↦ let to = does.named by.0 by.1 by.2 in keys_change old new name session by.0 by.1 to.0 (asked session a answer) t by.2 to.2 (λ _. asks_quietly by.1.keys to.0 a answer to.1) stands
   | inr none ↦ unchanged old new name (asked session a answer) t (does.nameless none) stands
@@ -275,15 +282,15 @@ one_step old new name (withdrew session) t sound does stands = elim (whose old s
   | inl by ↦ let to = does.named by.0 by.1 by.2 in keys_change old new name session by.0 by.1 to.0 (withdrew session) t by.2 to.2 (λ _. (ap (λ (k : Keys). k.next) to.1, ap (λ (k : Keys). k.kept) to.1)) stands
   | inr none ↦ unchanged old new name (withdrew session) t (does.nameless none) stands
 ]
-one_step old new name (ended session told reply yes) t sound does stands = elim (whose old session sound) [
-  | inl by ↦ let to = does.named by.0 by.1 by.2 in ending old new name session told by.0 reply yes by.1 to.0 t by.2 to.1 to.2 sound stands
-  | inr none ↦ unchanged old new name (ended session told reply yes) t (does.nameless none) stands
+one_step old new name (ended session told reply so) t sound does stands = elim (whose old session sound) [
+  | inl by ↦ let to = does.named by.0 by.1 by.2 in ending old new name session told by.0 reply so by.1 to.0 t by.2 to.1 to.2 sound stands
+  | inr none ↦ unchanged old new name (ended session told reply so) t (does.nameless none) stands
 ]
 one_step old new name renews t sound does stands = quiet old new name renews t (guests_stay old new name (ap (λ (v : Guests). v.guests) does)) stands
 
 pub consecutive : KeysAreConsecutive
 consecutive name old new steps t begins stands = (t, nothing_yet, stands)
-consecutive name old new steps t (goes {old} {mid} step plays sound does) stands =
+consecutive name old new steps t (goes {mid} step plays sound does) stands =
     let before = consecutive name old mid _ t plays stands in
     let after = one_step mid new name step before.0 sound does before.2 in
-    (after.0, more step plays sound does before.1 after.1, after.2)
+    (after.0, further step before.1 does after.1, after.2)

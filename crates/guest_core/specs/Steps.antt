@@ -42,10 +42,10 @@ abbrev pub Does : Guests → Step → Guests → Type 0
 Does old (entered name now answer) new = Enters old name now answer new
 Does old (admitted g answer) new = Admits old g answer new
 Does old (seated session) new = IsLeastFree old.seats session × (new ≡ with_seat old session Nameless)
-Does old (left session now yes) new = Leaves old session now yes new
+Does old (left session now so) new = Leaves old session now so new
 Does old (asked session a answer) new = AtName old session (λ keys after. Asks keys a answer after) new
 Does old (withdrew session) new = AtName old session (λ keys after. after ≡ withdrawn keys) new
-Does old (ended session told reply yes) new = AtName old session (λ keys after. Ends keys told reply yes after) new
+Does old (ended session told reply so) new = AtName old session (λ keys after. Ends keys told reply so after) new
 Does old renews new = new ≡ record old { seats = map renewed old.seats }
 
 -- what was told of the calls of a name since it is known: the key of the first one, and the calls, the newest first
@@ -96,19 +96,18 @@ pub data Plays : Guests → List Step → Guests → Type 0 where
       Does mid step new → Plays old (step ∷ steps) new
 
 -- what steps tell of a name, one after the other
-pub data TellsAll (name : List ℕ) : {old new : Guests} {steps : List Step} → Plays old steps new →
-    Option Told → Option Told → Type 0 where
-  nothing_yet : {v : Guests} {t : Option Told} → TellsAll name (begins {v = v}) t t
-  more : {old mid new : Guests} {steps : List Step} {t u w : Option Told} (step : Step) (plays : Plays old steps mid)
-      (sound : IsSound mid) (does : Does mid step new) → TellsAll name plays t u → Tells mid name step u w →
-      TellsAll name (goes step plays sound does) t w
+pub data TellsAll (name : List ℕ) : Guests → List Step → Guests → Option Told → Option Told → Type 0 where
+  nothing_yet : {v : Guests} {t : Option Told} → TellsAll name v [] v t t
+  further : {old mid new : Guests} {steps : List Step} {t u w : Option Told} (step : Step) →
+      TellsAll name old steps mid t u → Does mid step new → Tells mid name step u w →
+      TellsAll name old (step ∷ steps) new t w
 
 -- Along any steps the keys of a name are consecutive: the key of its next call is the one behind all calls that were
 -- told since it is known, and the last 16 of them are kept.
 abbrev pub KeysAreConsecutive : Type 0
 KeysAreConsecutive =
-    (name : List ℕ) (old new : Guests) (steps : List Step) (t : Option Told) (plays : Plays old steps new) →
-    StandsSo old name t → (u : Option Told) × TellsAll name plays t u × StandsSo new name u
+    (name : List ℕ) (old new : Guests) (steps : List Step) (t : Option Told) → Plays old steps new →
+    StandsSo old name t → (u : Option Told) × TellsAll name old steps new t u × StandsSo new name u
 
 -- the call that was told under a key, so many calls before the newest one
 pub record IsTold (t : Told) (key k : ℕ) (c : Kept) : Type 0 where

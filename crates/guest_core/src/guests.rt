@@ -233,7 +233,7 @@ impl Guests {
         if first == 0 {
             return Err(AdmitFault::BadKey);
         }
-        if self.seats.seat(session) != Seat::Free {
+        if !self.seats.is_free(session) {
             return Err(AdmitFault::Taken);
         }
         let admitted = match self.roll.place_of(name) {
@@ -289,14 +289,23 @@ impl Guests {
     pub fn leave(&mut self, session: u16, now: u64) -> bool
         ensures { Leaves self.old session now result self.new }
     {
-        match self.seats.seat(session) {
-            Seat::Named(place) => self.roll.go(place, now),
-            Seat::Nameless => {
-                self.seats.set(session, Seat::Free);
-                true
-            }
-            _ => false,
+        match self.seats.place(session) {
+            Some(place) => self.roll.go(place, now),
+            None => self.give_back(session),
         }
+    }
+
+    // The number of a client without a name is free.
+    fn give_back(&mut self, session: u16) -> bool
+        ensures free { result ≡ true → (slice_get self.old.seats session ≡ Some ANameless)
+            × (self.new ≡ with_seat self.old session AFree) }
+        ensures none { result ≡ false → (slice_get self.old.seats session ≢ Some ANameless) × (self.new ≡ self.old) }
+    {
+        if !self.seats.is_nameless(session) {
+            return false;
+        }
+        self.seats.set(session, Seat::Free);
+        true
     }
 
     /// What a key says of a call of a session. A session without a name has no keys: each is bad.
@@ -305,9 +314,9 @@ impl Guests {
             Judges g.keys key (asks operation arguments.now) result }
         ensures nameless { HasNoName self.now session → result ≡ IsBadKey }
     {
-        match self.seats.seat(session) {
-            Seat::Named(place) => self.roll.judge(place, key, operation, arguments),
-            _ => Judged::BadKey,
+        match self.seats.place(session) {
+            Some(place) => self.roll.judge(place, key, operation, arguments),
+            None => Judged::BadKey,
         }
     }
 
@@ -325,9 +334,9 @@ impl Guests {
             × Asks g.keys (asks operation arguments.now) result keys × (self.new ≡ with_keys self.old p g keys) }
         ensures nameless { HasNoName self.old session → (result ≡ Ok tt) × (self.new ≡ self.old) }
     {
-        match self.seats.seat(session) {
-            Seat::Named(place) => self.roll.ask(place, operation, arguments),
-            _ => Ok(()),
+        match self.seats.place(session) {
+            Some(place) => self.roll.ask(place, operation, arguments),
+            None => Ok(()),
         }
     }
 
@@ -337,9 +346,9 @@ impl Guests {
             self.new ≡ with_keys self.old p g (withdrawn g.keys) }
         ensures nameless { HasNoName self.old session → self.new ≡ self.old }
     {
-        match self.seats.seat(session) {
-            Seat::Named(place) => self.roll.withdraw(place),
-            _ => {}
+        match self.seats.place(session) {
+            Some(place) => self.roll.withdraw(place),
+            None => {}
         }
     }
 
@@ -350,9 +359,9 @@ impl Guests {
             × Ends g.keys told (Some reply.now) result keys × (self.new ≡ with_keys self.old p g keys) }
         ensures nameless { HasNoName self.old session → (result ≡ false) × (self.new ≡ self.old) }
     {
-        match self.seats.seat(session) {
-            Seat::Named(place) => self.roll.end(place, told, reply),
-            _ => false,
+        match self.seats.place(session) {
+            Some(place) => self.roll.end(place, told, reply),
+            None => false,
         }
     }
 
@@ -363,9 +372,9 @@ impl Guests {
             × Ends g.keys told None result keys × (self.new ≡ with_keys self.old p g keys) }
         ensures nameless { HasNoName self.old session → (result ≡ false) × (self.new ≡ self.old) }
     {
-        match self.seats.seat(session) {
-            Seat::Named(place) => self.roll.cancel(place, told),
-            _ => false,
+        match self.seats.place(session) {
+            Some(place) => self.roll.cancel(place, told),
+            None => false,
         }
     }
 
@@ -388,9 +397,9 @@ impl Guests {
         ensures some { IfSome result (λ g. (p : ℕ) × IsNamed self.now session p g.now) }
         ensures none { IfNone result (HasNoName self.now session) }
     {
-        match self.seats.seat(session) {
-            Seat::Named(place) => self.roll.guests().get(place as usize),
-            _ => None,
+        match self.seats.place(session) {
+            Some(place) => self.roll.guests().get(place as usize),
+            None => None,
         }
     }
 

@@ -155,7 +155,10 @@ impl Keys {
         if self.next == u64::MAX {
             return Err(AskFault::KeysSpent);
         }
-        let Ok(asked) = self.prepare(operation, arguments) else {
+        if self.room.reserve(MOST_TEXT_BYTES).is_err() {
+            return Err(AskFault::Memory);
+        }
+        let Ok(asked) = Asked::new(self.alloc, operation, arguments) else {
             return Err(AskFault::Memory);
         };
         self.asked = Some(asked);
@@ -164,20 +167,12 @@ impl Keys {
 
     // A call has ended.
     fn remember(&mut self, call: Kept)
-        requires { self.old.next < 18446744073709551615 }
+        requires key { self.old.next < 18446744073709551615 }
+        requires ended { self.old.asked ≡ None }
         ensures { self.new ≡ remembered self.old call }
     {
         put(&mut self.kept, call);
         self.next += 1;
-    }
-
-    // Takes the memory that a call needs to be remembered.
-    fn prepare(&mut self, operation: OpId, arguments: &[Datum]) -> Result<Asked, AllocError>
-        ensures same { self.new ≡ self.old }
-        ensures asked { IfOk result (λ a. a ≡ asks operation arguments.now) }
-    {
-        self.room.reserve(MOST_TEXT_BYTES)?;
-        Asked::new(self.alloc, operation, arguments)
     }
 
     // The call that was asked was not taken.
