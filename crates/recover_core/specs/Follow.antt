@@ -25,6 +25,11 @@ pub record HasFollowed (o : ObjectForm) (e : Begun) (before : List (List ℕ)) (
   pub guests : AfterSteps old.carried.items old.base old.now old.guests heard.steps new.guests
   pub same : (new.carried ≡ old.carried) × (new.base ≡ old.base) × (new.now ≡ old.now)
 
+-- the line that is wrong
+abbrev pub number_of : Wrong → ℕ
+number_of (wrongs.Line number fault) = number
+number_of (wrongs.Client number) = number
+
 -- what was found wrong with a line
 abbrev pub IsWrongLine : ObjectForm → Begun → List ℕ → Wrong → Type 0
 IsWrongLine o e text (wrongs.Line number fault) = IsFirstFault o e (lines text) number fault

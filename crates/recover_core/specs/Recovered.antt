@@ -1,5 +1,5 @@
 -- What the text of an epoch comes to.
-use Rattle.std.specs.Prelude.{◌≡◌, ◌≢◌, ℕ, ◌+◌, List, [], ◌∷◌, ◌++◌, length, map, None, Some, Option, MatchOption}
+use Rattle.std.specs.Prelude.{◌⊎◌, ◌≡◌, ◌≢◌, ℕ, ◌+◌, List, [], ◌∷◌, ◌++◌, length, map, None, Some, Option, MatchOption}
 use Rattle.std.specs.Str.Lines.{lines}
 use Rattle.path_tree.specs.Trace.{running_calls}
 use Rattle.path_count.specs.Stands.{StandsFor}
@@ -9,6 +9,10 @@ use Rattle.audit_core.specs.declared.verdict.Fault.{Fault}
 use Rattle.front_core.specs.declared.front.Front.{Front}
 use Rattle.front_core.specs.declared.front.CarriedCall.{CarriedCall}
 use Rattle.front_core.specs.Past.{events_in}
+use Rattle.front_core.specs.Front.{opening_of}
+use Rattle.front_core.specs.Text.{front_text}
+use Rattle.front_read.specs.Whole.{IsFront}
+use Rattle.front_read.specs.declared.fault.FrontFault.{FrontFault}
 use Rattle.guest_core.specs.Guests.{Guests}
 use Rattle.recover_core.specs.declared.clients.House.{House}
 use Rattle.recover_core.specs.declared.recover.Recovered.{Recovered}
@@ -69,10 +73,30 @@ pub record IsClientFault (o : ObjectForm) (e : Begun) (all : List (List ℕ)) (n
   pub told : Tell o e nothing_heard (before ++ line ∷ []) heard
   pub sound : IsSound o e heard
 
--- why lines are refused
-abbrev pub IsRefused : ObjectForm → Begun → List ℕ → Refusal → Type 0
-IsRefused o e text (refusals.Front fault) = ⊥
-IsRefused o e text refusals.Clients = Unit {0}
-IsRefused o e text refusals.Past = Unit {0}
-IsRefused o e text (refusals.Line number fault) = IsFirstFault o e (lines text) number fault
-IsRefused o e text (refusals.Client number) = IsClientFault o e (lines text) number
+-- a text is this front, and behind it these lines
+pub record IsRead (o : ObjectForm) (text : List ℕ) (f : Front) (behind : List ℕ) : Type 0 where
+  pub front : IsFront o (opening_of f)
+  pub cut : text ≡ front_text o (opening_of f) ++ behind
+
+-- why lines are refused, where lines count on from those of a front
+abbrev pub IsRefusedBehind : ObjectForm → Begun → ℕ → List ℕ → Refusal → Type 0
+IsRefusedBehind o e before text (refusals.Front fault) = ⊥
+IsRefusedBehind o e before text refusals.Clients = Unit {0}
+IsRefusedBehind o e before text refusals.Past = Unit {0}
+IsRefusedBehind o e before text (refusals.Line number fault) =
+    (n : ℕ) × (number ≡ before + n) × IsFirstFault o e (lines text) n fault
+IsRefusedBehind o e before text (refusals.Client number) =
+    (n : ℕ) × (number ≡ before + n) × IsClientFault o e (lines text) n
+
+-- why a text is refused
+abbrev pub IsRefusedText : ObjectForm → List ℕ → Refusal → Type 0
+IsRefusedText o text refusal = ((fault : FrontFault) × (refusal ≡ refusals.Front fault))
+    ⊎ ((f : Front) × (behind : List ℕ) × IsRead o text f behind
+    × IsRefusedBehind o (begun_of f) (length (lines (front_text o (opening_of f)))) behind refusal)
+
+-- what a text comes to
+pub record IsRecoveredText (o : ObjectForm) (house : House) (text : List ℕ) (r : Recovered) : Type 0 where
+  pub front : Front
+  pub behind : List ℕ
+  pub read : IsRead o text front behind
+  pub recovered : IsRecovered o house front behind r

@@ -1,11 +1,12 @@
 //! The text of an epoch, played again.
 
-ghost use Rattle.std.specs.Prelude.{◌≡◌, ◌⊎◌, length, take, drop, IfOk, MatchResult};
+ghost use Rattle.std.specs.Prelude.{◌≡◌, ◌⊎◌, ◌+◌, ◌<◌, ◌≤◌, ◌^◌, length, IfOk, IfSome, MatchResult};
 ghost use Rattle.std.specs.Str.Lines.{lines};
 ghost use Rattle.decl_core.specs.ObjectMap.{object_of};
-ghost use Rattle.recover_core.specs.Recovered.{IsRecovered, IsRefused, begun_of, calls_in};
+ghost use Rattle.recover_core.specs.Recovered.{IsRecovered, IsRefusedBehind, begun_of, calls_in};
+ghost use Rattle.recover_core.specs.Recovered.{IsRecoveredText, IsRefusedText};
 ghost use Rattle.replay_core.specs.Carried.{carried_calls};
-ghost use Rattle.recover_core.specs.Follow.{IsFollowed, HasBegun};
+ghost use Rattle.recover_core.specs.Follow.{IsFollowed, HasBegun, number_of};
 ghost use Rattle.replay_core.specs.Steps.{Begun, nothing_heard};
 ghost use Rattle.replay_core.specs.Stands.{Stands};
 ghost use Rattle.recover_core.specs.declared.recover.Refusal.TheVariants.{Clients as NoClients, Past as NoPast};
@@ -13,10 +14,10 @@ ghost use Rattle.recover_core.specs.declared.recover.Refusal.TheVariants.{Client
 use crate::clients::{Clients, House};
 use audit_core::verdict::Fault;
 use decl_core::object::Object;
-use front_core::fault::FrontFault;
 use front_core::front::{CarriedCall, Front};
 use front_core::past::events_of;
-use front_core::read::read_front;
+use front_read::fault::FrontFault;
+use front_read::read::read_front;
 use guest_core::guests::Guests;
 use line_core::next_line;
 use replay_core::carried::Carried;
@@ -69,8 +70,9 @@ fn follow(
     clients: &mut Clients,
     text: &[u8],
 ) -> Result<Option<Wrong>, AllocError>
-    ensures { IfOk result (λ found. (e : Begun) → Stands (object_of object.now) e replay.old nothing_heard →
+    ensures followed { IfOk result (λ found. (e : Begun) → Stands (object_of object.now) e replay.old nothing_heard →
         IsFollowed (object_of object.now) e text.now found replay.new clients.old clients.new) }
+    ensures bound { IfOk result (λ found. IfSome found (λ w. number_of w ≤ length text.now)) }
 {
     let mut number: u64 = 0;
     let mut rest = text;
@@ -90,7 +92,8 @@ fn follow(
 
 // The lines of a text.
 fn count_lines(text: &[u8]) -> u64
-    ensures { result ≡ length (lines text.now) }
+    ensures count { result ≡ length (lines text.now) }
+    ensures bound { result ≤ length text.now }
 {
     let mut count: u64 = 0;
     let mut rest = text;
@@ -155,16 +158,18 @@ fn begin(
 /// Plays the lines behind a front, and answers what they come to: the values, the counters, the clients.
 ///
 /// What is accepted is sound; where a call has started and not ended by the last line, it is left out. A refusal tells the
-/// first line that has a fault, counted from 1 behind the front, and the outer error that memory was refused.
+/// first line that has a fault, counted on from so many lines before them, and the outer error that memory was refused.
 pub fn play(
     alloc: Global,
     object: &Object,
     house: House,
     front: Front,
+    before: u64,
     text: &[u8],
 ) -> Result<Result<Recovered, Refusal>, AllocError>
+    requires { before + length text.now < 2 ^ 64 }
     ensures { IfOk result (λ found. MatchResult found (IsRecovered (object_of object.now) house front text.now)
-        (IsRefused (object_of object.now) (begun_of front) text.now)) }
+        (IsRefusedBehind (object_of object.now) (begun_of front) before text.now)) }
 {
     let epoch = front.epoch;
     let source = front.source;
@@ -174,8 +179,8 @@ pub fn play(
         Err(refusal) => return Ok(Err(refusal)),
     };
     match follow(object, &mut replay, &mut clients, text)? {
-        Some(Wrong::Line(number, fault)) => Ok(Err(Refusal::Line(number, fault))),
-        Some(Wrong::Client(number)) => Ok(Err(Refusal::Client(number))),
+        Some(Wrong::Line(number, fault)) => Ok(Err(Refusal::Line(before + number, fault))),
+        Some(Wrong::Client(number)) => Ok(Err(Refusal::Client(before + number))),
         None => Ok(Ok(Recovered {
             epoch,
             source,
@@ -194,18 +199,16 @@ pub fn recover(
     object: &Object,
     house: House,
     text: &[u8],
-) -> Result<Result<Recovered, Refusal>, AllocError> {
+) -> Result<Result<Recovered, Refusal>, AllocError>
+    ensures { IfOk result (λ found. MatchResult found (IsRecoveredText (object_of object.now) house text.now)
+        (IsRefusedText (object_of object.now) text.now)) }
+{
     let (front, size) = match read_front(alloc, object, text)? {
         Ok(found) => found,
         Err(fault) => return Ok(Err(Refusal::Front(fault))),
     };
-    let (head, behind) = text.split_at(size);
-    match play(alloc, object, house, front, behind)? {
-        Err(Refusal::Line(number, fault)) => Ok(Err(Refusal::Line(
-            count_lines(head) + number,
-            fault,
-        ))),
-        Err(Refusal::Client(number)) => Ok(Err(Refusal::Client(count_lines(head) + number))),
-        other => Ok(other),
-    }
+    let (head, lines) = text.split_at(size);
+    let before = count_lines(head);
+    let played = play(alloc, object, house, front, before, lines)?;
+    Ok(played)
 }

@@ -9,6 +9,8 @@ use Rattle.path_count.specs.State.{State}
 use Rattle.path_count.specs.Stands.{StandsFor, started_calls}
 use Rattle.path_count.proofs.Running.{same_test}
 use Rattle.value_core.specs.Contents.{Contents, kind_of}
+use Rattle.decl_core.specs.declared.object.Part.{Part}
+use Rattle.decl_core.specs.ObjectMap.{parts_of}
 use Rattle.decl_core.specs.ObjectForm.{ObjectForm}
 use Rattle.apply_core.specs.declared.reply.Reply.{Reply}
 use Rattle.apply_core.specs.History.{End as Ended, IsLegal, IsReplyOn, left_by, leads_to}
@@ -241,3 +243,7 @@ pub name_so : (o : ObjectForm) (e : Begun) (heard : Heard) (line : List ℕ) (se
     Tells o e heard line (record heard { steps = named session name ∷ heard.steps })
 name_so o e heard line session client name says rests is spelled same =
     subst (λ x. Tells o e heard line (record heard { steps = named session x ∷ heard.steps })) (sym same) (name_told says rests is spelled)
+
+pub kinds_same : (parts : List Part) → map (λ p. p.1) (parts_of parts) ≡ map (λ (p : Part). p.kind) parts
+kinds_same [] = refl
+kinds_same (p ∷ parts) = ap (λ kinds. p.kind ∷ kinds) (kinds_same parts)

@@ -5,11 +5,10 @@ use Rattle.value_core.specs.Contents.{kind_of}
 use Rattle.decl_core.specs.declared.object.Part.{Part}
 use Rattle.decl_core.specs.ObjectMap.{object_of}
 use Rattle.past_core.specs.Past.{events_of, AreBefore}
-use Rattle.live_core.proofs.Opening.{kinds_same}
 use Rattle.replay_core.specs.Counts.{Counted}
 use Rattle.replay_core.specs.Stands.{begun_with}
 use Rattle.replay_core.specs.declared.replay.Replay.{Replay}
-use Rattle.replay_core.proofs.Standing.{new_stands}
+use Rattle.replay_core.proofs.Standing.{kinds_same, new_stands}
 use Rattle.replay_core.proofs.replay.Replay.behind.Goals as goal
 
 pub returns : goal.returns
