@@ -1,5 +1,5 @@
 -- The calls that waited when an epoch began.
-use Rattle.std.proofs.Common.{◌≡◌, ℕ, zero, suc, ◌-◌, ◌<◌, List, [], ◌∷◌, length, get_or, refl, sym, ap, ◌∙◌, arith, Bool, subst}
+use Rattle.std.proofs.Common.{◌≡◌, ℕ, zero, suc, ◌-◌, ◌<◌, List, [], ◌∷◌, length, get_or, sym, ap, ◌∙◌, arith, Bool, subst}
 use Rattle.std.specs.Prelude.{Some, slice_get, IsTrue, ◌↔◌, Option}
 use Rattle.value_core.specs.declared.datum.Datum.{Datum}
 use Rattle.trace_core.specs.Events.{Called}

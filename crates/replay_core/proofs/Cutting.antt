@@ -1,16 +1,15 @@
 -- Lines up to the last one at which no call runs.
-use Rattle.std.proofs.Common.{◌≡◌, ℕ, zero, suc, List, [], ◌∷◌, ◌++◌, take, drop, refl, sym, ap, ◌∙◌, subst, inl, inr}
+use Rattle.std.proofs.Common.{◌≡◌, ℕ, zero, suc, List, [], ◌∷◌, ◌++◌, take, refl, sym, ap, ◌∙◌, subst, inl, inr}
 use Rattle.std.specs.Prelude.{Option, Some, None}
 use Rattle.path_tree.specs.Path.{Path}
 use Rattle.path_tree.specs.Trace.{Event}
 use Rattle.path_tree.specs.Satisfies.{SatisfiesAll}
 use Rattle.decl_core.specs.ObjectForm.{ObjectForm}
-use Rattle.apply_core.specs.History.{IsLegal}
 use Rattle.apply_core.proofs.Histories.{legal_by_one}
-use Rattle.trace_core.specs.Events.{Called, call_of, end_of, history_of}
-use Rattle.replay_core.specs.Steps.{Step, Begun, Heard, nothing_heard, ran, happened_of, trace_by}
+use Rattle.trace_core.specs.Events.{Called, end_of, history_of}
+use Rattle.replay_core.specs.Steps.{Step, Begun, Heard, nothing_heard, happened_of, trace_by}
 use Rattle.replay_core.specs.Tells.{Tells, Tell, start_told, end_told, cancel_told, name_told}
-use Rattle.replay_core.specs.Sound.{IsSound, IsCut, IsPlayed, with_running}
+use Rattle.replay_core.specs.Sound.{IsSound, IsPlayed, with_running}
 
 front_satisfied : (paths : List Path) (event : Event) (t : List Event) → SatisfiesAll paths (event ∷ t) → SatisfiesAll paths t
 front_satisfied [] event t h = tt

@@ -1,5 +1,5 @@
 -- A faulty line tells one thing, and no line of what is sound is faulty.
-use Rattle.std.proofs.Common.{◌≡◌, ℕ, zero, suc, List, [], ◌∷◌, ◌++◌, take, refl, sym, ap, ◌∙◌, subst}
+use Rattle.std.proofs.Common.{◌≡◌, ℕ, zero, suc, List, [], ◌∷◌, ◌++◌, take, sym, ap, ◌∙◌, subst}
 use Rattle.std.specs.Prelude.{Option, Some, None, slice_get}
 use Rattle.std.specs.Str.{str_to_ascii_lowercase}
 use Rattle.path_tree.specs.Path.{Path}
@@ -14,7 +14,7 @@ use Rattle.audit_core.specs.declared.verdict.Fault.{Fault}
 use Rattle.audit_core.specs.declared.verdict.Fault.TheVariants as faults
 use Rattle.audit_core.proofs.Renumbering.{may_by_one}
 use Rattle.replay_core.specs.Said.{Asked, a_start, an_end, a_cancel, a_name}
-use Rattle.replay_core.specs.Steps.{Step, Begun, Heard, nothing_heard, ran, cancelled, named, happened_of, trace_by}
+use Rattle.replay_core.specs.Steps.{Begun, Heard, nothing_heard, ran, cancelled, named, happened_of, trace_by}
 use Rattle.replay_core.specs.Tells.{Tells, Tell, IsCall, start_told, end_told, cancel_told, name_told}
 use Rattle.replay_core.specs.Sound.{IsSound, IsFault, IsFirstFault, IsStranger, IsBreach, IsWrong}
 use Rattle.replay_core.proofs.Saying.{says_once}

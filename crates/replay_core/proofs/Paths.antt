@@ -1,11 +1,11 @@
 -- What paths let start.
-use Rattle.std.proofs.Common.{◌+◌, ◌-◌, take, drop, get_or, length-append, drop-cons, true, false, Bool, ◌≡◌, ℕ, zero, suc, ◌≤◌, ◌<◌, List, [], ◌∷◌, ◌++◌, length, refl, sym, ap, ◌∙◌, subst, arith, inl, inr}
+use Rattle.std.proofs.Common.{◌+◌, ◌-◌, take, drop, get_or, length-append, drop-cons, false, Bool, ◌≡◌, ℕ, zero, suc, ◌<◌, List, [], ◌∷◌, ◌++◌, length, refl, sym, ap, ◌∙◌, subst, arith, inl, inr}
 use Rattle.std.specs.Prelude.{Some, slice_get, IsTrue, ◌↔◌}
 use Rattle.std.proofs.lemmas.Bool.{cases_eq, false≢true}
 use Rattle.std.proofs.lemmas.List.{take_more}
 use Rattle.path_tree.specs.Path.{Path, name}
-use Rattle.path_tree.specs.Trace.{Call, Event, Start, End, IsFresh, running_calls, starts, ends}
-use Rattle.path_tree.specs.Satisfies.{Satisfies, SatisfiesAll, MayStart}
+use Rattle.path_tree.specs.Trace.{Event, Start}
+use Rattle.path_tree.specs.Satisfies.{SatisfiesAll, MayStart}
 use Rattle.path_count.specs.State.{State}
 use Rattle.path_count.specs.Stands.{StandsFor, started_calls}
 use Rattle.audit_core.specs.Counting.{AreCounters, AllMayStart}

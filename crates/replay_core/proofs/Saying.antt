@@ -1,13 +1,10 @@
 -- What lines say.
-use Rattle.std.proofs.Common.{◌≡◌, ℕ, List, refl, sym, ap, ◌∙◌}
-use Rattle.std.specs.Prelude.{Option, Some, None, Result, Ok, Err, IfOk, option_map}
+use Rattle.std.proofs.Common.{◌≡◌, ℕ, List, sym, ap, ◌∙◌}
+use Rattle.std.specs.Prelude.{Option, Some, None, Result, Ok, Err, IfOk}
 use Rattle.word_core.specs.Words.{Word}
 use Rattle.word_core.specs.Data.{◌>>=◌}
 use Rattle.word_core.proofs.Cutting.{words_unique}
 use Rattle.line_read.specs.Reads.{Reads}
-use Rattle.audit_core.specs.Said as trace
-use Rattle.audit_core.specs.declared.said.Said.{Said as TraceSaid}
-use Rattle.audit_core.specs.View.{said_view as trace_view}
 use Rattle.replay_core.specs.declared.said.Said.{Said}
 use Rattle.replay_core.specs.Said as lines
 use Rattle.replay_core.specs.View.{said_view, IsSaid}

@@ -1,35 +1,31 @@
 -- For what an epoch that is played again stands after a line.
-use Rattle.std.proofs.Common.{zero, suc, Bool, true, false, ◌≡◌, ◌≢◌, ℕ, ◌+◌, ◌<◌, ◌≤◌, List, [], ◌∷◌, ◌++◌, length, refl, sym, ap, ◌∙◌, subst, arith, map}
+use Rattle.std.proofs.Common.{suc, Bool, true, false, ◌≡◌, ◌≢◌, ℕ, ◌<◌, ◌≤◌, List, [], ◌∷◌, ◌++◌, length, refl, sym, ap, ◌∙◌, subst, arith, map}
 use Rattle.std.specs.Prelude.{is_some, bytes_eq, Option, Some, None, MatchOption, ◌==◌, ◌&&◌, if◌then◌else◌}
 use Rattle.std.specs.Str.{str_to_ascii_lowercase}
 use Rattle.path_tree.specs.Known.{place_of, next}
-use Rattle.path_tree.specs.Trace.{Call, Event, Start, End, IsFresh, without, running_calls}
+use Rattle.path_tree.specs.Trace.{Call, Start, End, IsFresh, without, running_calls}
 use Rattle.path_tree.specs.Satisfies.{SatisfiesAll}
-use Rattle.path_count.specs.State.{State}
-use Rattle.path_count.specs.Stands.{StandsFor, started_calls}
+use Rattle.path_count.specs.Stands.{started_calls}
 use Rattle.path_count.proofs.Running.{same_test}
-use Rattle.value_core.specs.Contents.{Contents, kind_of}
+use Rattle.value_core.specs.Contents.{kind_of}
 use Rattle.decl_core.specs.declared.object.Part.{Part}
 use Rattle.decl_core.specs.ObjectMap.{parts_of}
 use Rattle.decl_core.specs.ObjectForm.{ObjectForm}
 use Rattle.apply_core.specs.declared.reply.Reply.{Reply}
-use Rattle.apply_core.specs.History.{End as Ended, IsLegal, IsReplyOn, left_by, leads_to}
+use Rattle.apply_core.specs.History.{IsReplyOn, left_by}
 use Rattle.apply_core.proofs.Histories.{legal_by_one, leads_by_one}
 use Rattle.trace_core.specs.Events.{Called, call_of, end_of, history_of, body_at}
-use Rattle.past_core.specs.declared.past.PastEvent.{PastEvent}
 use Rattle.past_core.specs.declared.past.PastEvent.TheVariants as past
 use Rattle.past_core.specs.Past.{events_of, AreBefore}
 use Rattle.live_core.proofs.Opening.{fresh_before}
-use Rattle.audit_core.specs.declared.calls.Running.{Running}
-use Rattle.audit_core.specs.Counting.{AreCounters, AllMayStart}
-use Rattle.audit_core.specs.Calls.{called}
+use Rattle.audit_core.specs.Counting.{AllMayStart}
 use Rattle.audit_core.specs.Replies.{CanDo}
 use Rattle.audit_core.specs.Tells.{IsCallNumber}
 use Rattle.replay_core.specs.declared.replay.Known.{Known}
 use Rattle.replay_core.specs.declared.replay.Replay.{Replay}
 use Rattle.replay_core.specs.Said.{Asked}
-use Rattle.replay_core.specs.Steps.{Step, ran, cancelled, named, Begun, Heard, nothing_heard, IsUnused, happened_of, trace_by, contents_by, long_past}
-use Rattle.replay_core.specs.Numbers.{AreNumbers, HasNumber}
+use Rattle.replay_core.specs.Steps.{Step, ran, cancelled, named, Begun, Heard, nothing_heard, IsUnused, happened_of, trace_by}
+use Rattle.replay_core.specs.Numbers.{AreNumbers}
 use Rattle.replay_core.specs.Counts.{Counted}
 use Rattle.replay_core.specs.Carried.{carried_calls}
 use Rattle.value_core.specs.Datum.{elem_of}
@@ -40,7 +36,7 @@ use Rattle.path_tree.specs.Identifier.{IsIdentifier}
 use Rattle.replay_core.specs.Said.{Says, a_name}
 use Rattle.replay_core.specs.Tells.{Tells, IsCall, IsSession, name_told}
 use Rattle.replay_core.specs.Sound.{IsSound, with_running}
-use Rattle.replay_core.specs.Stands.{Stands, IsPending, begun_with, known_call}
+use Rattle.replay_core.specs.Stands.{Stands, IsPending, known_call}
 use Rattle.replay_core.proofs.Paths.{all_may}
 
 without_first : (c : Called) (calls : List Call) → without (call_of c) (call_of c ∷ calls) ≡ calls

@@ -1,5 +1,5 @@
 -- The calls that waited when an epoch began: they have the numbers from 1, in their order.
-use Rattle.std.specs.Prelude.{◌≡◌, ℕ, ◌-◌, List, map, Some, slice_get}
+use Rattle.std.specs.Prelude.{◌≡◌, ◌-◌, List, map, Some, slice_get}
 use Rattle.trace_core.specs.Events.{Called}
 use Rattle.replay_core.specs.declared.carried.Carried.{Carried}
 

@@ -1,5 +1,5 @@
 -- What a line behind a front says.
-use Rattle.std.specs.Prelude.{ℕ, List, [], ◌∷◌, Option, Some, None, codes, if◌then◌else◌}
+use Rattle.std.specs.Prelude.{ℕ, List, Option, Some, None, codes, if◌then◌else◌}
 use Rattle.std.specs.Str.{bytes_eq}
 use Rattle.value_core.specs.declared.datum.Datum.{Datum}
 use Rattle.apply_core.specs.declared.reply.Reply.{Reply}

@@ -1,5 +1,5 @@
 -- What is kept of an epoch that is played again.
-use Rattle.std.specs.Prelude.{◌≡◌, ℕ, ◌+◌, ◌<◌, List, [], ◌∷◌, length, map, Option, Some, None, MatchOption, MatchResult, Result}
+use Rattle.std.specs.Prelude.{◌≡◌, ℕ, ◌<◌, List, [], ◌∷◌, length, map, Some, None, MatchOption, MatchResult, Result}
 use Rattle.path_tree.specs.Trace.{running_calls}
 use Rattle.path_count.specs.Stands.{started_calls}
 use Rattle.value_core.specs.Contents.{Contents, kind_of}
@@ -19,8 +19,8 @@ use Rattle.replay_core.specs.declared.replay.Known.{Known}
 use Rattle.replay_core.specs.declared.replay.Note.{Note}
 use Rattle.replay_core.specs.declared.replay.Note.TheVariants as notes
 use Rattle.replay_core.specs.declared.replay.Replay.{Replay}
-use Rattle.replay_core.specs.Steps.{Step, ran, cancelled, named, Begun, Heard, IsUnused, happened_of, trace_by}
-use Rattle.replay_core.specs.Steps.{contents_by, long_past, ended_in}
+use Rattle.replay_core.specs.Steps.{ran, cancelled, named, Begun, Heard, IsUnused, happened_of, trace_by}
+use Rattle.replay_core.specs.Steps.{contents_by, long_past}
 use Rattle.replay_core.specs.Numbers.{AreNumbers}
 use Rattle.replay_core.specs.Counts.{Counted}
 use Rattle.replay_core.specs.Carried.{carried_calls}

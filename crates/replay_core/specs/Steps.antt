@@ -1,5 +1,5 @@
 -- What happened in an epoch, as the lines behind its front tell it.
-use Rattle.std.specs.Prelude.{◌≡◌, ◌≢◌, ℕ, ◌+◌, List, [], ◌∷◌, ◌++◌, Option, Some, None}
+use Rattle.std.specs.Prelude.{◌≢◌, ℕ, ◌+◌, List, [], ◌∷◌, ◌++◌, Option, None}
 use Rattle.path_tree.specs.Trace.{Event}
 use Rattle.value_core.specs.Contents.{Contents}
 use Rattle.decl_core.specs.ObjectForm.{ObjectForm}

@@ -1,5 +1,5 @@
 -- The lines behind a front, one after another.
-use Rattle.std.specs.Prelude.{◌≡◌, ℕ, ◌<◌, ◌≤◌, List, [], ◌∷◌, map, Option, Some, None}
+use Rattle.std.specs.Prelude.{◌≡◌, ℕ, ◌<◌, ◌≤◌, List, [], ◌∷◌, map, Some, None}
 use Rattle.std.specs.Str.{str_to_ascii_lowercase}
 use Rattle.path_tree.specs.Known.{place_of}
 use Rattle.path_tree.specs.Identifier.{IsIdentifier}
@@ -12,7 +12,7 @@ use Rattle.audit_core.specs.Operations.{operation_names}
 use Rattle.audit_core.specs.Tells.{IsCallNumber}
 use Rattle.replay_core.specs.Carried.{IsTheOne}
 use Rattle.replay_core.specs.Said.{Says, Asked, a_start, an_end, a_cancel, a_name}
-use Rattle.replay_core.specs.Steps.{Step, ran, cancelled, named, Begun, Heard, IsUnused, trace_by}
+use Rattle.replay_core.specs.Steps.{ran, cancelled, named, Begun, Heard, IsUnused, trace_by}
 
 -- behind a front sessions have the numbers up to this one
 abbrev pub IsSession : ℕ → Type 0

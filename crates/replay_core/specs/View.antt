@@ -1,5 +1,5 @@
 -- What was read from a line, without where it lies.
-use Rattle.std.specs.Prelude.{ℕ, List, Option, Some, None, MatchOption}
+use Rattle.std.specs.Prelude.{ℕ, List, Option, MatchOption}
 use Rattle.audit_core.specs.View.{told_view}
 use Rattle.replay_core.specs.declared.said.Asked.{Asked}
 use Rattle.replay_core.specs.declared.said.Said.{Said}

@@ -1,5 +1,4 @@
 use Rattle.std.proofs.Common.{◌≡◌, ◌∷◌, length, subst, sym, arith}
-use Rattle.std.specs.Vec.{with_items}
 use Rattle.std.proofs.lemmas.List.{with_items_is}
 use Rattle.path_tree.specs.Trace.{Start, End}
 use Rattle.audit_core.specs.Counting.{AreCounters}

@@ -4,7 +4,7 @@ use Rattle.path_tree.specs.Trace.{running_calls}
 use Rattle.value_core.specs.Contents.{kind_of}
 use Rattle.decl_core.specs.declared.object.Part.{Part}
 use Rattle.decl_core.specs.ObjectMap.{object_of}
-use Rattle.past_core.specs.Past.{events_of, AreBefore}
+use Rattle.past_core.specs.Past.{events_of}
 use Rattle.replay_core.specs.Counts.{Counted}
 use Rattle.replay_core.specs.Stands.{begun_with}
 use Rattle.replay_core.specs.declared.replay.Replay.{Replay}

@@ -2,7 +2,7 @@ use Rattle.std.proofs.Common.{◌≡◌, ◌∷◌, sym, refl, ap, subst}
 use Rattle.decl_core.specs.ObjectMap.{object_of}
 use Rattle.trace_core.specs.Events.{Called}
 use Rattle.replay_core.specs.Said.{asks}
-use Rattle.replay_core.specs.Steps.{Heard, cancelled}
+use Rattle.replay_core.specs.Steps.{cancelled}
 use Rattle.replay_core.specs.Tells.{IsCall, cancel_told}
 use Rattle.replay_core.specs.Stands.{known_call}
 use Rattle.replay_core.specs.declared.replay.Known.{Known}

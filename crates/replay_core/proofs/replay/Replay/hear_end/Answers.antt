@@ -1,16 +1,15 @@
 use Rattle.std.proofs.Common.{◌≡◌, ◌∷◌, ◌++◌, [], length, sym, refl, ap, ◌∙◌, subst, map}
 use Rattle.std.specs.Prelude.{None}
-use Rattle.path_count.specs.Stands.{started_calls}
 use Rattle.value_core.specs.Contents.{kind_of}
 use Rattle.decl_core.specs.ObjectMap.{object_of}
 use Rattle.apply_core.specs.History.{IsReplyOn, left_by}
-use Rattle.trace_core.specs.Events.{Called, call_of, body_at}
+use Rattle.trace_core.specs.Events.{call_of, body_at}
 use Rattle.audit_core.specs.Replies.{CanDo}
 use Rattle.audit_core.specs.View.{told_view}
 use Rattle.past_core.specs.declared.past.PastEvent.TheVariants as past
 use Rattle.replay_core.specs.Counts.{Counted}
 use Rattle.replay_core.specs.Numbers.{AreNumbers}
-use Rattle.replay_core.specs.Steps.{Heard, ran, trace_by}
+use Rattle.replay_core.specs.Steps.{ran, trace_by}
 use Rattle.replay_core.specs.Tells.{end_told}
 use Rattle.replay_core.specs.Stands.{known_call}
 use Rattle.replay_core.specs.declared.replay.Replay.{Replay}

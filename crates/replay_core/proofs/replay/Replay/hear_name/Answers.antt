@@ -1,8 +1,7 @@
-use Rattle.std.proofs.Common.{◌≡◌, ◌∷◌, refl, sym, ap, ◌∙◌, true, false}
-use Rattle.std.specs.Prelude.{is_some, None}
+use Rattle.std.proofs.Common.{◌∷◌, refl, sym, ap, ◌∙◌}
+use Rattle.std.specs.Prelude.{is_some}
 use Rattle.std.proofs.lemmas.Bool.{false≢true}
-use Rattle.replay_core.specs.Steps.{Heard, named}
-use Rattle.replay_core.specs.Tells.{name_told}
+use Rattle.replay_core.specs.Steps.{named}
 use Rattle.replay_core.proofs.Hearing.{name_bad}
 use Rattle.replay_core.proofs.Standing.{rests_so, rests_is, named_stands, none_by, name_so}
 use Rattle.replay_core.proofs.replay.Replay.hear_name.Goals as goal

@@ -1,10 +1,9 @@
-use Rattle.std.proofs.Common.{◌≡◌, ◌<◌, ◌∷◌, length, sym, refl, ap, subst, arith}
+use Rattle.std.proofs.Common.{◌≡◌, length, sym, refl, subst, arith}
 use Rattle.std.specs.Prelude.{Some}
-use Rattle.path_count.specs.Stands.{started_calls}
 use Rattle.decl_core.specs.ObjectMap.{object_of}
 use Rattle.trace_core.specs.Events.{Called}
 use Rattle.replay_core.specs.Said.{asks}
-use Rattle.replay_core.specs.Steps.{Heard, trace_by}
+use Rattle.replay_core.specs.Steps.{trace_by}
 use Rattle.replay_core.specs.Tells.{IsCall, start_told}
 use Rattle.replay_core.specs.Stands.{known_call, IsPending}
 use Rattle.replay_core.specs.declared.replay.Known.{Known}
