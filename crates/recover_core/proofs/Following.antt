@@ -57,14 +57,14 @@ module _ (o : ObjectForm) (e : Begun) (text rest line tail : List ℕ) (old new 
   moved = f.cut ∙ ap (λ ls. f.before ++ ls) cut
 
   pub follow_more : (note : Note) → Hears o line old (Ok note) new →
-      AfterNote clients.carried.items clients.base clients.now clients.guests note after.guests → (after.carried ≡ clients.carried) × (after.base ≡ clients.base) × (after.now ≡ clients.now) →
+      AfterNote clients.carried.items clients.base clients.since clients.guests note after.guests → (after.carried ≡ clients.carried) × (after.base ≡ clients.base) × (after.since ≡ clients.since) →
       Follows o e text tail new first after next
   follow_more note hears one same =
       let h = f.has in
       let found = hears e h.heard h.stands in
-      let here = subst (λ (x : ℕ). AfterNote first.carried.items x first.now clients.guests note after.guests) h.same.1
+      let here = subst (λ (x : ℕ). AfterNote first.carried.items x first.since clients.guests note after.guests) h.same.1
       (subst (λ (x : ℕ). AfterNote first.carried.items clients.base x clients.guests note after.guests) h.same.2
-      (subst (λ v. AfterNote v.items clients.base clients.now clients.guests note after.guests) h.same.0 one)) in
+      (subst (λ v. AfterNote v.items clients.base clients.since clients.guests note after.guests) h.same.0 one)) in
       record {
         before = f.before ++ line ∷ [];
         cut = moved ∙ sym (append_assoc f.before (line ∷ []) (lines tail));
@@ -73,7 +73,7 @@ module _ (o : ObjectForm) (e : Begun) (text rest line tail : List ℕ) (old new 
           heard = found.0;
           told = tell_more o e nothing_heard f.before line h.heard found.0 h.told found.1;
           stands = found.3;
-          guests = noted o first.carried.items first.base first.now first.guests clients.guests after.guests h.heard found.0 note found.2 h.guests here;
+          guests = noted o first.carried.items first.base first.since first.guests clients.guests after.guests h.heard found.0 note found.2 h.guests here;
           same = (same.0 ∙ h.same.0, same.1 ∙ h.same.1, same.2 ∙ h.same.2);
         };
       }
@@ -129,10 +129,10 @@ recovered o house f text first old new replay r begun has played guests epoch so
       clients = record {
         first = old.guests;
         come = begun.come;
-        after = subst (λ g. AfterSteps (told_in f) f.base house.now old.guests told.steps g) (sym guests)
-            (subst (λ x. AfterSteps x f.base house.now old.guests told.steps new.guests) begun.carried
-            (subst (λ x. AfterSteps old.carried.items x house.now old.guests told.steps new.guests) begun.base
-            (subst (λ x. AfterSteps old.carried.items old.base x old.guests told.steps new.guests) begun.now has.guests)));
+        after = subst (λ g. AfterSteps (told_in f) f.base house.since old.guests told.steps g) (sym guests)
+            (subst (λ x. AfterSteps x f.base house.since old.guests told.steps new.guests) begun.carried
+            (subst (λ x. AfterSteps old.carried.items x house.since old.guests told.steps new.guests) begun.base
+            (subst (λ x. AfterSteps old.carried.items old.base x old.guests told.steps new.guests) begun.since has.guests)));
       };
       epoch = epoch;
       source = source;

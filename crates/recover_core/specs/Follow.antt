@@ -22,8 +22,8 @@ pub record HasFollowed (o : ObjectForm) (e : Begun) (before : List (List ℕ)) (
   pub heard : Heard
   pub told : Tell o e nothing_heard before heard
   pub stands : Stands o e replay heard
-  pub guests : AfterSteps old.carried.items old.base old.now old.guests heard.steps new.guests
-  pub same : (new.carried ≡ old.carried) × (new.base ≡ old.base) × (new.now ≡ old.now)
+  pub guests : AfterSteps old.carried.items old.base old.since old.guests heard.steps new.guests
+  pub same : (new.carried ≡ old.carried) × (new.base ≡ old.base) × (new.since ≡ old.since)
 
 -- the line that is wrong
 abbrev pub number_of : Wrong → ℕ
@@ -43,7 +43,7 @@ IsFollowed o e text found replay old new =
 -- an epoch that begins with a front, and its clients, before the first line
 pub record HasBegun (o : ObjectForm) (house : House) (f : Front) (replay : Replay) (clients : Clients) : Type 0 where
   pub stands : Stands o (begun_of f) replay nothing_heard
-  pub come : ComeFrom house.sessions house.names house.now f clients.guests
+  pub come : ComeFrom house.sessions house.names house.since f clients.guests
   pub carried : clients.carried.items ≡ told_in f
   pub base : clients.base ≡ f.base
-  pub now : clients.now ≡ house.now
+  pub since : clients.since ≡ house.since

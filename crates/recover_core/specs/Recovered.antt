@@ -49,8 +49,8 @@ pub record HasPlayed (o : ObjectForm) (e : Begun) (steps : List Step) (p : Playe
 -- the clients of a front, and what steps made of them
 pub record HasClients (house : House) (f : Front) (steps : List Step) (guests : Guests) : Type 0 where
   pub first : Guests
-  pub come : ComeFrom house.sessions house.names house.now f first
-  pub after : AfterSteps (told_in f) f.base house.now first steps guests
+  pub come : ComeFrom house.sessions house.names house.since f first
+  pub after : AfterSteps (told_in f) f.base house.since first steps guests
 
 -- The lines behind a front are sound, and this is what they come to.
 pub record IsRecovered (o : ObjectForm) (house : House) (f : Front) (text : List ℕ) (r : Recovered) : Type 0 where

@@ -31,7 +31,7 @@ pub struct House {
     /// So many names there may be before a new one takes the place of another.
     pub names: u16,
     /// The second since which each client is away.
-    pub now: u64,
+    pub since: u64,
 }
 
 // The clients of an epoch up to some line.
@@ -41,7 +41,7 @@ pub(crate) struct Clients {
     // the numbers that were told of the calls that waited when the epoch began
     carried: Vec<u64>,
     base: u64,
-    now: u64,
+    since: u64,
 }
 
 // The reply that a line told.
@@ -236,12 +236,12 @@ impl Clients {
         front: &Front,
     ) -> Result<Option<Clients>, AllocError>
         ensures { IfOk result (λ found. IfSome found (λ v.
-            ComeFrom house.sessions house.names house.now front.now v.guests
+            ComeFrom house.sessions house.names house.since front.now v.guests
             × (v.carried.items ≡ map (λ (c : ACarried). c.told) front.now.carried.items)
-            × (v.base ≡ front.now.base) × (v.now ≡ house.now))) }
+            × (v.base ≡ front.now.base) × (v.since ≡ house.since))) }
     {
         let mut guests = Guests::new(alloc, house.sessions, house.names)?;
-        if !admit_all(&mut guests, &front.clients, &front.kept, house.now)? {
+        if !admit_all(&mut guests, &front.clients, &front.kept, house.since)? {
             return Ok(None);
         }
         if !remember_all(alloc, &mut guests, &front.kept)? {
@@ -252,7 +252,7 @@ impl Clients {
             guests,
             carried,
             base: front.base,
-            now: house.now,
+            since: house.since,
         }))
     }
 
@@ -272,7 +272,7 @@ impl Clients {
         ensures done { IfOk result (λ yes. IsTrue yes → Remembers self.old.guests (known_call known.now)
             (told_for self.old.carried.items self.old.base known.now.number) reply self.new.guests) }
         ensures same { (self.new.carried ≡ self.old.carried) × (self.new.base ≡ self.old.base)
-            × (self.new.now ≡ self.old.now) }
+            × (self.new.since ≡ self.old.since) }
     {
         if known.number == 0 {
             return Ok(false);
@@ -293,19 +293,19 @@ impl Clients {
     // A session gets a name.
     fn name(&mut self, session: u32, name: &Name) -> Result<bool, AllocError>
         ensures done { IfOk result (λ yes. IsTrue yes →
-            Admits self.old.guests (guest_of name.now session (Some self.old.now) 1) (Ok tt) self.new.guests) }
+            Admits self.old.guests (guest_of name.now session (Some self.old.since) 1) (Ok tt) self.new.guests) }
         ensures same { (self.new.carried ≡ self.old.carried) × (self.new.base ≡ self.old.base)
-            × (self.new.now ≡ self.old.now) }
+            × (self.new.since ≡ self.old.since) }
     {
-        admit(&mut self.guests, name, session, 1, self.now)
+        admit(&mut self.guests, name, session, 1, self.since)
     }
 
     // What a line told. False: the clients do not let it be.
     pub(crate) fn hear(&mut self, note: &Note) -> Result<bool, AllocError>
         ensures done { IfOk result (λ yes. IsTrue yes →
-            AfterNote self.old.carried.items self.old.base self.old.now self.old.guests note.now self.new.guests) }
+            AfterNote self.old.carried.items self.old.base self.old.since self.old.guests note.now self.new.guests) }
         ensures same { (self.new.carried ≡ self.old.carried) × (self.new.base ≡ self.old.base)
-            × (self.new.now ≡ self.old.now) }
+            × (self.new.since ≡ self.old.since) }
     {
         match note {
             Note::Began => Ok(true),
