@@ -1,0 +1,3 @@
+pub mod Along
+pub mod Lines
+pub mod Steps

@@ -1,0 +1,261 @@
+//! The next epoch of an object.
+
+ghost use Rattle.std.specs.Prelude.{◌≡◌, true, false, List};
+ghost use Rattle.past_core.specs.declared.past.PastEvent.{PastEvent as AnEvent};
+ghost use Rattle.live_core.specs.Epochs.{IsBegun};
+
+use crate::hosted::Hosted;
+use decl_core::object::Object;
+use front_core::front::Answer;
+use front_core::past::runs_of;
+use front_core::write::{
+    push_base, push_carried, push_client, push_kept, push_object, push_parts, push_past, push_source,
+};
+use guest_core::guest::Guest;
+use guest_core::kept::Kept;
+use past_core::finder::short_past;
+use past_core::past::PastEvent;
+use path_tree::node::OpId;
+use short_core::short::Short;
+use std::alloc::{AllocError, Global};
+use text_core::limits::MOST_TEXT_BYTES;
+
+/// What the next epoch begins with, beside what its object holds.
+#[derive(Drop)]
+pub struct Prepared {
+    // a past that leaves what the paths have counted
+    past: Vec<PastEvent>,
+    // the numbers that were told of the calls that wait
+    carried: Vec<u64>,
+    base: u64,
+}
+
+// How a remembered call ended.
+fn answer_of(alloc: Global, call: &Kept) -> Result<Answer, AllocError> {
+    match call.reply() {
+        None => Ok(Answer::Cancelled),
+        Some(reply) => {
+            let mut room = Vec::with_capacity(alloc, MOST_TEXT_BYTES)?;
+            Ok(Answer::Replied(Short::within(alloc, &mut room, &reply)))
+        }
+    }
+}
+
+// A key or a count of keys, as a front has it.
+fn key_of(key: u64) -> u32 {
+    match u32::try_from(key) {
+        Ok(key) => key,
+        Err(_) => u32::MAX,
+    }
+}
+
+// Adds the line of a remembered call.
+fn push_kept_call(
+    alloc: Global,
+    out: &mut Vec<u8>,
+    object: &Object,
+    session: u16,
+    key: u64,
+    call: &Kept,
+) -> Result<(), AllocError> {
+    let answer = answer_of(alloc, call)?;
+    let arguments = call.asked().arguments().list(alloc)?;
+    push_kept(
+        out,
+        object,
+        u32::from(session),
+        key_of(key),
+        call.told(),
+        &answer,
+        call.asked().operation(),
+        &arguments,
+    )
+}
+
+// Adds the lines of the calls that are remembered of a client, in the order of their keys.
+fn push_kept_of(
+    alloc: Global,
+    out: &mut Vec<u8>,
+    object: &Object,
+    guest: &Guest,
+) -> Result<(), AllocError> {
+    let keys = guest.keys();
+    let kept = keys.kept();
+    let mut key = keys.next().saturating_sub(kept.len() as u64);
+    for back in 0..kept.len() {
+        if let Some(call) = kept.get(kept.len() - 1 - back) {
+            push_kept_call(alloc, out, object, guest.session(), key, call)?;
+        }
+        key = key.saturating_add(1);
+    }
+    Ok(())
+}
+
+// Adds the lines of all clients.
+fn push_guests(
+    alloc: Global,
+    out: &mut Vec<u8>,
+    object: &Object,
+    guests: &[Guest],
+) -> Result<(), AllocError> {
+    for guest in guests {
+        let keys = key_of(guest.keys().next().saturating_sub(1));
+        push_client(
+            out,
+            u32::from(guest.session()),
+            guest.name().as_bytes(),
+            keys,
+        )?;
+    }
+    for guest in guests {
+        push_kept_of(alloc, out, object, guest)?;
+    }
+    Ok(())
+}
+
+// How many calls there are, as far as 32 bits tell.
+fn count_of(count: usize) -> u32 {
+    match u32::try_from(count) {
+        Ok(count) => count,
+        Err(_) => u32::MAX,
+    }
+}
+
+impl Hosted {
+    // The numbers that were told of the calls that wait.
+    fn told_of_waiting(&self) -> Result<Vec<u64>, AllocError> {
+        let mut all = Vec::with_capacity(self.alloc, self.live.waiting().len())?;
+        for call in self.live.waiting() {
+            all.push(self.told(call.number()))?;
+        }
+        Ok(all)
+    }
+
+    // Adds the lines of the calls that wait, by the numbers that they will have.
+    fn push_waiting(&self, out: &mut Vec<u8>) -> Result<(), AllocError> {
+        let mut number: u32 = 0;
+        for call in self.live.waiting() {
+            number = number.saturating_add(1);
+            push_carried(
+                out,
+                self.live.object(),
+                number,
+                self.told(call.number()),
+                call.session(),
+                call.operation(),
+                call.arguments(),
+            )?;
+        }
+        Ok(())
+    }
+
+    // Adds the lines of a front from those of the past on.
+    fn push_behind_parts(
+        &self,
+        out: &mut Vec<u8>,
+        past: &[PastEvent],
+        base: u64,
+    ) -> Result<(), AllocError> {
+        let object = self.live.object();
+        let runs = runs_of(self.alloc, past)?;
+        push_past(out, object, &runs)?;
+        push_base(out, base)?;
+        self.push_waiting(out)?;
+        push_guests(self.alloc, out, object, self.guests.guests())
+    }
+
+    // Adds the lines of the front of an epoch, behind this past.
+    fn push_front(
+        &self,
+        out: &mut Vec<u8>,
+        epoch: u64,
+        past: &[PastEvent],
+        base: u64,
+    ) -> Result<(), AllocError> {
+        let object = self.live.object();
+        push_object(out, object, epoch)?;
+        push_source(self.alloc, out, self.source)?;
+        push_parts(self.alloc, out, &object.parts, self.live.contents())?;
+        self.push_behind_parts(out, past, base)
+    }
+
+    // What is added to numbers in the next epoch: the first number that is given there is told as the next one.
+    fn next_base(&self) -> u64 {
+        let waits = self.live.waiting().len() as u64;
+        self.base
+            .saturating_add(u64::from(self.given))
+            .saturating_sub(waits)
+    }
+
+    /// Adds the lines of the front of this epoch, in which nothing has happened yet. The error is that memory was refused;
+    /// how much then stands in `out` is not said.
+    pub fn push_first(&self, out: &mut Vec<u8>) -> Result<(), AllocError> {
+        self.push_front(out, self.epoch, &self.long, self.base)
+    }
+
+    /// Writes the front of the next epoch into `front`, and answers what it begins with. `None`: no short past was found.
+    /// The error is that memory was refused; how much then stands in `front` is not said.
+    pub fn prepare(&self, front: &mut Vec<u8>) -> Result<Option<Prepared>, AllocError> {
+        let object = self.live.object();
+        let operations = object.operations.len() as OpId;
+        let found = short_past(
+            self.alloc,
+            &object.paths,
+            operations,
+            &self.long,
+            self.live.counters(),
+        )?;
+        let Some(past) = found else {
+            return Ok(None);
+        };
+        let carried = self.told_of_waiting()?;
+        let base = self.next_base();
+        self.push_front(front, self.epoch.saturating_add(1), &past, base)?;
+        Ok(Some(Prepared {
+            past,
+            carried,
+            base,
+        }))
+    }
+
+    /// Begins the epoch whose front was prepared. False: it leaves too few numbers for the calls that wait, or memory was
+    /// refused; then nothing changes.
+    pub fn begin(&mut self, prepared: Prepared) -> bool
+        ensures begun { result ≡ true → (past : List AnEvent) × IsBegun self.old past self.new }
+        ensures none { result ≡ false → self.new ≡ self.old }
+    {
+        match self.live.epoch(&prepared.past) {
+            Err(_) => false,
+            Ok(None) => false,
+            Ok(Some(_)) => {
+                self.begun(prepared);
+                true
+            }
+        }
+    }
+
+    // The next epoch has begun.
+    fn begun(&mut self, prepared: Prepared)
+        ensures { self.new ≡ self.old }
+    {
+        let Prepared {
+            past,
+            carried,
+            base,
+        } = prepared;
+        self.given = count_of(self.live.waiting().len());
+        self.long = past;
+        self.carried = carried;
+        self.base = base;
+        self.epoch = self.epoch.saturating_add(1);
+        self.added = 0;
+        self.behind = 0;
+        self.is_due = false;
+        self.guests.renew();
+    }
+
+    /// Whether a new epoch is to be tried.
+    pub fn is_due(&self) -> bool {
+        self.is_due
+    }
+}
