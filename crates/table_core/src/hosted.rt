@@ -1,7 +1,10 @@
 //! An object that is served, with its clients.
 
-ghost use Rattle.std.specs.Prelude.{◌≡◌, ◌++◌, ◌×◌, IfOk, IfSome, OnErr, OnOk, List, ℕ};
-ghost use Rattle.table_core.specs.Steps.{Steps, Takes};
+ghost use Rattle.std.specs.Prelude.{◌≡◌, ◌≢◌, ◌×◌, ℕ, [], false, IsTrue, IfOk, IfSome, OnErr, OnOk, Some, slice_get};
+ghost use Rattle.trace_core.specs.Events.{Called};
+ghost use Rattle.live_core.specs.Hall.{Every};
+ghost use Rattle.live_core.specs.Steps.{Leaves};
+ghost use Rattle.table_core.specs.Steps.{Adds, Steps, Takes};
 
 use crate::event::{push_cancelled, push_name};
 use crate::size::{most_lines, most_told};
@@ -13,6 +16,7 @@ use guest_core::guests::{EnterFault, Entered, Guests};
 use guest_core::keys::{AskFault, Judged};
 use live_core::call::{Call, Ran};
 use live_core::hall::Refusal;
+use live_core::lines::push_all;
 use live_core::live::{Live, Taken};
 use past_core::past::PastEvent;
 use path_tree::name::Name;
@@ -132,10 +136,12 @@ fn numbered(waiting: &[Call], number: u32) -> Option<&Call> {
 }
 
 // The call of this session among those that wait.
-fn made_by(waiting: &[Call], session: u16) -> Option<&Call> {
-    for call in waiting {
-        if call.session() == u32::from(session) {
-            return Some(call);
+fn made_by(waiting: &[Call], session: u16) -> Option<&Call>
+    ensures { IfSome result (λ c. (k : ℕ) × (slice_get waiting.now k ≡ Some c.now) × (c.now.session ≡ session)) }
+{
+    for place in 0..waiting.len() {
+        if waiting[place].session() == u32::from(session) {
+            return Some(&waiting[place]);
         }
     }
     None
@@ -281,7 +287,10 @@ impl Hosted {
     }
 
     /// The waiting call of a session.
-    pub(crate) fn waiting_of(&self, session: u16) -> Option<&Call> {
+    pub(crate) fn waiting_of(&self, session: u16) -> Option<&Call>
+        ensures { IfSome result (λ c. (k : ℕ) × (slice_get self.now.waiting k ≡ Some c.now)
+            × (c.now.session ≡ session)) }
+    {
         made_by(self.live.waiting(), session)
     }
 
@@ -424,8 +433,8 @@ impl Hosted {
         self.long.reserve(calls.saturating_mul(2))
     }
 
-    /// Submits a call. A fault changes nothing.
-    pub(crate) fn submit(
+    // Submits a call. A fault changes nothing.
+    fn submit(
         &mut self,
         session: u16,
         operation: OpId,
@@ -450,6 +459,27 @@ impl Hosted {
             Err(refusal) => {
                 self.guests.withdraw(session);
                 Err(fault_of(refusal))
+            }
+        }
+    }
+
+    /// Submits a call, and adds the lines of all that ran. A fault changes nothing. The error is that memory was refused
+    /// for the lines.
+    pub(crate) fn call(
+        &mut self,
+        session: u16,
+        operation: OpId,
+        arguments: Vec<Datum>,
+        lines: &mut Vec<u8>,
+    ) -> Result<Result<Taken, SubmitFault>, AllocError>
+        ensures { OnOk result (Adds self.old lines.old.items self.new lines.new.items) }
+    {
+        match self.submit(session, operation, arguments) {
+            Err(fault) => Ok(Err(fault)),
+            Ok(taken) => {
+                push_all(lines, self.live.object(), &taken.ran)?;
+                self.add(lines.len());
+                Ok(Ok(taken))
             }
         }
     }
@@ -486,15 +516,53 @@ impl Hosted {
         }
     }
 
-    // Adds the line of a call of a session that is to be cancelled, where its client has a name.
-    fn push_cancel(&self, session: u16, lines: &mut Vec<u8>) -> Result<(), AllocError> {
-        if self.guests.guest(session).is_none() {
-            return Ok(());
+    // The waiting call of a session is let go, and its client remembers it: it was told this number, and its lines have so
+    // many bytes at most. False: no call of the session waits.
+    fn let_go(&mut self, session: u16, told: u64, own: usize) -> bool
+        ensures gone { IsTrue result → (c : Called) × (c.session ≡ session) × Leaves self.old c self.new }
+        ensures none { result ≡ false → (self.new ≡ self.old)
+            × Every (λ (c : Called). c.session ≢ session) self.old.waiting }
+    {
+        if !self.live.leave(u32::from(session)) {
+            return false;
         }
-        match self.waiting_of(session) {
-            Some(call) => push_cancelled(lines, self.live.object(), call),
-            None => Ok(()),
+        self.owing = self.owing.saturating_sub(own);
+        let _named = self.guests.cancel(session, told);
+        true
+    }
+
+    // Cancels the waiting call of a session that has a name, and adds the line that tells of it.
+    fn cancel_named(
+        &mut self,
+        session: u16,
+        lines: &mut Vec<u8>,
+    ) -> Result<Option<u64>, AllocError>
+        ensures { OnOk result (Adds self.old lines.old.items self.new lines.new.items) }
+    {
+        let Some(call) = self.waiting_of(session) else {
+            return Ok(None);
+        };
+        let told = self.told(call.number());
+        let own = most_of(self.live.object(), call.operation(), call.arguments());
+        push_cancelled(lines, self.live.object(), call)?;
+        self.add(lines.len());
+        if !self.let_go(session, told, own) {
+            return Ok(None);
         }
+        Ok(Some(told))
+    }
+
+    // Cancels the waiting call of a session that has no name.
+    fn cancel_nameless(&mut self, session: u16) -> Option<u64>
+        ensures { Steps self.old [] self.new }
+    {
+        let call = self.waiting_of(session)?;
+        let told = self.told(call.number());
+        let own = most_of(self.live.object(), call.operation(), call.arguments());
+        if !self.let_go(session, told, own) {
+            return None;
+        }
+        Some(told)
     }
 
     /// The waiting call of a session is cancelled, and its client remembers it. Where the client has a name, the line that
@@ -505,19 +573,12 @@ impl Hosted {
         session: u16,
         lines: &mut Vec<u8>,
     ) -> Result<Option<u64>, AllocError>
-        ensures { OnOk result ((added : List ℕ) × (lines.new.items ≡ lines.old.items ++ added)
-            × Steps self.old added self.new) }
+        ensures { OnOk result (Adds self.old lines.old.items self.new lines.new.items) }
     {
-        let Some(call) = self.waiting_of(session) else {
-            return Ok(None);
-        };
-        let told = self.told(call.number());
-        let own = most_of(self.live.object(), call.operation(), call.arguments());
-        self.push_cancel(session, lines)?;
-        self.owing = self.owing.saturating_sub(own);
-        let _left = self.live.leave(u32::from(session));
-        let _named = self.guests.cancel(session, told);
-        Ok(Some(told))
+        if self.guests.guest(session).is_some() {
+            return self.cancel_named(session, lines);
+        }
+        Ok(self.cancel_nameless(session))
     }
 
     /// A client comes by its name in the second `now`, on the connection at this place. Where the name is new, the line
@@ -529,23 +590,36 @@ impl Hosted {
         now: u64,
         lines: &mut Vec<u8>,
     ) -> Result<Result<Entered, EnterFault>, AllocError>
-        ensures { OnOk result ((added : List ℕ) × (lines.new.items ≡ lines.old.items ++ added)
-            × Steps self.old added self.new) }
+        ensures { OnOk result (Adds self.old lines.old.items self.new lines.new.items) }
     {
         match self.guests.enter(name, now) {
             Err(fault) => Ok(Err(fault)),
             Ok(entered) => {
                 self.own(entered.session, place);
                 if entered.is_new {
-                    push_name(lines, entered.session, name)?;
+                    self.push_name(entered.session, name, lines)?;
                 }
                 Ok(Ok(entered))
             }
         }
     }
 
-    /// So many bytes of lines more stand behind the front.
-    pub(crate) fn add(&mut self, size: usize)
+    // Adds the line that tells that a session got a name.
+    fn push_name(
+        &mut self,
+        session: u16,
+        name: &Name,
+        lines: &mut Vec<u8>,
+    ) -> Result<(), AllocError>
+        ensures { OnOk result (Adds self.old lines.old.items self.new lines.new.items) }
+    {
+        push_name(lines, session, name)?;
+        self.add(lines.len());
+        Ok(())
+    }
+
+    // So many bytes of lines more stand behind the front.
+    fn add(&mut self, size: usize)
         ensures { self.new ≡ self.old }
     {
         self.added = self.added.saturating_add(size);

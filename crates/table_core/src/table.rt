@@ -16,7 +16,6 @@ use ask_core::answer::{Cancelled, KeyedFault, SubmitFault};
 use guest_core::guests::{EnterFault, Entered};
 use keep_loop::{LineEnd, Note, Post, Served};
 use live_core::call::Ran;
-use live_core::lines::push_all;
 use live_core::live::Taken;
 use path_tree::name::Name;
 use path_tree::node::OpId;
@@ -255,7 +254,6 @@ impl Table {
             return Ok(None);
         };
         let entered = object.enter(client, place, self.now, &mut self.line)?;
-        object.add(self.line.len());
         post.add(at, &self.line)?;
         Ok(Some(entered))
     }
@@ -434,18 +432,13 @@ impl Table {
     ) -> Result<Result<Taken, SubmitFault>, AllocError>
         ensures { OnOk result (GoesOn self.old post.old self.new post.new) }
     {
+        self.line.clear();
         let Some(object) = self.objects.get_mut(at) else {
             return Ok(Err(SubmitFault::Gone));
         };
-        let taken = match object.submit(session, operation, arguments) {
-            Err(fault) => return Ok(Err(fault)),
-            Ok(taken) => taken,
-        };
-        self.line.clear();
-        push_all(&mut self.line, object.live().object(), &taken.ran)?;
-        object.add(self.line.len());
+        let taken = object.call(session, operation, arguments, &mut self.line)?;
         post.add(at, &self.line)?;
-        Ok(Ok(taken))
+        Ok(taken)
     }
 
     // A call was taken: its client is told so, and each client of those that ran the last line of its call.
@@ -591,7 +584,6 @@ impl Table {
             return Ok(None);
         };
         let told = object.cancel(session, &mut self.line)?;
-        object.add(self.line.len());
         post.add(at, &self.line)?;
         Ok(told)
     }
