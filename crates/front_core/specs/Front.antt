@@ -57,7 +57,7 @@ pub record IsOperation (o : ObjectForm) (op : ℕ) : Type 0 where
 pub record IsCall (o : ObjectForm) (op : ℕ) (arguments : List Datum) : Type 0 where
   pub operation : IsOperation o op
   pub fit : map elem_of arguments ≡ (body_at o op).params
-  pub each : All IsDatum arguments
+  pub each : Every IsDatum arguments
 
 abbrev pub IsSession : ℕ → Type 0
 IsSession session = (1 ≤ session) × (session ≤ 65535)

@@ -52,8 +52,8 @@ pub fn events_of(alloc: Global, runs: &[PastRun]) -> Result<Vec<PastEvent>, Allo
     ensures { IfOk result (λ v. v.items ≡ events_in runs.now) }
 {
     let mut out = Vec::new(alloc);
-    for place in 0..runs.len() {
-        push_run(&mut out, runs[place])?;
+    for run in runs {
+        push_run(&mut out, *run)?;
     }
     Ok(out)
 }

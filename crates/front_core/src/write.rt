@@ -3,7 +3,7 @@
 //! A whole front is `push_head`, `push_parts`, `push_past`, `push_base`, then `push_carried` for each waiting call,
 //! `push_client` for each client, and `push_kept` for each remembered call. `push_front` does all of it.
 
-ghost use Rattle.std.specs.Prelude.{◌≡◌, ◌++◌, ◌∷◌, OnOk, OnErr, codes};
+ghost use Rattle.std.specs.Prelude.{◌≡◌, ◌++◌, ◌∷◌, [], OnOk, OnErr, codes};
 ghost use Rattle.decl_core.specs.ObjectMap.{object_of, parts_of};
 ghost use Rattle.word_core.specs.Words.{bare, behind_word, line_of};
 ghost use Rattle.trace_core.specs.Text.{operation_name, part_words, parts_words, lines_of};
@@ -135,8 +135,8 @@ fn push_run(out: &mut Vec<u8>, object: &Object, run: PastRun) -> Result<(), Allo
 pub fn push_past(out: &mut Vec<u8>, object: &Object, past: &[PastRun]) -> Result<(), AllocError>
     ensures { OnOk result (out.new.items ≡ out.old.items ++ runs_text (object_of object.now) past.now) }
 {
-    for place in 0..past.len() {
-        push_run(out, object, past[place])?;
+    for run in past {
+        push_run(out, object, *run)?;
     }
     Ok(())
 }

@@ -1,0 +1,7 @@
+mod Chain
+mod Cutting
+mod Finding
+mod Fitting
+mod RowByRow
+mod Safe
+mod Singles

@@ -1,0 +1,7 @@
+use Rattle.std.proofs.Common.{◌≢◌, ◌↔◌}
+use Rattle.front_core.specs.declared.front.KeptCall.{KeptCall}
+use Rattle.front_core.specs.Front.{Every}
+use Rattle.front_read.proofs.checks.is_no_more.Given as goal
+
+abbrev pub invariant-loop-call : goal.invariant-loop-call
+invariant-loop-call l = Every (λ (k : KeptCall). l.session ≢ k.session) l.calls ↔ Every (λ (k : KeptCall). l.session ≢ k.session) l.left

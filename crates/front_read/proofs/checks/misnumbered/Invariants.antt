@@ -1,0 +1,6 @@
+use Rattle.std.proofs.Common.{◌≢◌, ◌↔◌}
+use Rattle.front_read.specs.Whole.{AreNumbered}
+use Rattle.front_read.proofs.checks.misnumbered.Given as goal
+
+abbrev pub invariant-loop-call : goal.invariant-loop-call
+invariant-loop-call l = AreNumbered l.first l.calls ↔ AreNumbered l.next l.left

@@ -1,0 +1,8 @@
+use Rattle.std.proofs.Common.{◌≢◌, ◌↔◌}
+use Rattle.front_core.specs.declared.front.KeptCall.{KeptCall}
+use Rattle.front_core.specs.Front.{Every}
+use Rattle.front_read.specs.Whole.{IsOfOne}
+use Rattle.front_read.proofs.checks.of_nobody.Given as goal
+
+abbrev pub invariant-loop-call : goal.invariant-loop-call
+invariant-loop-call l = Every (λ (k : KeptCall). IsOfOne k l.clients) l.calls ↔ Every (λ (k : KeptCall). IsOfOne k l.clients) l.left

@@ -1,0 +1,7 @@
+use Rattle.std.proofs.Common.{◌≢◌, ◌↔◌}
+use Rattle.front_core.specs.declared.front.Client.{Client}
+use Rattle.front_read.specs.Whole.{EachPair}
+use Rattle.front_read.proofs.checks.second_name.Given as goal
+
+abbrev pub invariant-loop-client : goal.invariant-loop-client
+invariant-loop-client l = EachPair (λ (c d : Client). c.name ≢ d.name) l.clients ↔ EachPair (λ (c d : Client). c.name ≢ d.name) l.left

@@ -1,0 +1,7 @@
+use Rattle.std.proofs.Common.{◌≢◌, ◌↔◌}
+use Rattle.front_core.specs.declared.front.CarriedCall.{CarriedCall}
+use Rattle.front_read.specs.Whole.{EachPair}
+use Rattle.front_read.proofs.checks.second_of_session.Given as goal
+
+abbrev pub invariant-loop-call : goal.invariant-loop-call
+invariant-loop-call l = EachPair (λ (c d : CarriedCall). c.session ≢ d.session) l.calls ↔ EachPair (λ (c d : CarriedCall). c.session ≢ d.session) l.left

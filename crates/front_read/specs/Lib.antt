@@ -1,0 +1,4 @@
+pub mod Exact
+pub mod Reads
+pub mod Told
+pub mod Whole
