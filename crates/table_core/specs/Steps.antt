@@ -1,5 +1,5 @@
 -- What happens to an object, and the lines that tell of it.
-use Rattle.std.specs.Prelude.{◌≡◌, ℕ, List, [], ◌++◌, length, slice_get, slice_set, Some}
+use Rattle.std.specs.Prelude.{◌≡◌, ℕ, List, [], ◌++◌, length, slice_get, slice_set, Some, true, false}
 use Rattle.decl_core.specs.ObjectMap.{object_of}
 use Rattle.word_core.specs.Words.{line_of}
 use Rattle.past_core.specs.declared.past.PastEvent.{PastEvent}
@@ -65,4 +65,5 @@ pub record Begins (old : List Hall) (journal : ℕ) (new : List Hall) : Type 0 w
 abbrev pub Gives : List Hall → Asked → List (ℕ × List ℕ) → List (ℕ × List ℕ) → List Hall → Type 0
 Gives old (Heard who line end) said added new = Moves old added new
 Gives old (Noted note) said added new = Moves old added new
-Gives old (Changes journal front) said added new = (said ≡ []) × (added ≡ []) × Begins old journal new
+Gives old (Changes journal front true) said added new = Begins old journal new
+Gives old (Changes journal front false) said added new = new ≡ old

@@ -1,6 +1,6 @@
 //! The next epoch of an object.
 
-ghost use Rattle.std.specs.Prelude.{◌≡◌, true, false, List};
+ghost use Rattle.std.specs.Prelude.{◌≡◌, true, false, List, Ok};
 ghost use Rattle.past_core.specs.declared.past.PastEvent.{PastEvent as AnEvent};
 ghost use Rattle.live_core.specs.Epochs.{IsBegun};
 
@@ -13,22 +13,13 @@ use front_core::write::{
 };
 use guest_core::guest::Guest;
 use guest_core::kept::Kept;
+use live_core::hall::MOST_NUMBERS;
 use past_core::finder::short_past;
 use past_core::past::PastEvent;
 use path_tree::node::OpId;
 use short_core::short::Short;
 use std::alloc::{AllocError, Global};
 use text_core::limits::MOST_TEXT_BYTES;
-
-/// What the next epoch begins with, beside what its object holds.
-#[derive(Drop)]
-pub struct Prepared {
-    // a past that leaves what the paths have counted
-    past: Vec<PastEvent>,
-    // the numbers that were told of the calls that wait
-    carried: Vec<u64>,
-    base: u64,
-}
 
 // How a remembered call ended.
 fn answer_of(alloc: Global, call: &Kept) -> Result<Answer, AllocError> {
@@ -193,11 +184,12 @@ impl Hosted {
         self.push_front(out, self.epoch, &self.long, self.base)
     }
 
-    /// Writes the front of the next epoch into `front`, and answers what it begins with. `None`: no short past was found.
-    /// The error is that memory was refused; how much then stands in `front` is not said.
-    pub fn prepare(&self, front: &mut Vec<u8>) -> Result<Option<Prepared>, AllocError> {
+    /// Writes the front of the next epoch into `front`, in place of what is in it. False: no short past was found. The
+    /// error is that memory was refused; how much then stands in `front` is not said.
+    pub(crate) fn write_next(&self, front: &mut Vec<u8>) -> Result<bool, AllocError> {
         let object = self.live.object();
         let operations = object.operations.len() as OpId;
+        front.clear();
         let found = short_past(
             self.alloc,
             &object.paths,
@@ -206,43 +198,37 @@ impl Hosted {
             self.live.counters(),
         )?;
         let Some(past) = found else {
-            return Ok(None);
+            return Ok(false);
         };
-        let carried = self.told_of_waiting()?;
-        let base = self.next_base();
-        self.push_front(front, self.epoch.saturating_add(1), &past, base)?;
-        Ok(Some(Prepared {
-            past,
-            carried,
-            base,
-        }))
+        let calls = (past.len() / 2).saturating_add(self.live.waiting().len());
+        if calls > MOST_NUMBERS as usize {
+            return Ok(false);
+        }
+        self.push_front(front, self.epoch.saturating_add(1), &past, self.next_base())?;
+        Ok(true)
     }
 
-    /// Begins the epoch whose front was prepared. False: it leaves too few numbers for the calls that wait, or memory was
-    /// refused; then nothing changes.
-    pub fn begin(&mut self, prepared: Prepared) -> bool
-        ensures begun { result ≡ true → (past : List AnEvent) × IsBegun self.old past self.new }
-        ensures none { result ≡ false → self.new ≡ self.old }
+    /// Begins the next epoch, whose front was written. False: no short past was found, or it leaves too few numbers for the
+    /// calls that wait; then, and where memory was refused, nothing changes.
+    pub(crate) fn begin_next(&mut self) -> Result<bool, AllocError>
+        ensures begun { result ≡ Ok true → (past : List AnEvent) × IsBegun self.old past self.new }
+        ensures none { result ≡ Ok false → self.new ≡ self.old }
     {
-        match self.live.epoch(&prepared.past) {
-            Err(_) => false,
-            Ok(None) => false,
-            Ok(Some(_)) => {
-                self.begun(prepared);
-                true
+        let carried = self.told_of_waiting()?;
+        let base = self.next_base();
+        match self.live.epoch(&self.long)? {
+            None => Ok(false),
+            Some(past) => {
+                self.begun(past, carried, base);
+                Ok(true)
             }
         }
     }
 
-    // The next epoch has begun.
-    fn begun(&mut self, prepared: Prepared)
+    // The next epoch has begun, behind this past.
+    fn begun(&mut self, past: Vec<PastEvent>, carried: Vec<u64>, base: u64)
         ensures { self.new ≡ self.old }
     {
-        let Prepared {
-            past,
-            carried,
-            base,
-        } = prepared;
         self.given = count_of(self.live.waiting().len());
         self.long = past;
         self.carried = carried;
@@ -250,12 +236,7 @@ impl Hosted {
         self.epoch = self.epoch.saturating_add(1);
         self.added = 0;
         self.behind = 0;
-        self.is_due = false;
+        self.tried.set(0);
         self.guests.renew();
-    }
-
-    /// Whether a new epoch is to be tried.
-    pub fn is_due(&self) -> bool {
-        self.is_due
     }
 }

@@ -22,6 +22,7 @@ use past_core::past::PastEvent;
 use path_tree::name::Name;
 use path_tree::node::OpId;
 use std::alloc::{AllocError, Global};
+use std::cell::Cell;
 use std::marker::Model;
 use value_core::datum::Datum;
 
@@ -36,6 +37,9 @@ pub const LEAST_LEFT: usize = 2_097_152;
 
 /// Where no new epoch can begin, it is tried again behind so many calls.
 pub const CALLS_BETWEEN: u32 = 1_000;
+
+// No call has this key, or a greater one.
+const MOST_KEY: u64 = 4_294_967_295;
 
 /// What an object that is to be served begins with.
 #[derive(Drop)]
@@ -96,10 +100,10 @@ pub struct Hosted {
     // of each session one more than the place of its connection, or 0
     pub(crate) owners: Vec<u32>,
     pub(crate) waiting: u32,
-    // behind so many calls a new epoch is tried, where one is due
+    // how many calls were asked for since a new epoch is due
     pub(crate) behind: u32,
-    // whether a new epoch is to be tried
-    pub(crate) is_due: bool,
+    // how many of them there were when one was tried last, and could not begin; 0 where none was
+    pub(crate) tried: Cell<u32>,
     // how many calls finished
     pub(crate) entries: u64,
 }
@@ -214,7 +218,7 @@ impl Hosted {
             owners,
             waiting,
             behind: 0,
-            is_due: false,
+            tried: Cell::new(0),
             entries: 0,
         })
     }
@@ -377,27 +381,30 @@ impl Hosted {
         self.live.numbers_left() == 0
     }
 
-    /// A call is asked for: where a new epoch is due, it is tried now, and again behind each 1,000 calls.
+    // Whether a new epoch is due: the numbers of this one, or the room of its journal, are nearly spent.
+    fn is_spending(&self) -> bool {
+        let left = MOST_LINES.saturating_sub(self.added);
+        left <= LEAST_LEFT || self.live.numbers_left() <= 65_536 - EPOCH_CALLS
+    }
+
+    /// A call is asked for.
     pub(crate) fn count(&mut self)
         ensures { self.new ≡ self.old }
     {
-        let left = MOST_LINES.saturating_sub(self.added);
-        let numbers = self.live.numbers_left();
-        if left > LEAST_LEFT && numbers > 65_536 - EPOCH_CALLS {
-            return;
+        if self.is_spending() {
+            self.behind = self.behind.saturating_add(1);
         }
-        if self.behind == 0 {
-            self.is_due = true;
-            self.behind = CALLS_BETWEEN;
-        }
-        self.behind = self.behind.saturating_sub(1);
     }
 
-    /// No new epoch could begin: it is tried again behind 1,000 calls.
-    pub(crate) fn put_off(&mut self)
-        ensures { self.new ≡ self.old }
-    {
-        self.is_due = false;
+    /// Whether a new epoch is to be tried: one is due, and was not tried in vain, or 1,000 calls were asked for since.
+    pub(crate) fn is_due(&self) -> bool {
+        let tried = self.tried.get();
+        self.behind > 0 && (tried == 0 || self.behind >= tried.saturating_add(CALLS_BETWEEN))
+    }
+
+    /// A new epoch could not begin: it is tried again behind 1,000 calls.
+    pub(crate) fn put_off(&self) {
+        self.tried.set(self.behind);
     }
 
     /// Gives a number to a session without a name. `None`: no number is free.
@@ -433,6 +440,14 @@ impl Hosted {
         self.long.reserve(calls.saturating_mul(2))
     }
 
+    // Whether the keys of a session that has a name are spent: a front tells of keys of 32 bits.
+    fn are_keys_spent(&self, session: u16) -> bool {
+        match self.guests.guest(session) {
+            Some(guest) => guest.keys().next() >= MOST_KEY,
+            None => false,
+        }
+    }
+
     // Submits a call. A fault changes nothing.
     fn submit(
         &mut self,
@@ -443,6 +458,9 @@ impl Hosted {
         ensures ok { IfOk result (λ a. Takes self.old a.ran.items self.new) }
         ensures err { OnErr result (self.new ≡ self.old) }
     {
+        if self.are_keys_spent(session) {
+            return Err(SubmitFault::HistoryFull);
+        }
         if let Err(fault) = self.guests.ask(session, operation, &arguments) {
             return Err(asking_fault(fault));
         }

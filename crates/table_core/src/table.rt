@@ -1,9 +1,8 @@
 //! All objects of a kept server, and all connections.
 
-ghost use Rattle.std.specs.Prelude.{◌≡◌, OnOk, IfOk, List, true, false};
-ghost use Rattle.past_core.specs.declared.past.PastEvent.{PastEvent};
-ghost use Rattle.live_core.specs.Epochs.{IsBegun};
+ghost use Rattle.std.specs.Prelude.{◌≡◌, OnOk, IfOk, Ok, true, false};
 ghost use Rattle.table_core.specs.Along.{GoesOn};
+ghost use Rattle.table_core.specs.Steps.{Begins};
 
 use crate::answer::{
     push_accepted, push_cancel, push_ended, push_kept, push_opened, push_repeated, push_withdrawn,
@@ -773,16 +772,6 @@ impl Table {
         }
         Ok(())
     }
-
-    // The first object of which a new epoch is to be tried.
-    fn first_due(&self) -> Option<usize> {
-        for at in 0..self.objects.len() {
-            if self.objects[at].is_due() {
-                return Some(at);
-            }
-        }
-        None
-    }
 }
 
 // The session of one that has a name.
@@ -832,15 +821,22 @@ fn admitted(
     })
 }
 
-// Begins the next epoch of an object, where one can begin, with this front.
-fn next_epoch(object: &mut Hosted, front: &mut Vec<u8>) -> bool
-    ensures begun { result ≡ true → (past : List PastEvent) × IsBegun object.old past object.new }
-    ensures none { result ≡ false → object.new ≡ object.old }
-{
-    match object.prepare(front) {
-        Ok(Some(prepared)) => object.begin(prepared),
-        Ok(None) => false,
+// Writes the front of the next epoch of an object, where one can begin.
+fn writes_next(object: &Hosted, front: &mut Vec<u8>) -> bool {
+    match object.write_next(front) {
+        Ok(is_written) => is_written,
         Err(_) => false,
+    }
+}
+
+// Begins the next epoch of the object at a place. False: none could begin, and nothing changes.
+fn begin_at(objects: &mut Vec<Hosted>, at: usize) -> Result<bool, AllocError>
+    ensures begun { result ≡ Ok true → Begins objects.old.items at objects.new.items }
+    ensures none { result ≡ Ok false → objects.new.items ≡ objects.old.items }
+{
+    match objects.get_mut(at) {
+        None => Ok(false),
+        Some(object) => object.begin_next(),
     }
 }
 
@@ -856,6 +852,8 @@ impl Served for Table {
     ghost use Rattle.table_core.specs.Steps.{Gives};
 
     ghost gives = { Gives };
+
+    ghost fronts = { λ halls journal front. Unit {0} };
 
     fn hear(
         &mut self,
@@ -908,18 +906,28 @@ impl Served for Table {
         }
     }
 
-    fn due(&mut self, front: &mut Vec<u8>) -> Result<Option<usize>, AllocError> {
-        let Some(at) = self.first_due() else {
-            return Ok(None);
-        };
-        let Some(object) = self.objects.get_mut(at) else {
-            return Ok(None);
-        };
-        front.clear();
-        if next_epoch(object, front) {
-            return Ok(Some(at));
+    fn due(&self, front: &mut Vec<u8>) -> Result<Option<usize>, AllocError> {
+        for at in 0..self.objects.len() {
+            if self.objects[at].is_due() {
+                if writes_next(&self.objects[at], front) {
+                    return Ok(Some(at));
+                }
+                self.objects[at].put_off();
+            }
         }
-        object.put_off();
         Ok(None)
+    }
+
+    fn changed(&mut self, journal: usize, _front: &[u8], went: bool) -> Result<(), AllocError> {
+        if !went {
+            if let Some(object) = self.objects.get(journal) {
+                object.put_off();
+            }
+            return Ok(());
+        }
+        if begin_at(&mut self.objects, journal)? {
+            return Ok(());
+        }
+        Err(AllocError)
     }
 }

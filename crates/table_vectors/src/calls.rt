@@ -86,7 +86,7 @@ b: end 2 done
 2> call get
 2< accepted 3
 2< done 3 'x'
-b: start 3 s2 get
+b: start 3 s1 get
 b: end 3 done 'x'
 2> call get
 2< accepted 4
@@ -275,9 +275,7 @@ fn is_so(rt: &impl Abort, s: &mut Scene, row: &str) -> bool {
 fn plays(rt: &impl Abort, alloc: Global, rows: &str) -> bool {
     let mut s = made(rt, alloc);
     for row in rows.lines() {
-        if !is_so(rt, &mut s, row) {
-            return false;
-        }
+        assert!(rt; is_so(rt, &mut s, row), "{row}");
     }
     s.is_quiet()
 }

@@ -39,6 +39,9 @@ const LIMITS: Limits = Limits {
 pub struct Scene {
     pub table: Table,
     pub post: Post,
+    // how much of what is owed to each connection, and added to each journal, was looked at
+    told: Vec<usize>,
+    added: Vec<usize>,
 }
 
 fn opening(rt: &impl Abort, alloc: Global, object: &Object) -> Vec<Value> {
@@ -83,12 +86,26 @@ pub fn made(rt: &impl Abort, alloc: Global) -> Scene {
     }
     let table = Table::new(alloc, objects, 8, 1_000).expect(rt, "memory");
     let post = Post::new(alloc, 8, 2).expect(rt, "memory");
-    Scene { table, post }
+    Scene {
+        table,
+        post,
+        told: zeros(rt, alloc, 8),
+        added: zeros(rt, alloc, 2),
+    }
+}
+
+fn zeros(rt: &impl Abort, alloc: Global, count: usize) -> Vec<usize> {
+    let mut all = Vec::new(alloc);
+    for _ in 0..count {
+        all.push(0).expect(rt, "memory");
+    }
+    all
 }
 
 impl Scene {
     pub fn join(&mut self, rt: &impl Abort, who: u64) {
-        self.post.come(who);
+        self.post.open(who);
+        self.told[who as usize % 8] = 0;
         self.table
             .note(Note::Joins(who), &mut self.post)
             .expect(rt, "memory");
@@ -120,30 +137,43 @@ impl Scene {
 
     /// Whether a connection is told this line next.
     pub fn tells(&mut self, who: u64, row: &str) -> bool {
-        let Some(length) = front_of(self.post.owed(who), row) else {
-            return false;
+        let at = who as usize % 8;
+        let length = match self.post.owed(who).get(self.told[at]..) {
+            None => return false,
+            Some(rest) => front_of(rest, row),
         };
-        self.post.take(who, length);
-        true
+        match length {
+            None => false,
+            Some(length) => {
+                self.told[at] += length;
+                true
+            }
+        }
     }
 
     /// Whether this line was added to a journal next.
     pub fn adds(&mut self, at: usize, row: &str) -> bool {
-        let Some(length) = front_of(self.post.lines(at), row) else {
-            return false;
+        let length = match self.post.lines(at).get(self.added[at]..) {
+            None => return false,
+            Some(rest) => front_of(rest, row),
         };
-        self.post.take_lines(at, length);
-        true
+        match length {
+            None => false,
+            Some(length) => {
+                self.added[at] += length;
+                true
+            }
+        }
     }
 
     /// Whether nothing was told and added that was not looked at.
     pub fn is_quiet(&self) -> bool {
         for who in 1..8 {
-            if !self.post.owed(who).is_empty() {
+            if self.post.owed(who).len() != self.told[who as usize] {
                 return false;
             }
         }
-        self.post.lines(0).is_empty() && self.post.lines(1).is_empty()
+        self.post.lines(0).len() == self.added[0] && self.post.lines(1).len() == self.added[1]
     }
 }
 
