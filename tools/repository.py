@@ -136,15 +136,36 @@ def interface(folder):
     return {it: text for it, text in {**sources, **specs}.items() if text}
 
 
+def imports_for(imports, text):
+    """Of these imports those that a text names, in one order. The rest of a text means the same without the others, and so
+    do the operators of the kit."""
+    found = set()
+    for public, ghost, path, several, one, other in imports:
+        items = [it.strip() for it in several.split(",")] if several is not None else [f"{one} as {other}" if other else one]
+        for it in filter(None, items):
+            name = it.split(" as ")[-1].split("::")[-1].replace("◌", "").strip()
+            is_word = re.fullmatch(r"[\w']+", name)
+            if public or (re.search(rf"(?<![\w']){name}(?![\w'])", text) if is_word else name in text and not path.startswith("Rattle.std.")):
+                found.add(f"{public or ''} {ghost or ''}use {path}{{{it}}};".strip())
+    return " ".join(sorted(found))
+
+
+# The head of an impl that is of no trait and of which nothing is left.
+BARE_IMPL = re.compile(r"\bimpl\b(?:(?!\bfor\b)[^{};])*\{\s*\}")
+
+
 def functions_apart(source):
-    """A source of an interface without its functions, and these as names and texts. Methods of traits and of their impls
-    stay, and so do constant functions."""
-    pieces, rest, found, header, blocks, at = PIECE.findall(source), [], [], [], [], 0
+    """A source of an interface without its functions, and these as names, texts, and the head of the impl in which each
+    stands, or None. Each text has the imports that it names. Methods of traits and of their impls stay, and so do constant
+    functions."""
+    imports = IMPORT.findall(source)
+    pieces, rest, found, header, blocks, heads, at = PIECE.findall(IMPORT.sub("", source)), [], [], [], [], [], 0
     while at < len(pieces):
         piece = pieces[at]
         if piece == "fn" and "const" not in header and not (blocks and blocks[-1]):
             end = next(it for it in range(at, len(pieces)) if pieces[it : it + 2] == ["{", "}"]) + 2
-            found.append((next(it for it in pieces[at + 1 :] if not it.isspace()), "".join(header + pieces[at:end])))
+            name, text = next(it for it in pieces[at + 1 :] if not it.isspace()), "".join(header + pieces[at:end]).strip()
+            found.append((name, f"{imports_for(imports, text)} {text}", heads[-1] if heads else None))
             header, at = [], end
             continue
         header.append(piece)
@@ -153,22 +174,49 @@ def functions_apart(source):
             text = "".join(header)
             if piece == "{":
                 blocks.append(bool(re.search(r"\btrait\b|\bimpl\b.*\bfor\b", text, re.S)))
+                heads.append(text.strip())
             elif piece == "}" and blocks:
                 blocks.pop()
+                heads.pop()
             rest.append(text)
             header = []
-    return "".join([*rest, *header]), found
+    text = "".join([*rest, *header])
+    heads = sorted({" ".join(it.split()) for it in BARE_IMPL.findall(text)})
+    text = " ".join([BARE_IMPL.sub(" ", text), *heads])
+    return " ".join(f"{imports_for(imports, text)} {text}".split()), found
+
+
+ANTT_USE = re.compile(r"^use ([^{}\n]*?)(?:\{([^{}]*)\}|([\w']+)(?: as ([\w']+))?)\n", re.M)
+# What stands at the head of a line of a definition before the name that it declares or defines.
+ANTT_NAME = re.compile(r"^\s*(?:(?:pub|abbrev|record|data|mutual|unfoldable|opaque|given|let|where) )*([^\s:({=]+)", re.M)
+
+
+def definitions_apart(text):
+    """The blocks of a file of definitions, one for each definition or for several that stand together, each with the
+    imports that it names; and the names that it declares: of its types, their fields and constructors, and its functions."""
+    imports = [("", "", *it) for it in ANTT_USE.findall(text)]
+    blocks = []
+    for block in re.split(r"\n\s*\n", ANTT_USE.sub("", text)):
+        if block.strip():
+            # What is indented from its first line on belongs to what stands before it.
+            if blocks and block.lstrip("\n")[:1].isspace():
+                blocks[-1] += "\n" + block
+            else:
+                blocks.append(block.strip("\n"))
+    return [(f"{imports_for(imports, it)}\n{it}", frozenset(ANTT_NAME.findall(it))) for it in blocks]
 
 
 WORD = re.compile(r"[\w']+")
 # Words that are joined to a path, with those in the braces at its end.
 PATH = re.compile(r"[\w']+(?:\s*(?:::|\.)\s*[\w']+)*(?:\s*(?:::|\.)\s*\{[^{}]*\})?")
 DECLARED = re.compile(r"\b(?:struct|enum|trait|type|union) (\w+)")
-IMPL_HEAD = re.compile(r"\bimpl\b[^{]*\{")
-# A part of what a crate above may read: a function of a file, or the rest of it, whose `function` is empty. Beside its
-# text all its words, those of its paths (each alone, and each with each before it in its path; a word outside of paths
-# as a tuple of one), the types and traits that it declares, and the words of the heads of its impls.
-Part = collections.namedtuple("Part", "crate path function text words named types heads")
+# The head of an impl, from the type on for which it is.
+IMPL_HEAD = re.compile(r"\bimpl\b(?:[^{};]*\bfor\b)?([^{]*)\{")
+# A part of what a crate above may read: of a source a function, or the rest of it, whose `function` is empty; of a file
+# of definitions a block, whose `function` are the names that it declares. Beside its text all its words, those of its
+# paths (each alone, and each with each before it in its path; a word outside of paths as a tuple of one), the types and
+# traits that it declares, the words of the heads of its impls from the type on, and the head of the impl of a method.
+Part = collections.namedtuple("Part", "crate path function text words named types heads impl")
 
 
 def meant(path, text):
@@ -179,57 +227,119 @@ def meant(path, text):
     return "\n".join(it for it in rows if path.name != "Lib.antt" or not re.fullmatch(r"\s*(pub )?mod \w+\s*", it))
 
 
-def part_of(crate, path, function, text):
+def part_of(crate, path, function, text, impl=None):
     named = set()
     for words in map(WORD.findall, PATH.findall(text)):
         named.update(words if len(words) > 1 else [(words[0],)], itertools.combinations(words, 2))
     is_source = path.suffix == ".rt"
     types = frozenset(DECLARED.findall(text) if is_source else ())
     heads = frozenset(word for it in IMPL_HEAD.findall(text) if is_source for word in WORD.findall(it))
-    return Part(crate, path, function, text, frozenset(WORD.findall(text)), frozenset(named), types, heads)
+    return Part(crate, path, function, text, frozenset(WORD.findall(text)), frozenset(named), types, heads, impl)
+
+
+# A type that no other crate can name.
+HIDDEN = re.compile(r"(?:#\[[^]]*\] )?pub\(\w+\) (?:struct|enum) [^{;]*(?:\{[^{}]*\}|;)")
+
+
+def public_modules(folder):
+    """The paths of the sources of a crate to which a path of public modules leads from its root."""
+    waiting, found = [(pathlib.Path("src/lib.rt"), pathlib.Path("src"))], set()
+    while waiting:
+        path, inside = waiting.pop()
+        if path in found or not (folder / path).is_file():
+            continue
+        found.add(path)
+        for name in re.findall(r"^\s*pub mod (\w+);", (folder / path).read_text(encoding="utf-8"), re.M):
+            waiting += [(inside / f"{name}.rt", inside / name), (inside / name / "mod.rt", inside / name)]
+    return found
 
 
 @functools.cache
 def parts_above(folder):
-    """The parts of the interface of the crate in this folder."""
-    found = []
+    """The parts of the interface of the crate in this folder. Of a type of a private module that no public one names, but in
+    what is hidden, there is no value outside, so its methods are left out."""
+    public, found, shown = public_modules(folder), [], set()
     for path, text in sorted(interface(folder).items()):
-        rest, functions = functions_apart(meant(path, text)) if path.suffix == ".rt" else (meant(path, text), [])
-        found += [part_of(folder.name, path, *it) for it in [("", rest), *functions]]
+        if path.suffix == ".rt":
+            rest, functions = functions_apart(meant(path, text))
+            found += [part_of(folder.name, path, *it) for it in [("", rest), *functions]]
+            if path in public:
+                seen = HIDDEN.sub(" ", rest)
+                texts = [imports_for(IMPORT.findall(seen), IMPORT.sub("", seen)), *(it for _, it, _ in functions)]
+                shown.update(word for it in texts for found_in in IMPORT.finditer(it) for word in WORD.findall(found_in[0]))
+        else:
+            found += [part_of(folder.name, path, names, it) for it, names in definitions_apart(meant(path, text))]
+    is_had = lambda it: not it.impl or it.path in public or not {it.path.stem, it.path.parent.name}.isdisjoint(shown)
+    return [it for it in found if is_had(it)]
+
+
+def calls_in(source):
+    """The names that stand behind a point or two colons in a source, each with whether arguments follow: both where that
+    is not seen."""
+    found = set()
+    for sign, name, behind in re.findall(r"(\.|::)\s*(\w+)\s*(\(\s*\)?)?", source):
+        is_seen = sign == "." and behind
+        found |= {(name, not behind.endswith(")"))} if is_seen else {(name, True), (name, False)}
     return found
+
+
+def calls_of(method):
+    """How a method is called."""
+    takes = re.search(rf"\bfn {method.function}\b[^(]*\(\s*(?:&\s*)?(?:'\w+ )?(?:mut )?self\s*(,?)", method.text)
+    return {(method.function, bool(takes[1]))} if takes else {(method.function, True), (method.function, False)}
 
 
 def parts_named(top, lines, name, folders):
     """The parts of the crates below that a crate's files name, and that these name again, in order, and all words of its own files."""
-    texts = []
-    for file in (it for folder in folders for it in files(top / "crates" / name / folder)):
+    texts, all_files = [], [it for folder in folders for it in files(top / "crates" / name / folder)]
+    for file in all_files:
         text = file.read_text(encoding="utf-8")
         source = "".join(it for it in PIECE.findall(text) if not it.startswith("//")) if file.suffix == ".rt" else text
         texts.append(source if file.suffix == ".edit" else meant(file, source))
     own = part_of(name, pathlib.Path("src/lib.rt"), "", "\n".join(texts))
+    calls = calls_in("\n".join(it for file, it in zip(all_files, texts) if file.suffix != ".antt"))
     there = [it for crate in below(lines, name) for it in parts_above(top / "crates" / crate)]
-    found, named, types, fresh = {}, set(), set(), [own]
+    waiting = collections.defaultdict(list)
+    for it in there:
+        waiting[it.crate, it.path].append(it)
+    unreached = {crate: {it for it in waiting if it[0] == crate} for crate in {it.crate for it in there}}
+    found, reached, types, words, fresh = set(), set(), set(), set(own.words), [own]
 
-    def is_named(part, by):
-        module = part.path.parent.name if part.path.stem == "mod" else part.path.stem
-        is_root = part.path.name in ("Lib.antt", "lib.rt", "main.rt")
-        if part.crate == by.crate:
+    def is_named(place, by):
+        crate, path = place
+        module = path.parent.name if path.stem == "mod" else path.stem
+        is_root = path.name in ("Lib.antt", "lib.rt", "main.rt")
+        if crate == by.crate:
             return is_root or module in by.named
-        is_bare = (part.crate,) in by.named and module in by.named
-        return part.crate in by.words and (is_root or (part.crate, module) in by.named or is_bare)
+        return is_root or (crate, module) in by.named or (crate,) in by.named and module in by.named
+
+    def is_of_types(part):
+        return any(name in part.heads and (crate == part.crate or crate in part.words) for crate, name in types)
+
+    def counts(it):
+        if it.path.suffix != ".rt":
+            # A name that is no word (an operator) counts where its file does.
+            return not it.function or any(name in words or not WORD.fullmatch(name) for name in it.function)
+        return not it.function or (it.function in own.words if not it.impl else not calls.isdisjoint(calls_of(it)))
 
     while fresh:
-        more = []
-        for it in there:
-            place = it.crate, it.path
-            if it.function and place in named and it.function in own.words and it not in found:
-                more.append(it)
-            elif not it.function and place not in named and (it.heads & types or any(is_named(it, by) for by in fresh)):
-                more.append(it)
-                named.add(place)
-                types |= it.types
-        found.update(dict.fromkeys(more))
-        fresh = more
+        for by in fresh:
+            for crate, places in unreached.items():
+                if crate == by.crate or crate in by.words:
+                    more = {it for it in places if is_named(it, by)}
+                    places -= more
+                    reached |= more
+        for places in unreached.values():
+            more = {it for it in places if any(is_of_types(part) for part in waiting[it])}
+            places -= more
+            reached |= more
+        fresh = [it for place in reached for it in waiting[place] if counts(it)]
+        for it in fresh:
+            types |= {(it.crate, name) for name in it.types}
+            words |= it.words
+        found.update(fresh)
+        for place in reached:
+            waiting[place] = [it for it in waiting[place] if it not in found]
     return [it for it in there if it in found], own.words
 
 
@@ -242,12 +352,14 @@ def digest(top, lines, name, kit, *more):
     A wrong body is refused since it breaks a clause. Whether it does hangs on what the clause means, and on what is known
     of each call: on the words of the crate's own files, and what these are declared to be. (Which lemmas there are does
     not count: no lemma proves what is false.) No file can use a thing of another one without a path with the name of its
-    crate and of its module, or from where another file with both hands it on. So a file below counts where a text that
+    crate and of its module, or from where another file with both hands it on. So a file below is reached where a text that
     counts has such a path (or the crate's name outside of paths, as for a name that is made of it, and the module's in
     some path); the root of a crate where it has the crate's name; and where a file that counts declares a type or a trait,
-    each file counts in which the head of an impl has that name, since methods are found by their types alone. A function
-    is called by its name, and known by its contract: it counts where its file does and its name stands in the crate's own
-    files. Names are compared as words, wherever they come from, so too much counts rather than too little."""
+    each file in which an impl is for that name, and which is of its crate or names that, since methods are found by their
+    types alone. Of a file of definitions that is reached a block counts where a text that counts has a name that it
+    declares. Of a source the rest counts, and a function where its name stands in the crate's own files: a method where
+    it stands behind a point or two colons, with arguments or without as it takes them. An import counts where its name
+    stands. Names are compared as words, wherever they come from, so too much counts rather than too little."""
     summed = hashlib.sha256()
 
     def add(part):
@@ -262,7 +374,7 @@ def digest(top, lines, name, kit, *more):
         head, _, rest = lines[crate].partition(":")
         add(" ".join([head, *(sorted({*WORD.findall(rest)} & words) if crate == name else ())]).encode())
     for it in found:
-        add(f"{it.crate} {it.path} {it.function}".encode())
+        add(f"{it.crate} {it.path} {it.function if it.path.suffix == '.rt' else ''}".encode())
         add(it.text.encode())
     return summed.hexdigest()
 

@@ -1,8 +1,5 @@
-pub mod Bits
 pub mod Blocks
 pub mod HeldReads
 pub mod Histories
 pub mod KindsKept
-pub mod Spreading
-pub mod Totals
 pub mod TypedFits

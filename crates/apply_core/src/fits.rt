@@ -1,11 +1,9 @@
 //! Whether a call may have these arguments or these values.
 
-ghost use Rattle.std.specs.Prelude.{◌≡◌, ◌↔◌, IsTrue, Some, map};
+ghost use Rattle.std.specs.Prelude.{◌≡◌, ◌↔◌, IsTrue, map};
 ghost use Rattle.value_core.specs.Datum.{elem_of};
-ghost use Rattle.value_core.specs.Contents.{kind_of};
 ghost use Rattle.apply_core.specs.Fits.{ArgumentsFit, HoldsReads};
 ghost use Rattle.apply_core.specs.Held.{HoldsItsKind};
-ghost use Rattle.apply_core.specs.Spread.{FitReads, gather};
 
 use decl_core::footprint::{is_in, reads};
 use decl_core::id::MOST_PARTS;
@@ -31,34 +29,6 @@ fn are_of(args: &[Datum], params: &[Param]) -> bool
         ([arg, args @ ..], [param, params @ ..]) => arg.elem() == param.kind
             && are_of(args, params),
         _ => false,
-    }
-}
-
-/// Whether the values are as many as the parts that the operation reads, in their order, each of its part's kind.
-/// It takes no memory.
-pub fn values_fit(operation: &Operation, values: &[Value]) -> bool
-    ensures { IsTrue result ↔ FitReads operation.now values.now }
-{
-    are_of_kinds(values, reads(operation), &operation.kinds)
-}
-
-// Whether the values are as many as the parts whose bits are set, each of its part's kind.
-fn are_of_kinds(values: &[Value], bits: u16, kinds: &[Option<Kind>]) -> bool
-    ensures { IsTrue result ↔ (map (λ value. Some (kind_of value)) values.now ≡ gather bits kinds.now) }
-{
-    match kinds {
-        [] => values.is_empty(),
-        [kind, kinds @ ..] => {
-            if bits % 2 == 0 {
-                return are_of_kinds(values, bits / 2, kinds);
-            }
-            match values {
-                [] => false,
-                [value, values @ ..] => {
-                    Some(value.kind()) == *kind && are_of_kinds(values, bits / 2, kinds)
-                }
-            }
-        }
     }
 }
 

@@ -17,7 +17,7 @@ use Rattle.decl_core.specs.Meaning.{done, refused, apply_body}
 use Rattle.decl_core.specs.ObjectMap.{object_of, parts_of}
 use Rattle.decl_core.specs.PartKinds.{AreKindsOf, EachKindsOf}
 use Rattle.apply_core.specs.Fits.{ArgumentsFit, HoldsReads}
-use Rattle.apply_core.specs.Spread.{ReplyTells}
+use Rattle.apply_core.specs.Replies.{ReplyTells}
 use Rattle.apply_core.specs.History.{IsReplyOn, left_by}
 use Rattle.apply_core.specs.declared.reply.Reply.{Reply}
 use Rattle.apply_core.specs.declared.reply.Reply.TheVariants.{Done, Refused, Failed}

@@ -8,7 +8,7 @@ use Rattle.decl_core.specs.Bodies.{body_of}
 use Rattle.decl_core.specs.Meaning.{apply_body}
 use Rattle.decl_core.specs.ObjectForm.{ObjectForm}
 use Rattle.apply_core.specs.Fits.{ArgumentsFit, HoldsReads}
-use Rattle.apply_core.specs.Spread.{ReplyTells}
+use Rattle.apply_core.specs.Replies.{ReplyTells}
 use Rattle.apply_core.specs.declared.reply.Reply.{Reply}
 use Rattle.apply_core.specs.declared.reply.Reply.TheVariants.{Done, Refused, Failed}
 use Rattle.apply_core.specs.History.{IsReplyOn, left_by}

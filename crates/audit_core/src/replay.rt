@@ -7,9 +7,9 @@ ghost use Rattle.audit_core.specs.View.{told_view};
 
 use crate::calls::Running;
 use crate::told::ToldReply;
-use apply_core::apply::apply_all;
 use apply_core::fits::{arguments_fit, parts_fit};
 use decl_core::object::{Object, Operation};
+use known_core::apply::apply_all;
 use std::alloc::{AllocError, Global};
 use value_core::datum::Datum;
 use value_core::value::Value;

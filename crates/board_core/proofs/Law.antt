@@ -35,7 +35,7 @@ use Rattle.run_core.specs.Outcomes.{if_done}
 use Rattle.call_core.specs.Calls.{Call, call_of}
 use Rattle.call_core.specs.Truths.{PinHolds, IsLeft, IsTrueAt, IsPinWhole, PinsAreWhole}
 use Rattle.apply_core.proofs.HeldReads.{reads_held}
-use Rattle.apply_core.proofs.Spreading.{refused_leaves}
+use Rattle.apply_core.proofs.Histories.{refused_leaves}
 use Rattle.page_core.proofs.ListBytes.{some_same}
 use Rattle.board_core.specs.Calls.{Noted}
 use Rattle.board_core.specs.Board.{published}

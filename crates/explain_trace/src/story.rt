@@ -1,11 +1,11 @@
 //! What the lines of a trace before a faulty one told.
 
-use apply_core::apply::apply_all;
 use apply_core::fits::{arguments_fit, parts_fit};
 use apply_core::reply::Reply;
 use decl_core::object::{Object, Operation, Part};
 use explain_line::line_words::LineWords;
 use hex::FromHexError;
+use known_core::apply::apply_all;
 use line_core::next_line;
 use line_core::words::is_same_word;
 use note_core::page::Page;

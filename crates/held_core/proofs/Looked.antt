@@ -22,6 +22,10 @@ module _ {X : Type 0} (P : X → Type 0) where
   pub next : (xs : List X) (k : ℕ) → Every P (take k xs) → ((x : X) → slice_get xs k ≡ Some x → P x) → Every P (take (k + 1) xs)
   next xs k every has = subst (λ n. Every P (take n xs)) (sym (add-one k)) (next_so xs k every has)
 
+  -- one more is this one
+  pub next_is : (xs : List X) (k : ℕ) (y : X) → Every P (take k xs) → slice_get xs k ≡ Some y → P y → Every P (take (k + 1) xs)
+  next_is xs k y every at has = next xs k every (λ x here. subst P (ap (λ o. unwrap_or o y) (sym at ∙ here)) has)
+
   -- so many are all of them
   pub are_all : (xs : List X) (n : ℕ) → length xs ≤ n → Every P (take n xs) → Every P xs
   are_all [] n few every = tt

@@ -80,12 +80,8 @@ fn reply_is_datum(reply: &Reply)
 fn replies_are_data(entries: &[Entry])
     ensures { Every (λ e. TellsDatum e.reply) entries.now }
 {
-    match entries {
-        [] => {}
-        [entry, entries @ ..] => {
-            reply_is_datum(&entry.reply());
-            replies_are_data(entries);
-        }
+    for place in 0..entries.len() {
+        reply_is_datum(&entries[place].reply());
     }
 }
 

@@ -260,7 +260,9 @@ fn judge_parts(
     ensures writes { OnlyWrites operation.now result }
     ensures settled { parts.items ≡ [] → Settled result }
 {
-    match evaluate(operation, args, &mut parts, known) {
+    // (What takes the changes back is not needed: the values are dropped.)
+    let mut log = Vec::new(alloc);
+    match evaluate(operation, args, &mut parts, known, &mut log) {
         Ok(reply) => match changes_of(alloc, operation, read, &parts) {
             Ok(changes) => Verdict::Done(reply, changes),
             Err(_) => Verdict::Memory,

@@ -7,12 +7,11 @@ use Rattle.value_core.specs.declared.kind.Elem.TheVariants as elem
 use Rattle.value_core.specs.Contents.{Contents, array, kind_of, IsContents}
 use Rattle.decl_core.specs.Form.{Body}
 use Rattle.decl_core.specs.Meaning.{part_at, done, apply_body}
-use Rattle.apply_core.specs.declared.act.Stop.{Stop as WholeStop}
-use Rattle.apply_core.specs.declared.act.Stop.TheVariants as whole_stops
-use Rattle.apply_core.specs.Stops.{StopTells as WholeTells}
 use Rattle.known_core.specs.declared.act.Stop.{Stop}
 use Rattle.known_core.specs.declared.act.Stop.TheVariants as stops
-use Rattle.known_core.specs.Breaks.{StopTells, StopsAs, changing}
+use Rattle.known_core.specs.declared.whole.WholeStop.{WholeStop}
+use Rattle.known_core.specs.declared.whole.WholeStop.TheVariants as whole_stops
+use Rattle.known_core.specs.Breaks.{StopTells, WholeTells, StopsAs, changing}
 use Rattle.known_core.specs.Known.{Known}
 use Rattle.known_core.specs.Partly.{needs, partly_done}
 use Rattle.known_core.specs.Laws.{Means}

@@ -8,3 +8,4 @@ pub mod Missing
 pub mod Full
 pub mod Fitting
 pub mod AllKnown
+pub mod Undoing

@@ -5,13 +5,13 @@ use Rattle.value_core.specs.declared.refusal.GrowFault.{GrowFault}
 use Rattle.value_core.specs.declared.refusal.GrowFault.TheVariants as grow_faults
 use Rattle.value_core.specs.Contents.{Contents}
 use Rattle.value_core.specs.Words.{word_of}
-use Rattle.decl_core.specs.Meaning.{Changed}
-use Rattle.apply_core.specs.declared.act.Stop.{Stop as WholeStop}
-use Rattle.apply_core.specs.declared.act.Stop.TheVariants as whole_stops
+use Rattle.decl_core.specs.Meaning.{Changed, Reply, refused}
 use Rattle.known_core.specs.declared.eval.Break.{Break}
 use Rattle.known_core.specs.declared.eval.Break.TheVariants as breaks
 use Rattle.known_core.specs.declared.act.Stop.{Stop}
 use Rattle.known_core.specs.declared.act.Stop.TheVariants as stops
+use Rattle.known_core.specs.declared.whole.WholeStop.{WholeStop}
+use Rattle.known_core.specs.declared.whole.WholeStop.TheVariants as whole_stops
 use Rattle.known_core.specs.Partly.{Halt, word, needs, Partly}
 
 -- why an expression has no value
@@ -48,6 +48,11 @@ changing parts reply = record { parts = parts; reply = reply }
 abbrev pub Leaves : Result (Unit {0}) Stop → Partly Changed → Changed → Type 0
 Leaves (Ok u) meaning left = meaning ≡ Ok left
 Leaves (Err stop) meaning left = StopTells meaning stop
+
+-- of a body on whole values a refusal is the reply; want of memory says nothing
+abbrev pub WholeTells : Reply → WholeStop → Type 0
+WholeTells reply (whole_stops.Refused w) = reply ≡ refused w
+WholeTells reply whole_stops.Memory = Unit {0}
 
 -- why a body stopped, where nothing was needed
 abbrev pub StopsAs : Stop → WholeStop → Type 0

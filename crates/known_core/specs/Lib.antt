@@ -6,4 +6,5 @@ pub mod Wanted
 pub mod Breaks
 pub mod Sums
 pub mod Filled
+pub mod Log
 pub mod PageRow

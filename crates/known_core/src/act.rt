@@ -16,17 +16,20 @@ ghost use Rattle.decl_core.specs.Meaning.{part_at};
 ghost use Rattle.known_core.specs.Partly.{◌>>>◌, if_known, with_contents, after_known, all_known};
 ghost use Rattle.known_core.specs.Masks.{known_by};
 ghost use Rattle.apply_core.specs.Fitting.{IsAt, IsAtOf, StatementFits, StatementsFit};
+ghost use Rattle.known_core.specs.Log.{taken_back};
 ghost use Rattle.known_core.specs.Breaks.{stop_of, stop_for, changing, Leaves};
-ghost use Rattle.known_core.specs.declared.act.Stop.TheVariants.{Refused};
+ghost use Rattle.known_core.specs.declared.act.Stop.TheVariants.{Refused, Memory};
 
 use crate::eval::{Break, datum, holds, integer, text};
 use crate::pages::Pages;
 use decl_core::expr::{Expr, IntegerExpr, TextExpr};
 use decl_core::id::PartId;
 use decl_core::stmt::Stmt;
+use std::alloc::AllocError;
 use text_core::text::Text;
 use value_core::datum::Datum;
 use value_core::refusal::{GrowFault, Refusal};
+use value_core::undo::Undo;
 use value_core::value::Value;
 
 /// Why a body stopped.
@@ -70,6 +73,14 @@ impl From<Refusal> for Stop {
     }
 }
 
+impl From<AllocError> for Stop {
+    ghost from_gives = { λ _ stop. stop ≡ Memory };
+
+    fn from(_: AllocError) -> Stop {
+        Stop::Memory
+    }
+}
+
 impl From<GrowFault> for Stop {
     ghost from_gives = { λ fault stop. stop ≡ stop_of fault };
 
@@ -89,6 +100,7 @@ fn set(
     index: u32,
     datum: Datum,
     known: &Pages,
+    log: &mut Vec<(PartId, Undo)>,
 ) -> Result<(), Stop>
     requires at { IsAtOf (map kind_of parts.old.items) IsArray part (elem_of datum) }
     ensures left { (reply : Option Datum) →
@@ -96,9 +108,12 @@ fn set(
         (with_element (part_at parts.old.items part) index datum) >>> λ x. if_known (known_by known.now) part index x)
         (changing parts.new.items reply) }
     ensures kinds { map kind_of parts.new.items ≡ map kind_of parts.old.items }
+    ensures back { taken_back log.new.items parts.new.items ≡ taken_back log.old.items parts.old.items }
 {
+    log.reserve(1)?;
     let value = &mut parts[part.place() as usize];
-    value.set(index, datum)?;
+    let undo = value.set(index, datum)?;
+    log.push_reserved((part, undo));
     if known.has(part, index) {
         Ok(())
     } else {
@@ -108,57 +123,85 @@ fn set(
 
 // Adds an element to a queue.
 #[tactic(auto, using(apply_core::proofs::KindsKept::kinds_kept))]
-fn append(parts: &mut Vec<Value>, part: PartId, datum: Datum) -> Result<(), Stop>
+fn append(
+    parts: &mut Vec<Value>,
+    part: PartId,
+    datum: Datum,
+    log: &mut Vec<(PartId, Undo)>,
+) -> Result<(), Stop>
     requires at { IsAtOf (map kind_of parts.old.items) IsQueue part (elem_of datum) }
     ensures left { (reply : Option Datum) →
         Leaves result (with_contents (changing parts.old.items reply) part
         (with_newest (part_at parts.old.items part) datum)) (changing parts.new.items reply) }
     ensures kinds { map kind_of parts.new.items ≡ map kind_of parts.old.items }
+    ensures back { taken_back log.new.items parts.new.items ≡ taken_back log.old.items parts.old.items }
 {
+    log.reserve(1)?;
     let value = &mut parts[part.place() as usize];
-    value.append(datum)?;
+    let undo = value.append(datum)?;
+    log.push_reserved((part, undo));
     Ok(())
 }
 
 // Removes the oldest element of a queue.
 #[tactic(auto, using(apply_core::proofs::KindsKept::kinds_kept))]
-fn take(parts: &mut Vec<Value>, part: PartId) -> Result<(), Stop>
+fn take(parts: &mut Vec<Value>, part: PartId, log: &mut Vec<(PartId, Undo)>) -> Result<(), Stop>
     requires at { IsAt (map kind_of parts.old.items) IsQueue part }
     ensures left { (reply : Option Datum) →
         Leaves result (with_contents (changing parts.old.items reply) part
         (without_oldest (part_at parts.old.items part))) (changing parts.new.items reply) }
     ensures kinds { map kind_of parts.new.items ≡ map kind_of parts.old.items }
+    ensures back { taken_back log.new.items parts.new.items ≡ taken_back log.old.items parts.old.items }
 {
+    log.reserve(1)?;
     let value = &mut parts[part.place() as usize];
-    value.take()?;
+    let undo = value.take()?;
+    log.push_reserved((part, undo));
     Ok(())
 }
 
 // Puts an element under a key of a table.
 #[tactic(auto, using(apply_core::proofs::KindsKept::kinds_kept))]
-fn store(parts: &mut Vec<Value>, part: PartId, key: Text, datum: Datum) -> Result<(), Stop>
+fn store(
+    parts: &mut Vec<Value>,
+    part: PartId,
+    key: Text,
+    datum: Datum,
+    log: &mut Vec<(PartId, Undo)>,
+) -> Result<(), Stop>
     requires at { IsAtOf (map kind_of parts.old.items) IsTable part (elem_of datum) }
     ensures left { (reply : Option Datum) →
         Leaves result (with_contents (changing parts.old.items reply) part
         (with_row (part_at parts.old.items part) key datum)) (changing parts.new.items reply) }
     ensures kinds { map kind_of parts.new.items ≡ map kind_of parts.old.items }
+    ensures back { taken_back log.new.items parts.new.items ≡ taken_back log.old.items parts.old.items }
 {
+    log.reserve(1)?;
     let value = &mut parts[part.place() as usize];
-    value.store(key, datum)?;
+    let undo = value.store(key, datum)?;
+    log.push_reserved((part, undo));
     Ok(())
 }
 
 // Removes a key of a table.
 #[tactic(auto, using(apply_core::proofs::KindsKept::kinds_kept))]
-fn erase(parts: &mut Vec<Value>, part: PartId, key: Text) -> Result<(), Stop>
+fn erase(
+    parts: &mut Vec<Value>,
+    part: PartId,
+    key: Text,
+    log: &mut Vec<(PartId, Undo)>,
+) -> Result<(), Stop>
     requires at { IsAt (map kind_of parts.old.items) IsTable part }
     ensures left { (reply : Option Datum) →
         Leaves result (with_contents (changing parts.old.items reply) part
         (without_key (part_at parts.old.items part) key)) (changing parts.new.items reply) }
     ensures kinds { map kind_of parts.new.items ≡ map kind_of parts.old.items }
+    ensures back { taken_back log.new.items parts.new.items ≡ taken_back log.old.items parts.old.items }
 {
+    log.reserve(1)?;
     let value = &mut parts[part.place() as usize];
-    value.erase(&key)?;
+    let undo = value.erase(&key)?;
+    log.push_reserved((part, undo));
     Ok(())
 }
 
@@ -170,6 +213,7 @@ fn do_set_element(
     args: &[Datum],
     parts: &mut Vec<Value>,
     known: &Pages,
+    log: &mut Vec<(PartId, Undo)>,
 ) -> Result<(), Stop>
     requires fits { StatementFits (map kind_of parts.old.items) (set_element_form part (integers_of index.now)
         (form_of e.now)) }
@@ -177,10 +221,11 @@ fn do_set_element(
         Leaves result (after_known (known_by known.now) args.now (set_element_form part (integers_of index.now)
         (form_of e.now)) (changing parts.old.items reply)) (changing parts.new.items reply) }
     ensures kinds { map kind_of parts.new.items ≡ map kind_of parts.old.items }
+    ensures back { taken_back log.new.items parts.new.items ≡ taken_back log.old.items parts.old.items }
 {
     let index = integer(index, args, parts, known)?;
     let datum = datum(e, args, parts, known)?;
-    set(parts, part, index, datum, known)
+    set(parts, part, index, datum, known, log)
 }
 
 // `append(q, e)`
@@ -190,15 +235,17 @@ fn do_append(
     args: &[Datum],
     parts: &mut Vec<Value>,
     known: &Pages,
+    log: &mut Vec<(PartId, Undo)>,
 ) -> Result<(), Stop>
     requires fits { StatementFits (map kind_of parts.old.items) (append_form part (form_of e.now)) }
     ensures left { (reply : Option Datum) →
         Leaves result (after_known (known_by known.now) args.now (append_form part (form_of e.now))
         (changing parts.old.items reply)) (changing parts.new.items reply) }
     ensures kinds { map kind_of parts.new.items ≡ map kind_of parts.old.items }
+    ensures back { taken_back log.new.items parts.new.items ≡ taken_back log.old.items parts.old.items }
 {
     let datum = datum(e, args, parts, known)?;
-    append(parts, part, datum)
+    append(parts, part, datum, log)
 }
 
 // `store(t, k, e)`
@@ -209,16 +256,18 @@ fn do_store(
     args: &[Datum],
     parts: &mut Vec<Value>,
     known: &Pages,
+    log: &mut Vec<(PartId, Undo)>,
 ) -> Result<(), Stop>
     requires fits { StatementFits (map kind_of parts.old.items) (store_form part (texts_of key.now) (form_of e.now)) }
     ensures left { (reply : Option Datum) →
         Leaves result (after_known (known_by known.now) args.now (store_form part (texts_of key.now) (form_of e.now))
         (changing parts.old.items reply)) (changing parts.new.items reply) }
     ensures kinds { map kind_of parts.new.items ≡ map kind_of parts.old.items }
+    ensures back { taken_back log.new.items parts.new.items ≡ taken_back log.old.items parts.old.items }
 {
     let key = text(key, args, parts, known)?;
     let datum = datum(e, args, parts, known)?;
-    store(parts, part, key, datum)
+    store(parts, part, key, datum, log)
 }
 
 // `erase(t, k)`
@@ -228,15 +277,17 @@ fn do_erase(
     args: &[Datum],
     parts: &mut Vec<Value>,
     known: &Pages,
+    log: &mut Vec<(PartId, Undo)>,
 ) -> Result<(), Stop>
     requires fits { StatementFits (map kind_of parts.old.items) (erase_form part (texts_of key.now)) }
     ensures left { (reply : Option Datum) →
         Leaves result (after_known (known_by known.now) args.now (erase_form part (texts_of key.now))
         (changing parts.old.items reply)) (changing parts.new.items reply) }
     ensures kinds { map kind_of parts.new.items ≡ map kind_of parts.old.items }
+    ensures back { taken_back log.new.items parts.new.items ≡ taken_back log.old.items parts.old.items }
 {
     let key = text(key, args, parts, known)?;
-    erase(parts, part, key)
+    erase(parts, part, key, log)
 }
 
 // `f := e`, where f is the function itself
@@ -267,25 +318,29 @@ fn act(
     parts: &mut Vec<Value>,
     known: &Pages,
     reply: &mut Option<Datum>,
+    log: &mut Vec<(PartId, Undo)>,
 ) -> Result<(), Stop>
     requires fits { StatementFits (map kind_of parts.old.items) (statement_of s.now) }
     ensures left { Leaves result (after_known (known_by known.now) args.now (statement_of s.now)
         (changing parts.old.items reply.old)) (changing parts.new.items reply.new) }
     ensures kinds { map kind_of parts.new.items ≡ map kind_of parts.old.items }
+    ensures back { taken_back log.new.items parts.new.items ≡ taken_back log.old.items parts.old.items }
     ensures memory { IsErrOf result Stop.Memory → 0 < length (map kind_of parts.old.items) }
 {
     match s {
-        Stmt::Block(all) => act_all(all, args, parts, known, reply),
-        Stmt::SetElement(part, index, e) => do_set_element(*part, index, e, args, parts, known),
+        Stmt::Block(all) => act_all(all, args, parts, known, reply, log),
+        Stmt::SetElement(part, index, e) => do_set_element(
+            *part, index, e, args, parts, known, log,
+        ),
         Stmt::SetResult(e) => do_set_result(e, args, parts, known, reply),
-        Stmt::Append(part, e) => do_append(*part, e, args, parts, known),
-        Stmt::Take(part) => take(parts, *part),
-        Stmt::Store(part, key, e) => do_store(*part, key, e, args, parts, known),
-        Stmt::Erase(part, key) => do_erase(*part, key, args, parts, known),
+        Stmt::Append(part, e) => do_append(*part, e, args, parts, known, log),
+        Stmt::Take(part) => take(parts, *part, log),
+        Stmt::Store(part, key, e) => do_store(*part, key, e, args, parts, known, log),
+        Stmt::Erase(part, key) => do_erase(*part, key, args, parts, known, log),
         Stmt::If(c, s, t) => if holds(c, args, parts, known)? {
-            act(s, args, parts, known, reply)
+            act(s, args, parts, known, reply, log)
         } else {
-            act(t, args, parts, known, reply)
+            act(t, args, parts, known, reply, log)
         },
         Stmt::Refuse(word) => Err(Stop::Refused(word_text(word.letters()))),
     }
@@ -299,15 +354,17 @@ pub(crate) fn act_all(
     parts: &mut Vec<Value>,
     known: &Pages,
     reply: &mut Option<Datum>,
+    log: &mut Vec<(PartId, Undo)>,
 ) -> Result<(), Stop>
     requires fits { StatementsFit (map kind_of parts.old.items) (all_of all.now) }
     ensures left { Leaves result (all_known (known_by known.now) args.now (all_of all.now)
         (changing parts.old.items reply.old)) (changing parts.new.items reply.new) }
     ensures kinds { map kind_of parts.new.items ≡ map kind_of parts.old.items }
+    ensures back { taken_back log.new.items parts.new.items ≡ taken_back log.old.items parts.old.items }
     ensures memory { IsErrOf result Stop.Memory → 0 < length (map kind_of parts.old.items) }
 {
     for s in all {
-        act(s, args, parts, known, reply)?;
+        act(s, args, parts, known, reply, log)?;
     }
     Ok(())
 }

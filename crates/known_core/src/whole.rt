@@ -6,17 +6,28 @@ ghost use Rattle.value_core.specs.Contents.{kind_of, IsContents};
 ghost use Rattle.decl_core.specs.Bodies.{body_of};
 ghost use Rattle.decl_core.specs.Meaning.{apply_body, done, part_at};
 ghost use Rattle.apply_core.specs.Fits.{ArgumentsFit, HoldsReads};
-ghost use Rattle.apply_core.specs.Stops.{StopTells};
-ghost use Rattle.known_core.specs.Breaks.{StopsAs};
+ghost use Rattle.known_core.specs.Log.{taken_back};
+ghost use Rattle.known_core.specs.Breaks.{WholeTells, StopsAs};
 ghost use Rattle.known_core.specs.declared.act.Stop.TheVariants.{Needs};
 
 use crate::act::Stop;
 use crate::evaluate::evaluate;
 use crate::pages::Pages;
-use apply_core::act::Stop as WholeStop;
+use decl_core::id::PartId;
 use decl_core::object::Operation;
+use text_core::text::Text;
 use value_core::datum::Datum;
+use value_core::undo::Undo;
 use value_core::value::Value;
+
+/// Why a body on whole values stopped.
+#[derive(Clone, Copy)]
+pub enum WholeStop {
+    /// It was refused by this word.
+    Refused(Text),
+    /// Memory was refused.
+    Memory,
+}
 
 /// Does the body of an operation on values, in place: that of part p stands at place p, where the operation reads it.
 /// All of them is known, so that it is done or refused. A body that ends otherwise leaves them changed in part.
@@ -24,18 +35,20 @@ pub fn evaluate_whole(
     operation: &Operation,
     args: &[Datum],
     parts: &mut Vec<Value>,
+    log: &mut Vec<(PartId, Undo)>,
 ) -> Result<Option<Datum>, WholeStop>
     requires fits { ArgumentsFit operation.now args.now }
     requires held { HoldsReads operation.now parts.old.items }
     ensures done { IfOk result (λ reply. apply_body (body_of operation.now) args.now parts.old.items
         ≡ (done reply, parts.new.items)) }
     ensures stopped { IfErr result (λ stop.
-        StopTells (apply_body (body_of operation.now) args.now parts.old.items).0 stop) }
+        WholeTells (apply_body (body_of operation.now) args.now parts.old.items).0 stop) }
     ensures kinds { map kind_of parts.new.items ≡ map kind_of parts.old.items }
+    ensures back { taken_back log.new.items parts.new.items ≡ taken_back log.old.items parts.old.items }
     // Only a body that changes a part takes memory.
     ensures memory { IsErrOf result WholeStop.Memory → 0 < length parts.old.items }
 {
-    match evaluate(operation, args, parts, &Pages::full()) {
+    match evaluate(operation, args, parts, &Pages::full(), log) {
         Ok(reply) => Ok(reply),
         Err(stop) => Err(needing_nothing(stop, parts)),
     }

@@ -12,10 +12,10 @@ ghost use Rattle.live_core.specs.Hall.{IsCallOf};
 ghost use Rattle.live_core.specs.Bodies.{GivesReply, FailsForMemory};
 
 use crate::call::Call;
-use apply_core::apply::apply_all;
 use apply_core::fits::arguments_fit;
 use apply_core::reply::{Failure, Reply};
 use decl_core::object::{Object, Operation, Part};
+use known_core::apply::apply_all;
 use path_tree::node::OpId;
 use std::alloc::{AllocError, Global};
 use value_core::datum::Datum;

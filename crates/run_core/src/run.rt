@@ -130,11 +130,9 @@ impl Run {
         ensures pen { PenHolds (H.pending hand.old) self.old → PenHolds (H.pending hand.new) self.new }
         // Where it stands after the step, by the rule of steps.
         ensures steps { Follows (run_call self.old) (run_place self.old) (run_place self.new) }
-        // It makes the call that `next` names, and no other. Where that fails the run fails for its fault, and each
-        // file that it seals is told.
+        // It makes the call that `next` names alone; where that fails so does the run, and each file sealed is told.
         ensures makes { RunMakes H.makes self.old (run_ending self.new) (run_sealed self.new) hand.old hand.new }
-        // The number of a file that it begins is that of no other file that is being written, and what was appended to
-        // those stays.
+        // A file that it begins has the number of no other that is being written, and what those have stays.
         ensures unused { (n : ℕ) → run_pen self.new ≡ Some n →
             (run_pen self.old ≡ Some n) ⊎ IsFree (H.agrees hand.new) (H.pending hand.old) n }
         ensures others { (n : ℕ) (b : List ℕ) → run_pen self.old ≢ Some n → H.pending hand.old n b →
@@ -157,10 +155,9 @@ impl Run {
             run_ending self.new ≡ Some (replies.Failed failures.Device) → ⊥ }
         // On a device whose next call fails, it fails for the device, or for memory before a read.
         ensures fails { H.fails hand.old → FailsWith (run_place self.old) (run_ending self.new) }
-        // Where the device failed in this step, so did the run.
+        // Where the device failed in this very call, so did the run, and it fails for the device only there.
         ensures rises { H.failed hand.old < H.failed hand.new →
             run_ending self.new ≡ Some (replies.Failed failures.Device) }
-        // A run fails for the device only where the device failed in this very call.
         ensures counted { H.failed hand.old ≤ H.failed hand.new }
         ensures cause { run_ending self.new ≡ Some (replies.Failed failures.Device) →
             (run_ending self.old ≡ Some (replies.Failed failures.Device))

@@ -95,9 +95,9 @@ from_opening agrees a [] (e ∷ ends) is each pinned = absurd pinned
 from_opening agrees a (o ∷ objects) [] is each pinned = absurd pinned
 
 -- objects that were served and closed
-pub run_served : {H : Type 0} {backs : H → Assignment → Type 0} {agrees mid : Assignment → Type 0} {pw pm pa tw tm ta : Papers → Type 0} {begun : Trouble} {kept_all keeps_all : Bool} {openings : List Opening} {old known new : Option (List ℕ)} (objects : List Object) (names : List (List ℕ)) (after : Trouble) (end : Result ServeEnd LinesFault) →
+pub run_served : {H : Type 0} {backs : H → Assignment → Type 0} {agrees mid : Assignment → Type 0} {pw pm pa tw tm ta : Papers → Type 0} {begun : Trouble} {kept_all keeps_all : Bool} {openings : List Opening} {were are : List H} {old known new : Option (List ℕ)} (objects : List Object) (names : List (List ℕ)) (after : Trouble) (end : Result ServeEnd LinesFault) →
     (place : List ℕ) → AreSaid (listening_line place ∷ []) None old known → GathersAndCloses backs agrees mid pm pa tm ta names openings begun after kept_all keeps_all known new → names ≡ object_names objects → ArePinnedAll mid objects openings → ((papers : Papers) → pm papers → AreLoadedAll papers objects openings) → ((papers : Papers) → pm papers → pw papers) →
-    ((papers : Papers) → tm papers → tw papers) → IsEndOf after.fault after.refused end → IsRunIn backs agrees pw pa tw ta objects end old new
+    ((papers : Papers) → tm papers → tw papers) → IsEndOf after.fault after.refused end → IsRunIn backs agrees pw pa tw ta were are objects end old new
 run_served {H = H} {backs = backs} {agrees = agrees} {mid = mid} {begun = begun} {openings = openings} {old = old} {new = new} objects names after end place listens s same pinned loaded papers traces is =
     let ends : List Ended = s.closes.ends in
     let all = s.closes.endings in
@@ -191,9 +191,9 @@ pub not_opened : {old new : Option (List ℕ)} (holds : Papers → Type 0) (obje
 not_opened holds objects why end not run = not_served_as (IsLineOf why) (IsFirstDamagedLine holds objects) end (line_is holds objects why not) run
 
 -- what a server comes to, without what is stored
-pub run_of : {H : Type 0} {backs : H → Assignment → Type 0} {agrees : Assignment → Type 0} {pw pa tw ta : Papers → Type 0} {objects : List Object} {end : Result ServeEnd LinesFault} {old new : Option (List ℕ)} → IsRunIn backs agrees pw pa tw ta objects end old new → IsRunOf backs objects end old new
+pub run_of : {H : Type 0} {backs : H → Assignment → Type 0} {agrees : Assignment → Type 0} {pw pa tw ta : Papers → Type 0} {were are : List H} {objects : List Object} {end : Result ServeEnd LinesFault} {old new : Option (List ℕ)} → IsRunIn backs agrees pw pa tw ta were are objects end old new → IsRunOf backs objects end old new
 run_of (inl run) = inl run.0
-run_of {pa = pa} {objects = objects} {end = end} (inr run) = inr (not_served_as (IsFirstDamagedLine pa objects) (IsDamagedLine objects) end (λ line is. (is.0, is.1, is.2, is.3)) run)
+run_of {pa = pa} {objects = objects} {end = end} (inr run) = inr (not_served_as (IsFirstDamagedLine pa objects) (IsDamagedLine objects) end (λ line is. (is.0, is.1, is.2, is.3)) run.0)
 
 -- memory was refused behind the end
 unserved_failed : (damaged : List ℕ → Type 0) (lines : List (List ℕ)) (end : Result ServeEnd LinesFault) → IsUnservedBy damaged lines end → IsUnservedBy damaged lines (Err Memory)
@@ -218,14 +218,14 @@ served_memory objects end run = record {
   whole = λ done. met_not (ap fault_of_end done);
 }
 
-run_memory : {H : Type 0} {backs : H → Assignment → Type 0} {agrees : Assignment → Type 0} {pw pa tw ta : Papers → Type 0} {old new : Option (List ℕ)} (objects : List Object) (end : Result ServeEnd LinesFault) → IsRunIn backs agrees pw pa tw ta objects end old new → IsRunIn backs agrees pw pa tw ta objects (Err Memory) old new
+run_memory : {H : Type 0} {backs : H → Assignment → Type 0} {agrees : Assignment → Type 0} {pw pa tw ta : Papers → Type 0} {were are : List H} {old new : Option (List ℕ)} (objects : List Object) (end : Result ServeEnd LinesFault) → IsRunIn backs agrees pw pa tw ta were are objects end old new → IsRunIn backs agrees pw pa tw ta were are objects (Err Memory) old new
 unfolding served_memory
 run_memory objects end (inl (run, kept)) = inl (served_memory objects end run, kept)
-run_memory {pa = pa} objects end (inr run) = inr (record { lines = run.lines; by = unserved_failed (IsFirstDamagedLine pa objects) run.lines end run.by; said = said_as run.said (λ none. met_not none) })
+run_memory {pa = pa} objects end (inr (run, same)) = inr (record { lines = run.lines; by = unserved_failed (IsFirstDamagedLine pa objects) run.lines end run.by; said = said_as run.said (λ none. met_not none) }, same)
 
-pub run_behind : {H : Type 0} {backs : H → Assignment → Type 0} {agrees : Assignment → Type 0} {pw pa tw ta : Papers → Type 0} {old new : Option (List ℕ)} (objects : List Object) (before end : Result ServeEnd LinesFault) → IsRunIn backs agrees pw pa tw ta objects before old new → IsEndBehind before end → IsRunIn backs agrees pw pa tw ta objects end old new
-run_behind {backs = backs} {agrees = agrees} {pw = pw} {pa = pa} {tw = tw} {ta = ta} {old = old} {new = new} objects before end run (inl same) = subst (λ (e : Result ServeEnd LinesFault). IsRunIn backs agrees pw pa tw ta objects e old new) (sym same) run
-run_behind {backs = backs} {agrees = agrees} {pw = pw} {pa = pa} {tw = tw} {ta = ta} {old = old} {new = new} objects before end run (inr none) = subst (λ (e : Result ServeEnd LinesFault). IsRunIn backs agrees pw pa tw ta objects e old new) (sym none) (run_memory objects before run)
+pub run_behind : {H : Type 0} {backs : H → Assignment → Type 0} {agrees : Assignment → Type 0} {pw pa tw ta : Papers → Type 0} {were are : List H} {old new : Option (List ℕ)} (objects : List Object) (before end : Result ServeEnd LinesFault) → IsRunIn backs agrees pw pa tw ta were are objects before old new → IsEndBehind before end → IsRunIn backs agrees pw pa tw ta were are objects end old new
+run_behind {backs = backs} {agrees = agrees} {pw = pw} {pa = pa} {tw = tw} {ta = ta} {were = were} {are = are} {old = old} {new = new} objects before end run (inl same) = subst (λ (e : Result ServeEnd LinesFault). IsRunIn backs agrees pw pa tw ta were are objects e old new) (sym same) run
+run_behind {backs = backs} {agrees = agrees} {pw = pw} {pa = pa} {tw = tw} {ta = ta} {were = were} {are = are} {old = old} {new = new} objects before end run (inr none) = subst (λ (e : Result ServeEnd LinesFault). IsRunIn backs agrees pw pa tw ta were are objects e old new) (sym none) (run_memory objects before run)
 
 -- what a good result says, and what follows from that
 pub if_ok : {X E : Type 0} {P Q : X → Type 0} (result : Result X E) → ((x : X) → P x → Q x) → IfOk result P → IfOk result Q

@@ -131,13 +131,14 @@ abbrev pub IsRunOf : {H : Type 0} → (H → Assignment → Type 0) → List Obj
 IsRunOf backs objects end old new =
     AreServed backs objects end old new ⊎ AreNotServed (IsDamagedLine objects) end old new
 
--- the same, with what is stored, and a damaged part is the first one by what is stored
+-- The same, with what is stored, and a damaged part is the first one by what is stored. Where they are not served, no
+-- session was: the hands for these are as they were.
 abbrev pub IsRunIn : {H : Type 0} → (H → Assignment → Type 0) → (Assignment → Type 0) → (Papers → Type 0) →
-    (Papers → Type 0) → (Papers → Type 0) → (Papers → Type 0) → List Object → Result ServeEnd LinesFault →
-    Option (List ℕ) → Option (List ℕ) → Type 0
-IsRunIn backs agrees pw pa tw ta objects end old new =
+    (Papers → Type 0) → (Papers → Type 0) → (Papers → Type 0) → List H → List H → List Object →
+    Result ServeEnd LinesFault → Option (List ℕ) → Option (List ℕ) → Type 0
+IsRunIn backs agrees pw pa tw ta were are objects end old new =
     ((run : AreServed backs objects end old new) × AreKept agrees pw pa tw ta objects run.ends)
-    ⊎ AreNotServed (IsFirstDamagedLine pa objects) end old new
+    ⊎ (AreNotServed (IsFirstDamagedLine pa objects) end old new × (are ≡ were))
 
 -- an end that says that something is refused, or that writing so failed
 abbrev pub IsRefusal : Result ServeEnd LinesFault → Type 0

@@ -41,6 +41,7 @@ use session_core::order::Named;
 use source_core::judge::{Judged, judge};
 use std::alloc::{AllocError, Global};
 use std::io::{ErrorKind, Write};
+use std::mem;
 use std::os::unix::fs::FileExt;
 use std::rt::Files;
 use std::sync::{Arc, Wait};
@@ -167,20 +168,20 @@ struct Guests<'a, H: Hand + Drop> {
     hands: Vec<H>,
 }
 
-// Serves objects whose parts are open, and gathers what their sessions leave.
+// Serves objects whose parts are open, with all the hands, and gathers what their sessions leave.
 fn serve_gathered<R: Threads + Wait + Clock + Sync, H: Ends + Send, E: Write>(
     rt: &R,
     offices: &Vec<Named>,
-    guests: Guests<'_, H>,
+    guests: &mut Guests<'_, H>,
     gathering: Gathering<H>,
     trouble: &mut Trouble,
     error: &mut E,
 ) -> Vec<Gathered<H>>
     ensures { IsGathered H (slips_in gathering.all.items) trouble.old trouble.new (slips_in result.items) }
 {
-    let Guests { alloc, gate, hands } = guests;
+    let hands = mem::replace(&mut guests.hands, Vec::new(guests.alloc));
     let mut gathering = gathering;
-    match serve_all(rt, alloc, gate, hands, offices) {
+    match serve_all(rt, guests.alloc, guests.gate, hands, offices) {
         Ok(all) => {
             gathering.gather(all, offices, error, trouble);
             gathering.into_all()
@@ -204,7 +205,7 @@ fn serve_opened<
 >(
     rt: &R,
     served: Served,
-    guests: Guests<'_, H>,
+    guests: &mut Guests<'_, H>,
     gathering: Gathering<H>,
     closing: &mut Closing<S, T, K>,
     writer: &mut W,
@@ -229,7 +230,8 @@ fn serve_opened<
     close_all(served, gathered, closing, writer, error);
 }
 
-// Opens objects, tells the place, serves them, and closes them.
+// Opens objects, tells the place, serves them, and closes them. Where they are not all served and closed, nobody was: the
+// hands of the sessions are there as before.
 fn serve_closing<
     R: Threads + Wait + Clock + Sync,
     S: Shelf + Drop,
@@ -241,14 +243,14 @@ fn serve_closing<
 >(
     rt: &R,
     ready: Vec<Accepted>,
-    guests: Guests<'_, H>,
+    guests: &mut Guests<'_, H>,
     closing: &mut Closing<S, T, K>,
     writer: &mut W,
     error: &mut E,
 ) -> Result<ServeEnd, LinesFault>
     ensures { IsRunIn H.agrees (K.agrees closing.new.hand) (S.holds closing.old.parts) (S.holds closing.new.parts)
-        (T.holds closing.old.traces) (T.holds closing.new.traces) ready.items result (W.contents writer.old)
-        (W.contents writer.new) }
+        (T.holds closing.old.traces) (T.holds closing.new.traces) guests.old.hands.items guests.new.hands.items
+        ready.items result (W.contents writer.old) (W.contents writer.new) }
 {
     let served = match open_all(guests.alloc, ready, closing) {
         Ok(served) => served,
@@ -330,14 +332,15 @@ fn serve_keeping<
 >(
     rt: &R,
     ready: Vec<Accepted>,
-    guests: Guests<'_, H>,
+    guests: &mut Guests<'_, H>,
     keeping: &mut Keeping<S, T, K, V>,
     writer: &mut W,
     error: &mut E,
 ) -> Result<ServeEnd, LinesFault>
     ensures run { IsRunIn H.agrees (K.agrees keeping.new.closing.hand) (S.holds keeping.old.closing.parts)
         (S.holds keeping.new.closing.parts) (T.holds keeping.old.closing.traces) (T.holds keeping.new.closing.traces)
-        ready.items result (W.contents writer.old) (W.contents writer.new) }
+        guests.old.hands.items guests.new.hands.items ready.items result (W.contents writer.old)
+        (W.contents writer.new) }
     // Those that were found are moved, and of this run's own none is removed where an object was not saved and traced.
     ensures files { TidiesValues V.does keeping.old.values keeping.old.found.numbers (arc_value keeping.old.numbers)
         keeping.new.closing.keeps_all result keeping.new.values }
@@ -395,8 +398,8 @@ where
         found,
         numbers,
     };
-    let guests = Guests { alloc, gate, hands };
-    serve_keeping(rt, ready, guests, &mut keeping, writer, error)
+    let mut guests = Guests { alloc, gate, hands };
+    serve_keeping(rt, ready, &mut guests, &mut keeping, writer, error)
 }
 
 // Writes why nothing is served.

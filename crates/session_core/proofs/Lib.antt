@@ -4,3 +4,4 @@ pub mod Repeating
 pub mod Ending
 pub mod Leaving
 pub mod Making
+pub mod Working

@@ -4,3 +4,4 @@ pub mod Entering
 pub mod Heeding
 pub mod Opening
 pub mod Making
+pub mod Working

@@ -1,10 +1,12 @@
 //! Sessions over a reader and a writer.
 
 ghost use Rattle.std.specs.Prelude.{◌≡◌, ℕ, List, Option};
+ghost use Rattle.hand_core.specs.declared.hand.Stamp.{Stamp};
 ghost use Rattle.talk_core.specs.Truth.{Keeps, AreTrue};
 ghost use Rattle.talk_core.specs.Written.{IsSaid, HasWritten};
 ghost use Rattle.hear_core.specs.declared.fault.HearFault.{HearFault};
 ghost use Rattle.session_core.specs.Causes.{IsCausedBy, IsCaused};
+ghost use Rattle.session_core.specs.Working.{Works, HasWorked};
 
 use crate::end::{SessionEnd, conclude};
 use crate::entered::parked;
@@ -94,12 +96,13 @@ fn work_beside<
 ) -> Worked<H>
     ensures kept { Keeps H.agrees hand result.hand }
     ensures told { AreTrue H.agrees result.hand result.receipts.items }
+    ensures works { Works H.makes hand result.hand result.free.items }
 {
     let (_, worked) = thread::join(
         rt,
         move || send(rt, offices, mouth),
         move || -> Worked<H>
-            ensures { Keeps H.agrees hand result.hand × AreTrue H.agrees result.hand result.receipts.items }
+            ensures { HasWorked H.agrees H.makes hand result }
         { work(rt, alloc, offices, mouth, reading, hand) },
     );
     worked
@@ -127,6 +130,7 @@ fn serve_from<
     ensures written { HasWritten J.start (W.contents result.writer) result.receipts.items result.fault }
     ensures caused { (heard : Option HearFault) ×
         IsCaused J.start (W.contents result.writer) result.receipts.items heard result.fault }
+    ensures works { (left : List Stamp) × Works H.makes hand result.hand left }
 {
     let Connection { reader, writer } = connection;
     let (to, from) = match crossbeam_channel::bounded(alloc, 1) {
@@ -147,21 +151,13 @@ fn serve_from<
     let ear = Ear::new(alloc, reader);
     let shared = &mouth;
     let lent = &relay;
+    let reading = Reading::new(ear, to, lent, bell);
     let (_, worked) = thread::join(
         rt,
         move || listen(rt, alloc, from, offices, shared, lent),
         move || -> Worked<H>
-            ensures { Keeps H.agrees hand result.hand × AreTrue H.agrees result.hand result.receipts.items }
-        {
-            work_beside(
-                rt,
-                alloc,
-                offices,
-                shared,
-                Reading::new(ear, to, lent, bell),
-                hand,
-            )
-        },
+            ensures { HasWorked H.agrees H.makes hand result }
+        { work_beside(rt, alloc, offices, shared, reading, hand) },
     );
     let (writer, notes, health) = mouth.into_parts();
     ended(rt, offices, writer, &notes, health, worked)
@@ -208,6 +204,8 @@ pub fn serve_session<
         result.fault }
     ensures caused { (heard : Option HearFault) × IsCaused (W.contents connection.writer) (W.contents result.writer)
         result.receipts.items heard result.fault }
+    // It runs calls, and each file that it retires was handed out as free when the outcome of one of them was taken.
+    ensures works { (left : List Stamp) × Works H.makes hand result.hand left }
 {
     let Connection { reader, writer } = connection;
     serve_from::<Brand, R, UntilBell<'_, I>, W, H, O>(

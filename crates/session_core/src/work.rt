@@ -1,6 +1,6 @@
 //! The first thread of a session: it does the calls, and reads too, as long as no call waits.
 
-ghost use Rattle.std.specs.Prelude.{◌≡◌, ◌<◌, ◌++◌, ◌∷◌, [], IsTrue, IfOk, IfSome};
+ghost use Rattle.std.specs.Prelude.{◌≡◌, ◌<◌, ◌++◌, ◌∷◌, [], IsTrue, IfOk, IfSome, Ok};
 ghost use Rattle.std.specs.Vec.{vec_len, vec_capacity};
 ghost use Rattle.hand_core.specs.Device.{Assignment};
 ghost use Rattle.board_core.specs.Board.{Board};
@@ -13,10 +13,12 @@ ghost use Rattle.ask_core.specs.Keyed.{IsStateOf};
 ghost use Rattle.slip_core.specs.Slips.{told_by};
 ghost use Rattle.office_core.specs.declared.seat.Submitted.{Submitted as Ask};
 ghost use Rattle.office_core.specs.Submissions.{Asks, Tells, IsTicketOf};
+ghost use Rattle.office_core.specs.Seats.{CompletedIn};
 ghost use Rattle.talk_core.specs.Truth.{Keeps, AreTrue, OutcomeIsTrue};
 ghost use Rattle.session_core.specs.Leaving.{RetiresLeft, PutsOff};
 ghost use Rattle.session_core.specs.Making.{IsNew, MakesCall, MakesFor, MakesOnce, asked_by};
 ghost use Rattle.session_core.specs.Opening.{Takes, Enters};
+ghost use Rattle.session_core.specs.Working.{Runs, Works, WorksOn};
 
 use crate::entered::{Entered, NotEntered, seat_at};
 use crate::listen::leave;
@@ -204,13 +206,16 @@ fn performed<H: Hand>(alloc: Global, ticket: Ticket, hand: &mut H) -> Outcome
     ensures call { outcome_call result ≡ ticket_call ticket }
     ensures kept { Keeps H.agrees hand.old hand.new }
     ensures told { (a : Assignment) → H.agrees hand.new a → OutcomeIsTrue a result }
+    ensures runs { Runs H.makes result hand.old hand.new }
 {
     run_at_once(alloc, ticket, hand)
 }
 
 // Hands an outcome in, until it is taken.
 fn completed<R: Wait>(rt: &R, office: &Office, seat: &mut Seat, outcome: &mut Outcome) -> Finished
-    ensures { TellsSame outcome.old outcome.new }
+    ensures same { TellsSame outcome.old outcome.new }
+    // What is free is what the inside that took it hands out.
+    ensures inside { CompletedIn seat.old outcome.old (Ok result) outcome.new }
 {
     for _ in rt.forever() {
         if let Ok(finished) = office.complete_in_place(rt, seat, outcome) {
@@ -224,6 +229,7 @@ fn completed<R: Wait>(rt: &R, office: &Office, seat: &mut Seat, outcome: &mut Ou
 fn retire_left<H: Hand>(alloc: Global, hand: &mut H, left: &mut Vec<Stamp>)
     ensures kept { Keeps H.agrees hand.old hand.new }
     ensures retired { RetiresLeft H.makes hand.old left.old.items left.new.items hand.new }
+    ensures works { WorksOn H.makes hand.old left.old.items hand.new left.new.items }
 {
     if left.is_empty() {
         return;
@@ -317,6 +323,7 @@ fn serve_at<R: Wait + Clock, I: Read + Drop, W: Write + Drop, H: Hand + Drop, J:
     ensures kept { Keeps H.agrees worked.old.hand worked.new.hand }
     ensures told { AreTrue H.agrees worked.old.hand worked.old.receipts.items →
         AreTrue H.agrees worked.new.hand worked.new.receipts.items }
+    ensures works { WorksOn H.makes worked.old.hand worked.old.free.items worked.new.hand worked.new.free.items }
     ensures made { MakesOnce op.now args.now worked.old.receipts.items worked.new.receipts.items }
 {
     retire_left(service.alloc, &mut worked.hand, &mut worked.free);
@@ -408,6 +415,7 @@ fn serve_call<
     ensures kept { Keeps H.agrees worked.old.hand worked.new.hand }
     ensures told { AreTrue H.agrees worked.old.hand worked.old.receipts.items →
         AreTrue H.agrees worked.new.hand worked.new.receipts.items }
+    ensures works { WorksOn H.makes worked.old.hand worked.old.free.items worked.new.hand worked.new.free.items }
     ensures made { MakesCall worked.old.seat key op.now args.now worked.old.receipts.items worked.new.receipts.items }
 {
     let Ok(op) = str::from_utf8(op.as_bytes()) else {
@@ -506,6 +514,7 @@ fn act<R: Wait + Clock, I: Read + Drop, W: Write + Drop, H: Hand + Drop, J: Star
     ensures kept { Keeps H.agrees worked.old.hand worked.new.hand }
     ensures told { AreTrue H.agrees worked.old.hand worked.old.receipts.items →
         AreTrue H.agrees worked.new.hand worked.new.receipts.items }
+    ensures works { WorksOn H.makes worked.old.hand worked.old.free.items worked.new.hand worked.new.free.items }
     ensures made { MakesFor action worked.old.seat worked.old.receipts.items worked.new.receipts.items }
 {
     match action {
@@ -536,6 +545,7 @@ fn act_all<R: Wait + Clock, I: Read + Drop, W: Write + Drop, H: Hand + Drop, J: 
     ensures kept { Keeps H.agrees worked.old.hand worked.new.hand }
     ensures told { AreTrue H.agrees worked.old.hand worked.old.receipts.items →
         AreTrue H.agrees worked.new.hand worked.new.receipts.items }
+    ensures works { WorksOn H.makes worked.old.hand worked.old.free.items worked.new.hand worked.new.free.items }
 {
     for action in actions {
         match act(service, reading, worked, action) {
@@ -553,6 +563,7 @@ fn rest<R: Wait, W: Write + Drop, H: Hand + Drop, J: Start, O: Offices>(
 ) -> bool
     ensures kept { Keeps H.agrees worked.old.hand worked.new.hand }
     ensures same { worked.new.receipts.items ≡ worked.old.receipts.items }
+    ensures works { WorksOn H.makes worked.old.hand worked.old.free.items worked.new.hand worked.new.free.items }
 {
     let sent = service.mouth.flush(service.rt);
     worked.late.reset();
@@ -570,6 +581,7 @@ fn heed<R: Wait + Clock, I: Read + Drop, W: Write + Drop, H: Hand + Drop, J: Sta
     ensures kept { Keeps H.agrees worked.old.hand worked.new.hand }
     ensures told { AreTrue H.agrees worked.old.hand worked.old.receipts.items →
         AreTrue H.agrees worked.new.hand worked.new.receipts.items }
+    ensures works { WorksOn H.makes worked.old.hand worked.old.free.items worked.new.hand worked.new.free.items }
 {
     match heard {
         Heard::Action(action) => act(service, reading, worked, action),
@@ -598,6 +610,7 @@ fn follow<R: Wait + Clock, I: Read + Drop, W: Write + Drop, H: Hand + Drop, J: S
     ensures kept { Keeps H.agrees worked.old.hand worked.new.hand }
     ensures told { AreTrue H.agrees worked.old.hand worked.old.receipts.items →
         AreTrue H.agrees worked.new.hand worked.new.receipts.items }
+    ensures works { WorksOn H.makes worked.old.hand worked.old.free.items worked.new.hand worked.new.free.items }
 {
     let actions = reading.taken(service.rt, service.alloc);
     if !actions.is_empty() {
@@ -619,6 +632,7 @@ fn step<R: Wait + Clock, I: Read + Drop, W: Write + Drop, H: Hand + Drop, J: Sta
     ensures kept { Keeps H.agrees worked.old.hand worked.new.hand }
     ensures told { AreTrue H.agrees worked.old.hand worked.old.receipts.items →
         AreTrue H.agrees worked.new.hand worked.new.receipts.items }
+    ensures works { WorksOn H.makes worked.old.hand worked.old.free.items worked.new.hand worked.new.free.items }
 {
     match reading.hear(service.alloc) {
         Some(heard) => heed(service, reading, worked, heard),
@@ -643,6 +657,7 @@ fn take_steps<
     ensures kept { Keeps H.agrees worked.old.hand worked.new.hand }
     ensures told { AreTrue H.agrees worked.old.hand worked.old.receipts.items →
         AreTrue H.agrees worked.new.hand worked.new.receipts.items }
+    ensures works { WorksOn H.makes worked.old.hand worked.old.free.items worked.new.hand worked.new.free.items }
 {
     for _ in service.rt.forever() {
         match step(service, reading, worked) {
@@ -676,6 +691,7 @@ pub(crate) fn work<
 ) -> Worked<H>
     ensures kept { Keeps H.agrees hand result.hand }
     ensures told { AreTrue H.agrees result.hand result.receipts.items }
+    ensures works { Works H.makes hand result.hand result.free.items }
 {
     let mut worked = Worked {
         hand,

@@ -1,11 +1,11 @@
 //! Public calls that no program makes.
 
 use crate::fakes::{CELL, accepted, only_object};
-use apply_core::apply::apply;
-use apply_core::fits::{arguments_fit, values_fit};
+use apply_core::fits::{arguments_fit, parts_fit};
 use apply_core::reply::Reply;
 use check_core::report::CheckFault;
 use exclude_core::analyse::Refusal;
+use known_core::apply::apply_all;
 use path_count::counters::compile;
 use std::alloc::Global;
 use std::process::Abort;
@@ -40,19 +40,19 @@ fn array(rt: &impl Abort, alloc: Global, number: u8) -> Vec<Value> {
     values
 }
 
-// No case can show it: a body on values of its own, which it gives back as it leaves them.
+// No case can show it: an object that is taken out of what was accepted. A body of it is done on values in place.
 #[test]
 fn a_body_is_done_on_values(rt: HostRuntime) {
     let alloc = rt.alloc();
     let object = accepted(&rt, alloc, CELL).into_object();
     let bump = object.operations.last().expect(&rt, "an operation");
     let args = [Datum::Integer(4)];
-    let values = array(&rt, alloc, 3);
-    if !arguments_fit(bump, &args) || !values_fit(bump, &values) {
+    let mut values = array(&rt, alloc, 3);
+    if !arguments_fit(bump, &args) || !parts_fit(bump, &values) {
         panic!(&rt; "no such call");
     }
-    let (reply, left) = apply(alloc, bump, &args, &values).expect(&rt, "memory");
-    let left = left.first().expect(&rt, "a value");
+    let reply = apply_all(alloc, bump, &args, &mut values).expect(&rt, "memory");
+    let left = values.first().expect(&rt, "a value");
     let bytes = encode(alloc, left).expect(&rt, "memory");
     assert!(rt;
         reply == Reply::Done(None)

@@ -10,3 +10,5 @@ pub mod Unique
 pub mod Bytes
 pub mod Widening
 pub mod Outcomes
+pub mod Backs
+pub mod Undone

@@ -13,3 +13,4 @@ pub mod Rows
 pub mod Body
 pub mod Code
 pub mod Kinds
+pub mod Undo

@@ -1,12 +1,10 @@
 -- What the operations do to contents. Where the kind does not fit, nothing is asked of them.
-use Rattle.std.specs.Prelude.{◌≡◌, ℕ, ◌+◌, ◌-◌, ◌^◌, nat_lt, nat_le, Bool, false, ◌||◌, if◌then◌else◌, List, [], ◌∷◌}
-use Rattle.std.specs.Prelude.{◌++◌, length, drop, Result, Ok, Err, IsOk, slice_get, slice_set, ok_or, replicate}
+use Rattle.std.specs.Prelude.{ℕ, ◌+◌, ◌-◌, ◌^◌, nat_lt, nat_le, Bool, false, ◌||◌, if◌then◌else◌, List, [], ◌∷◌}
+use Rattle.std.specs.Prelude.{◌++◌, length, drop, Result, Ok, Err, slice_get, slice_set, ok_or, replicate}
 use Rattle.std.specs.FinMap as map
 use Rattle.value_core.specs.declared.datum.Datum.{Datum}
 use Rattle.value_core.specs.declared.refusal.Refusal.{Refusal}
 use Rattle.value_core.specs.declared.refusal.Refusal.TheVariants.{Index, Full, Empty, Missing, Range}
-use Rattle.value_core.specs.declared.refusal.GrowFault.{GrowFault}
-use Rattle.value_core.specs.declared.refusal.GrowFault.TheVariants.{Refused, Memory}
 use Rattle.value_core.specs.declared.kind.Kind.{Kind}
 use Rattle.value_core.specs.declared.kind.Kind.TheVariants as kind
 use Rattle.value_core.specs.Datum.{zero_of}
@@ -87,15 +85,3 @@ sum_of x y = if nat_lt (x + y) (2 ^ 32) then Ok (x + y) else Err Range
 -- a difference is a whole number from 0 on
 abbrev pub difference_of : ℕ → ℕ → Result ℕ Refusal
 difference_of x y = if nat_le y x then Ok (x - y) else Err Range
-
--- an operation is done, or it is refused and changes nothing
-abbrev pub Changes : Result (Unit {0}) Refusal → Result Contents Refusal → Contents → Contents → Type 0
-Changes (Ok u) meaning old new = meaning ≡ Ok new
-Changes (Err word) meaning old new = (meaning ≡ Err word) × (new ≡ old)
-
--- an operation that may want memory is done, or refused, or, where it would be done, wants memory; but for the first,
--- nothing changes
-abbrev pub Grows : Result (Unit {0}) GrowFault → Result Contents Refusal → Contents → Contents → Type 0
-Grows (Ok u) meaning old new = meaning ≡ Ok new
-Grows (Err (Refused word)) meaning old new = (meaning ≡ Err word) × (new ≡ old)
-Grows (Err Memory) meaning old new = IsOk meaning × (new ≡ old)

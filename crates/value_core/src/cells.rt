@@ -1,13 +1,17 @@
 //! The elements of an array: integers in four bytes each, texts in their rows.
 
-ghost use Rattle.std.specs.Prelude.{◌≡◌, ◌<◌, length, replicate, slice_get, slice_set, IfOk};
+ghost use Rattle.std.specs.Prelude.{◌≡◌, ◌<◌, length, replicate, slice_get, slice_set, IfOk, OnOk, OnErr, ◌≤◌, if◌then◌else◌};
+ghost use Rattle.value_core.specs.Limits.{most_elements};
+ghost use Rattle.value_core.specs.Undo.{array_back, is_kept_of, kept_datum};
 ghost use Rattle.value_core.specs.Datum.{elem_of, zero_of};
 ghost use Rattle.value_core.specs.Cells.{cells_sort, cells_data};
 
 use crate::datum::Datum;
 use crate::encode::text_len;
 use crate::kind::Elem;
+use crate::undo::{Kept, Undo};
 use std::alloc::{AllocError, Global};
+use text_core::row::Row;
 use text_core::text::Text;
 
 /// The elements of an array.
@@ -81,6 +85,70 @@ impl Cells {
                 Datum::Text(text) => all[place] = text,
                 Datum::Integer(_) => unreachable!(),
             },
+        }
+    }
+
+    /// Puts an element in the place of another, and says what takes that back.
+    #[tactic(auto, using(crate::proofs::Backs::kept_sort, crate::proofs::Backs::element_back, crate::proofs::Backs::cell_sort))]
+    pub fn replace(&mut self, place: usize, datum: Datum) -> Result<Undo, AllocError>
+        requires place { place < length (cells_data self.old) }
+        requires few { length (cells_data self.old) ≤ most_elements }
+        requires sort { elem_of datum ≡ cells_sort self.old }
+        ensures sort { cells_sort self.new ≡ cells_sort self.old }
+        ensures ok { OnOk result (cells_data self.new ≡ slice_set (cells_data self.old) place datum) }
+        ensures back { IfOk result (λ undo. array_back undo (cells_sort self.new) (cells_data self.new) ≡ cells_data self.old) }
+        ensures err { OnErr result (cells_data self.new ≡ cells_data self.old) }
+    {
+        match self.get(place) {
+            Some(old) => {
+                let kept = Kept::new(self.allocator(), &old)?;
+                self.set(place, datum);
+                Ok(Undo::Element(place as u32, kept))
+            }
+            None => unreachable!(),
+        }
+    }
+
+    // Where memory is taken for it.
+    fn allocator(&self) -> Global {
+        match self {
+            Cells::Integers(all) => *all.allocator(),
+            Cells::Texts(all) => *all.allocator(),
+        }
+    }
+
+    /// Takes a change of the elements back; where it is none of these, nothing changes. It takes no memory.
+    pub fn take_back(&mut self, undo: Undo)
+        ensures sort { cells_sort self.new ≡ cells_sort self.old }
+        ensures data { cells_data self.new ≡ array_back undo (cells_sort self.old) (cells_data self.old) }
+    {
+        match undo {
+            Undo::Element(place, kept) => self.put_kept(place as usize, kept),
+            _ => {}
+        }
+    }
+
+    #[tactic(auto, using(crate::proofs::Backs::kept_sort, crate::proofs::Backs::other_sort))]
+    // Puts an element that was kept in the place of another, where there is one.
+    fn put_kept(&mut self, place: usize, kept: Kept)
+        ensures sort { cells_sort self.new ≡ cells_sort self.old }
+        ensures data { cells_data self.new ≡ (if is_kept_of (cells_sort self.old) kept
+            then slice_set (cells_data self.old) place (kept_datum kept) else cells_data self.old) }
+    {
+        let datum = kept.datum();
+        if datum.elem() == self.sort() {
+            self.set_known(place, datum);
+        }
+    }
+
+    // Puts an element in the place of another, where there is one.
+    fn set_known(&mut self, place: usize, datum: Datum)
+        requires sort { elem_of datum ≡ cells_sort self.old }
+        ensures sort { cells_sort self.new ≡ cells_sort self.old }
+        ensures data { cells_data self.new ≡ slice_set (cells_data self.old) place datum }
+    {
+        if place < self.len() {
+            self.set(place, datum);
         }
     }
 

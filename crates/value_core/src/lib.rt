@@ -4,7 +4,8 @@
 //! map. Each value has one spelling in bytes in each `format::Format` that has room for it: `encode::encode`
 //! writes the second one, `decode::decode` reads exactly the spellings of that, `decode::decode_v1` exactly
 //! those of the first, and `decode::decode_kept` those of either. An operation that is refused says so by a
-//! word (`refusal::Refusal`) and changes nothing.
+//! word (`refusal::Refusal`) and changes nothing; one that changes a value answers what takes that back
+//! without memory (`undo::Undo`).
 #![tactic(auto)]
 
 pub mod arithmetic;
@@ -21,4 +22,5 @@ mod reader;
 pub mod refusal;
 mod rows;
 mod sorted;
+pub mod undo;
 pub mod value;

@@ -1,15 +1,21 @@
 //! The elements of a queue, the oldest first: none is moved when one is added or taken.
 
 ghost use Rattle.std.specs.Prelude.{◌≡◌, ◌++◌, ◌∷◌, [], length, map, slice_get, IfOk, OnOk, OnErr, drop};
+ghost use Rattle.std.specs.Prelude.{◌<◌, ◌≤◌, ◌+◌, ◌-◌, ◌&&◌, nat_lt, if◌then◌else◌, take};
+ghost use Rattle.value_core.specs.Limits.{most_elements};
 ghost use Rattle.std.specs.List.{flat_map};
 ghost use Rattle.value_core.specs.declared.datum.Datum.TheVariants as datum;
 ghost use Rattle.value_core.specs.Datum.{elem_of};
 ghost use Rattle.value_core.specs.Queue.{queue_sort, queue_data};
 ghost use Rattle.value_core.specs.Spelling.{spelled_datum};
+ghost use Rattle.value_core.specs.Undo.{queue_back};
+ghost use Rattle.std.specs.VecDeque.{deque_capacity};
 
 use crate::datum::Datum;
 use crate::encode::{put_integer, put_row, row_len};
 use crate::kind::Elem;
+use crate::limits::MOST_ELEMENTS;
+use crate::undo::Undo;
 use std::alloc::{AllocError, Global};
 use std::collections::VecDeque;
 use text_core::row::Row;
@@ -102,17 +108,64 @@ impl Queue {
         }
     }
 
-    /// Removes the oldest element, if there is one. It takes no memory.
-    pub fn take(&mut self)
+    /// Removes the oldest element, of one or more, and says what takes that back. The error is that memory was
+    /// refused, and then nothing changes.
+    pub fn take(&mut self) -> Result<Undo, AllocError>
+        requires some { 0 < length (queue_data self.old) }
+        requires few { length (queue_data self.old) ≤ most_elements }
         ensures sort { queue_sort self.new ≡ queue_sort self.old }
-        ensures data { queue_data self.new ≡ drop 1 (queue_data self.old) }
+        ensures ok { OnOk result (queue_data self.new ≡ drop 1 (queue_data self.old)) }
+        ensures back { IfOk result (λ undo. queue_back undo (queue_sort self.new) (queue_data self.new) ≡ queue_data self.old) }
+        ensures err { OnErr result (queue_data self.new ≡ queue_data self.old) }
     {
         match self {
             Queue::Integers(all) => {
-                let _number = all.pop_front();
+                let room = VecDeque::with_capacity(*all.allocator(), all.len())?;
+                match all.pop_front() {
+                    Some(number) => Ok(Undo::OldestInteger(number, room)),
+                    None => unreachable!(),
+                }
             }
             Queue::Texts(all) => {
-                let _row = all.pop_front();
+                let room = VecDeque::with_capacity(*all.allocator(), all.len())?;
+                match all.pop_front() {
+                    Some(row) => Ok(Undo::OldestText(row, room)),
+                    None => unreachable!(),
+                }
+            }
+        }
+    }
+
+    /// Takes a change of the elements back; where it is none of these, nothing changes. It takes no memory.
+    pub fn take_back(&mut self, undo: Undo)
+        ensures sort { queue_sort self.new ≡ queue_sort self.old }
+        ensures data { queue_data self.new ≡ queue_back undo (queue_sort self.old) (queue_data self.old) }
+    {
+        match undo {
+            Undo::Newest => self.drop_newest(),
+            Undo::OldestInteger(number, room) => match self {
+                Queue::Integers(all) => put_in_front(all, number, room),
+                Queue::Texts(_) => {}
+            },
+            Undo::OldestText(row, room) => match self {
+                Queue::Texts(all) => put_in_front(all, row, room),
+                Queue::Integers(_) => {}
+            },
+            _ => {}
+        }
+    }
+
+    // Drops the newest element, if there is one.
+    fn drop_newest(&mut self)
+        ensures sort { queue_sort self.new ≡ queue_sort self.old }
+        ensures data { queue_data self.new ≡ take (length (queue_data self.old) - 1) (queue_data self.old) }
+    {
+        match self {
+            Queue::Integers(all) => {
+                let _number = all.pop_back();
+            }
+            Queue::Texts(all) => {
+                let _row = all.pop_back();
             }
         }
     }
@@ -193,4 +246,29 @@ fn copied(alloc: Global, all: &VecDeque<u32>) -> Result<VecDeque<u32>, AllocErro
     copy.extend_from_slice(older)?;
     copy.extend_from_slice(newer)?;
     Ok(VecDeque::from(copy))
+}
+
+// Puts an element in front of these, in this room, where it has room for them all.
+fn put_in_front<X: Drop>(all: &mut VecDeque<X>, first: X, room: VecDeque<X>)
+    ensures { all.new.items ≡ (if nat_lt (length all.old.items) (deque_capacity room) && nat_lt (length all.old.items) most_elements
+        then first ∷ all.old.items else all.old.items) }
+{
+    if all.len() < room.capacity() && all.len() < MOST_ELEMENTS as usize {
+        let mut more = room;
+        more.clear();
+        more.push_back_reserved(first);
+        move_behind(all, &mut more);
+        *all = more;
+    }
+}
+
+// Moves all elements behind others, where there is room for them.
+fn move_behind<X: Drop>(from: &mut VecDeque<X>, to: &mut VecDeque<X>)
+    requires { length to.old.items + length from.old.items ≤ deque_capacity to.old }
+    ensures { to.new.items ≡ to.old.items ++ from.old.items }
+{
+    match to.append(from) {
+        Ok(()) => {}
+        Err(_) => unreachable!(),
+    }
 }

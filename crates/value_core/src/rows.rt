@@ -7,6 +7,10 @@ ghost use Rattle.std.specs.FinMap as map;
 ghost use Rattle.std.specs.List.{flat_map};
 ghost use Rattle.value_core.specs.Spelling.{spelled_row};
 ghost use Rattle.value_core.specs.Datum.{elem_of};
+ghost use Rattle.std.specs.Prelude.{◌≤◌, ◌&&◌, true, if◌then◌else◌};
+ghost use Rattle.value_core.specs.Limits.{most_elements};
+ghost use Rattle.value_core.specs.Undo.{table_back, kept_datum, is_kept_of};
+ghost use Rattle.std.specs.Prelude.{option_map, IfSome};
 ghost use Rattle.value_core.specs.declared.datum.Datum.TheVariants as datum;
 ghost use Rattle.value_core.specs.Rows.{as_data, rows_sort, rows_map};
 
@@ -14,6 +18,7 @@ use crate::datum::Datum;
 use crate::encode::{put_integer, put_row, row_len};
 use crate::kind::Elem;
 use crate::sorted::Sorted;
+use crate::undo::{Kept, Undo};
 use std::alloc::{AllocError, Global};
 use text_core::row::Row;
 use text_core::text::Text;
@@ -114,6 +119,119 @@ impl Rows {
         match self {
             Rows::Integers(all) => all.remove(key),
             Rows::Texts(all) => all.remove(key),
+        }
+    }
+
+    /// Puts an element under a key, and says what takes that back.
+    pub fn store(&mut self, key: Text, datum: Datum) -> Result<Undo, AllocError>
+        requires { elem_of datum ≡ rows_sort self.old }
+        ensures sort { rows_sort self.new ≡ rows_sort self.old }
+        ensures ok { OnOk result (rows_map self.new ≡ map.insert (rows_map self.old) key datum) }
+        ensures back { IfOk result (λ undo. table_back undo (rows_sort self.new) (rows_map self.new) ≡ rows_map self.old) }
+        ensures err { OnErr result (rows_map self.new ≡ rows_map self.old) }
+    {
+        let row = self.row(&key)?;
+        match self.kept(&key)? {
+            Some(kept) => {
+                self.insert(key, datum)?;
+                Ok(Undo::Under(row, kept))
+            }
+            None => {
+                self.insert(key, datum)?;
+                Ok(Undo::Added(row))
+            }
+        }
+    }
+
+    // A copy of a key.
+    fn row(&self, key: &Text) -> Result<Row, AllocError>
+        ensures { IfOk result (λ row. row ≡ key.now) }
+    {
+        match self {
+            Rows::Integers(all) => Row::new(all.allocator(), key),
+            Rows::Texts(all) => Row::new(all.allocator(), key),
+        }
+    }
+
+    // A copy of what stands under a key, if it is there.
+    fn kept(&self, key: &Text) -> Result<Option<Kept>, AllocError>
+        ensures data { IfOk result (λ kept. option_map kept_datum kept ≡ map.get (rows_map self.now) key.now) }
+        ensures sort { IfOk result (λ kept. IfSome kept (λ k. is_kept_of (rows_sort self.now) k ≡ true)) }
+    {
+        match self {
+            Rows::Integers(all) => match all.get(key) {
+                Some(number) => Ok(Some(Kept::Integer(*number))),
+                None => Ok(None),
+            },
+            Rows::Texts(all) => match all.get(key) {
+                Some(row) => {
+                    let copy = row.copy()?;
+                    Ok(Some(Kept::Text(copy)))
+                }
+                None => Ok(None),
+            },
+        }
+    }
+
+    /// Removes a key that is there, and says what takes that back.
+    pub fn erase(&mut self, key: &Text) -> Result<Undo, AllocError>
+        requires there { map.contains_key (rows_map self.old) key.now ≡ true }
+        requires few { map.len (rows_map self.old) ≤ most_elements }
+        ensures sort { rows_sort self.new ≡ rows_sort self.old }
+        ensures ok { OnOk result (rows_map self.new ≡ map.remove (rows_map self.old) key.now) }
+        ensures back { IfOk result (λ undo. table_back undo (rows_sort self.new) (rows_map self.new) ≡ rows_map self.old) }
+        ensures err { OnErr result (rows_map self.new ≡ rows_map self.old) }
+        ensures rows { (e : Elem) → AreRows e (rows_map self.old) → AreRows e (rows_map self.new) }
+    {
+        match self {
+            Rows::Integers(all) => {
+                let room = Vec::with_capacity(all.allocator(), all.len())?;
+                let row = all.take_out(key);
+                Ok(Undo::RowOfInteger(row.0, row.1, room))
+            }
+            Rows::Texts(all) => {
+                let room = Vec::with_capacity(all.allocator(), all.len())?;
+                let row = all.take_out(key);
+                Ok(Undo::RowOfText(row.0, row.1, room))
+            }
+        }
+    }
+
+    /// Takes a change of the rows back; where it is none of these, nothing changes. It takes no memory.
+    pub fn take_back(&mut self, undo: Undo)
+        ensures sort { rows_sort self.new ≡ rows_sort self.old }
+        ensures data { rows_map self.new ≡ table_back undo (rows_sort self.old) (rows_map self.old) }
+    {
+        match undo {
+            Undo::Under(key, kept) => self.put_kept(&key.text(), kept),
+            Undo::Added(key) => self.remove(&key.text()),
+            Undo::RowOfInteger(key, number, room) => match self {
+                Rows::Integers(all) => all.put_back(key, number, room),
+                Rows::Texts(_) => {}
+            },
+            Undo::RowOfText(key, row, room) => match self {
+                Rows::Texts(all) => all.put_back(key, row, room),
+                Rows::Integers(_) => {}
+            },
+            _ => {}
+        }
+    }
+
+    // Puts an element that was kept under a key that is there.
+    fn put_kept(&mut self, key: &Text, kept: Kept)
+        ensures sort { rows_sort self.new ≡ rows_sort self.old }
+        ensures data { rows_map self.new ≡ (if is_kept_of (rows_sort self.old) kept && map.contains_key (rows_map self.old) key.now
+            then map.insert (rows_map self.old) key.now (kept_datum kept) else rows_map self.old) }
+    {
+        match kept {
+            Kept::Integer(number) => match self {
+                Rows::Integers(all) => all.exchange(key, number),
+                Rows::Texts(_) => {}
+            },
+            Kept::Text(row) => match self {
+                Rows::Texts(all) => all.exchange(key, row),
+                Rows::Integers(_) => {}
+            },
         }
     }
 

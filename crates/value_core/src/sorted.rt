@@ -1,14 +1,17 @@
 //! Rows that lie in the order of their keys. A key is asked for by a text, without memory.
 
-ghost use Rattle.std.specs.Prelude.{◌≡◌, ◌≤◌, [], ◌∷◌, length, map, is_some, option_copied, IfOk, IfErr, OnOk, OnErr};
+ghost use Rattle.std.specs.Prelude.{◌≡◌, ◌≤◌, ◌<◌, [], ◌∷◌, length, map, is_some, true, Some, nat_lt, ◌&&◌};
+ghost use Rattle.std.specs.Prelude.{if◌then◌else◌, vec_capacity, option_copied, IfOk, IfErr, OnOk, OnErr};
 ghost use Rattle.std.specs.BTreeMap.{is_at};
 ghost use Rattle.std.specs.FinMap.{put};
-ghost use Rattle.std.specs.List.{AllZip};
+ghost use Rattle.value_core.specs.Limits.{most_elements};
+ghost use Rattle.std.specs.List.{AllZip, insert};
 ghost use Rattle.std.specs.List.Sorted.{IsStrictlySortedBy};
 ghost use Rattle.std.specs.Map.{lookup, remove_entry};
 ghost use Rattle.text_core.specs.TextOrder.{text_cmp};
 ghost use Rattle.value_core.specs.Sorted.{Rise, StandsAt, IsGapFor};
 
+use crate::limits::MOST_ELEMENTS;
 use std::alloc::{AllocError, Global};
 use std::marker::Model;
 use text_core::row::Row;
@@ -126,6 +129,78 @@ impl<X: Drop> Sorted<X> {
             let _row = self.rows.remove(place);
         }
     }
+}
+
+impl<X: Drop> Sorted<X> {
+    /// Removes a key that is there, and gives its row.
+    pub fn take_out(&mut self, key: &Text) -> (Row, X)
+        requires { is_some (lookup (is_at (text_cmp key.now)) self.old) ≡ true }
+        ensures rows { self.new ≡ remove_entry (is_at (text_cmp key.now)) self.old }
+        ensures key { result.0 ≡ key.now }
+        ensures value { lookup (is_at (text_cmp key.now)) self.old ≡ Some result.1 }
+        ensures rise { Rise self.old }
+        ensures still { Rise self.new }
+    {
+        match self.place(key) {
+            Ok(place) => self.rows.remove(place),
+            Err(_) => unreachable!(),
+        }
+    }
+
+    /// Puts a value in the place of what stands under a key that is there; else nothing changes. It takes no memory.
+    pub fn exchange(&mut self, key: &Text, value: X)
+        ensures rows { self.new ≡ (if is_some (lookup (is_at (text_cmp key.now)) self.old) then put text_cmp key.now value self.old else self.old) }
+        ensures rise { Rise self.old }
+        ensures still { Rise self.new }
+    {
+        if let Ok(place) = self.place(key) {
+            self.rows[place].1 = value;
+        }
+    }
+
+    /// Puts a row in, in this room, where it has room for them all; else nothing changes. It takes no memory.
+    pub fn put_back(&mut self, row: Row, value: X, room: Vec<(Row, X)>)
+        ensures rows { self.new ≡ (if nat_lt (length self.old) (vec_capacity room) && nat_lt (length self.old) most_elements
+            then put text_cmp row value self.old else self.old) }
+        ensures rise { Rise self.old }
+        ensures still { Rise self.new }
+    {
+        if self.rows.len() < room.capacity() && self.rows.len() < MOST_ELEMENTS as usize {
+            self.put_row(row, value, room);
+        }
+    }
+
+    // Puts a row in, in this room, which has room for them all.
+    fn put_row(&mut self, row: Row, value: X, room: Vec<(Row, X)>)
+        requires { length self.old < vec_capacity room }
+        ensures rows { self.new ≡ put text_cmp row value self.old }
+        ensures rise { Rise self.old }
+        ensures still { Rise self.new }
+    {
+        match self.place(&row.text()) {
+            Ok(place) => self.rows[place].1 = value,
+            Err(place) => put_in(&mut self.rows, place, (row, value), room),
+        }
+    }
+}
+
+// Puts a row in at this place, in this room, which has room for them all.
+fn put_in<X: Drop>(rows: &mut Vec<X>, place: usize, row: X, room: Vec<X>)
+    requires place { place ≤ length rows.old.items }
+    requires room { length rows.old.items < vec_capacity room }
+    ensures { rows.new.items ≡ insert rows.old.items place row }
+{
+    let mut more = room;
+    more.clear();
+    match more.append(rows) {
+        Ok(()) => {}
+        Err(_) => unreachable!(),
+    }
+    match more.insert(place, row) {
+        Ok(()) => {}
+        Err(_) => unreachable!(),
+    }
+    *rows = more;
 }
 
 impl<X: Clone> Sorted<X> {

@@ -6,8 +6,8 @@ ghost use Rattle.value_core.specs.Kinds.{sort_of, IsKind, IsArray, IsQueue, IsTa
 ghost use Rattle.value_core.specs.Body.{contents_of};
 ghost use Rattle.value_core.specs.Contents.{kind_of, elements_of, rows_of, IsContents, IsContentsIn};
 ghost use Rattle.value_core.specs.Meaning.{opening_of, element_at, with_element, oldest_of, without_oldest};
-ghost use Rattle.value_core.specs.Meaning.{with_newest, has_key, under_key, with_row, without_key, count_of, Changes};
-ghost use Rattle.value_core.specs.Meaning.{Grows};
+ghost use Rattle.value_core.specs.Meaning.{with_newest, has_key, under_key, with_row, without_key, count_of};
+ghost use Rattle.value_core.specs.Undo.{back, Grown};
 
 use crate::cells::Cells;
 use crate::datum::Datum;
@@ -17,6 +17,7 @@ use crate::limits::{HEADER_BYTES, MOST_ELEMENTS};
 use crate::queue::Queue;
 use crate::refusal::{GrowFault, Refusal};
 use crate::rows::Rows;
+use crate::undo::Undo;
 use std::alloc::{AllocError, Global};
 use std::marker::Model;
 use text_core::text::Text;
@@ -171,12 +172,12 @@ impl Value {
         cells.get(index as usize).ok_or(Refusal::Index)
     }
 
-    /// Puts an element in the place of the one at an index. Refused `index` as by `element`, and then
-    /// nothing changes.
-    pub fn set(&mut self, index: u32, datum: Datum) -> Result<(), Refusal>
+    /// Puts an element in the place of the one at an index, and says what takes that back. Refused `index` as by
+    /// `element`, then `Memory`; nothing changes in either case.
+    pub fn set(&mut self, index: u32, datum: Datum) -> Result<Undo, GrowFault>
         requires kind { IsArray (kind_of self.old) }
         requires sort { elem_of datum ≡ sort_of (kind_of self.old) }
-        ensures change { Changes result (with_element self.old index datum) self.old self.new }
+        ensures change { Grown result (with_element self.old index datum) self.old self.new }
         ensures kind { kind_of self.new ≡ kind_of self.old }
     {
         // Called for its contract alone: this is a datum.
@@ -185,10 +186,10 @@ impl Value {
             unreachable!();
         };
         if index as usize >= cells.len() {
-            return Err(Refusal::Index);
+            return Err(GrowFault::Refused(Refusal::Index));
         }
-        cells.set(index as usize, datum);
-        Ok(())
+        let undo = cells.replace(index as usize, datum)?;
+        Ok(undo)
     }
 
     /// The oldest element of a queue. Refused `empty` where there is none.
@@ -203,29 +204,29 @@ impl Value {
         queue.get(0).ok_or(Refusal::Empty)
     }
 
-    /// Removes the oldest element of a queue. Refused `empty` where there is none, and then nothing
-    /// changes.
-    pub fn take(&mut self) -> Result<(), Refusal>
+    /// Removes the oldest element of a queue, and says what takes that back. Refused `empty` where there is none,
+    /// then `Memory`; nothing changes in either case.
+    pub fn take(&mut self) -> Result<Undo, GrowFault>
         requires { IsQueue (kind_of self.old) }
-        ensures change { Changes result (without_oldest self.old) self.old self.new }
+        ensures change { Grown result (without_oldest self.old) self.old self.new }
         ensures kind { kind_of self.new ≡ kind_of self.old }
     {
         let Body::Queue(queue) = &mut self.body else {
             unreachable!();
         };
         if queue.len() == 0 {
-            return Err(Refusal::Empty);
+            return Err(GrowFault::Refused(Refusal::Empty));
         }
-        queue.take();
-        Ok(())
+        let undo = queue.take()?;
+        Ok(undo)
     }
 
-    /// Adds an element to a queue, as its newest. Refused `full` at 1,024 elements, then `Memory`; nothing
-    /// changes in either case.
-    pub fn append(&mut self, datum: Datum) -> Result<(), GrowFault>
+    /// Adds an element to a queue, as its newest, and says what takes that back. Refused `full` at 1,024 elements,
+    /// then `Memory`; nothing changes in either case.
+    pub fn append(&mut self, datum: Datum) -> Result<Undo, GrowFault>
         requires kind { IsQueue (kind_of self.old) }
         requires sort { elem_of datum ≡ sort_of (kind_of self.old) }
-        ensures change { Grows result (with_newest self.old datum) self.old self.new }
+        ensures change { Grown result (with_newest self.old datum) self.old self.new }
         ensures kind { kind_of self.new ≡ kind_of self.old }
     {
         // Called for its contract alone: this is a datum.
@@ -237,7 +238,7 @@ impl Value {
             return Err(GrowFault::Refused(Refusal::Full));
         }
         queue.push(datum)?;
-        Ok(())
+        Ok(Undo::Newest)
     }
 
     /// Whether a table has a key.
@@ -263,12 +264,12 @@ impl Value {
         rows.get(key).ok_or(Refusal::Missing)
     }
 
-    /// Puts an element under a key of a table, in the place of what stood there. Refused `full` for a new
-    /// key at 1,024 keys, then `Memory`; nothing changes in either case.
-    pub fn store(&mut self, key: Text, datum: Datum) -> Result<(), GrowFault>
+    /// Puts an element under a key of a table, and says what takes that back. Refused `full` for a new key at 1,024
+    /// keys, then `Memory`; nothing changes in either case.
+    pub fn store(&mut self, key: Text, datum: Datum) -> Result<Undo, GrowFault>
         requires kind { IsTable (kind_of self.old) }
         requires sort { elem_of datum ≡ sort_of (kind_of self.old) }
-        ensures change { Grows result (with_row self.old key datum) self.old self.new }
+        ensures change { Grown result (with_row self.old key datum) self.old self.new }
         ensures kind { kind_of self.new ≡ kind_of self.old }
     {
         // Called for their contracts alone: this is a datum, and a key is a text.
@@ -280,24 +281,38 @@ impl Value {
         if rows.len() >= MOST_ELEMENTS as usize && !rows.has(&key) {
             return Err(GrowFault::Refused(Refusal::Full));
         }
-        rows.insert(key, datum)?;
-        Ok(())
+        let undo = rows.store(key, datum)?;
+        Ok(undo)
     }
 
-    /// Removes a key of a table. Refused `missing` where the table has no such key, and then nothing
-    /// changes.
-    pub fn erase(&mut self, key: &Text) -> Result<(), Refusal>
+    /// Removes a key of a table, and says what takes that back. Refused `missing` where the table has no such key,
+    /// then `Memory`; nothing changes in either case.
+    pub fn erase(&mut self, key: &Text) -> Result<Undo, GrowFault>
         requires { IsTable (kind_of self.old) }
-        ensures change { Changes result (without_key self.old key.now) self.old self.new }
+        ensures change { Grown result (without_key self.old key.now) self.old self.new }
         ensures kind { kind_of self.new ≡ kind_of self.old }
     {
         let Body::Table(rows) = &mut self.body else {
             unreachable!();
         };
         if !rows.has(key) {
-            return Err(Refusal::Missing);
+            return Err(GrowFault::Refused(Refusal::Missing));
         }
-        rows.remove(key);
-        Ok(())
+        let undo = rows.erase(key)?;
+        Ok(undo)
+    }
+
+    /// Takes the newest change back. What takes back a change of another kind or sort of value changes nothing. It
+    /// takes no memory.
+    pub fn take_back(&mut self, undo: Undo)
+        ensures { self.new ≡ back undo self.old }
+    {
+        // Called for its contract alone: what it keeps can be an element.
+        undo.keeps_data();
+        match &mut self.body {
+            Body::Array(cells) => cells.take_back(undo),
+            Body::Queue(queue) => queue.take_back(undo),
+            Body::Table(rows) => rows.take_back(undo),
+        }
     }
 }

@@ -6,7 +6,7 @@ use Rattle.serve_core.proofs.Tidying.{moved_not, moved_all}
 use Rattle.serve_core.proofs.serve.serve_keeping.Goals as goal
 
 pub returns-in-Err-clause-run : goal.returns-in-Err-clause-run
-returns-in-Err-clause-run g c = inr (run_none _ Memory)
+returns-in-Err-clause-run g c = inr (run_none _ Memory, refl)
 
 pub returns-in-Err-clause-files : goal.returns-in-Err-clause-files
 returns-in-Err-clause-files g c = record {

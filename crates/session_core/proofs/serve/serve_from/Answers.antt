@@ -1,6 +1,7 @@
-use Rattle.std.proofs.Common.{Some, ap}
+use Rattle.std.proofs.Common.{Some, ap, []}
 use Rattle.hear_core.specs.declared.fault.HearFault.TheVariants as hears
 use Rattle.session_core.proofs.Ending.{caused_of, none_said}
+use Rattle.session_core.specs.Working.{begins}
 use Rattle.session_core.proofs.serve.serve_from.Goals as goal
 
 pub returns-clause-caused : goal.returns-clause-caused
@@ -14,3 +15,6 @@ returns-clause-caused g c =
 
 pub returns-in-Err-clause-caused : goal.returns-in-Err-clause-caused
 returns-in-Err-clause-caused g c = (Some hears.Memory, none_said g.J.Start.start (g.W.Write.contents c.args.connection.writer) c.new.result.items c.requires c.new.ensures.items)
+
+pub returns-in-Err-clause-works : goal.returns-in-Err-clause-works
+returns-in-Err-clause-works g c = ([], begins)

@@ -5,4 +5,4 @@ use Rattle.value_core.proofs.value.Value.erase.Goals as goal
 
 pub invariant_of-self-2 : goal.invariant_of-self-2
 invariant_of-self-2 c =
-    rw c.remove.ensures.sort (c.remove.ensures.rows _ (subst (λ b. IsContents (contents_of b)) c.in-Table.is c.self.invariant))
+    rw c.in_ok-undo.ensures.sort (c.in_ok-undo.ensures.rows _ (subst (λ b. IsContents (contents_of b)) c.in-Table.is c.self.invariant))

@@ -22,4 +22,4 @@ invariant_of-self-2 c =
       | else-len-via-then-len+else-not-has w ↦ inl (sym w.has.ensures ∙ w.if-not-has.false)
       | else-len-via-else-len w ↦ inr (omega (arith, w.if-len.false, c.len.ensures))
     ]) in
-    rw (c.in_ok-insert.ensures.sort, c.in_ok-insert.ensures.ok) (rows_stored _ _ c.args.key c.args.datum rows row room)
+    rw (c.in_ok-undo.ensures.sort, c.in_ok-undo.ensures.ok) (rows_stored _ _ c.args.key c.args.datum rows row room)

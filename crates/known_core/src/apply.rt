@@ -1,0 +1,59 @@
+//! Bodies of operations on whole values, in place.
+
+ghost use Rattle.std.specs.Prelude.{◌≡◌, map, IfOk, OnOk, OnErr};
+ghost use Rattle.value_core.specs.Contents.{kind_of};
+ghost use Rattle.decl_core.specs.Bodies.{body_of};
+ghost use Rattle.decl_core.specs.Meaning.{apply_body};
+ghost use Rattle.apply_core.specs.Fits.{ArgumentsFit, HoldsReads};
+ghost use Rattle.apply_core.specs.Replies.{ReplyTells};
+ghost use Rattle.known_core.specs.declared.whole.WholeStop.TheVariants.{Refused};
+
+use crate::log::undo_all;
+use crate::whole::{WholeStop, evaluate_whole};
+use apply_core::reply::Reply;
+use decl_core::object::Operation;
+use std::alloc::{AllocError, Global};
+use text_core::text::Text;
+use value_core::datum::Datum;
+use value_core::value::Value;
+
+/// Does the body of an operation on the values of all parts, in place: that of part p stands at place p. It
+/// answers the reply, which is never `Failed`. A refused body leaves each value as it was, and so does an
+/// error.
+///
+/// The arguments have to be as many as the parameters, each of its parameter's sort; each part that is read
+/// has to be there, and to be of its kind. An error where memory was refused.
+pub fn apply_all(
+    alloc: Global,
+    operation: &Operation,
+    args: &[Datum],
+    parts: &mut Vec<Value>,
+) -> Result<Reply, AllocError>
+    requires fits { ArgumentsFit operation.now args.now }
+    requires held { HoldsReads operation.now parts.old.items }
+    ensures reply { IfOk result (λ reply. ReplyTells reply (apply_body (body_of operation.now) args.now
+        parts.old.items).0) }
+    ensures parts { OnOk result (parts.new.items ≡ (apply_body (body_of operation.now) args.now parts.old.items).1) }
+    ensures unchanged { OnErr result (parts.new.items ≡ parts.old.items) }
+    ensures kinds { map kind_of parts.new.items ≡ map kind_of parts.old.items }
+{
+    let mut log = Vec::new(alloc);
+    match evaluate_whole(operation, args, parts, &mut log) {
+        Ok(reply) => Ok(Reply::Done(reply)),
+        Err(stop) => {
+            undo_all(log, parts);
+            let word = word_by(stop)?;
+            Ok(Reply::Refused(word))
+        }
+    }
+}
+
+// The word by which a body was refused.
+fn word_by(stop: WholeStop) -> Result<Text, AllocError>
+    ensures { IfOk result (λ word. stop ≡ Refused word) }
+{
+    match stop {
+        WholeStop::Refused(word) => Ok(word),
+        WholeStop::Memory => Err(AllocError),
+    }
+}
