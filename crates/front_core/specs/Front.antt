@@ -1,5 +1,5 @@
 -- What an epoch begins with.
-use Rattle.std.specs.Prelude.{◌≡◌, ◌≢◌, ℕ, ◌+◌, ◌<◌, ◌≤◌, ◌^◌, List, [], ◌∷◌, Some, All, length, map}
+use Rattle.std.specs.Prelude.{◌≡◌, ℕ, ◌<◌, ◌≤◌, ◌^◌, List, [], ◌∷◌, Some, length, map}
 use Rattle.path_tree.specs.Known.{place_of}
 use Rattle.path_tree.specs.Identifier.{IsName}
 use Rattle.value_core.specs.declared.datum.Datum.{Datum}
@@ -17,7 +17,6 @@ use Rattle.front_core.specs.declared.front.Client.{Client}
 use Rattle.front_core.specs.declared.front.KeptCall.{KeptCall}
 use Rattle.front_core.specs.declared.front.Answer.{Answer}
 use Rattle.front_core.specs.declared.front.Answer.TheVariants.{Replied, Cancelled}
-use Rattle.front_core.specs.Past.{events_in}
 
 -- a front without where it lies in memory
 pub record Opening : Type 0 where

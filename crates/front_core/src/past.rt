@@ -31,17 +31,17 @@ fn push_calls(out: &mut Vec<PastEvent>, op: OpId, count: u32) -> Result<(), Allo
 }
 
 // Adds the events of a run.
-fn push_run(out: &mut Vec<PastEvent>, run: PastRun) -> Result<(), AllocError>
-    ensures { OnOk result (out.new.items ≡ out.old.items ++ events_in (run ∷ [])) }
+fn push_run(out: &mut Vec<PastEvent>, run: &PastRun) -> Result<(), AllocError>
+    ensures { OnOk result (out.new.items ≡ out.old.items ++ events_in (run.now ∷ [])) }
 {
     match run {
-        PastRun::Calls(op, count) => push_calls(out, op, count),
+        PastRun::Calls(op, count) => push_calls(out, *op, *count),
         PastRun::Begins(op) => {
-            out.push(PastEvent::Start(op))?;
+            out.push(PastEvent::Start(*op))?;
             Ok(())
         }
         PastRun::Ends(op) => {
-            out.push(PastEvent::End(op))?;
+            out.push(PastEvent::End(*op))?;
             Ok(())
         }
     }
@@ -53,7 +53,7 @@ pub fn events_of(alloc: Global, runs: &[PastRun]) -> Result<Vec<PastEvent>, Allo
 {
     let mut out = Vec::new(alloc);
     for run in runs {
-        push_run(&mut out, *run)?;
+        push_run(&mut out, run)?;
     }
     Ok(out)
 }

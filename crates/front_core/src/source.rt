@@ -1,14 +1,14 @@
 //! The number that the declaration of an object gives.
 //!
-//! The declaration is told as bytes: its name, its parts, its operations with their bodies, and its paths as canonical
-//! text. The number is made of these, byte by byte (FNV-1a of 64 bits).
+//! The declaration is told as bytes: its name, its parts, its operations with their bodies, and its paths. The number
+//! is made of these, byte by byte (FNV-1a of 64 bits).
 
 use decl_core::expr::{Expr, IntegerExpr, Signed, Source, TextExpr};
 use decl_core::object::{Object, Operation, Param, Part};
 use decl_core::stmt::{Cond, Relation, Stmt};
-use path_tree::name::Name;
-use path_tree::print::print_path;
-use std::alloc::{AllocError, Global};
+use path_tree::node::{Members, Node};
+use path_tree::tree::PathTree;
+use std::sync::Arc;
 use value_core::kind::{Elem, Kind};
 
 // The number of no byte.
@@ -197,34 +197,50 @@ fn with_operation(so_far: u64, operation: &Operation) -> u64 {
     with_block(told, &operation.body)
 }
 
-// The name of each operation.
-fn names_of(alloc: Global, object: &Object) -> Result<Vec<Name>, AllocError> {
-    let mut names = Vec::new(alloc);
-    for operation in object.operations.iter() {
-        names.push(operation.name.copy(alloc)?)?;
+#[cycle(walking)]
+fn with_node(so_far: u64, node: &Node) -> u64 {
+    match node {
+        Node::Name(op) => with_number(with_byte(so_far, 1), u64::from(*op)),
+        Node::List(members) => with_members(with_byte(so_far, 2), members),
+        Node::Sequence(members) => with_members(with_byte(so_far, 3), members),
+        Node::Bound(limit, inner) => {
+            with_node(with_number(with_byte(so_far, 4), u64::from(*limit)), inner)
+        }
+        Node::Burst(inner) => with_node(with_byte(so_far, 5), inner),
     }
-    Ok(names)
 }
 
-fn with_paths(alloc: Global, so_far: u64, object: &Object) -> Result<u64, AllocError> {
-    let names = names_of(alloc, object)?;
-    let mut told = with_number(so_far, object.paths.len() as u64);
-    for path in object.paths.iter() {
-        let text = print_path(alloc, path, &names)?;
-        told = with_text(told, &text);
+#[cycle(walking)]
+fn with_members(so_far: u64, members: &Members) -> u64 {
+    match members {
+        Members::Two(first, second) => {
+            with_node(with_node(with_byte(so_far, 1), first), second)
+        }
+        Members::More(first, rest) => with_members(with_node(with_byte(so_far, 2), first), rest),
     }
-    Ok(told)
+}
+
+fn with_paths(so_far: u64, paths: &[PathTree]) -> u64 {
+    let mut told = with_number(so_far, paths.len() as u64);
+    for path in paths {
+        told = with_node(told, path.root());
+    }
+    told
+}
+
+fn with_operations(so_far: u64, operations: &[Arc<Operation>]) -> u64 {
+    let mut told = with_number(so_far, operations.len() as u64);
+    for operation in operations {
+        told = with_operation(told, operation);
+    }
+    told
 }
 
 /// A number of 64 bits that the declaration of an object gives: its name, its parts, its operations with their bodies,
 /// and its paths. Where only layout, comments, the case of letters in names, or constants by other names change, it
 /// stays. Declarations that differ have different numbers but by chance; nobody is kept from making two that have the
-/// same. The error is that memory was refused.
-pub fn source_of(alloc: Global, object: &Object) -> Result<u64, AllocError> {
-    let mut told = with_parts(with_text(NOTHING, object.name.as_bytes()), &object.parts);
-    told = with_number(told, object.operations.len() as u64);
-    for operation in object.operations.iter() {
-        told = with_operation(told, operation);
-    }
-    with_paths(alloc, told, object)
+/// same.
+pub fn source_of(object: &Object) -> u64 {
+    let told = with_parts(with_text(NOTHING, object.name.as_bytes()), &object.parts);
+    with_paths(with_operations(told, &object.operations), &object.paths)
 }

@@ -99,17 +99,17 @@ fn name_of(object: &Object, operation: OpId) -> &[u8]
 }
 
 // Adds a line of a past.
-fn push_run(out: &mut Vec<u8>, object: &Object, run: PastRun) -> Result<(), AllocError>
+fn push_run(out: &mut Vec<u8>, object: &Object, run: &PastRun) -> Result<(), AllocError>
     ensures { OnOk result (out.new.items ≡ out.old.items
-        ++ line_of (bare (codes "past") ∷ run_words (object_of object.now) run)) }
+        ++ line_of (bare (codes "past") ∷ run_words (object_of object.now) run.now)) }
 {
     match run {
         PastRun::Calls(op, count) => push_line(
             out,
             &[
                 Written::Bare(b"past"),
-                Written::Bare(name_of(object, op)),
-                Written::Integer(u64::from(count)),
+                Written::Bare(name_of(object, *op)),
+                Written::Integer(u64::from(*count)),
             ],
         ),
         PastRun::Begins(op) => push_line(
@@ -117,7 +117,7 @@ fn push_run(out: &mut Vec<u8>, object: &Object, run: PastRun) -> Result<(), Allo
             &[
                 Written::Bare(b"past"),
                 Written::Bare(b"begin"),
-                Written::Bare(name_of(object, op)),
+                Written::Bare(name_of(object, *op)),
             ],
         ),
         PastRun::Ends(op) => push_line(
@@ -125,7 +125,7 @@ fn push_run(out: &mut Vec<u8>, object: &Object, run: PastRun) -> Result<(), Allo
             &[
                 Written::Bare(b"past"),
                 Written::Bare(b"end"),
-                Written::Bare(name_of(object, op)),
+                Written::Bare(name_of(object, *op)),
             ],
         ),
     }
@@ -136,7 +136,7 @@ pub fn push_past(out: &mut Vec<u8>, object: &Object, past: &[PastRun]) -> Result
     ensures { OnOk result (out.new.items ≡ out.old.items ++ runs_text (object_of object.now) past.now) }
 {
     for run in past {
-        push_run(out, object, *run)?;
+        push_run(out, object, run)?;
     }
     Ok(())
 }
@@ -261,7 +261,8 @@ pub fn push_kept(
         ],
     )?;
     push_answer(out, answer)?;
-    push_call(out, object, operation, arguments)
+    push_call(out, object, operation, arguments)?;
+    Ok(())
 }
 
 // Adds the line of a waiting call.
@@ -323,11 +324,19 @@ fn push_all_carried(
     Ok(())
 }
 
+// Adds the line of a client.
+fn push_one_client(out: &mut Vec<u8>, client: &Client) -> Result<(), AllocError>
+    ensures { OnOk result (out.new.items ≡ out.old.items
+        ++ line_of (bare (codes "client") ∷ client_words client.now)) }
+{
+    push_client(out, client.session, client.name.as_bytes(), client.keys)
+}
+
 fn push_all_clients(out: &mut Vec<u8>, clients: &[Client]) -> Result<(), AllocError>
     ensures { OnOk result (out.new.items ≡ out.old.items ++ clients_text clients.now) }
 {
     for client in clients {
-        push_client(out, client.session, client.name.as_bytes(), client.keys)?;
+        push_one_client(out, client)?;
     }
     Ok(())
 }

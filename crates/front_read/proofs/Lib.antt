@@ -5,3 +5,4 @@ mod Fitting
 mod RowByRow
 mod Safe
 mod Singles
+mod Telling

@@ -14,9 +14,9 @@ ghost use Rattle.front_read.specs.Told.{behind_one as behind_one_in, behind_verb
 ghost use Rattle.front_read.specs.Told.{behind_told as behind_told_in};
 
 use crate::call::see_datum;
-use front_core::front::Answer;
 use apply_core::reply::{Failure, Reply};
 use decl_core::word::is_refusal_word;
+use front_core::front::Answer;
 use line_core::words::is_same_word;
 use short_core::short::Short;
 use std::alloc::{AllocError, Global};

@@ -33,9 +33,7 @@ pub(crate) fn carried_head<'a, 'b>(
 }
 
 /// The session, the key and the told number of a remembered call, and the words behind them.
-pub(crate) fn kept_head<'a, 'b>(
-    words: &'b [Word<'a>],
-) -> Option<((u32, u32, u64), &'b [Word<'a>])>
+pub(crate) fn kept_head<'a, 'b>(words: &'b [Word<'a>]) -> Option<((u32, u32, u64), &'b [Word<'a>])>
     ensures { option_map heads_view result ≡ kept_head_in (words_in words.now) }
 {
     let (session, rest) = session_front(words)?;

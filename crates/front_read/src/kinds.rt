@@ -8,11 +8,11 @@ ghost use Rattle.front_read.specs.Reads.{run_of as run_in, run_by as run_by_in, 
 use crate::answer::{answer_of, behind_told, is_told, told_front};
 use crate::call::{call_of, carried_head, kept_head};
 use crate::fault::Cause;
-use front_core::front::{CarriedCall, Client, KeptCall};
-use front_core::past::PastRun;
 use crate::rows::Row;
 use crate::words::{is_session, operation_of, session_front};
 use decl_core::object::Object;
+use front_core::front::{CarriedCall, Client, KeptCall};
+use front_core::past::PastRun;
 use line_core::words::is_same_word;
 use path_tree::name::Name;
 use std::alloc::{AllocError, Global};
@@ -159,11 +159,7 @@ impl Row for Client {
         Cause::Client
     }
 
-    fn read(
-        alloc: Global,
-        object: &Object,
-        behind: &[Word],
-    ) -> Result<Option<Client>, AllocError> {
+    fn read(alloc: Global, object: &Object, behind: &[Word]) -> Result<Option<Client>, AllocError> {
         let _object = object;
         let Some((session, name, keys)) = client_of(behind) else {
             return Ok(None);

@@ -16,14 +16,14 @@ ghost use Rattle.front_read.specs.Exact.{IsReadAs, IsFrontOf};
 
 use crate::checks::{carried_fault, clients_fault, kept_fault};
 use crate::fault::{Cause, FrontFault};
-use front_core::front::Front;
 use crate::lines::{read_base, read_object, read_parts, read_source};
-use front_core::past::PastRun;
 use crate::rows::read_rows;
 use crate::stop::Stop;
 use crate::words::{begins, behind};
-use front_core::write::push_front;
 use decl_core::object::Object;
+use front_core::front::Front;
+use front_core::past::PastRun;
+use front_core::write::push_front;
 use std::alloc::{AllocError, Global};
 use value_core::value::Value;
 
@@ -72,12 +72,7 @@ fn read_calls(
 }
 
 // The front of this head whose other lines, from the past on, stand at the beginning of a text.
-fn read_behind_parts(
-    alloc: Global,
-    object: &Object,
-    text: &[u8],
-    head: Head,
-) -> Result<Front, Stop>
+fn read_behind_parts(alloc: Global, object: &Object, text: &[u8], head: Head) -> Result<Front, Stop>
     ensures found { (f : Opening) (more : List ℕ) → HasNames (object_of object.now) →
         HasRows (object_of object.now) f → EndsFront more →
         text.now ≡ behind_parts (object_of object.now) f ++ more →

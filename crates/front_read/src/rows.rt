@@ -36,11 +36,7 @@ pub(crate) trait Row: Sized + Drop {
     fn cause() -> Cause;
 
     /// What is told by the words behind the first one.
-    fn read(
-        alloc: Global,
-        object: &Object,
-        behind: &[Word],
-    ) -> Result<Option<Self>, AllocError>
+    fn read(alloc: Global, object: &Object, behind: &[Word]) -> Result<Option<Self>, AllocError>
         ensures found { (x : Self) → HasNames (object_of object.now) → is (object_of object.now) x →
             words_in behind.now ≡ words (object_of object.now) x → IfOk result (λ found. found ≡ Some x) }
         ensures told { IfOk result (λ found. IfSome found (is (object_of object.now))) };
