@@ -4,6 +4,7 @@ use Rattle.std.specs.Prelude.{slice_get, slice_set, unwrap_or}
 use Rattle.std.proofs.lemmas.Bool.{cases_eq}
 use Rattle.std.proofs.lemmas.Slice.Eq.{bytes_eq-Decides}
 use Rattle.guest_core.specs.declared.guest.Guest.{Guest}
+use Rattle.guest_core.specs.Finds.{Finds}
 use Rattle.guest_core.proofs.Items.{get_more, get_set, get_front, get_last, get_here, get_there, one_item}
 
 -- the client that is found by a name has it
@@ -13,10 +14,6 @@ Found guests find = (name : List ℕ) (p : ℕ) → find name ≡ Some p → (g 
 -- each client is found by its name
 abbrev pub Known : List Guest → (List ℕ → Option ℕ) → Type 0
 Known guests find = (p : ℕ) (g : Guest) → slice_get guests p ≡ Some g → find g.name ≡ Some p
-
--- the same is found, but for one name
-abbrev pub Finds : (List ℕ → Option ℕ) → List ℕ → Option ℕ → (List ℕ → Option ℕ) → Type 0
-Finds find name at new = (q : List ℕ) → new q ≡ cond (bytes_eq name q) at (find q)
 
 pub which : (n q : List ℕ) → (n ≡ q) ⊎ (n ≢ q)
 which n q = by (bytes_eq n q) refl

@@ -1,3 +1,4 @@
+pub mod Changing
 pub mod Finding
 pub mod Items
 pub mod Judging

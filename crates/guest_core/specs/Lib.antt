@@ -1,4 +1,5 @@
 pub mod Entering
+pub mod Finds
 pub mod Guests
 pub mod GuestsView
 pub mod Keys

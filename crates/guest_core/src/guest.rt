@@ -66,6 +66,7 @@ pub(crate) fn come(guest: &mut Guest) -> Option<(u16, u64)>
     ensures some { IfSome result (λ r. (guest.old.away ≢ None) × (r.0 ≡ guest.old.session)
         × (r.1 ≡ guest.old.keys.next) × (guest.new ≡ record guest.old { away = None })) }
     ensures none { IfNone result ((guest.old.away ≡ None) × (guest.new ≡ guest.old)) }
+    ensures name { guest.new.name ≡ guest.old.name }
 {
     if guest.away.is_none() {
         return None;

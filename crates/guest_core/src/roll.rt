@@ -1,11 +1,13 @@
 //! The clients that have names, each found by its name.
 
 ghost use Rattle.std.specs.Prelude.{◌≡◌, ◌≢◌, ◌⊎◌, ℕ, ◌<◌, ◌≤◌, ◌↔◌, [], ◌∷◌, ◌++◌, length, IsTrue, IfOk, IfSome, IfNone};
-ghost use Rattle.std.specs.Prelude.{OnOk, OnErr, Some, None, slice_get, slice_set, false};
+ghost use Rattle.std.specs.Prelude.{OnOk, OnErr, Some, None, slice_get, slice_set, false, bytes_eq};
 ghost use Rattle.guest_core.specs.declared.guest.Guest.{Guest as AGuest};
 ghost use Rattle.guest_core.specs.declared.roll.Away.{Away as AnAway};
 ghost use Rattle.guest_core.specs.Keys.{Keys as AKeys, asks, Asks, Ends, Judges, withdrawn};
 ghost use Rattle.guest_core.specs.Guests.{guest_of};
+ghost use Rattle.indexmap.specs.IndexMap.{get};
+ghost use Rattle.guest_core.specs.Finds.{Finds};
 ghost use Rattle.guest_core.specs.Entering.{MayForget, IsLongestAway, NoneMayForget};
 
 use crate::guest::{Guest, ask, cancel, come, end, go, restart, withdraw};
@@ -90,6 +92,24 @@ fn longer(best: Option<Away>, guest: &Guest, place: u16, now: u64) -> Option<Awa
     }
 }
 
+// A name is found at this place from now on.
+fn put(places: &mut IndexMap<Name, u16>, name: Name, place: u16) -> Result<(), AllocError>
+    ensures ok { OnOk result (Finds (get bytes_eq places.old) name (Some place) (get bytes_eq places.new)) }
+    ensures err { OnErr result (places.new.entries ≡ places.old.entries) }
+{
+    let Ok(_) = places.insert(name, place) else {
+        return Err(AllocError);
+    };
+    Ok(())
+}
+
+// A name is not found from now on.
+fn forget(places: &mut IndexMap<Name, u16>, name: &Name)
+    ensures { Finds (get bytes_eq places.old) name.now None (get bytes_eq places.new) }
+{
+    places.swap_remove(name);
+}
+
 impl Roll {
     // No client has a name.
     pub(crate) fn new(alloc: Global) -> Roll
@@ -162,9 +182,7 @@ impl Roll {
         let key = name.copy(self.alloc)?;
         let keys = Keys::new(self.alloc, first)?;
         let place = self.guests.len() as u16;
-        if self.places.insert(key, place).is_err() {
-            return Err(AllocError);
-        }
+        put(&mut self.places, key, place)?;
         self.guests.push_reserved(Guest {
             name: own,
             session,
@@ -193,9 +211,7 @@ impl Roll {
         let own = name.copy(self.alloc)?;
         let key = name.copy(self.alloc)?;
         let keys = Keys::new(self.alloc, first)?;
-        if self.places.insert(key, place).is_err() {
-            return Err(AllocError);
-        }
+        put(&mut self.places, key, place)?;
         let old = mem::replace(
             &mut self.guests[place as usize],
             Guest {
@@ -205,7 +221,7 @@ impl Roll {
                 keys,
             },
         );
-        self.places.swap_remove(&old.name);
+        forget(&mut self.places, &old.name);
         Ok(old.session)
     }
 
