@@ -20,10 +20,7 @@ use word_core::word::Written;
 pub fn push_accepted(out: &mut Vec<u8>, number: u64) -> Result<(), AllocError>
     ensures { OnOk result (out.new.items ≡ out.old.items ++ lines.accepted_text number) }
 {
-    push_line(
-        out,
-        &[Written::Bare(b"accepted"), Written::Integer(number)],
-    )
+    push_line(out, &[Written::Bare(b"accepted"), Written::Integer(number)])
 }
 
 /// Adds `cancelled N`: the call was cancelled before it started.

@@ -34,9 +34,7 @@ fn number_of(bytes: &[u8]) -> Option<u64> {
         if !byte.is_ascii_digit() {
             return None;
         }
-        value = value
-            .checked_mul(10)?
-            .checked_add(u64::from(*byte - b'0'))?;
+        value = value.checked_mul(10)?.checked_add(u64::from(*byte - b'0'))?;
     }
     Some(value)
 }

@@ -9,7 +9,8 @@ use decl_core::object::Object;
 use front_core::front::Answer;
 use front_core::past::runs_of;
 use front_core::write::{
-    push_base, push_carried, push_client, push_kept, push_object, push_parts, push_past, push_source,
+    push_base, push_carried, push_client, push_kept, push_object, push_parts, push_past,
+    push_source,
 };
 use guest_core::guest::Guest;
 use guest_core::kept::Kept;
@@ -236,7 +237,7 @@ impl Hosted {
         self.epoch = self.epoch.saturating_add(1);
         self.added = 0;
         self.behind = 0;
-        self.tried.set(0);
+        self.tried = 0;
         self.guests.renew();
     }
 }

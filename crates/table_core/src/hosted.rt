@@ -1,6 +1,6 @@
 //! An object that is served, with its clients.
 
-ghost use Rattle.std.specs.Prelude.{◌≡◌, ◌≢◌, ◌×◌, ℕ, [], false, IsTrue, IfOk, IfSome, OnErr, OnOk, Some, slice_get};
+ghost use Rattle.std.specs.Prelude.{◌≡◌, ◌≢◌, ℕ, [], false, IsTrue, IfOk, IfSome, OnErr, OnOk, Some, slice_get};
 ghost use Rattle.trace_core.specs.Events.{Called};
 ghost use Rattle.live_core.specs.Hall.{Every};
 ghost use Rattle.live_core.specs.Steps.{Leaves};
@@ -22,7 +22,6 @@ use past_core::past::PastEvent;
 use path_tree::name::Name;
 use path_tree::node::OpId;
 use std::alloc::{AllocError, Global};
-use std::cell::Cell;
 use std::marker::Model;
 use value_core::datum::Datum;
 
@@ -103,7 +102,7 @@ pub struct Hosted {
     // how many calls were asked for since a new epoch is due
     pub(crate) behind: u32,
     // how many of them there were when one was tried last, and could not begin; 0 where none was
-    pub(crate) tried: Cell<u32>,
+    pub(crate) tried: u32,
     // how many calls finished
     pub(crate) entries: u64,
 }
@@ -218,7 +217,7 @@ impl Hosted {
             owners,
             waiting,
             behind: 0,
-            tried: Cell::new(0),
+            tried: 0,
             entries: 0,
         })
     }
@@ -396,15 +395,31 @@ impl Hosted {
         }
     }
 
-    /// Whether a new epoch is to be tried: one is due, and was not tried in vain, or 1,000 calls were asked for since.
+    // Whether a new epoch is to be tried where so many calls were asked for since one is due: none was tried in vain, or
+    // 1,000 were asked for since.
+    fn is_due_at(&self, calls: u32) -> bool {
+        calls > 0 && (self.tried == 0 || calls >= self.tried.saturating_add(CALLS_BETWEEN))
+    }
+
+    /// Whether a new epoch is to be tried.
     pub(crate) fn is_due(&self) -> bool {
-        let tried = self.tried.get();
-        self.behind > 0 && (tried == 0 || self.behind >= tried.saturating_add(CALLS_BETWEEN))
+        self.is_due_at(self.behind)
     }
 
     /// A new epoch could not begin: it is tried again behind 1,000 calls.
-    pub(crate) fn put_off(&self) {
-        self.tried.set(self.behind);
+    pub(crate) fn put_off(&mut self)
+        ensures { self.new ≡ self.old }
+    {
+        self.tried = self.behind;
+    }
+
+    // A call is the first one of a round: where a new epoch was to be tried behind the round before, it could not begin.
+    fn look_back(&mut self)
+        ensures { self.new ≡ self.old }
+    {
+        if self.is_due_at(self.behind.saturating_sub(1)) {
+            self.put_off();
+        }
     }
 
     /// Gives a number to a session without a name. `None`: no number is free.
@@ -465,10 +480,7 @@ impl Hosted {
             return Err(asking_fault(fault));
         }
         let own = most_of(self.live.object(), operation, &arguments);
-        match self
-            .live
-            .submit(u32::from(session), operation, arguments)
-        {
+        match self.live.submit(u32::from(session), operation, arguments) {
             Ok(taken) => {
                 self.given = taken.number;
                 self.owing = self.owing.saturating_add(own);
@@ -481,10 +493,11 @@ impl Hosted {
         }
     }
 
-    /// Submits a call, and adds the lines of all that ran. A fault changes nothing. The error is that memory was refused
-    /// for the lines.
+    /// Submits a call, and adds the lines of all that ran. `is_first`: no line was added since a new epoch was last asked
+    /// for. A fault changes nothing. The error is that memory was refused for the lines.
     pub(crate) fn call(
         &mut self,
+        is_first: bool,
         session: u16,
         operation: OpId,
         arguments: Vec<Datum>,
@@ -492,6 +505,9 @@ impl Hosted {
     ) -> Result<Result<Taken, SubmitFault>, AllocError>
         ensures { OnOk result (Adds self.old lines.old.items self.new lines.new.items) }
     {
+        if is_first {
+            self.look_back();
+        }
         match self.submit(session, operation, arguments) {
             Err(fault) => Ok(Err(fault)),
             Ok(taken) => {
@@ -550,11 +566,7 @@ impl Hosted {
     }
 
     // Cancels the waiting call of a session that has a name, and adds the line that tells of it.
-    fn cancel_named(
-        &mut self,
-        session: u16,
-        lines: &mut Vec<u8>,
-    ) -> Result<Option<u64>, AllocError>
+    fn cancel_named(&mut self, session: u16, lines: &mut Vec<u8>) -> Result<Option<u64>, AllocError>
         ensures { OnOk result (Adds self.old lines.old.items self.new lines.new.items) }
     {
         let Some(call) = self.waiting_of(session) else {

@@ -130,12 +130,7 @@ impl Table {
     }
 
     // Tells the one at a place why a line is refused.
-    fn refuse(
-        &mut self,
-        place: usize,
-        refusal: Refusal,
-        post: &mut Post,
-    ) -> Result<(), AllocError>
+    fn refuse(&mut self, place: usize, refusal: Refusal, post: &mut Post) -> Result<(), AllocError>
         ensures { OnOk result (GoesOn self.old post.old self.new post.new) }
     {
         self.say(place, Line::Refused(refusal), post)
@@ -319,12 +314,7 @@ impl Table {
     }
 
     // Answers a call of which its key says that it is not to be made.
-    fn answer_key(
-        &mut self,
-        place: usize,
-        keyed: Keyed,
-        post: &mut Post,
-    ) -> Result<(), AllocError>
+    fn answer_key(&mut self, place: usize, keyed: Keyed, post: &mut Post) -> Result<(), AllocError>
         ensures { OnOk result (GoesOn self.old post.old self.new post.new) }
     {
         self.line.clear();
@@ -432,10 +422,11 @@ impl Table {
         ensures { OnOk result (GoesOn self.old post.old self.new post.new) }
     {
         self.line.clear();
+        let is_first = post.lines(at).is_empty();
         let Some(object) = self.objects.get_mut(at) else {
             return Ok(Err(SubmitFault::Gone));
         };
-        let taken = object.call(session, operation, arguments, &mut self.line)?;
+        let taken = object.call(is_first, session, operation, arguments, &mut self.line)?;
         post.add(at, &self.line)?;
         Ok(taken)
     }
@@ -912,7 +903,6 @@ impl Served for Table {
                 if writes_next(&self.objects[at], front) {
                     return Ok(Some(at));
                 }
-                self.objects[at].put_off();
             }
         }
         Ok(None)
@@ -920,7 +910,7 @@ impl Served for Table {
 
     fn changed(&mut self, journal: usize, _front: &[u8], went: bool) -> Result<(), AllocError> {
         if !went {
-            if let Some(object) = self.objects.get(journal) {
+            if let Some(object) = self.objects.get_mut(journal) {
                 object.put_off();
             }
             return Ok(());

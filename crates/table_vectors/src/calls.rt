@@ -272,35 +272,40 @@ fn is_so(rt: &impl Abort, s: &mut Scene, row: &str) -> bool {
     false
 }
 
-fn plays(rt: &impl Abort, alloc: Global, rows: &str) -> bool {
-    let mut s = made(rt, alloc);
+/// Does what rows say, and looks whether it is so.
+pub fn plays_on(rt: &impl Abort, s: &mut Scene, rows: &str) {
     for row in rows.lines() {
-        assert!(rt; is_so(rt, &mut s, row), "{row}");
+        assert!(rt; is_so(rt, s, row), "{row}");
     }
-    s.is_quiet()
+    assert!(rt; s.is_quiet());
+}
+
+fn plays(rt: &impl Abort, alloc: Global, rows: &str) {
+    let mut s = made(rt, alloc);
+    plays_on(rt, &mut s, rows);
 }
 
 #[test]
 fn calls_wait_and_go_on(rt: HostRuntime) {
-    assert!(rt; plays(&rt, rt.alloc(), WAITING));
+    plays(&rt, rt.alloc(), WAITING);
 }
 
 #[test]
 fn a_waiting_call_is_cancelled(rt: HostRuntime) {
-    assert!(rt; plays(&rt, rt.alloc(), CANCELLED));
+    plays(&rt, rt.alloc(), CANCELLED);
 }
 
 #[test]
 fn a_client_with_a_name_comes_back(rt: HostRuntime) {
-    assert!(rt; plays(&rt, rt.alloc(), NAMED));
+    plays(&rt, rt.alloc(), NAMED);
 }
 
 #[test]
 fn a_client_without_a_name_gives_its_session_back(rt: HostRuntime) {
-    assert!(rt; plays(&rt, rt.alloc(), NAMELESS));
+    plays(&rt, rt.alloc(), NAMELESS);
 }
 
 #[test]
 fn the_server_ends(rt: HostRuntime) {
-    assert!(rt; plays(&rt, rt.alloc(), ENDS));
+    plays(&rt, rt.alloc(), ENDS);
 }

@@ -117,6 +117,21 @@ impl Scene {
             .expect(rt, "memory");
     }
 
+    pub fn hear(&mut self, rt: &impl Abort, who: u64, line: &[u8]) {
+        self.table
+            .hear(who, line, LineEnd::Feed, &mut self.post)
+            .expect(rt, "memory");
+    }
+
+    /// All that was told and added counts as looked at.
+    pub fn skip(&mut self) {
+        for who in 1..8 {
+            self.told[who as usize] = self.post.owed(who).len();
+        }
+        self.added[0] = self.post.lines(0).len();
+        self.added[1] = self.post.lines(1).len();
+    }
+
     pub fn say(&mut self, rt: &impl Abort, who: u64, line: &str) {
         self.table
             .hear(who, line.as_bytes(), LineEnd::Feed, &mut self.post)
