@@ -376,7 +376,7 @@ impl Post {
         journal: usize,
         lines: usize,
     ) -> Result<(), AllocError>
-        ensures { OnOk result (Tells self.old self.new [] []) }
+        ensures { Tells self.old self.new [] [] }
     {
         if let Some(at) = find(self.places.as_slice(), who) {
             reserve_owed(&mut self.places, at, told)?;
@@ -483,7 +483,7 @@ impl Post {
     }
 
     // A connection comes.
-    pub(crate) fn open(&mut self, who: u64)
+    pub fn open(&mut self, who: u64)
         requires { 0 < length self.old.places.items }
         ensures { Opens self.old self.new who }
     {

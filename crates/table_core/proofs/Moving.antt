@@ -7,7 +7,8 @@ use Rattle.live_core.specs.Hall.{Hall}
 use Rattle.keep_loop.specs.Posts.{Tells, Does, is_here, owed_to}
 use Rattle.keep_loop.specs.Texts.{text_at, to}
 use Rattle.keep_loop.specs.declared.post.Post.{Post}
-use Rattle.table_core.specs.Steps.{Step, Steps, Moves, rests, goes_on}
+use Rattle.hosted_core.specs.Steps.{Steps, rests, goes_on}
+use Rattle.table_core.specs.Moves.{Moves}
 use Rattle.table_core.specs.Along.{Along, GoesOn}
 
 -- what is for one in two lists

@@ -3,7 +3,7 @@ use Rattle.std.specs.Prelude.{ℕ, List}
 use Rattle.live_core.specs.Hall.{Hall}
 use Rattle.keep_loop.specs.Posts.{Tells}
 use Rattle.keep_loop.specs.declared.post.Post.{Post}
-use Rattle.table_core.specs.Steps.{Moves}
+use Rattle.table_core.specs.Moves.{Moves}
 
 -- since the turn began, this was told and added, and the objects moved so
 pub record Along (first : List Hall) (before : Post) (now : List Hall) (post : Post) : Type 0 where

@@ -1,3 +1,2 @@
 pub mod Along
-pub mod Lines
-pub mod Steps
+pub mod Moves

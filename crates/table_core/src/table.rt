@@ -2,17 +2,17 @@
 
 ghost use Rattle.std.specs.Prelude.{◌≡◌, OnOk, IfOk, Ok, true, false};
 ghost use Rattle.table_core.specs.Along.{GoesOn};
-ghost use Rattle.table_core.specs.Steps.{Begins};
+ghost use Rattle.table_core.specs.Moves.{Begins};
 
-use crate::answer::{
+use ask_core::answer::{Cancelled, KeyedFault, SubmitFault};
+use client_core::answer::{
     push_accepted, push_cancel, push_ended, push_kept, push_opened, push_repeated, push_withdrawn,
 };
-use crate::ask::{Ask, ask_of, cancel_of};
-use crate::client::Opened;
-use crate::clients::Clients;
-use crate::hosted::{Hosted, Keyed};
-use ask_core::answer::{Cancelled, KeyedFault, SubmitFault};
+use client_core::ask::{Ask, ask_of, cancel_of};
+use client_core::client::Opened;
+use client_core::clients::Clients;
 use guest_core::guests::{EnterFault, Entered};
+use hosted_core::hosted::{Hosted, Keyed};
 use keep_loop::{LineEnd, Note, Post, Served};
 use live_core::call::Ran;
 use live_core::live::Taken;
@@ -840,7 +840,7 @@ fn without_cr(line: &[u8]) -> &[u8] {
 }
 
 impl Served for Table {
-    ghost use Rattle.table_core.specs.Steps.{Gives};
+    ghost use Rattle.table_core.specs.Moves.{Gives};
 
     ghost gives = { Gives };
 

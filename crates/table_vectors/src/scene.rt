@@ -10,7 +10,7 @@ use past_core::past::PastEvent;
 use std::alloc::Global;
 use std::process::Abort;
 
-use table_core::hosted::{Begun, Hosted};
+use hosted_core::hosted::{Begun, Hosted};
 use table_core::table::Table;
 use value_core::value::Value;
 

@@ -19,7 +19,7 @@ pub struct Clients {
 
 impl Clients {
     /// So many places, which nobody has. The error is that memory was refused.
-    pub(crate) fn new(alloc: Global, count: usize) -> Result<Clients, AllocError> {
+    pub fn new(alloc: Global, count: usize) -> Result<Clients, AllocError> {
         let mut rows = Vec::with_capacity(alloc, count)?;
         for _ in 0..count {
             rows.push(Client::nobody(alloc))?;
@@ -42,12 +42,12 @@ impl Clients {
     }
 
     /// How many places there are.
-    pub(crate) fn count(&self) -> usize {
+    pub fn count(&self) -> usize {
         self.rows.len()
     }
 
     /// The place of a connection that is here.
-    pub(crate) fn place_of(&self, who: u64) -> Option<usize> {
+    pub fn place_of(&self, who: u64) -> Option<usize> {
         let place = self.place_for(who)?;
         let client = self.rows.get(place)?;
         if client.is_here && client.who == who {
@@ -57,7 +57,7 @@ impl Clients {
     }
 
     /// The place that a connection that comes will have, where another one has it.
-    pub(crate) fn taken_by(&self, who: u64) -> Option<usize> {
+    pub fn taken_by(&self, who: u64) -> Option<usize> {
         let place = self.place_for(who)?;
         let client = self.rows.get(place)?;
         if client.is_here {
@@ -67,7 +67,7 @@ impl Clients {
     }
 
     /// A connection comes.
-    pub(crate) fn come(&mut self, who: u64) {
+    pub fn come(&mut self, who: u64) {
         let Some(place) = self.place_for(who) else {
             return;
         };
@@ -78,7 +78,7 @@ impl Clients {
     }
 
     /// The one at a place has gone.
-    pub(crate) fn go(&mut self, place: usize) {
+    pub fn go(&mut self, place: usize) {
         let alloc = self.alloc;
         if let Some(client) = self.rows.get_mut(place) {
             client.go(alloc);
@@ -86,7 +86,7 @@ impl Clients {
     }
 
     /// The number of the connection at a place, where it is here.
-    pub(crate) fn who(&self, place: usize) -> Option<u64> {
+    pub fn who(&self, place: usize) -> Option<u64> {
         let client = self.rows.get(place)?;
         if client.is_here {
             return Some(client.who);
@@ -95,20 +95,20 @@ impl Clients {
     }
 
     /// What the one at a place has opened.
-    pub(crate) fn opened(&self, place: usize) -> Option<Opened> {
+    pub fn opened(&self, place: usize) -> Option<Opened> {
         let client = self.rows.get(place)?;
         client.opened
     }
 
     /// The one at a place has opened this.
-    pub(crate) fn set_opened(&mut self, place: usize, opened: Opened) {
+    pub fn set_opened(&mut self, place: usize, opened: Opened) {
         if let Some(client) = self.rows.get_mut(place) {
             client.opened = Some(opened);
         }
     }
 
     /// A call of the one at a place waits, or waits no more.
-    pub(crate) fn set_waits(&mut self, place: usize, waits: bool) {
+    pub fn set_waits(&mut self, place: usize, waits: bool) {
         if let Some(client) = self.rows.get_mut(place) {
             if let Some(opened) = &mut client.opened {
                 opened.waits = waits;
@@ -117,7 +117,7 @@ impl Clients {
     }
 
     /// Whether a line of the one at a place has to be held: a call of it waits, or lines are held that came before.
-    pub(crate) fn must_hold(&self, place: usize) -> bool {
+    pub fn must_hold(&self, place: usize) -> bool {
         match self.rows.get(place) {
             Some(client) => client.waits() || client.holds(),
             None => false,
@@ -133,7 +133,7 @@ impl Clients {
     }
 
     /// Whether more may be read of the one at a place.
-    pub(crate) fn may_read(&self, place: usize) -> bool {
+    pub fn may_read(&self, place: usize) -> bool {
         match self.rows.get(place) {
             Some(client) => client.held_bytes() <= MOST_HELD,
             None => false,
@@ -141,12 +141,7 @@ impl Clients {
     }
 
     /// Holds a line of the one at a place. The error is that memory was refused: then it is not held.
-    pub(crate) fn hold(
-        &mut self,
-        place: usize,
-        line: &[u8],
-        is_whole: bool,
-    ) -> Result<(), AllocError> {
+    pub fn hold(&mut self, place: usize, line: &[u8], is_whole: bool) -> Result<(), AllocError> {
         match self.rows.get_mut(place) {
             Some(client) => client.hold(line, is_whole),
             None => Ok(()),
@@ -162,7 +157,7 @@ impl Clients {
 
     /// Takes what the next held line of the one at a place asks for. `None`: no line is held. The error is that memory was
     /// refused; then too the line is held no more.
-    pub(crate) fn take(&mut self, place: usize) -> Option<Result<Ask, AllocError>> {
+    pub fn take(&mut self, place: usize) -> Option<Result<Ask, AllocError>> {
         let asked = self.asked(place);
         let alloc = self.alloc;
         if let Some(client) = self.rows.get_mut(place) {
@@ -172,7 +167,7 @@ impl Clients {
     }
 
     /// The held lines of the one at a place may be done, where some are held and no call of it waits.
-    pub(crate) fn ready(&mut self, place: usize) {
+    pub fn ready(&mut self, place: usize) {
         if !self.may_go_on(place) {
             return;
         }
@@ -202,7 +197,7 @@ impl Clients {
     }
 
     /// Takes the first of those whose held lines may be done.
-    pub(crate) fn next(&mut self) -> Option<usize> {
+    pub fn next(&mut self) -> Option<usize> {
         let place = self.first?;
         let behind = match self.rows.get_mut(place) {
             None => None,
@@ -219,12 +214,12 @@ impl Clients {
     }
 
     /// Whether lines of the one at a place may be done now. Else it waits for its turn again.
-    pub(crate) fn goes_on(&self, place: usize) -> bool {
+    pub fn goes_on(&self, place: usize) -> bool {
         self.may_go_on(place)
     }
 
     /// The held lines of the one at a place are done later, since too much is owed to it.
-    pub(crate) fn stall(&mut self, place: usize) {
+    pub fn stall(&mut self, place: usize) {
         if let Some(client) = self.rows.get_mut(place) {
             client.is_stalled = true;
         }
@@ -239,7 +234,7 @@ impl Clients {
     }
 
     /// All whose held lines were to be done later are ready again.
-    pub(crate) fn wake(&mut self) {
+    pub fn wake(&mut self) {
         for place in 0..self.rows.len() {
             if self.is_stalled(place) {
                 self.ready(place);

@@ -7,8 +7,8 @@ use Rattle.word_core.specs.Words.{line_of}
 use Rattle.trace_core.specs.Events.{Called}
 use Rattle.live_core.specs.Hall.{Hall, Told, Every, EachPair, IsHeld}
 use Rattle.live_core.specs.Steps.{Leaves}
-use Rattle.table_core.specs.Lines.{cancel_words}
-use Rattle.table_core.specs.Steps.{Cancels}
+use Rattle.hosted_core.specs.Lines.{cancel_words}
+use Rattle.hosted_core.specs.Steps.{Cancels}
 
 every_at : (P : Called → Type 0) (xs : List Called) (k : ℕ) (c : Called) → Every P xs → slice_get xs k ≡ Some c → P c
 every_at P [] k c all is = absurd (grind (arith, is))

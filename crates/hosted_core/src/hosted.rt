@@ -4,7 +4,7 @@ ghost use Rattle.std.specs.Prelude.{◌≡◌, ◌≢◌, ℕ, [], false, IsTrue
 ghost use Rattle.trace_core.specs.Events.{Called};
 ghost use Rattle.live_core.specs.Hall.{Every};
 ghost use Rattle.live_core.specs.Steps.{Leaves};
-ghost use Rattle.table_core.specs.Steps.{Adds, Steps, Takes};
+ghost use Rattle.hosted_core.specs.Steps.{Adds, Steps, Takes};
 
 use crate::event::{push_cancelled, push_name};
 use crate::size::{most_lines, most_told};
@@ -240,12 +240,12 @@ impl Hosted {
     }
 
     /// The place of the operation of this name.
-    pub(crate) fn operation(&self, name: &Name) -> Option<OpId> {
+    pub fn operation(&self, name: &Name) -> Option<OpId> {
         operation_for(self.live.object(), name)
     }
 
     /// Whether arguments fit the operation at a place.
-    pub(crate) fn fits(&self, operation: OpId, arguments: &[Datum]) -> bool {
+    pub fn fits(&self, operation: OpId, arguments: &[Datum]) -> bool {
         match self.live.object().operations.get(operation as usize) {
             Some(found) => arguments_fit(found, arguments),
             None => false,
@@ -253,7 +253,7 @@ impl Hosted {
     }
 
     /// The number that is told of the call of this number in this epoch.
-    pub(crate) fn told(&self, number: u32) -> u64 {
+    pub fn told(&self, number: u32) -> u64 {
         let place = (number as usize).saturating_sub(1);
         match self.carried.get(place) {
             Some(told) => *told,
@@ -276,7 +276,7 @@ impl Hosted {
     }
 
     /// The session of the waiting call of which this number was told, or what became of it.
-    pub(crate) fn waits_as(&self, told: u64) -> Result<u32, Cancelled> {
+    pub fn waits_as(&self, told: u64) -> Result<u32, Cancelled> {
         if told == 0 || told > self.base.saturating_add(u64::from(self.given)) {
             return Err(Cancelled::Unknown);
         }
@@ -290,7 +290,7 @@ impl Hosted {
     }
 
     /// The waiting call of a session.
-    pub(crate) fn waiting_of(&self, session: u16) -> Option<&Call>
+    pub fn waiting_of(&self, session: u16) -> Option<&Call>
         ensures { IfSome result (λ c. (k : ℕ) × (slice_get self.now.waiting k ≡ Some c.now)
             × (c.now.session ≡ session)) }
     {
@@ -332,7 +332,7 @@ impl Hosted {
 
     /// What a key says of a call of a session that has a name, or of one that has none and made so many calls. Where there
     /// is no operation, a call of this key is another one.
-    pub(crate) fn key(
+    pub fn key(
         &self,
         session: Option<u16>,
         calls: u64,
@@ -352,13 +352,13 @@ impl Hosted {
     }
 
     /// How many bytes the lines of a call and of all that wait have at most.
-    pub(crate) fn most_with(&self, operation: OpId, arguments: &[Datum]) -> usize {
+    pub fn most_with(&self, operation: OpId, arguments: &[Datum]) -> usize {
         let own = most_of(self.live.object(), operation, arguments);
         self.owing.saturating_add(own)
     }
 
     /// How many bytes the lines have at most that tell a client of a call of this operation.
-    pub(crate) fn most_told(&self, operation: OpId) -> usize {
+    pub fn most_told(&self, operation: OpId) -> usize {
         match self.live.object().operations.get(operation as usize) {
             Some(found) => most_told(found),
             None => 0,
@@ -366,17 +366,17 @@ impl Hosted {
     }
 
     /// Whether the journal has room for lines of so many bytes.
-    pub(crate) fn has_room(&self, size: usize) -> bool {
+    pub fn has_room(&self, size: usize) -> bool {
         self.added.saturating_add(size) <= MOST_LINES
     }
 
     /// Whether as many calls wait as may.
-    pub(crate) fn is_full(&self) -> bool {
+    pub fn is_full(&self) -> bool {
         self.live.waiting().len() >= self.waiting as usize
     }
 
     /// Whether the numbers of this epoch are spent.
-    pub(crate) fn is_spent(&self) -> bool {
+    pub fn is_spent(&self) -> bool {
         self.live.numbers_left() == 0
     }
 
@@ -387,7 +387,7 @@ impl Hosted {
     }
 
     /// A call is asked for.
-    pub(crate) fn count(&mut self)
+    pub fn count(&mut self)
         ensures { self.new ≡ self.old }
     {
         if self.is_spending() {
@@ -402,12 +402,12 @@ impl Hosted {
     }
 
     /// Whether a new epoch is to be tried.
-    pub(crate) fn is_due(&self) -> bool {
+    pub fn is_due(&self) -> bool {
         self.is_due_at(self.behind)
     }
 
     /// A new epoch could not begin: it is tried again behind 1,000 calls.
-    pub(crate) fn put_off(&mut self)
+    pub fn put_off(&mut self)
         ensures { self.new ≡ self.old }
     {
         self.tried = self.behind;
@@ -423,14 +423,14 @@ impl Hosted {
     }
 
     /// Gives a number to a session without a name. `None`: no number is free.
-    pub(crate) fn seat(&mut self) -> Option<u16>
+    pub fn seat(&mut self) -> Option<u16>
         ensures { self.new ≡ self.old }
     {
         self.guests.seat()
     }
 
     /// A session is of the connection at this place from now on.
-    pub(crate) fn own(&mut self, session: u16, place: usize)
+    pub fn own(&mut self, session: u16, place: usize)
         ensures { self.new ≡ self.old }
     {
         let Ok(owner) = u32::try_from(place.saturating_add(1)) else {
@@ -442,13 +442,13 @@ impl Hosted {
     }
 
     /// The place of the connection that has a session.
-    pub(crate) fn owner(&self, session: u32) -> Option<usize> {
+    pub fn owner(&self, session: u32) -> Option<usize> {
         let owner = self.owners.get(session as usize)?;
         (*owner as usize).checked_sub(1)
     }
 
     /// Takes the memory in which it is kept that a call and all that wait ran.
-    pub(crate) fn reserve(&mut self) -> Result<(), AllocError>
+    pub fn reserve(&mut self) -> Result<(), AllocError>
         ensures { self.new ≡ self.old }
     {
         let calls = self.live.waiting().len().saturating_add(1);
@@ -495,7 +495,7 @@ impl Hosted {
 
     /// Submits a call, and adds the lines of all that ran. `is_first`: no line was added since a new epoch was last asked
     /// for. A fault changes nothing. The error is that memory was refused for the lines.
-    pub(crate) fn call(
+    pub fn call(
         &mut self,
         is_first: bool,
         session: u16,
@@ -528,7 +528,7 @@ impl Hosted {
 
     /// A call ran: it is kept that it did, and its client remembers it. It answers the number that is told. The error is
     /// that memory was refused; there is none where `reserve` was called.
-    pub(crate) fn ended(&mut self, ran: &Ran) -> Result<u64, AllocError>
+    pub fn ended(&mut self, ran: &Ran) -> Result<u64, AllocError>
         ensures { self.new ≡ self.old }
     {
         let operation = ran.call.operation();
@@ -598,11 +598,7 @@ impl Hosted {
     /// The waiting call of a session is cancelled, and its client remembers it. Where the client has a name, the line that
     /// tells of it is added. It answers the number that is told, and nothing where no call of the session waits. The error
     /// is that memory was refused; how much then stands in `lines` is not said.
-    pub(crate) fn cancel(
-        &mut self,
-        session: u16,
-        lines: &mut Vec<u8>,
-    ) -> Result<Option<u64>, AllocError>
+    pub fn cancel(&mut self, session: u16, lines: &mut Vec<u8>) -> Result<Option<u64>, AllocError>
         ensures { OnOk result (Adds self.old lines.old.items self.new lines.new.items) }
     {
         if self.guests.guest(session).is_some() {
@@ -613,7 +609,7 @@ impl Hosted {
 
     /// A client comes by its name in the second `now`, on the connection at this place. Where the name is new, the line
     /// that tells of it is added. The error is that memory was refused for the line.
-    pub(crate) fn enter(
+    pub fn enter(
         &mut self,
         name: &Name,
         place: usize,
@@ -656,7 +652,7 @@ impl Hosted {
     }
 
     /// A session leaves in the second `now`. No call of it waits.
-    pub(crate) fn leave(&mut self, session: u16, now: u64)
+    pub fn leave(&mut self, session: u16, now: u64)
         ensures { self.new ≡ self.old }
     {
         let _was = self.guests.leave(session, now);

@@ -187,7 +187,7 @@ impl Hosted {
 
     /// Writes the front of the next epoch into `front`, in place of what is in it. False: no short past was found. The
     /// error is that memory was refused; how much then stands in `front` is not said.
-    pub(crate) fn write_next(&self, front: &mut Vec<u8>) -> Result<bool, AllocError> {
+    pub fn write_next(&self, front: &mut Vec<u8>) -> Result<bool, AllocError> {
         let object = self.live.object();
         let operations = object.operations.len() as OpId;
         front.clear();
@@ -211,7 +211,7 @@ impl Hosted {
 
     /// Begins the next epoch, whose front was written. False: no short past was found, or it leaves too few numbers for the
     /// calls that wait; then, and where memory was refused, nothing changes.
-    pub(crate) fn begin_next(&mut self) -> Result<bool, AllocError>
+    pub fn begin_next(&mut self) -> Result<bool, AllocError>
         ensures begun { result ≡ Ok true → (past : List AnEvent) × IsBegun self.old past self.new }
         ensures none { result ≡ Ok false → self.new ≡ self.old }
     {
