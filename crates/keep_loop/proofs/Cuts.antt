@@ -8,7 +8,6 @@ use Rattle.keep_loop.specs.Cuts.{IsCut, IsCutBy, IsFed, most_line}
 use Rattle.keep_loop.specs.declared.served.LineEnd.{LineEnd}
 use Rattle.keep_loop.specs.declared.served.LineEnd.TheVariants.{Feed, Input, TooLong}
 
-
 pub fed_nothing : IsFed [] [] []
 fed_nothing = (refl, All-nil (λ b. (b == 10) ≡ false), omega arith)
 
@@ -26,32 +25,55 @@ fed_more came (l ∷ lines) held more f clear small =
 
 -- its end comes
 pub fed_line : (came : List ℕ) (lines : List (List ℕ × LineEnd)) (held front : List ℕ) → IsFed came lines held → NoLineFeed front →
-    length (held ++ front) ≤ most_line → IsFed (came ++ front ++ 10 ∷ []) (lines ++ (held ++ front, Feed) ∷ []) []
-fed_line came [] held front f clear small =
-    (All-append (λ b. (b == 10) ≡ false) held front f.1 clear, refl, small, [],
-     ap (λ (l : List ℕ). l ++ front ++ 10 ∷ []) f.0 ∙ sym (append_assoc held front (10 ∷ [])), fed_nothing)
-fed_line came (l ∷ lines) held front f clear small =
-    (f.0, f.1, f.2, f.3 ++ front ++ 10 ∷ [], ap (λ (l : List ℕ). l ++ front ++ 10 ∷ []) f.4 ∙ append_assoc l.0 (10 ∷ f.3) (front ++ 10 ∷ []),
-     fed_line f.3 lines held front f.5 clear small)
+    length (held ++ front) ≤ most_line → IsFed (came ++ (front ++ 10 ∷ [])) (lines ++ (held ++ front, Feed) ∷ []) []
+fed_line came [] held front f clear small = (
+  All-append (λ b. (b == 10) ≡ false) held front f.1 clear,
+  refl,
+  small,
+  [],
+  ap (λ (l : List ℕ). l ++ (front ++ 10 ∷ [])) f.0 ∙ sym (append_assoc held front (10 ∷ [])),
+  fed_nothing,
+)
+fed_line came (l ∷ lines) held front f clear small = (
+  f.0,
+  f.1,
+  f.2,
+  f.3 ++ (front ++ 10 ∷ []),
+  ap (λ (l : List ℕ). l ++ (front ++ 10 ∷ [])) f.4 ∙ append_assoc l.0 (10 ∷ f.3) (front ++ 10 ∷ []),
+  fed_line f.3 lines held front f.5 clear small,
+)
 
 -- it has too many bytes
 pub cut_long : (ended : ℕ) (came : List ℕ) (lines : List (List ℕ × LineEnd)) (held front rest : List ℕ) → IsFed came lines held → NoLineFeed front →
-    most_line < length (held ++ front) → IsCut ended (came ++ front ++ rest) (lines ++ (held ++ front, TooLong) ∷ [])
-cut_long ended came [] held front rest f clear long =
-    (All-append (λ b. (b == 10) ≡ false) held front f.1 clear, (long, rest,
-     ap (λ (l : List ℕ). l ++ front ++ rest) f.0 ∙ sym (append_assoc held front rest), refl))
-cut_long ended came (l ∷ lines) held front rest f clear long =
-    (f.0, subst (λ e. IsCutBy ended (came ++ front ++ rest) l.0 e (lines ++ (held ++ front, TooLong) ∷ []) (λ r. IsCut ended r (lines ++ (held ++ front, TooLong) ∷ []))) (sym f.1)
-     (f.2, f.3 ++ front ++ rest, ap (λ (l : List ℕ). l ++ front ++ rest) f.4 ∙ append_assoc l.0 (10 ∷ f.3) (front ++ rest),
-      cut_long ended f.3 lines held front rest f.5 clear long))
+    most_line < length (held ++ front) → IsCut ended (came ++ (front ++ rest)) (lines ++ (held ++ front, TooLong) ∷ [])
+cut_long ended came [] held front rest f clear long = (
+  All-append (λ b. (b == 10) ≡ false) held front f.1 clear,
+  (
+    long,
+    rest,
+    ap (λ (l : List ℕ). l ++ (front ++ rest)) f.0 ∙ sym (append_assoc held front rest),
+    refl,
+  ),
+)
+cut_long ended came (l ∷ lines) held front rest f clear long = (
+  f.0,
+  subst (λ e. IsCutBy ended (came ++ (front ++ rest)) l.0 e (lines ++ (held ++ front, TooLong) ∷ []) (λ r. IsCut ended r (lines ++ (held ++ front, TooLong) ∷ []))) (sym f.1) (
+    f.2,
+    f.3 ++ (front ++ rest),
+    ap (λ (l : List ℕ). l ++ (front ++ rest)) f.4 ∙ append_assoc l.0 (10 ∷ f.3) (front ++ rest),
+    cut_long ended f.3 lines held front rest f.5 clear long,
+  ),
+)
 
 -- the input ends behind it
 pub cut_last : (ended : ℕ) (came : List ℕ) (lines : List (List ℕ × LineEnd)) (held : List ℕ) → IsFed came lines held → 0 < ended →
     IsCut ended came (lines ++ (held, Input) ∷ [])
 cut_last ended came [] held f is = (f.1, (f.2, f.0, is, refl))
-cut_last ended came (l ∷ lines) held f is =
-    (f.0, subst (λ e. IsCutBy ended came l.0 e (lines ++ (held, Input) ∷ []) (λ r. IsCut ended r (lines ++ (held, Input) ∷ []))) (sym f.1)
-     (f.2, f.3, f.4, cut_last ended f.3 lines held f.5 is))
+cut_last ended came (l ∷ lines) held f is = (
+  f.0,
+  subst (λ e. IsCutBy ended came l.0 e (lines ++ (held, Input) ∷ []) (λ r. IsCut ended r (lines ++ (held, Input) ∷ []))) (sym f.1)
+      (f.2, f.3, f.4, cut_last ended f.3 lines held f.5 is),
+)
 
 cut_more_by : (came more line : List ℕ) (end : LineEnd) (lines : List (List ℕ × LineEnd)) (one two : List ℕ → Type 0) → ((rest : List ℕ) → one rest → two (rest ++ more)) →
     IsCutBy 0 came line end lines one → IsCutBy 0 (came ++ more) line end lines two

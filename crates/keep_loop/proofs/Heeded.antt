@@ -17,7 +17,7 @@ use Rattle.keep_loop.proofs.Cuts.{fed_nothing}
 use Rattle.keep_loop.proofs.Places.{by_who}
 
 counted : (b : Bool) (n m : ℕ) → m ≡ n + (if b then 1 else 0) → n ≤ 1 → (b ≡ true → n ≡ 0) → m ≤ 1
-counted true n m is le none = (let no = none refl in omega (arith, is, no))
+counted true n m is le none = (let zero_is = none refl in omega (arith, is, zero_is))
 counted false n m is le none = omega (arith, is, le)
 
 uncounted : (b : Bool) (n m : ℕ) → m ≡ n + (if b then 1 else 0) → n ≡ 0 → b ≡ false → m ≡ 0
@@ -49,6 +49,7 @@ module _ (came : ℕ → List ℕ) (ended : ℕ → ℕ) (notes : List Note) whe
     where
       same : (c : ℕ) → heard_of c (all ++ record { asked = Noted note; said = said; added = added } ∷ []) ≡ heard_of c all
       same c = heard_last c all (record { asked = Noted note; said = said; added = added }) ∙ append-nil (heard_of c all)
+
       fed_now : (c : ℕ) → ((hears old.places.items c ≡ true) × (held_of held_now c ≡ held_of held c)) ⊎ ((base ≤ c) × (held_of held_now c ≡ [])) →
           IsFed (came c) (heard_of c (all ++ record { asked = Noted note; said = said; added = added } ∷ [])) (held_of held_now c)
       fed_now c (inl was) =
@@ -56,9 +57,11 @@ module _ (came : ℕ → List ℕ) (ended : ℕ → ℕ) (notes : List Note) whe
       fed_now c (inr new_one) =
           let u = h.unheard c new_one.0 in
           subst (λ l. IsFed (came c) l (held_of held_now c)) (sym (same c ∙ u.1)) (subst (λ l. IsFed (came c) [] l) (sym new_one.1) (subst (λ l. IsFed l [] []) (sym u.0) fed_nothing))
+
       unended_now : (c : ℕ) → ((hears old.places.items c ≡ true) × (held_of held_now c ≡ held_of held c)) ⊎ ((base ≤ c) × (held_of held_now c ≡ [])) → ended c ≡ 0
       unended_now c (inl was) = h.unended c was.0
       unended_now c (inr new_one) = (h.unheard c new_one.0).2
+
       below_now : (c : ℕ) → (is_here old.places.items c ≡ true) ⊎ (c < next) → c < next
       below_now c (inl was) = (let lt = h.below c was in omega (arith, le, lt))
       below_now c (inr is) = is
@@ -79,11 +82,11 @@ module _ (came : ℕ → List ℕ) (ended : ℕ → ℕ) (notes : List Note) whe
     places = held_count ∙ h.places ∙ sym count;
     heard = λ c. by_who who c (λ k. IsCut (ended_now k) (came_now k) (heard_of k all_now)) cut
         (λ not. (let o = others c not in
-          subst (λ l. IsCut (ended_now c) (came_now c) l) (sym o.2) (subst (λ l. IsCut (ended_now c) l (heard_of c all)) (sym o.0) (subst (λ n. IsCut n (came c) (heard_of c all)) (sym o.1) (h.heard c)))));
+        subst (λ l. IsCut (ended_now c) (came_now c) l) (sym o.2) (subst (λ l. IsCut (ended_now c) l (heard_of c all)) (sym o.0) (subst (λ n. IsCut n (came c) (heard_of c all)) (sym o.1) (h.heard c)))));
     fed = λ c. by_who who c (λ k. hears new.places.items k ≡ true → IsFed (came_now k) (heard_of k all_now) (held_of held_now k)) fed
         (λ not is. (let o = others c not in
-          subst (λ l. IsFed (came_now c) l (held_of held_now c)) (sym o.2) (subst (λ l. IsFed l (heard_of c all) (held_of held_now c)) (sym o.0)
-          (subst (λ l. IsFed (came c) (heard_of c all) l) (sym (held_same c not is)) (h.fed c (hear c is))))));
+        subst (λ l. IsFed (came_now c) l (held_of held_now c)) (sym o.2) (subst (λ l. IsFed l (heard_of c all) (held_of held_now c)) (sym o.0)
+        (subst (λ l. IsFed (came c) (heard_of c all) l) (sym (held_same c not is)) (h.fed c (hear c is))))));
     unended = λ c. by_who who c (λ k. hears new.places.items k ≡ true → ended_now k ≡ 0) unended (λ not is. (others c not).1 ∙ h.unended c (hear c is));
     noted = h.noted ∙ sym no_note;
     once = h.once;
@@ -124,4 +127,19 @@ module _ (came : ℕ → List ℕ) (ended : ℕ → ℕ) (notes : List Note) whe
     below = h.below;
     fresh = h.fresh;
     unheard = λ c is. (let u = h.unheard c is in (same c ∙ u.0, u.1, u.2));
+  }
+
+  -- a turn of which nobody is heard
+  pub heeds_turn : (post : Post) (held : List Text) (base : ℕ) (all all_now : List Turn) → ((c : ℕ) → heard_of c all_now ≡ heard_of c all) → notes_by all_now ≡ notes_by all →
+      Heeds came ended notes post held base all → Heeds came ended notes post held base all_now
+  heeds_turn post held base all all_now same no_note h = record {
+    places = h.places;
+    heard = λ c. subst (λ l. IsCut (ended c) (came c) l) (sym (same c)) (h.heard c);
+    fed = λ c is. subst (λ l. IsFed (came c) l (held_of held c)) (sym (same c)) (h.fed c is);
+    unended = h.unended;
+    noted = h.noted ∙ sym no_note;
+    once = h.once;
+    below = h.below;
+    fresh = h.fresh;
+    unheard = λ c is. (let u = h.unheard c is in (u.0, same c ∙ u.1, u.2));
   }

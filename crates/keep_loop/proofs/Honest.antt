@@ -1,5 +1,5 @@
 -- What is seen is honest, event by event.
-use Rattle.std.proofs.Common.{◌≡◌, ◌⊎◌, inl, inr, ℕ, ◌<◌, ◌≤◌, ◌+◌, List, [], ◌∷◌, ◌++◌, refl, sym, ◌∙◌, ap, subst, append_assoc, length, take, eqb-true, true≢false, arith}
+use Rattle.std.proofs.Common.{◌≡◌, ◌⊎◌, inl, inr, ℕ, ◌<◌, ◌≤◌, ◌+◌, List, [], ◌∷◌, ◌++◌, refl, sym, ◌∙◌, ap, subst, append_assoc, length, take, drop, take-append-drop, eqb-true, true≢false, arith}
 use Rattle.std.specs.Prelude.{Bool, true, false, if◌then◌else◌, ◌==◌}
 use Rattle.std.proofs.lemmas.List.{append-nil}
 use Rattle.keep_loop.specs.Texts.{Begins, text_at}
@@ -29,8 +29,12 @@ kept_more true front stored added more is = is
 kept_more false front stored added more is = begins_more front added more is
 
 one_more : (b : Bool) (n m : ℕ) → m ≡ n + (if b then 1 else 0) → n ≤ 1 → (b ≡ true → n ≡ 0) → m ≤ 1
-one_more true n m is le none = (let no = none refl in omega (arith, is, no))
+one_more true n m is le none = (let zero_is = none refl in omega (arith, is, zero_is))
 one_more false n m is le none = omega (arith, is, le)
+
+both_same : (waits : Bool) (l : List ℕ) → (if waits then l else l) ≡ l
+both_same true l = refl
+both_same false l = refl
 
 module _ {S : Type 0} (gives : Gives S) (first : S) (limits : Limits) where
   -- from the parts
@@ -61,11 +65,11 @@ module _ {S : Type 0} (gives : Gives S) (first : S) (limits : Limits) where
       let all : List Turn = s.kept_turns ++ s.later in
       honest_by (Came who bytes ∷ seen) keep.base keep.post s.kept_turns s.later keep.object s.runs
       (λ c. by_who who c (λ k. IsCut (ended_in k seen) (came_from k seen ++ (if who == k then bytes else [])) (heard_of k all))
-        (subst (λ n. IsCut n (came_from who seen ++ (if who == who then bytes else [])) (heard_of who all)) (sym (s.heeds.unended who hearing))
-          (cut_more (came_from who seen) (if who == who then bytes else []) (heard_of who all)
-          (subst (λ n. IsCut n (came_from who seen) (heard_of who all)) (s.heeds.unended who hearing) (s.heeds.heard who))))
-        (λ not. subst (λ b. IsCut (ended_in c seen) (came_from c seen ++ (if b then bytes else [])) (heard_of c all)) (sym not)
-          (subst (λ l. IsCut (ended_in c seen) l (heard_of c all)) (sym (append-nil (came_from c seen))) (s.heeds.heard c))))
+      (subst (λ n. IsCut n (came_from who seen ++ (if who == who then bytes else [])) (heard_of who all)) (sym (s.heeds.unended who hearing))
+      (cut_more (came_from who seen) (if who == who then bytes else []) (heard_of who all)
+      (subst (λ n. IsCut n (came_from who seen) (heard_of who all)) (s.heeds.unended who hearing) (s.heeds.heard who))))
+      (λ not. subst (λ b. IsCut (ended_in c seen) (came_from c seen ++ (if b then bytes else [])) (heard_of c all)) (sym not)
+      (subst (λ l. IsCut (ended_in c seen) l (heard_of c all)) (sym (append-nil (came_from c seen))) (s.heeds.heard c))))
       ([], s.heeds.noted ∙ sym (append-nil (notes_by all))) s.heeds.once s.owes
 
   pub honest_ended : (seen : List Happened) (keep : Keep S) (who : ℕ) → Stands gives first limits seen keep → IsHonest gives first limits (Ended who ∷ seen)
@@ -114,7 +118,51 @@ module _ {S : Type 0} (gives : Gives S) (first : S) (limits : Limits) where
       }
     where
       handed : (j : ℕ) → j < limits.journals → (b : Bool) → (journal == j) ≡ b → Begins (added_in j seen ++ (if b then lines else [])) (added_by j (s.kept_turns ++ s.later))
-      handed j is true it = ([],
-          sym (s.owes.lines j is) ∙ ap (λ k. added_in j seen ++ text_at keep.post.lines.items k) (sym (eqb-true journal j it)) ∙ ap (λ (l : List ℕ). added_in j seen ++ l) (sym are)
-          ∙ sym (append-nil (added_in j seen ++ lines)))
+      handed j is true it = (
+        [],
+        sym (s.owes.lines j is) ∙ ap (λ k. added_in j seen ++ text_at keep.post.lines.items k) (sym (eqb-true journal j it)) ∙ ap (λ (l : List ℕ). added_in j seen ++ l) (sym are)
+            ∙ sym (append-nil (added_in j seen ++ lines)),
+      )
       handed j is false it = (text_at keep.post.lines.items j, sym (s.owes.lines j is) ∙ ap (λ (l : List ℕ). l ++ text_at keep.post.lines.items j) (sym (append-nil (added_in j seen))))
+
+  -- a connection was written a front of what it is owed, where all lines are kept
+  pub honest_wrote : (seen : List Happened) (keep : Keep S) (who n : ℕ) → is_here keep.post.places.items who ≡ true →
+      Rests gives first limits seen keep → IsHonest gives first limits (Wrote who (take n (owed_to keep.post.places.items who)) ∷ seen)
+  honest_wrote seen keep who n here r =
+      let s = r.stands in
+      let all : List Turn = s.kept_turns ++ s.later in
+      let owed : List ℕ = owed_to keep.post.places.items who in
+      let only : all ≡ s.kept_turns = ap (λ ts. s.kept_turns ++ ts) r.none ∙ append-nil s.kept_turns in
+      record {
+        kept_turns = s.kept_turns;
+        later = s.later;
+        last = keep.object;
+        runs = s.runs;
+        heard = s.heeds.heard;
+        noted = ([], s.heeds.noted ∙ sym (append-nil (notes_by all)));
+        once = s.heeds.once;
+        kept = s.owes.begun_kept;
+        added = λ j is. (text_at keep.post.lines.items j, sym (s.owes.lines j is));
+        written = λ c. by_who who c (λ k. Begins (written_to k seen ++ (if who == k then take n owed else [])) (said_to k s.kept_turns))
+            (subst (λ b. Begins (written_to who seen ++ (if b then take n owed else [])) (said_to who s.kept_turns)) (sym (is_same who)) (
+              drop n owed,
+              ap (said_to who) (sym only) ∙ sym (s.owes.owed who here) ∙ ap (λ (l : List ℕ). written_to who seen ++ l) (sym (take-append-drop n owed))
+                  ∙ sym (append_assoc (written_to who seen) (take n owed) (drop n owed)),
+            ))
+            (λ not. subst (λ b. Begins (written_to c seen ++ (if b then take n owed else [])) (said_to c s.kept_turns)) (sym not)
+            (subst (λ (l : List ℕ). Begins l (said_to c s.kept_turns)) (sym (append-nil (written_to c seen))) (s.owes.begun c)));
+      }
+
+  pub honest_none : IsHonest gives first limits []
+  honest_none = record {
+    kept_turns = [];
+    later = [];
+    last = first;
+    runs = refl;
+    heard = λ c. tt;
+    noted = ([], refl);
+    once = λ c. omega arith;
+    kept = λ j is. ([], both_same limits.waits []);
+    added = λ j is. ([], refl);
+    written = λ c. ([], refl);
+  }

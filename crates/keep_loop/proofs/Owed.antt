@@ -44,6 +44,7 @@ module _ (limits : Limits) (written kept added : ℕ → List ℕ) where
       joined : (c : ℕ) → GoesOn old new base t c → (has_joined c (kept_turns ++ later) || joins c t.asked) ≡ true
       joined c (inl was) = ap (λ b. b || joins c t.asked) (o.here c was.0)
       joined c (inr comes) = ap (λ b. b || joins c t.asked) (o.fresh c comes.0) ∙ comes.1
+
       told : (c : ℕ) → GoesOn old new base t c → written c ++ owed_to new.places.items c ≡ said_to c ((kept_turns ++ later) ++ t ∷ [])
       told c (inl was) =
           ap (λ (l : List ℕ). written c ++ l) was.1 ∙ sym (append_assoc (written c) (owed_to old.places.items c) (to c t.said))
@@ -143,14 +144,17 @@ module _ (limits : Limits) (written kept added : ℕ → List ℕ) where
     where
       was : (c : ℕ) → is_here new.places.items c ≡ true → is_here old.places.items c ≡ true
       was c is = sym (ap is_here_in (w.stages c)) ∙ is
+
       now : (c : ℕ) → is_here new.places.items c ≡ true →
           (written c ++ (if who == c then take n (owed_to old.places.items who) else [])) ++ owed_to new.places.items c ≡ said_to c (kept_turns ++ later)
       now c is =
           ap (λ (l : List ℕ). (written c ++ (if who == c then take n (owed_to old.places.items who) else [])) ++ l) (w.owed c (was c is))
           ∙ wrote (who == c) n (written c) (owed_to old.places.items who) (owed_to old.places.items c) (said_to c (kept_turns ++ later))
           (λ is. ap (λ k. owed_to old.places.items k) (eqb-true who c is)) (o.owed c (was c is))
+
       only : kept_turns ++ later ≡ kept_turns
       only = ap (λ ts. kept_turns ++ ts) none ∙ append-nil kept_turns
+
       begun_now : (c : ℕ) (b : Bool) → (who == c) ≡ b → Begins (written c ++ (if who == c then take n (owed_to old.places.items who) else [])) (said_to c kept_turns)
       begun_now c true is =
           let there : is_here new.places.items c ≡ true = ap is_here_in (w.stages c) ∙ ap (λ k. is_here old.places.items k) (sym (eqb-true who c is)) ∙ is_there in
@@ -158,6 +162,7 @@ module _ (limits : Limits) (written kept added : ℕ → List ℕ) where
       begun_now c false is =
           subst (λ b. Begins (written c ++ (if b then take n (owed_to old.places.items who) else [])) (said_to c kept_turns)) (sym is)
           (subst (λ (l : List ℕ). Begins l (said_to c kept_turns)) (sym (append-nil (written c))) (o.begun c))
+
       unwritten_now : (c : ℕ) (b : Bool) → (who == c) ≡ b → base ≤ c → written c ++ (if who == c then take n (owed_to old.places.items who) else []) ≡ []
       unwritten_now c true is far =
           absurd (true≢false (sym (o.here c (ap (λ k. is_here old.places.items k) (sym (eqb-true who c is)) ∙ is_there)) ∙ o.fresh c far))

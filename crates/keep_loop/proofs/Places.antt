@@ -12,12 +12,12 @@ use Rattle.keep_loop.specs.declared.post.Stage.TheVariants.{Gone, Hears, Quits, 
 use Rattle.keep_loop.proofs.Turns.{to_more}
 
 by_who_if : (who c : ℕ) (P : ℕ → Type 0) (b : Bool) → (who == c) ≡ b → P who → ((who == c) ≡ false → P c) → P c
-by_who_if who c P true is yes no = subst P (eqb-true who c is) yes
-by_who_if who c P false is yes no = no is
+by_who_if who c P true is holds fails = subst P (eqb-true who c is) holds
+by_who_if who c P false is holds fails = fails is
 
 -- this number, or another
 pub by_who : (who c : ℕ) (P : ℕ → Type 0) → P who → ((who == c) ≡ false → P c) → P c
-by_who who c P yes no = by_who_if who c P (who == c) refl yes no
+by_who who c P holds fails = by_who_if who c P (who == c) refl holds fails
 
 pub is_same : (a : ℕ) → (a == a) ≡ true
 is_same a = eq-eqb a a refl
@@ -143,8 +143,8 @@ tells_added old new journal bytes places count lines = record {
 }
 
 other_by : (journal j : ℕ) (b : Bool) (bytes : List ℕ) → (journal == j) ≡ b → b ≡ false → [] ≡ (if journal == j then bytes else []) ++ []
-other_by journal j true bytes is no = absurd (true≢false no)
-other_by journal j false bytes is no = ap (λ b. (if b then bytes else []) ++ []) (sym is)
+other_by journal j true bytes is fails = absurd (true≢false fails)
+other_by journal j false bytes is fails = ap (λ b. (if b then bytes else []) ++ []) (sym is)
 
 less_not : (j journal n : ℕ) (b : Bool) → (journal == j) ≡ b → j < n → (journal < n → ⊥) → b ≡ false
 less_not j journal n true is lt not = absurd (not (subst (λ k. k < n) (sym (eqb-true journal j is)) lt))
@@ -177,8 +177,8 @@ tells_nobody post who bytes not = record {
 }
   where
     not_it : (who c : ℕ) (b : Bool) → (who == c) ≡ b → is_here post.places.items who ≡ false → is_here post.places.items c ≡ true → b ≡ false
-    not_it who c true is no yes = sym yes ∙ ap (λ k. is_here post.places.items k) (sym (eqb-true who c is)) ∙ no
-    not_it who c false is no yes = refl
+    not_it who c true is fails holds = sym holds ∙ ap (λ k. is_here post.places.items k) (sym (eqb-true who c is)) ∙ fails
+    not_it who c false is fails holds = refl
 
 restaged_here : (o : Option Place) (who c : ℕ) (s : Stage) → is_here_in (stage_in who o) ≡ true → is_here_in s ≡ true →
     is_here_in (staged c s o) ≡ is_here_in (stage_in c o)
@@ -188,6 +188,7 @@ restaged_here (Some p) who c s was is = by_c (p.who == c)
     by_p : (b : Bool) → is_here_in (if b then p.stage else Gone) ≡ true → is_here_in p.stage ≡ true
     by_p true h = h
     by_p false h = absurd (true≢false (sym h))
+
     by_c : (b : Bool) → is_here_in (if b then s else Gone) ≡ is_here_in (if b then p.stage else Gone)
     by_c true = is ∙ sym (by_p (p.who == who) was)
     by_c false = refl
@@ -223,6 +224,7 @@ tells_deaf old new who at s here is_here_s deaf is_at count lines owed stage = r
     by_h c true is = restaged_here (slice_get old.places.items (c % length old.places.items)) who c s
         (subst (λ k. is_here_in (stage_in who (slice_get old.places.items k)) ≡ true) (sym is_at ∙ eqb-true at (c % length old.places.items) is) here) is_here_s
     by_h c false is = refl
+
     by_d : (c : ℕ) (b : Bool) →
         hears_in (if b then staged c s (slice_get old.places.items (c % length old.places.items)) else stage_in c (slice_get old.places.items (c % length old.places.items))) ≡ true →
         hears_in (stage_in c (slice_get old.places.items (c % length old.places.items))) ≡ true
@@ -252,11 +254,14 @@ closes_place old new at count lines owed stage = record {
   where
     before : ℕ → Option Place
     before c = slice_get old.places.items (c % length old.places.items)
+
     now : (c : ℕ) → stage_of new.places.items c ≡ (if at == (c % length old.places.items) then staged c Gone (before c) else stage_in c (before c))
     now c = ap (λ n. stage_in c (slice_get new.places.items (c % n))) count ∙ stage c (c % length old.places.items)
+
     by_h : (c : ℕ) (b : Bool) → is_here_in (if b then staged c Gone (before c) else stage_in c (before c)) ≡ true → is_here_in (stage_in c (before c)) ≡ true
     by_h c true is = absurd (true≢false (sym is ∙ gone_not (before c) c))
     by_h c false is = is
+
     by_d : (c : ℕ) (b : Bool) → hears_in (if b then staged c Gone (before c) else stage_in c (before c)) ≡ true → hears_in (stage_in c (before c)) ≡ true
     by_d c true is = absurd (true≢false (sym is ∙ restaged_deaf (before c) c Gone refl))
     by_d c false is = is
@@ -283,20 +288,25 @@ opens_place old new who at is_at count lines owed stage = record {
   where
     spot : ℕ → ℕ
     spot c = c % length old.places.items
+
     before : ℕ → Option Place
     before c = slice_get old.places.items (spot c)
+
     now : (c : ℕ) → stage_of new.places.items c ≡ (if at == spot c then (if who == c then Hears else Gone) else stage_in c (before c))
     now c = ap (λ n. stage_in c (slice_get new.places.items (c % n))) count ∙ stage c (spot c)
+
     by_h : (c : ℕ) (b d : Bool) → (who == c) ≡ d → is_here_in (if b then (if d then Hears else Gone) else stage_in c (before c)) ≡ true →
         (who ≡ c) ⊎ (is_here_in (stage_in c (before c)) ≡ true)
     by_h c true true it is = inl (eqb-true who c it)
     by_h c true false it is = absurd (true≢false (sym is))
     by_h c false d it is = inr is
+
     by_d : (c : ℕ) (b d : Bool) → (at == spot c) ≡ b → (who == c) ≡ d → hears_in (if b then (if d then Hears else Gone) else stage_in c (before c)) ≡ true →
         (who ≡ c) ⊎ ((hears_in (stage_in c (before c)) ≡ true) × ((spot who == spot c) ≡ false))
     by_d c true true spots it is = inl (eqb-true who c it)
     by_d c true false spots it is = absurd (true≢false (sym is))
     by_d c false d spots it is = inr (is, subst (λ k. (k == spot c) ≡ false) is_at spots)
+
     by_o : (c : ℕ) (b d : Bool) → (who == c) ≡ d → is_here_in (if b then (if d then Hears else Gone) else stage_in c (before c)) ≡ true →
         owed_to new.places.items c ≡ (if b then [] else owed_in (before c)) → (who ≡ c) ⊎ (owed_to new.places.items c ≡ owed_in (before c))
     by_o c true true it is e = inl (eqb-true who c it)

@@ -1,5 +1,5 @@
 -- What is seen of a server from outside, the newest first.
-use Rattle.std.specs.Prelude.{◌≡◌, ℕ, ◌+◌, Bool, Option, Some, None, List, [], ◌∷◌, ◌++◌, if◌then◌else◌, ◌==◌}
+use Rattle.std.specs.Prelude.{◌≡◌, ℕ, ◌+◌, Bool, true, false, Option, Some, None, List, [], ◌∷◌, ◌++◌, if◌then◌else◌, ◌==◌}
 use Rattle.keep_loop.specs.Turns.{is_joining}
 use Rattle.keep_loop.specs.declared.outside.Read.{Read}
 use Rattle.keep_loop.specs.declared.outside.Read.TheVariants as reads
@@ -115,3 +115,8 @@ Always P (e ∷ seen) = P (e ∷ seen) × Always P seen
 abbrev pub Grows : Happened → Option (List Happened) → Option (List Happened) → Type 0
 Grows e old None = Unit {0}
 Grows e old (Some seen) = (before : List Happened) × (old ≡ Some before) × (seen ≡ e ∷ before)
+
+-- the event happened, or nothing did
+abbrev pub GrowsIf : Bool → Happened → Option (List Happened) → Option (List Happened) → Type 0
+GrowsIf true e old new = Grows e old new
+GrowsIf false e old new = new ≡ old

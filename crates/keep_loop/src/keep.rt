@@ -170,6 +170,21 @@ impl<O: Served> Keep<O> {
         Ok(())
     }
 
+    // A journal has begun anew with this front, or could not.
+    pub(crate) fn changed(
+        &mut self,
+        journal: usize,
+        front: &[u8],
+        went: bool,
+    ) -> Result<(), AllocError>
+        requires { O.fronts self.old.object journal front.now }
+        ensures stands { OnOk result ((first : O) (limits : Limits) (seen : List Happened) → Stands O.gives first limits seen self.old
+            → Stands O.gives first limits seen self.new) }
+    {
+        self.object.changed(journal, front, went)?;
+        Ok(())
+    }
+
     // Does the line that ends with these bytes.
     fn answer(&mut self, who: u64, front: &[u8], end: LineEnd) -> Result<(), AllocError>
         requires { 0 < length self.old.held.items }
@@ -238,7 +253,7 @@ impl<O: Served> Keep<O> {
         ensures base { OnOk result (self.new.base ≡ self.old.base) }
         ensures stands { OnOk result ((first : O) (limits : Limits) (seen : List Happened) (done : List ℕ) → ended_in who seen ≡ 0
             → Stands O.gives first limits (Came who done ∷ seen) self.old
-            → Stands O.gives first limits (Came who (done ++ front.now ++ 10 ∷ []) ∷ seen) self.new) }
+            → Stands O.gives first limits (Came who (done ++ (front.now ++ 10 ∷ [])) ∷ seen) self.new) }
     {
         if is_too_long(self.held(who), front) {
             self.answer_last(who, front, LineEnd::TooLong)?;

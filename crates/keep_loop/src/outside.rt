@@ -1,7 +1,7 @@
 //! What is outside of the loop: connections, a clock, and journals.
 
-ghost use Rattle.std.specs.Prelude.{◌≡◌, ◌≤◌, true, false, List, Option, Ok, length, take, OnOk, OnErr, IfOk, IfSome, IfNone};
-ghost use Rattle.keep_loop.specs.Seen.{Happened, Grows, read_of};
+ghost use Rattle.std.specs.Prelude.{◌≡◌, ◌≤◌, true, false, List, Option, length, take, OnOk, OnErr, IfOk, IfSome, IfNone};
+ghost use Rattle.keep_loop.specs.Seen.{Happened, Grows, GrowsIf, read_of};
 ghost use Rattle.keep_loop.specs.Seen.Happened.{Wrote, Noticed, Added, Stored, Changed};
 ghost use Rattle.keep_loop.specs.declared.served.Note.TheVariants.{Joins, Leaves, Ticks, Ends};
 
@@ -98,7 +98,6 @@ pub trait Outside {
     /// Begins a journal anew with this front, in one step. `false`: it could not, and the journal is as it was. After an
     /// `Err` nobody knows.
     fn change(&mut self, journal: usize, front: &[u8]) -> Result<bool, Fault>
-        ensures went { result ≡ Ok true → Grows (Changed journal front.now) (seen self.old) (seen self.new) }
-        ensures stays { result ≡ Ok false → seen self.new ≡ seen self.old }
+        ensures ok { IfOk result (λ went. GrowsIf went (Changed journal front.now) (seen self.old) (seen self.new)) }
         ensures err { OnErr result (Grows (Changed journal front.now) (seen self.old) (seen self.new)) };
 }

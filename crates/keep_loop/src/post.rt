@@ -368,7 +368,7 @@ impl Post {
     }
 
     /// Sees to it that so many bytes can be told to a connection, and so many added to a journal, without more memory. The
-    /// error is that memory was refused.
+    /// error is that memory was refused; then too nothing is told.
     pub fn make_room(
         &mut self,
         who: u64,
@@ -482,7 +482,7 @@ impl Post {
         self.quits.pop()
     }
 
-    // A connection comes.
+    /// A connection comes, under this number. The loop does so; it is for tests of what is served.
     pub fn open(&mut self, who: u64)
         requires { 0 < length self.old.places.items }
         ensures { Opens self.old self.new who }
@@ -552,9 +552,9 @@ impl Post {
 
     // Whether something is owed to a connection.
     pub(crate) fn owes(&self) -> bool {
-        self.places
-            .iter()
-            .any(|place| place.stage != Stage::Gone && !place.is_broken && !place.owed.is_empty())
+        self.places.iter().any(|place| place.stage != Stage::Gone
+            && !place.is_broken
+            && !place.owed.is_empty())
     }
 
     // Of a connection more may be read, where this is so.

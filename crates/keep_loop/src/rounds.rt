@@ -329,6 +329,37 @@ fn send<O: Served, W: Outside>(keep: &mut Keep<O>, outside: &mut W) -> Result<()
     Ok(())
 }
 
+// Begins a journal anew with this front, and has the object know.
+fn change_one<O: Served, W: Outside>(
+    keep: &mut Keep<O>,
+    outside: &mut W,
+    journal: usize,
+    front: &[u8],
+) -> Result<(), Fault>
+    requires { O.fronts keep.old.object journal front.now }
+    ensures ok { OnOk result (Keeps O.gives (W.seen outside.old) keep.old (W.seen outside.new) keep.new) }
+    ensures err { OnErr result (Fails O.gives (W.seen outside.old) keep.old (W.seen outside.new)) }
+{
+    let went = outside.change(journal, front)?;
+    keep.changed(journal, front, went)?;
+    Ok(())
+}
+
+// Begins a journal anew, where one is due. The front is put in place of what is in `front`.
+fn change<O: Served, W: Outside>(
+    keep: &mut Keep<O>,
+    outside: &mut W,
+    front: &mut Vec<u8>,
+) -> Result<(), Fault>
+    ensures ok { OnOk result (Keeps O.gives (W.seen outside.old) keep.old (W.seen outside.new) keep.new) }
+    ensures err { OnErr result (Fails O.gives (W.seen outside.old) keep.old (W.seen outside.new)) }
+{
+    match keep.object.due(front)? {
+        Some(journal) => change_one(keep, outside, journal, front.as_slice()),
+        None => Ok(()),
+    }
+}
+
 // Hears all there is.
 fn listen<O: Served, W: Outside>(
     keep: &mut Keep<O>,
@@ -347,7 +378,7 @@ fn listen<O: Served, W: Outside>(
     Ok(())
 }
 
-// One round.
+// One round. What is in `piece` counts for nothing.
 fn round<O: Served, W: Outside>(
     keep: &mut Keep<O>,
     outside: &mut W,
@@ -359,6 +390,7 @@ fn round<O: Served, W: Outside>(
     listen(keep, outside, piece)?;
     settle(keep, outside)?;
     send(keep, outside)?;
+    change(keep, outside, piece)?;
     Ok(())
 }
 
@@ -407,19 +439,19 @@ fn go_on<O: Served, W: Outside>(
     Ok(true)
 }
 
-/// Serves so many rounds, or until the server is to end.
+// Serves so many rounds, or until the server is to end.
 fn serve<O: Served, W: Outside>(
     keep: &mut Keep<O>,
     outside: &mut W,
     piece: &mut Vec<u8>,
     rounds: u64,
 ) -> Result<(), Fault>
-    ensures ok { OnOk result (Keeps O.gives (W.seen outside.old) keep.old (W.seen outside.new) keep.new) }
-    ensures err { OnErr result (Fails O.gives (W.seen outside.old) keep.old (W.seen outside.new)) }
+    ensures { Fails O.gives (W.seen outside.old) keep.old (W.seen outside.new) }
 {
     for _round in 0..rounds {
         if !go_on(keep, outside, piece)? {
-            return finish(keep, outside);
+            finish(keep, outside)?;
+            return Ok(());
         }
     }
     Ok(())

@@ -59,13 +59,7 @@ impl Places {
     fn wire(&mut self, who: u64) -> Option<&mut Wire> {
         let place = self.place_of(who);
         match self.wires.get_mut(place) {
-            Some(Some(wire)) => {
-                if wire.who == who {
-                    Some(wire)
-                } else {
-                    None
-                }
-            }
+            Some(Some(wire)) => { if wire.who == who { Some(wire) } else { None } }
             _ => None,
         }
     }

@@ -14,6 +14,7 @@ use std::rt::Files;
 use std::time::{Clock, Duration};
 
 const LISTENER: Token = Token(usize::MAX);
+
 const INPUT: Token = Token(usize::MAX - 1);
 
 // So many events are taken from the system at once.
@@ -93,10 +94,10 @@ impl<R: Files + AllocGlobal + Input + Clock> Wires<R> {
     // Has the end of standard input end the server. What cannot be waited for, as a file, is at its end.
     fn listen_to_input(&mut self) {
         self.input = Some(self.rt.reader());
-        let registered =
-            self.poll
-                .registry()
-                .register(&mut SourceFd(&0), INPUT, Interest::READABLE);
+        let registered = self
+            .poll
+            .registry()
+            .register(&mut SourceFd(&0), INPUT, Interest::READABLE);
         if registered.is_err() {
             self.ends = true;
         }
@@ -116,10 +117,10 @@ impl<R: Files + AllocGlobal + Input + Clock> Wires<R> {
                 _ => self.ends = true,
             },
         }
-        let again =
-            self.poll
-                .registry()
-                .reregister(&mut SourceFd(&0), INPUT, Interest::READABLE);
+        let again = self
+            .poll
+            .registry()
+            .reregister(&mut SourceFd(&0), INPUT, Interest::READABLE);
         if again.is_err() {
             self.ends = true;
         }
