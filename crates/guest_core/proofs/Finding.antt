@@ -1,5 +1,5 @@
 -- That each client is found by its name.
-use Rattle.std.proofs.Common.{◌≡◌, ◌≢◌, ℕ, ◌⊎◌, inl, inr, List, [], ◌∷◌, ◌++◌, length, Bool, true, false, cond, Option, Some, None, bytes_eq, refl, sym, ◌∙◌, ap, subst, arith}
+use Rattle.std.proofs.Common.{◌≡◌, ◌≢◌, ◌<◌, ◌≤◌, ℕ, length-append, ◌⊎◌, inl, inr, List, [], ◌∷◌, ◌++◌, length, Bool, true, false, cond, Option, Some, None, bytes_eq, refl, sym, ◌∙◌, ap, subst, arith}
 use Rattle.std.specs.Prelude.{slice_get, slice_set, unwrap_or}
 use Rattle.std.proofs.lemmas.Bool.{cases_eq}
 use Rattle.std.proofs.lemmas.Slice.Eq.{bytes_eq-Decides}
@@ -95,3 +95,24 @@ known_changed guests find p g h known there same q x is = elim (get_set guests p
   | inl here ↦ ap find (sym (ap name_of here.1) ∙ same) ∙ known p g there ∙ ap Some (sym here.0)
   | inr other ↦ known q x other.1
 ]
+
+pub added : (items after : List Guest) (find new : List ℕ → Option ℕ) (g : Guest) (key name : List ℕ) (place : ℕ) → Found items find → Known items find → after ≡ items ++ g ∷ []
+    → ((p : ℕ) (h : Guest) → slice_get items p ≡ Some h → h.name ≢ name) → key ≡ name → g.name ≡ name → place ≡ length items → Finds find key (Some place) new → Found after new × Known after new
+added items after find new g key name place found known is unknown key_is named at finds =
+    let here : Finds find g.name (Some (length items)) new = subst (λ p. Finds find g.name (Some p) new) at (subst (λ n. Finds find n (Some place) new) (key_is ∙ sym named) finds) in (
+      subst (λ gs. Found gs new) (sym is) (found_more items find new g found here),
+      subst (λ gs. Known gs new) (sym is) (known_more items find new g known (λ p h there same. unknown p h there (same ∙ named)) here),
+    )
+
+pub replaced : (items : List Guest) (find between new : List ℕ → Option ℕ) (p : ℕ) (f old g : Guest) (key name : List ℕ) → Found items find → Known items find → slice_get items p ≡ Some f → old ≡ f
+    → ((q : ℕ) (h : Guest) → slice_get items q ≡ Some h → h.name ≢ name) → key ≡ name → g.name ≡ name → Finds find key (Some p) between → Finds between old.name None new
+    → Found (slice_set items p g) new × Known (slice_set items p g) new
+replaced items find between new p f old g key name found known there was unknown key_is named first second =
+    let own_first : Finds find g.name (Some p) between = subst (λ n. Finds find n (Some p) between) (key_is ∙ sym named) first in
+    let own_second : Finds between f.name None new = subst (λ (x : Guest). Finds between x.name None new) was second in (
+      found_other items find between new p f g found there own_first own_second,
+      known_other items find between new p f g known there (λ q h is same. unknown q h is (same ∙ named)) own_first own_second,
+    )
+
+pub one_longer : (items after : List Guest) (g : Guest) → after ≡ items ++ g ∷ [] → length items < 65535 → length after ≤ 65535
+one_longer items after g is few = let e = ap length is in let f = length-append items (g ∷ []) in omega (arith, e, f, few)

@@ -8,3 +8,4 @@ pub mod Repeating
 pub mod Seating
 pub mod Sound
 pub mod Telling
+pub mod Whole

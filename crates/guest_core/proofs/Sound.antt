@@ -9,7 +9,7 @@ use Rattle.guest_core.specs.Guests.{Guests, IsSound, IsUnknown, with_seat, with_
 use Rattle.guest_core.specs.Seats.{free_seats, renewed}
 use Rattle.guest_core.proofs.Items.{get_more, get_set, get_front, get_last, get_here, get_there, one_item}
 
-place_of : Seat → ℕ
+abbrev place_of : Seat → ℕ
 place_of Void = 0
 place_of Free = 0
 place_of Nameless = 0
@@ -23,7 +23,7 @@ pub same_place : (p q : ℕ) → Named p ≡ Named q → p ≡ q
 same_place p q is = ap place_of is
 
 -- two places of one session are one
-one_place : (seats : List Seat) (s p q : ℕ) → slice_get seats s ≡ Some (Named p) → slice_get seats s ≡ Some (Named q) → p ≡ q
+pub one_place : (seats : List Seat) (s p q : ℕ) → slice_get seats s ≡ Some (Named p) → slice_get seats s ≡ Some (Named q) → p ≡ q
 one_place seats s p q is at = same_place p q (one_item seats s (Named p) (Named q) is at)
 
 -- a client changes, and keeps its name and its session

@@ -1,6 +1,6 @@
 //! Who the clients of an object are.
 
-ghost use Rattle.std.specs.Prelude.{◌≡◌, ◌≢◌, ◌<◌, ℕ, [], map, IfOk, IfSome, IfNone, Some, None, Ok};
+ghost use Rattle.std.specs.Prelude.{◌≡◌, ◌≢◌, ◌<◌, ◌≤◌, ℕ, [], map, IfOk, IfSome, IfNone, Some, None, Ok};
 ghost use Rattle.std.specs.Prelude.{slice_get, length, OnOk, OnErr, true, false};
 ghost use Rattle.guest_core.specs.declared.guest.Guest.{Guest as AGuest};
 ghost use Rattle.guest_core.specs.declared.keys.Judged.TheVariants.{BadKey as IsBadKey};
@@ -75,8 +75,8 @@ pub enum AdmitFault {
 /// The clients of an object that have names, and the numbers of sessions.
 ///
 /// At most 65,535 sessions, and as many names; of each name 16 calls, with what they asked for and what they replied. So
-/// with 4,096 names of calls of a hundred bytes some 16 MB, and 300 KB where nobody has come. It is bounded by the limits
-/// alone, however many calls there were.
+/// with 4,096 names and calls of a hundred bytes some 20 MB, and 270 KB where nobody has come. It is bounded by the limits
+/// and the longest line of a call alone, however many calls there were.
 #[derive(Drop)]
 pub struct Guests {
     roll: Roll,
@@ -98,6 +98,17 @@ impl Model for Guests {
     ghost view = { guests_of };
 
     ghost invariant = { IsWhole };
+}
+
+// A client of a new name has come, and has this session.
+fn first_entered(session: u16) -> Entered
+    ensures { result ≡ record { session = session; next = 1; is_new = true } }
+{
+    Entered {
+        session,
+        next: 1,
+        is_new: true,
+    }
 }
 
 impl Guests {
@@ -130,19 +141,21 @@ impl Guests {
     }
 
     // A client that is known comes.
+    #[tactic(auto, using(crate::proofs::Whole::again_entered, crate::proofs::Whole::in_use, crate::proofs::Whole::sound_again))]
     fn come_again(&mut self, place: u16) -> Result<Entered, EnterFault>
         requires { place < length self.old.guests }
         ensures { (g : AGuest) (now : ℕ) → slice_get self.old.guests place ≡ Some g →
             Enters self.old g.name now result self.new }
     {
-        match self.roll.come(place) {
-            None => Err(EnterFault::InUse),
-            Some((session, next)) => Ok(Entered {
-                session,
-                next,
-                is_new: false,
-            }),
-        }
+        let Some(found) = self.roll.come(place) else {
+            return Err(EnterFault::InUse);
+        };
+        let (session, next) = found;
+        Ok(Entered {
+            session,
+            next,
+            is_new: false,
+        })
     }
 
     // A client of a new name comes.
@@ -154,22 +167,41 @@ impl Guests {
             return Err(EnterFault::Full);
         };
         if self.roll.len() < self.most as usize {
-            if self.settle(name, session, None, 1).is_err() {
-                return Err(EnterFault::Memory);
-            }
-        } else {
-            let Some(place) = self.roll.longest_away(now) else {
-                return Err(EnterFault::Full);
-            };
-            if self.displace(place, name, session, None, 1).is_err() {
-                return Err(EnterFault::Memory);
-            }
+            return self.come_more(name, session);
         }
-        Ok(Entered {
-            session,
-            next: 1,
-            is_new: true,
-        })
+        self.come_instead(name, session, now)
+    }
+
+    // A client of a new name gets this number, and the next place.
+    #[tactic(auto, using(crate::proofs::Whole::more_entered, crate::proofs::Whole::more_refused))]
+    fn come_more(&mut self, name: &Name, session: u16) -> Result<Entered, EnterFault>
+        requires new { IsUnknown self.old name.now }
+        requires room { length self.old.guests < self.old.most }
+        requires few { length self.old.guests < 65535 }
+        requires free { IsLeastFree self.old.seats session }
+        ensures { (now : ℕ) → Enters self.old name.now now result self.new }
+    {
+        let Ok(()) = self.settle(name, session, None, 1) else {
+            return Err(EnterFault::Memory);
+        };
+        Ok(first_entered(session))
+    }
+
+    // A client of a new name gets this number, and the place of the one that is away longest.
+    #[tactic(auto, using(crate::proofs::Whole::instead_entered, crate::proofs::Whole::instead_refused, crate::proofs::Whole::none_entered))]
+    fn come_instead(&mut self, name: &Name, session: u16, now: u64) -> Result<Entered, EnterFault>
+        requires new { IsUnknown self.old name.now }
+        requires full { self.old.most ≤ length self.old.guests }
+        requires free { IsLeastFree self.old.seats session }
+        ensures { Enters self.old name.now now result self.new }
+    {
+        let Some(place) = self.roll.longest_away(now) else {
+            return Err(EnterFault::Full);
+        };
+        let Ok(()) = self.displace(place, name, session, None, 1) else {
+            return Err(EnterFault::Memory);
+        };
+        Ok(first_entered(session))
     }
 
     // A client of a new name gets a free number, and the next place.
@@ -233,22 +265,55 @@ impl Guests {
         if first == 0 {
             return Err(AdmitFault::BadKey);
         }
-        if self.seats.seat(session) != Seat::Free {
+        if !self.seats.is_free(session) {
             return Err(AdmitFault::Taken);
         }
-        let admitted = match self.roll.place_of(name) {
-            Some(place) => self.restart(place, session, Some(away), first),
-            None => {
-                if self.roll.len() >= MOST_SESSIONS as usize {
-                    return Err(AdmitFault::Full);
-                }
-                self.settle(name, session, Some(away), first)
-            }
-        };
-        match admitted {
-            Ok(()) => Ok(()),
-            Err(AllocError) => Err(AdmitFault::Memory),
+        match self.roll.place_of(name) {
+            Some(place) => self.admit_known(place, session, away, first),
+            None => self.admit_new(name, session, away, first),
         }
+    }
+
+    // The session of a known name is another one.
+    fn admit_known(
+        &mut self,
+        place: u16,
+        session: u16,
+        away: u64,
+        first: u64,
+    ) -> Result<(), AdmitFault>
+        requires within { place < length self.old.guests }
+        requires free { slice_get self.old.seats session ≡ Some AFree }
+        requires first { 0 < first }
+        ensures { (f : AGuest) → slice_get self.old.guests place ≡ Some f →
+            Admits self.old (guest_of f.name session (Some away) first) result self.new }
+    {
+        let Ok(()) = self.restart(place, session, Some(away), first) else {
+            return Err(AdmitFault::Memory);
+        };
+        Ok(())
+    }
+
+    // A session gets a new name.
+    fn admit_new(
+        &mut self,
+        name: &Name,
+        session: u16,
+        away: u64,
+        first: u64,
+    ) -> Result<(), AdmitFault>
+        requires new { IsUnknown self.old name.now }
+        requires free { slice_get self.old.seats session ≡ Some AFree }
+        requires first { 0 < first }
+        ensures { Admits self.old (guest_of name.now session (Some away) first) result self.new }
+    {
+        if self.roll.len() >= MOST_SESSIONS as usize {
+            return Err(AdmitFault::Full);
+        }
+        let Ok(()) = self.settle(name, session, Some(away), first) else {
+            return Err(AdmitFault::Memory);
+        };
+        Ok(())
     }
 
     // A client of a known name gets another number, and nothing is known of its calls.
@@ -266,8 +331,8 @@ impl Guests {
             self.new ≡ with_other self.old place f (guest_of f.name session away first)) }
         ensures err { OnErr result (self.new ≡ self.old) }
     {
-        let old = self.roll.restart(place, session, away, first)?;
-        self.seats.set(old, Seat::Retired);
+        let was = self.roll.restart(place, session, away, first)?;
+        self.seats.set(was, Seat::Retired);
         self.seats.set(session, Seat::Named(place));
         Ok(())
     }
@@ -289,14 +354,23 @@ impl Guests {
     pub fn leave(&mut self, session: u16, now: u64) -> bool
         ensures { Leaves self.old session now result self.new }
     {
-        match self.seats.seat(session) {
-            Seat::Named(place) => self.roll.go(place, now),
-            Seat::Nameless => {
-                self.seats.set(session, Seat::Free);
-                true
-            }
-            _ => false,
+        match self.seats.place(session) {
+            Some(place) => self.roll.go(place, now),
+            None => self.give_back(session),
         }
+    }
+
+    // The number of a client without a name is free.
+    fn give_back(&mut self, session: u16) -> bool
+        ensures free { result ≡ true → (slice_get self.old.seats session ≡ Some ANameless)
+            × (self.new ≡ with_seat self.old session AFree) }
+        ensures none { result ≡ false → (slice_get self.old.seats session ≢ Some ANameless) × (self.new ≡ self.old) }
+    {
+        if !self.seats.is_nameless(session) {
+            return false;
+        }
+        self.seats.set(session, Seat::Free);
+        true
     }
 
     /// What a key says of a call of a session. A session without a name has no keys: each is bad.
@@ -305,9 +379,9 @@ impl Guests {
             Judges g.keys key (asks operation arguments.now) result }
         ensures nameless { HasNoName self.now session → result ≡ IsBadKey }
     {
-        match self.seats.seat(session) {
-            Seat::Named(place) => self.roll.judge(place, key, operation, arguments),
-            _ => Judged::BadKey,
+        match self.seats.place(session) {
+            Some(place) => self.roll.judge(place, key, operation, arguments),
+            None => Judged::BadKey,
         }
     }
 
@@ -325,9 +399,9 @@ impl Guests {
             × Asks g.keys (asks operation arguments.now) result keys × (self.new ≡ with_keys self.old p g keys) }
         ensures nameless { HasNoName self.old session → (result ≡ Ok tt) × (self.new ≡ self.old) }
     {
-        match self.seats.seat(session) {
-            Seat::Named(place) => self.roll.ask(place, operation, arguments),
-            _ => Ok(()),
+        match self.seats.place(session) {
+            Some(place) => self.roll.ask(place, operation, arguments),
+            None => Ok(()),
         }
     }
 
@@ -337,9 +411,9 @@ impl Guests {
             self.new ≡ with_keys self.old p g (withdrawn g.keys) }
         ensures nameless { HasNoName self.old session → self.new ≡ self.old }
     {
-        match self.seats.seat(session) {
-            Seat::Named(place) => self.roll.withdraw(place),
-            _ => {}
+        match self.seats.place(session) {
+            Some(place) => self.roll.withdraw(place),
+            None => {}
         }
     }
 
@@ -350,9 +424,9 @@ impl Guests {
             × Ends g.keys told (Some reply.now) result keys × (self.new ≡ with_keys self.old p g keys) }
         ensures nameless { HasNoName self.old session → (result ≡ false) × (self.new ≡ self.old) }
     {
-        match self.seats.seat(session) {
-            Seat::Named(place) => self.roll.end(place, told, reply),
-            _ => false,
+        match self.seats.place(session) {
+            Some(place) => self.roll.end(place, told, reply),
+            None => false,
         }
     }
 
@@ -363,9 +437,9 @@ impl Guests {
             × Ends g.keys told None result keys × (self.new ≡ with_keys self.old p g keys) }
         ensures nameless { HasNoName self.old session → (result ≡ false) × (self.new ≡ self.old) }
     {
-        match self.seats.seat(session) {
-            Seat::Named(place) => self.roll.cancel(place, told),
-            _ => false,
+        match self.seats.place(session) {
+            Some(place) => self.roll.cancel(place, told),
+            None => false,
         }
     }
 
@@ -388,17 +462,21 @@ impl Guests {
         ensures some { IfSome result (λ g. (p : ℕ) × IsNamed self.now session p g.now) }
         ensures none { IfNone result (HasNoName self.now session) }
     {
-        match self.seats.seat(session) {
-            Seat::Named(place) => self.roll.guests().get(place as usize),
-            _ => None,
+        match self.seats.place(session) {
+            Some(place) => self.roll.guests().get(place as usize),
+            None => None,
         }
     }
 
     /// Whether a client has this name.
+    #[tactic(auto, using(crate::proofs::Whole::known_at))]
     pub fn knows(&self, name: &Name) -> bool
         ensures yes { result ≡ true → (p : ℕ) × (g : AGuest) × IsAt self.now name.now p g }
         ensures no { result ≡ false → IsUnknown self.now name.now }
     {
-        self.roll.place_of(name).is_some()
+        match self.roll.place_of(name) {
+            Some(_) => true,
+            None => false,
+        }
     }
 }

@@ -20,3 +20,5 @@ pub mod keys;
 pub mod laws;
 mod roll;
 pub mod seats;
+#[cfg(test)]
+mod tests;

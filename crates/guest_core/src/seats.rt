@@ -2,8 +2,8 @@
 
 ghost use Rattle.std.specs.Prelude.{◌≡◌, ◌≢◌, ℕ, ◌<◌, ◌+◌, ◌↔◌, IsTrue, IfOk, IfSome, IfNone, Some, None, map, slice_get};
 ghost use Rattle.std.specs.Prelude.{slice_set, length};
-ghost use Rattle.guest_core.specs.declared.seats.Seat.{Seat as ASeat};
-ghost use Rattle.guest_core.specs.declared.seats.Seat.TheVariants.{Free as AFree, Void as AVoid};
+ghost use Rattle.guest_core.specs.declared.seats.Seat.TheVariants.{Free as AFree, Nameless as ANameless};
+ghost use Rattle.guest_core.specs.declared.seats.Seat.TheVariants.{Named as ANamed};
 ghost use Rattle.guest_core.specs.Seats.{free_seats, IsLeastFree, NoneIsFree, renewed};
 
 use std::alloc::{AllocError, Global};
@@ -58,6 +58,27 @@ fn is_free(seat: Seat) -> bool
     }
 }
 
+// Whether a client without a name has a number.
+fn is_nameless(seat: Seat) -> bool
+    ensures { IsTrue result ↔ (seat ≡ ANameless) }
+{
+    match seat {
+        Seat::Nameless => true,
+        _ => false,
+    }
+}
+
+// The place of the client that has a number, where one that has a name has it.
+fn place_of(seat: Seat) -> Option<u16>
+    ensures some { IfSome result (λ p. seat ≡ ANamed p) }
+    ensures none { IfNone result ((p : ℕ) → seat ≢ ANamed p) }
+{
+    match seat {
+        Seat::Named(place) => Some(place),
+        _ => None,
+    }
+}
+
 // What a number is in the next epoch.
 fn renew(seat: Seat) -> Seat
     ensures { result ≡ renewed seat }
@@ -96,14 +117,34 @@ impl Seats {
         None
     }
 
-    // What a number is. 0 and those past the most are none.
-    pub(crate) fn seat(&self, session: u16) -> Seat
-        ensures some { (s : ASeat) → slice_get self.now session ≡ Some s → result ≡ s }
-        ensures none { slice_get self.now session ≡ None → result ≡ AVoid }
+    // The place of the client that has a number, where one that has a name has it.
+    pub(crate) fn place(&self, session: u16) -> Option<u16>
+        ensures some { IfSome result (λ p. slice_get self.now session ≡ Some (ANamed p)) }
+        ensures none { IfNone result ((p : ℕ) → slice_get self.now session ≢ Some (ANamed p)) }
     {
         match self.rows.get(session as usize) {
-            None => Seat::Void,
-            Some(seat) => *seat,
+            None => None,
+            Some(seat) => place_of(*seat),
+        }
+    }
+
+    // Whether a number is free.
+    pub(crate) fn is_free(&self, session: u16) -> bool
+        ensures { IsTrue result ↔ (slice_get self.now session ≡ Some AFree) }
+    {
+        match self.rows.get(session as usize) {
+            None => false,
+            Some(seat) => is_free(*seat),
+        }
+    }
+
+    // Whether a client without a name has a number.
+    pub(crate) fn is_nameless(&self, session: u16) -> bool
+        ensures { IsTrue result ↔ (slice_get self.now session ≡ Some ANameless) }
+    {
+        match self.rows.get(session as usize) {
+            None => false,
+            Some(seat) => is_nameless(*seat),
         }
     }
 
