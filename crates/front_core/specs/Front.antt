@@ -68,6 +68,10 @@ IsLong n = n < 2 ^ 64
 abbrev pub IsCount : ℕ → Type 0
 IsCount n = (1 ≤ n) × (n < 2 ^ 32)
 
+-- from 1 on, of 64 bits
+abbrev pub IsKey : ℕ → Type 0
+IsKey n = (1 ≤ n) × IsLong n
+
 -- what a line of a past tells
 abbrev pub IsRun : ObjectForm → PastRun → Type 0
 IsRun o (Calls op count) = IsOperation o op × ((1 ≤ count) × (count ≤ 65536))
@@ -83,7 +87,7 @@ pub record IsCarried (o : ObjectForm) (c : CarriedCall) : Type 0 where
 pub record IsClient (c : Client) : Type 0 where
   pub session : IsSession c.session
   pub name : IsName c.name
-  pub keys : c.keys < 2 ^ 32
+  pub keys : IsLong c.keys
 
 abbrev pub IsAnswer : Answer → Type 0
 IsAnswer (Replied reply) = IsReply reply
@@ -91,7 +95,7 @@ IsAnswer Cancelled = Unit {0}
 
 pub record IsKept (o : ObjectForm) (k : KeptCall) : Type 0 where
   pub session : IsSession k.session
-  pub key : IsCount k.key
+  pub key : IsKey k.key
   pub told : IsLong k.told
   pub answer : IsAnswer k.answer
   pub call : IsCall o k.operation k.arguments

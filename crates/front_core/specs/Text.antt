@@ -1,5 +1,7 @@
 -- The text of a front.
-use Rattle.std.specs.Prelude.{ℕ, List, [], ◌∷◌, ◌++◌, map, codes, decimal}
+use Rattle.std.specs.Borrow.{Bor}
+use Rattle.apply_core.specs.declared.reply.Reply.{Reply}
+use Rattle.std.specs.Prelude.{ℕ, Option, Some, None, List, [], ◌∷◌, ◌++◌, map, codes, decimal}
 use Rattle.std.specs.Int.{w64, to_be_bytes}
 use Rattle.hex.specs.Hex.{encode_lower}
 use Rattle.value_core.specs.declared.datum.Datum.{Datum}
@@ -52,6 +54,11 @@ client_words c = session_word c.session ∷ bare c.name ∷ bare (decimal c.keys
 abbrev pub answer_words : Answer → List Word
 answer_words (Replied reply) = reply_words reply
 answer_words Cancelled = bare (codes "cancelled") ∷ []
+
+-- what a call replied, or that it was cancelled
+abbrev pub answer_of : Option (Bor Reply) → Answer
+answer_of None = Cancelled
+answer_of (Some reply) = Replied reply.now
 
 -- behind `kept`: `sK J N`, how the call ended, and `OP ARG ..`
 abbrev pub kept_words : ObjectForm → KeptCall → List Word

@@ -52,7 +52,7 @@ pub struct Client {
     /// Its name.
     pub name: Name,
     /// How many keys it has used: its next key is one more.
-    pub keys: u32,
+    pub keys: u64,
 }
 
 /// How a remembered call ended.
@@ -70,7 +70,7 @@ pub struct KeptCall {
     /// The session of its client, 1 to 65,535.
     pub session: u32,
     /// Its key, from 1.
-    pub key: u32,
+    pub key: u64,
     /// The number that was told to its client.
     pub told: u64,
     /// How it ended.

@@ -9,11 +9,13 @@ ghost use Rattle.word_core.specs.Words.{bare, behind_word, line_of};
 ghost use Rattle.trace_core.specs.Text.{operation_name, part_words, parts_words, lines_of};
 ghost use Rattle.front_core.specs.Front.{opening_of};
 ghost use Rattle.front_core.specs.Text.{object_words, source_words, base_words, run_words, carried_words, client_words};
-ghost use Rattle.front_core.specs.Text.{answer_words, call_words, kept_words, runs_text, carried_text, clients_text};
+ghost use Rattle.front_core.specs.Text.{answer_words, answer_of, call_words, kept_words, runs_text, carried_text};
+ghost use Rattle.front_core.specs.Text.{clients_text};
 ghost use Rattle.front_core.specs.Text.{kept_text, calls_text, behind_parts, front_text};
 
 use crate::front::{Answer, CarriedCall, Client, Front, KeptCall};
 use crate::past::PastRun;
+use apply_core::reply::Reply;
 use decl_core::object::{Object, Part};
 use path_tree::node::OpId;
 use std::alloc::{AllocError, Global};
@@ -184,7 +186,7 @@ pub fn push_carried(
 
 /// Adds the line of a client with a name: its session, its name, and how many keys it has used. The error is that
 /// memory was refused; how much then stands in `out` is not said.
-pub fn push_client(out: &mut Vec<u8>, session: u32, name: &[u8], keys: u32) -> Result<(), AllocError>
+pub fn push_client(out: &mut Vec<u8>, session: u32, name: &[u8], keys: u64) -> Result<(), AllocError>
     ensures { OnOk result (out.new.items ≡ out.old.items ++ line_of (bare (codes "client") ∷ client_words (record {
       session = session;
       name = name.now;
@@ -197,18 +199,18 @@ pub fn push_client(out: &mut Vec<u8>, session: u32, name: &[u8], keys: u32) -> R
             Written::Bare(b"client"),
             Written::Session(u64::from(session)),
             Written::Bare(name),
-            Written::Integer(u64::from(keys)),
+            Written::Integer(keys),
         ],
     )
 }
 
 // Adds how a remembered call ended behind other words.
-fn push_answer(out: &mut Vec<u8>, answer: &Answer) -> Result<(), AllocError>
-    ensures { OnOk result (out.new.items ≡ out.old.items ++ behind_word (answer_words answer.now)) }
+fn push_answer(out: &mut Vec<u8>, reply: Option<&Reply>) -> Result<(), AllocError>
+    ensures { OnOk result (out.new.items ≡ out.old.items ++ behind_word (answer_words (answer_of reply))) }
 {
-    match answer {
-        Answer::Replied(short) => push_reply(out, &short.reply()),
-        Answer::Cancelled => push_more(out, &[Written::Bare(b"cancelled")]),
+    match reply {
+        Some(reply) => push_reply(out, reply),
+        None => push_more(out, &[Written::Bare(b"cancelled")]),
     }
 }
 
@@ -228,16 +230,16 @@ fn push_call(
     Ok(())
 }
 
-/// Adds the line of a remembered call: the session of its client, its key, the number that was told, how it ended, its
-/// operation by the place in the object, from 0, and its arguments. The error is that memory was refused; how much then
+/// Adds the line of a remembered call: the session of its client, its key, the number that was told, what it replied (`None`
+/// where it was cancelled), its operation by the place in the object, from 0, and its arguments. The error is that memory was refused; how much then
 /// stands in `out` is not said.
 pub fn push_kept(
     out: &mut Vec<u8>,
     object: &Object,
     session: u32,
-    key: u32,
+    key: u64,
     told: u64,
-    answer: &Answer,
+    reply: Option<&Reply>,
     operation: OpId,
     arguments: &[Datum],
 ) -> Result<(), AllocError>
@@ -246,7 +248,7 @@ pub fn push_kept(
           session = session;
           key = key;
           told = told;
-          answer = answer.now;
+          answer = answer_of reply;
           operation = operation;
           arguments = arguments.now;
         }))) }
@@ -256,11 +258,11 @@ pub fn push_kept(
         &[
             Written::Bare(b"kept"),
             Written::Session(u64::from(session)),
-            Written::Integer(u64::from(key)),
+            Written::Integer(key),
             Written::Integer(told),
         ],
     )?;
-    push_answer(out, answer)?;
+    push_answer(out, reply)?;
     push_call(out, object, operation, arguments)?;
     Ok(())
 }
@@ -298,16 +300,31 @@ fn push_kept_call(
         ++ line_of (bare (codes "kept") ∷ kept_words (object_of object.now) call.now)) }
 {
     let arguments = call.arguments.list(alloc)?;
-    push_kept(
-        out,
-        object,
-        call.session,
-        call.key,
-        call.told,
-        &call.answer,
-        call.operation,
-        &arguments,
-    )
+    match &call.answer {
+        Answer::Replied(short) => {
+            let reply = short.reply();
+            push_kept(
+                out,
+                object,
+                call.session,
+                call.key,
+                call.told,
+                Some(&reply),
+                call.operation,
+                &arguments,
+            )
+        }
+        Answer::Cancelled => push_kept(
+            out,
+            object,
+            call.session,
+            call.key,
+            call.told,
+            None,
+            call.operation,
+            &arguments,
+        ),
+    }
 }
 
 fn push_all_carried(

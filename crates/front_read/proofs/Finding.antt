@@ -130,21 +130,21 @@ pub carried_found : (number told session : ℕ) (words : List Word) → number <
     → carried_head (bare (decimal number) ∷ bare (decimal told) ∷ session_word session ∷ words) ≡ Some ((number, told, session), words)
 carried_found number told session words a b c = rw (integer_of-decimal number a, long_of-decimal told b, (written_session session c).1) refl
 
-pub kept_found : (session key told : ℕ) (words : List Word) → session < 2 ^ 32 → key < 2 ^ 32 → told < 2 ^ 64
+pub kept_found : (session key told : ℕ) (words : List Word) → session < 2 ^ 32 → key < 2 ^ 64 → told < 2 ^ 64
     → kept_head (session_word session ∷ bare (decimal key) ∷ bare (decimal told) ∷ words) ≡ Some ((session, key, told), words)
-kept_found session key told words a b c = rw ((written_session session a).1, integer_of-decimal key b, long_of-decimal told c) refl
+kept_found session key told words a b c = rw ((written_session session a).1, long_of-decimal key b, long_of-decimal told c) refl
 
-pub client_found : (session : ℕ) (name : List ℕ) (keys : ℕ) → session < 2 ^ 32 → keys < 2 ^ 32
+pub client_found : (session : ℕ) (name : List ℕ) (keys : ℕ) → session < 2 ^ 32 → keys < 2 ^ 64
     → client_of (session_word session ∷ bare name ∷ bare (decimal keys) ∷ []) ≡ Some (session, name, keys)
-client_found session name keys a b = rw ((written_session session a).1, integer_of-decimal keys b) refl
+client_found session name keys a b = rw ((written_session session a).1, long_of-decimal keys b) refl
 
 -- how a remembered call ended
+low_is : (b : ℕ) → IsLower b → is_lower b ≡ true
+low_is b h = let low = h.0 in let high = h.1 in grind (arith, nat_tests)
+
 all_lower : (bytes : List ℕ) → All IsLower bytes → list_all is_lower bytes ≡ true
 all_lower [] each = refl
-all_lower (b ∷ bytes) each = rw (low b (All-head IsLower b bytes each), all_lower bytes (All-tail IsLower b bytes each)) refl
-where
-  low : (b : ℕ) → IsLower b → is_lower b ≡ true
-  low b h = grind (arith, nat_tests)
+all_lower (b ∷ bytes) each = rw (low_is b (All-head IsLower b bytes each), all_lower bytes (All-tail IsLower b bytes each)) refl
 
 refusal_found : (word : List ℕ) → IsRefusalWord word → refused_by word ≡ Some (Refused word)
 refusal_found word is =

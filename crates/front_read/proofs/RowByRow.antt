@@ -12,7 +12,8 @@ use Rattle.front_read.specs.Reads.{IsLine, HasFirst, Gives}
 
 -- the rows that were read, and those that are left
 pub record Reading {X : Type 0} (verb : List ℕ) (words : X → List Word) (xs : List X) (more : List ℕ) (old out : List X) (rest : List ℕ) : Type 0 where
-  pub done left : List X
+  pub done : List X
+  pub left : List X
   pub all : xs ≡ done ++ left
   pub read : out ≡ old ++ done
   pub rest_is : rest ≡ lines_of (rows verb words left) ++ more
@@ -47,19 +48,19 @@ pub one_read : {X : Type 0} (verb : List ℕ) (words : X → List Word) (is : X 
     → ((x : X) (others : List ℕ) → is x → rest ≡ row_line verb words x ++ others → (row ≡ x) × (behind ≡ others))
     → Reading verb words xs more old (out ++ row ∷ []) behind
 one_read {X} verb words is xs more old out rest row behind each none first so next = go so.left refl
-where
-  go : (left : List X) → left ≡ so.left → Reading verb words xs more old (out ++ row ∷ []) behind
-  go [] same = absurd (none (subst (HasFirst verb) (so.rest_is ∙ ap (λ l. lines_of (rows verb words l) ++ more) (sym same)) first))
-  go (x ∷ left) same =
-      let mine = every_behind is so.done (x ∷ left) (subst (Every is) (so.all ∙ ap (λ l. so.done ++ l) (sym same)) each) in
-      let got = next x (lines_of (rows verb words left) ++ more) mine.0 (so.rest_is ∙ ap (λ l. lines_of (rows verb words l) ++ more) (sym same) ∙ row_first verb words x left more) in
-      record {
-        done = so.done ++ row ∷ [];
-        left = left;
-        all = so.all ∙ ap (λ l. so.done ++ l) (sym same) ∙ ap (λ r. so.done ++ r ∷ left) (sym got.0) ∙ sym (append_assoc so.done (row ∷ []) left);
-        read = ap (λ l. l ++ row ∷ []) so.read ∙ append_assoc old so.done (row ∷ []);
-        rest_is = got.1;
-      }
+  where
+    go : (left : List X) → left ≡ so.left → Reading verb words xs more old (out ++ row ∷ []) behind
+    go [] same = absurd (none (subst (HasFirst verb) (so.rest_is ∙ ap (λ l. lines_of (rows verb words l) ++ more) (sym same)) first))
+    go (x ∷ left) same =
+        let mine = every_behind is so.done (x ∷ left) (subst (Every is) (so.all ∙ ap (λ l. so.done ++ l) (sym same)) each) in
+        let got = next x (lines_of (rows verb words left) ++ more) mine.0 (so.rest_is ∙ ap (λ l. lines_of (rows verb words l) ++ more) (sym same) ∙ row_first verb words x left more) in
+        record {
+          done = so.done ++ row ∷ [];
+          left = left;
+          all = so.all ∙ ap (λ l. so.done ++ l) (sym same) ∙ ap (λ r. so.done ++ r ∷ left) (sym got.0) ∙ sym (append_assoc so.done (row ∷ []) left);
+          read = ap (λ l. l ++ row ∷ []) so.read ∙ append_assoc old so.done (row ∷ []);
+          rest_is = got.1;
+        }
 
 -- where the next line is refused, that is for memory
 pub none_refused : {X : Type 0} {A B : Type 0} (P : A → Type 0) (Q : X → List ℕ → B → Type 0) (verb : List ℕ) (words : X → List Word) (is : X → Type 0) (xs : List X) (more : List ℕ) (old out : List X) (rest : List ℕ) (why : Stop) → Every is xs → (HasFirst verb more → ⊥) → HasFirst verb rest
@@ -67,27 +68,27 @@ pub none_refused : {X : Type 0} {A B : Type 0} (P : A → Type 0) (Q : X → Lis
     → ((x : X) (others : List ℕ) → is x → rest ≡ row_line verb words x ++ others → Gives (Q x others) (let r : Result B Stop = Err why in r))
     → Gives P (let r : Result A Stop = Err why in r)
 none_refused {X} {A} {B} P Q verb words is xs more old out rest why each none first so next = go so.left refl
-where
-  same_why : (why : Stop) (x : X) (others : List ℕ) → Gives (Q x others) (let r : Result B Stop = Err why in r) → Gives P (let r : Result A Stop = Err why in r)
-  same_why stop.Memory x others h = tt
-  same_why (stop.Bad left cause) x others h = h
-  same_why (stop.Line line cause) x others h = h
-  go : (left : List X) → left ≡ so.left → Gives P (let r : Result A Stop = Err why in r)
-  go [] same = absurd (none (subst (HasFirst verb) (so.rest_is ∙ ap (λ l. lines_of (rows verb words l) ++ more) (sym same)) first))
-  go (x ∷ left) same =
-      let mine = every_behind is so.done (x ∷ left) (subst (Every is) (so.all ∙ ap (λ l. so.done ++ l) (sym same)) each) in
-      same_why why x (lines_of (rows verb words left) ++ more) (next x (lines_of (rows verb words left) ++ more) mine.0 (so.rest_is ∙ ap (λ l. lines_of (rows verb words l) ++ more) (sym same) ∙ row_first verb words x left more))
+  where
+    same_why : (why : Stop) (x : X) (others : List ℕ) → Gives (Q x others) (let r : Result B Stop = Err why in r) → Gives P (let r : Result A Stop = Err why in r)
+    same_why stop.Memory x others h = tt
+    same_why (stop.Bad left cause) x others h = h
+    same_why (stop.Line line cause) x others h = h
+    go : (left : List X) → left ≡ so.left → Gives P (let r : Result A Stop = Err why in r)
+    go [] same = absurd (none (subst (HasFirst verb) (so.rest_is ∙ ap (λ l. lines_of (rows verb words l) ++ more) (sym same)) first))
+    go (x ∷ left) same =
+        let mine = every_behind is so.done (x ∷ left) (subst (Every is) (so.all ∙ ap (λ l. so.done ++ l) (sym same)) each) in
+        same_why why x (lines_of (rows verb words left) ++ more) (next x (lines_of (rows verb words left) ++ more) mine.0 (so.rest_is ∙ ap (λ l. lines_of (rows verb words l) ++ more) (sym same) ∙ row_first verb words x left more))
 
 -- where no line of this kind is next, all was read
 pub all_read : {X : Type 0} (verb : List ℕ) (words : X → List Word) (xs : List X) (more : List ℕ) (old out : List X) (rest : List ℕ) → (HasFirst verb rest → ⊥) → Reading verb words xs more old out rest → (out ≡ old ++ xs) × (rest ≡ more)
 all_read {X} verb words xs more old out rest none so = go so.left refl
-where
-  go : (left : List X) → left ≡ so.left → (out ≡ old ++ xs) × (rest ≡ more)
-  go [] same = (
-    so.read ∙ ap (λ l. old ++ l) (sym (so.all ∙ ap (λ l. so.done ++ l) (sym same) ∙ append-nil so.done)),
-    so.rest_is ∙ ap (λ l. lines_of (rows verb words l) ++ more) (sym same),
-  )
-  go (x ∷ left) same = absurd (none (subst (HasFirst verb) (sym (so.rest_is ∙ ap (λ l. lines_of (rows verb words l) ++ more) (sym same))) (begins_with_verb verb words x left more)))
+  where
+    go : (left : List X) → left ≡ so.left → (out ≡ old ++ xs) × (rest ≡ more)
+    go [] same = (
+      so.read ∙ ap (λ l. old ++ l) (sym (so.all ∙ ap (λ l. so.done ++ l) (sym same) ∙ append-nil so.done)),
+      so.rest_is ∙ ap (λ l. lines_of (rows verb words l) ++ more) (sym same),
+    )
+    go (x ∷ left) same = absurd (none (subst (HasFirst verb) (sym (so.rest_is ∙ ap (λ l. lines_of (rows verb words l) ++ more) (sym same))) (begins_with_verb verb words x left more)))
 
 -- what was refused for memory is refused for memory
 pub same_stop : {A B : Type 0} (P : A → Type 0) (Q : B → Type 0) (why : Stop) → Gives Q (let r : Result B Stop = Err why in r) → Gives P (let r : Result A Stop = Err why in r)

@@ -118,11 +118,11 @@ op_safe o op named is = operation_safe o.operations op named.operations is.there
 call_safe : (o : ObjectForm) (op : ℕ) (arguments : List Datum) → HasNames o → IsCall o op arguments → EachSafe (call_words o op arguments)
 call_safe o op arguments named is = (op_safe o op named is.operation, data_safe arguments is.each)
 
-no_object : ObjectForm
+abbrev no_object : ObjectForm
 no_object = record { name = codes "a"; parts = []; paths = []; operations = [] }
 
 letter_name : IsName (codes "a")
-letter_name = ((inl (omega arith, omega arith), (All-nil IsWordByte, omega arith)), All-cons (λ b. IsUpperLetter b → ⊥) 97 [] (λ h. omega (arith, h.1)) (All-nil (λ b. IsUpperLetter b → ⊥)))
+letter_name = ((inl (omega arith, omega arith), All-nil IsWordByte, omega arith), All-cons (λ b. IsUpperLetter b → ⊥) 97 [] (λ h. omega (arith, h.1)) (All-nil (λ b. IsUpperLetter b → ⊥)))
 
 no_names : HasNames no_object
 no_names = record { own = letter_name; parts = All-nil (λ p. IsName p.0); operations = All-nil (λ f. IsName f.name) }
@@ -156,7 +156,10 @@ pub object_line : (name : List ℕ) (epoch : ℕ) → IsName name → IsLong epo
 object_line name epoch named few = safe_line (object_words name epoch) (known (codes "object") refl refl, (name_safe name named, (known (codes "epoch") refl refl, (decimal_safe epoch few, tt))))
 
 pub source_line : (source : ℕ) → IsLine (source_words source)
-source_line source = safe_line (source_words source) (known (codes "source") refl refl, (record { some = omega arith; each = hex_each (to_be_bytes w64 source) (high_bytes 8 source) }, tt))
+source_line source =
+    let twice = length-encode_with lower_digits (to_be_bytes w64 source) in
+    let eight : length (to_be_bytes w64 source) ≡ 8 = refl in
+    safe_line (source_words source) (known (codes "source") refl refl, (record { some = omega (arith, twice, eight); each = hex_each (to_be_bytes w64 source) (high_bytes 8 source) }, tt))
 
 pub base_line : (base : ℕ) → IsLong base → IsLine (base_words base)
 base_line base few = safe_line (base_words base) (known (codes "base") refl refl, (decimal_safe base few, tt))
@@ -183,7 +186,7 @@ pub client_line : (c : Client) → IsClient c → IsLine (bare (codes "client") 
 client_line c is =
     safe_line (bare (codes "client") ∷ client_words c) (
       known (codes "client") refl refl,
-      (session_safe c.session is.session.1, (name_safe c.name is.name, (decimal_safe c.keys (let h = is.keys in omega (arith, h)), tt))),
+      (session_safe c.session is.session.1, (name_safe c.name is.name, (decimal_safe c.keys is.keys, tt))),
     )
 
 pub kept_line : (o : ObjectForm) (k : KeptCall) → HasNames o → IsKept o k → IsLine (bare (codes "kept") ∷ kept_words o k)
@@ -193,7 +196,7 @@ kept_line o k named is =
       (
         session_safe k.session is.session.1,
         (
-          decimal_safe k.key (let h = is.key.1 in omega (arith, h)),
+          decimal_safe k.key is.key.1,
           (
             decimal_safe k.told is.told,
             both (answer_words k.answer) (call_words o k.operation k.arguments) (answer_safe k.answer is.answer) (call_safe o k.operation k.arguments named is.call),
@@ -202,7 +205,7 @@ kept_line o k named is =
       ),
     )
 
-one_part : List ℕ → Kind → ObjectForm
+abbrev one_part : List ℕ → Kind → ObjectForm
 one_part name kind = record { name = codes "a"; parts = (name, kind) ∷ []; paths = []; operations = [] }
 
 pub part_line : (name : List ℕ) (value : Contents) → IsName name → IsContents value → IsLine (part_words name value)

@@ -5,7 +5,7 @@ use Rattle.std.proofs.lemmas.Bool.{and_parts}
 use Rattle.std.proofs.lemmas.Bool.Decides.{nat_tests}
 use Rattle.decl_core.specs.ObjectForm.{ObjectForm}
 use Rattle.word_core.specs.Words.{Word, bare, quoted}
-use Rattle.word_core.specs.Data.{◌>>=◌, integer_of}
+use Rattle.word_core.specs.Data.{◌>>=◌, integer_of, bare_of}
 use Rattle.trace_core.specs.Laws.{HasNames}
 use Rattle.front_core.specs.declared.past.PastRun.{PastRun}
 use Rattle.front_core.specs.declared.past.PastRun.TheVariants.{Calls, Begins, Ends}
@@ -72,3 +72,10 @@ first_of a c b d same = ap (λ p. p.0) same
 
 pub second_of : {A B : Type 0} (a c : A) (b d : B) → (let p : A × B = (a, b) in p ≡ (c, d)) → b ≡ d
 second_of a c b d same = ap (λ p. p.1) same
+
+-- the words behind the first one
+pub words_behind : {X : Type 0} (view : X → List ℕ × List Word) (r : Option X) (words ws : List Word) (b : List ℕ) (y : X) → r ≡ Some y → option_map view r ≡ bare_of words → words ≡ bare b ∷ ws → (view y).1 ≡ ws
+words_behind view r words ws b y some is same = ap (λ p. p.1) (present view r (bare_of words) (b, ws) y some is (ap bare_of same))
+
+pub no_words : {X P : Type 0} (view : X → List ℕ × List Word) (r : Option X) (words ws : List Word) (b : List ℕ) → r ≡ None → option_map view r ≡ bare_of words → words ≡ bare b ∷ ws → P
+no_words view r words ws b none is same = missing view r (bare_of words) (b, ws) none is (ap bare_of same)

@@ -13,7 +13,7 @@ use Rattle.apply_core.specs.declared.reply.Reply.TheVariants.{Refused, Failed}
 use Rattle.front_core.specs.declared.past.PastRun.{PastRun}
 use Rattle.front_core.specs.declared.past.PastRun.TheVariants.{Calls, Begins, Ends}
 use Rattle.word_core.specs.Words.{Word, bare, quoted, EachWord, EachClear}
-use Rattle.word_core.specs.Data.{◌>>=◌, integer_of, session_of, datum_of, bare_of, only_bare, only_integer}
+use Rattle.word_core.specs.Data.{◌>>=◌, integer_of, session_of, datum_of, bare_of, only_bare}
 use Rattle.word_core.specs.View.{words_of}
 use Rattle.word_core.specs.declared.word.Word as declared
 use Rattle.front_read.specs.declared.fault.Cause.{Cause}
@@ -80,13 +80,13 @@ carried_head words =
 -- the numbers of a remembered call, and the words behind them
 abbrev pub kept_head : List Word → Option ((ℕ × ℕ × ℕ) × List Word)
 kept_head words =
-    at_front session_of words >>= λ session. at_front integer_of session.1 >>= λ key. at_front long_of key.1
+    at_front session_of words >>= λ session. at_front long_of session.1 >>= λ key. at_front long_of key.1
     >>= λ told. Some ((session.0, key.0, told.0), told.1)
 
 -- the session, the name and the keys of a client
 abbrev pub client_of : List Word → Option (ℕ × List ℕ × ℕ)
 client_of words =
-    at_front session_of words >>= λ session. bare_of session.1 >>= λ name. only_integer name.1
+    at_front session_of words >>= λ session. bare_of session.1 >>= λ name. only_long name.1
     >>= λ keys. Some (session.0, name.0, keys)
 
 -- the word of a refusal has 1 to 16 lower-case letters

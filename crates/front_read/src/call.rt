@@ -1,6 +1,6 @@
 //! Calls, as the lines of a front tell them.
 
-ghost use Rattle.std.specs.Prelude.{◌≡◌, ◌↔◌, ◌<◌, ℕ, List, IsTrue, Some, IfOk, IfSome, option_map, map, length};
+ghost use Rattle.std.specs.Prelude.{◌≡◌, ◌↔◌, ◌<◌, ◌^◌, ℕ, List, IsTrue, Some, IfOk, IfSome, option_map, map, length};
 ghost use Rattle.value_core.specs.Datum.{IsDatum, elem_of};
 ghost use Rattle.value_core.specs.declared.datum.Datum.{Datum as ADatum};
 ghost use Rattle.decl_core.specs.ObjectMap.{object_of};
@@ -33,11 +33,11 @@ pub(crate) fn carried_head<'a, 'b>(
 }
 
 /// The session, the key and the told number of a remembered call, and the words behind them.
-pub(crate) fn kept_head<'a, 'b>(words: &'b [Word<'a>]) -> Option<((u32, u32, u64), &'b [Word<'a>])>
+pub(crate) fn kept_head<'a, 'b>(words: &'b [Word<'a>]) -> Option<((u32, u64, u64), &'b [Word<'a>])>
     ensures { option_map heads_view result ≡ kept_head_in (words_in words.now) }
 {
     let (session, rest) = session_front(words)?;
-    let (key, rest) = integer_front(rest)?;
+    let (key, rest) = long_front(rest)?;
     let (told, rest) = long_front(rest)?;
     Some(((session, key, told), rest))
 }
@@ -55,12 +55,19 @@ fn see_data(arguments: &[Datum])
     }
 }
 
+// Looks at an integer: it is below 2^32.
+fn see_integer(number: u32)
+    ensures { number < 2 ^ 32 }
+{
+    let _number = number;
+}
+
 /// Looks at an integer or a text, for what each is: below 2^32, or at most 1,000 bytes from 32 to 126.
 pub(crate) fn see_datum(datum: &Datum)
     ensures { IsDatum datum.now }
 {
     match datum {
-        Datum::Integer(_) => {}
+        Datum::Integer(number) => see_integer(*number),
         Datum::Text(text) => {
             let _bytes = text.bytes();
         }

@@ -197,7 +197,7 @@ fn is_no_more(calls: &[KeptCall], session: u32) -> bool
 fn is_next(call: &KeptCall, next: &KeptCall) -> bool
     ensures { IsTrue result ↔ ((call.now.session ≡ next.now.session) × (next.now.key ≡ call.now.key + 1)) }
 {
-    call.session == next.session && u64::from(next.key) == u64::from(call.key) + 1
+    call.session == next.session && next.key > call.key && next.key - call.key == 1
 }
 
 // Whether these calls may stand behind a call: the first has its next key, or none is of its session.

@@ -9,7 +9,7 @@ use crate::answer::{answer_of, behind_told, is_told, told_front};
 use crate::call::{call_of, carried_head, kept_head};
 use crate::fault::Cause;
 use crate::rows::Row;
-use crate::words::{is_session, operation_of, session_front};
+use crate::words::{is_session, only_long, operation_of, session_front};
 use decl_core::object::Object;
 use front_core::front::{CarriedCall, Client, KeptCall};
 use front_core::past::PastRun;
@@ -18,7 +18,7 @@ use path_tree::name::Name;
 use std::alloc::{AllocError, Global};
 use word_core::number::integer_of;
 use word_core::word::Word;
-use word_core::words::{bare_of, only_bare, only_integer};
+use word_core::words::{bare_of, only_bare};
 
 // What the two words behind `past` tell, of which the second is this integer or none.
 fn run_by(object: &Object, first: &[u8], second: &[u8], count: Option<u32>) -> Option<PastRun>
@@ -131,12 +131,12 @@ impl Row for CarriedCall {
 }
 
 // The session, the name and the keys of a client.
-fn client_of<'a>(words: &[Word<'a>]) -> Option<(u32, &'a [u8], u32)>
+fn client_of<'a>(words: &[Word<'a>]) -> Option<(u32, &'a [u8], u64)>
     ensures { option_map client_view result ≡ client_in (words_in words.now) }
 {
     let (session, rest) = session_front(words)?;
     let (name, rest) = bare_of(rest)?;
-    let keys = only_integer(rest)?;
+    let keys = only_long(rest)?;
     Some((session, name, keys))
 }
 

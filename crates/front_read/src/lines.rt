@@ -12,13 +12,13 @@ ghost use Rattle.word_core.specs.View.{words_of as words_in};
 ghost use Rattle.trace_core.specs.Text.{part_words, parts_words, lines_of};
 ghost use Rattle.front_core.specs.Front.{Every, IsLong};
 ghost use Rattle.front_core.specs.Text.{object_words, source_words, base_words};
-ghost use Rattle.front_read.specs.Reads.{Gives, word_front as word_front_in, only_long as only_long_in};
+ghost use Rattle.front_read.specs.Reads.{Gives, word_front as word_front_in};
 ghost use Rattle.front_read.specs.Reads.{epoch_of as epoch_in, base_of as base_in, hex_of as hex_in, part_hex as part_hex_in};
 ghost use Rattle.front_read.specs.Reads.{rest_view};
 
 use crate::fault::Cause;
 use crate::stop::Stop;
-use crate::words::{line_words, long_of};
+use crate::words::{line_words, only_long};
 use decl_core::object::Part;
 use hex::FromHexError;
 use line_core::words::is_same_word;
@@ -38,14 +38,6 @@ fn word_front<'a, 'b>(words: &'b [Word<'a>], first: &[u8]) -> Option<&'b [Word<'
         return Some(rest);
     }
     None
-}
-
-// The integer below 2^64 that the one word is.
-fn only_long(words: &[Word]) -> Option<u64>
-    ensures { result ≡ only_long_in (words_in words.now) }
-{
-    let word = only_bare(words)?;
-    long_of(word)
 }
 
 // The epoch that the words of the line of an object of this name tell.

@@ -13,7 +13,8 @@ ghost use Rattle.word_core.specs.Data.{integer_of as integer_in, session_of as s
 ghost use Rattle.path_tree.specs.Known.{place_of};
 ghost use Rattle.decl_core.specs.ObjectMap.{operations_of};
 ghost use Rattle.front_core.specs.Front.{IsSession};
-ghost use Rattle.front_read.specs.Reads.{IsLine, HasFirst, long_of as long_in, at_front, behind_view};
+ghost use Rattle.front_read.specs.Reads.{behind_view};
+ghost use Rattle.front_read.specs.Reads.{IsLine, HasFirst, long_of as long_in, only_long as only_long_in, at_front};
 
 use decl_core::object::Operation;
 use line_core::words::is_same_word;
@@ -22,7 +23,7 @@ use std::alloc::{AllocError, Global};
 use std::sync::Arc;
 use word_core::number::{integer_of, session_of};
 use word_core::word::Word;
-use word_core::words::{bare_of, words_of};
+use word_core::words::{bare_of, only_bare, words_of};
 
 // What stands before the first LF, and what stands after it.
 fn cut_line(bytes: &[u8]) -> Option<(&[u8], &[u8])>
@@ -86,6 +87,14 @@ pub(crate) fn long_of(bytes: &[u8]) -> Option<u64>
         return None;
     }
     value_of(bytes)
+}
+
+/// The integer below 2^64 that the one word is.
+pub(crate) fn only_long(words: &[Word]) -> Option<u64>
+    ensures { result ≡ only_long_in (words_in words.now) }
+{
+    let word = only_bare(words)?;
+    long_of(word)
 }
 
 /// The integer below 2^64 that the first word is, and the words behind it.
