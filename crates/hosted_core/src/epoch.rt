@@ -6,7 +6,6 @@ ghost use Rattle.live_core.specs.Epochs.{IsBegun};
 
 use crate::hosted::Hosted;
 use decl_core::object::Object;
-use front_core::front::Answer;
 use front_core::past::runs_of;
 use front_core::write::{
     push_base, push_carried, push_client, push_kept, push_object, push_parts, push_past,
@@ -18,28 +17,7 @@ use live_core::hall::MOST_NUMBERS;
 use past_core::finder::short_past;
 use past_core::past::PastEvent;
 use path_tree::node::OpId;
-use short_core::short::Short;
 use std::alloc::{AllocError, Global};
-use text_core::limits::MOST_TEXT_BYTES;
-
-// How a remembered call ended.
-fn answer_of(alloc: Global, call: &Kept) -> Result<Answer, AllocError> {
-    match call.reply() {
-        None => Ok(Answer::Cancelled),
-        Some(reply) => {
-            let mut room = Vec::with_capacity(alloc, MOST_TEXT_BYTES)?;
-            Ok(Answer::Replied(Short::within(alloc, &mut room, &reply)))
-        }
-    }
-}
-
-// A key or a count of keys, as a front has it.
-fn key_of(key: u64) -> u32 {
-    match u32::try_from(key) {
-        Ok(key) => key,
-        Err(_) => u32::MAX,
-    }
-}
 
 // Adds the line of a remembered call.
 fn push_kept_call(
@@ -50,18 +28,31 @@ fn push_kept_call(
     key: u64,
     call: &Kept,
 ) -> Result<(), AllocError> {
-    let answer = answer_of(alloc, call)?;
     let arguments = call.asked().arguments().list(alloc)?;
-    push_kept(
-        out,
-        object,
-        u32::from(session),
-        key_of(key),
-        call.told(),
-        &answer,
-        call.asked().operation(),
-        &arguments,
-    )
+    let operation = call.asked().operation();
+    let session = u32::from(session);
+    match call.reply() {
+        None => push_kept(
+            out,
+            object,
+            session,
+            key,
+            call.told(),
+            None,
+            operation,
+            &arguments,
+        ),
+        Some(reply) => push_kept(
+            out,
+            object,
+            session,
+            key,
+            call.told(),
+            Some(&reply),
+            operation,
+            &arguments,
+        ),
+    }
 }
 
 // Adds the lines of the calls that are remembered of a client, in the order of their keys.
@@ -91,7 +82,7 @@ fn push_guests(
     guests: &[Guest],
 ) -> Result<(), AllocError> {
     for guest in guests {
-        let keys = key_of(guest.keys().next().saturating_sub(1));
+        let keys = guest.keys().next().saturating_sub(1);
         push_client(
             out,
             u32::from(guest.session()),

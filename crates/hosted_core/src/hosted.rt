@@ -37,9 +37,6 @@ pub const LEAST_LEFT: usize = 2_097_152;
 /// Where no new epoch can begin, it is tried again behind so many calls.
 pub const CALLS_BETWEEN: u32 = 1_000;
 
-// No call has this key, or a greater one.
-const MOST_KEY: u64 = 4_294_967_295;
-
 /// What an object that is to be served begins with.
 #[derive(Drop)]
 pub struct Begun {
@@ -455,14 +452,6 @@ impl Hosted {
         self.long.reserve(calls.saturating_mul(2))
     }
 
-    // Whether the keys of a session that has a name are spent: a front tells of keys of 32 bits.
-    fn are_keys_spent(&self, session: u16) -> bool {
-        match self.guests.guest(session) {
-            Some(guest) => guest.keys().next() >= MOST_KEY,
-            None => false,
-        }
-    }
-
     // Submits a call. A fault changes nothing.
     fn submit(
         &mut self,
@@ -473,9 +462,6 @@ impl Hosted {
         ensures ok { IfOk result (λ a. Takes self.old a.ran.items self.new) }
         ensures err { OnErr result (self.new ≡ self.old) }
     {
-        if self.are_keys_spent(session) {
-            return Err(SubmitFault::HistoryFull);
-        }
         if let Err(fault) = self.guests.ask(session, operation, &arguments) {
             return Err(asking_fault(fault));
         }
