@@ -1,5 +1,7 @@
 -- One line more of a kind.
-use Rattle.std.proofs.Common.{◌≡◌, ℕ, ◌+◌, ◌<◌, List, [], ◌∷◌, ◌++◌, length, take, get_or, refl, sym, ap, ◌∙◌, append_assoc}
+use Rattle.std.proofs.Common.{◌≡◌, ℕ, ◌+◌, ◌<◌, List, [], ◌∷◌, ◌++◌, length, take, get_or, refl, sym, ap, ◌∙◌, append_assoc, subst}
+use Rattle.std.specs.Prelude.{codes, decimal}
+use Rattle.word_core.specs.Data.{session_word}
 use Rattle.std.proofs.lemmas.List.{take_more, append-nil}
 use Rattle.word_core.specs.Words.{Word, bare, line_of, word_text, behind_word, words_text}
 use Rattle.word_core.proofs.Shown.{behind-append}
@@ -40,3 +42,11 @@ in_three out one two three w ws a b first second third =
     ∙ append_assoc (out ++ (x ++ p)) q r ∙ append_assoc out (x ++ p) (q ++ r) ∙ ap (λ t. out ++ t) (append_assoc x p (q ++ r))
     ∙ ap (λ t. out ++ (x ++ t)) (sym (append_assoc p (q ++ behind_word b) (10 ∷ []) ∙ ap (λ t. p ++ t) (append_assoc q (behind_word b) (10 ∷ []))))
     ∙ ap (λ t. out ++ (x ++ (t ++ 10 ∷ []))) (sym parts) ∙ ap (λ t. out ++ t) (sym (append_assoc x (behind_word (ws ++ (a ++ b))) (10 ∷ [])))
+
+-- the line of a remembered call
+pub kept_added : (out one two three : List ℕ) (session from key told : ℕ) (answer call : List Word) → from ≡ session → one ≡ out ++ words_text (bare (codes "kept") ∷ session_word from ∷ bare (decimal key) ∷ bare (decimal told) ∷ [])
+    → two ≡ one ++ behind_word answer → three ≡ two ++ (behind_word call ++ 10 ∷ [])
+    → three ≡ out ++ line_of (bare (codes "kept") ∷ session_word session ∷ bare (decimal key) ∷ bare (decimal told) ∷ (answer ++ call))
+kept_added out one two three session from key told answer call same first second third =
+    subst (λ n. three ≡ out ++ line_of (bare (codes "kept") ∷ session_word n ∷ bare (decimal key) ∷ bare (decimal told) ∷ (answer ++ call))) same
+    (in_three out one two three (bare (codes "kept")) (session_word from ∷ bare (decimal key) ∷ bare (decimal told) ∷ []) answer call first second third)

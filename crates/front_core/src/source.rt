@@ -213,9 +213,7 @@ fn with_node(so_far: u64, node: &Node) -> u64 {
 #[cycle(walking)]
 fn with_members(so_far: u64, members: &Members) -> u64 {
     match members {
-        Members::Two(first, second) => {
-            with_node(with_node(with_byte(so_far, 1), first), second)
-        }
+        Members::Two(first, second) => { with_node(with_node(with_byte(so_far, 1), first), second) }
         Members::More(first, rest) => with_members(with_node(with_byte(so_far, 2), first), rest),
     }
 }

@@ -186,7 +186,12 @@ pub fn push_carried(
 
 /// Adds the line of a client with a name: its session, its name, and how many keys it has used. The error is that
 /// memory was refused; how much then stands in `out` is not said.
-pub fn push_client(out: &mut Vec<u8>, session: u32, name: &[u8], keys: u64) -> Result<(), AllocError>
+pub fn push_client(
+    out: &mut Vec<u8>,
+    session: u32,
+    name: &[u8],
+    keys: u64,
+) -> Result<(), AllocError>
     ensures { OnOk result (out.new.items ≡ out.old.items ++ line_of (bare (codes "client") ∷ client_words (record {
       session = session;
       name = name.now;
@@ -206,7 +211,7 @@ pub fn push_client(out: &mut Vec<u8>, session: u32, name: &[u8], keys: u64) -> R
 
 // Adds how a remembered call ended behind other words.
 fn push_answer(out: &mut Vec<u8>, reply: Option<&Reply>) -> Result<(), AllocError>
-    ensures { OnOk result (out.new.items ≡ out.old.items ++ behind_word (answer_words (answer_of reply))) }
+    ensures { OnOk result (out.new.items ≡ out.old.items ++ behind_word (answer_words (answer_of reply.entry))) }
 {
     match reply {
         Some(reply) => push_reply(out, reply),
@@ -248,7 +253,7 @@ pub fn push_kept(
           session = session;
           key = key;
           told = told;
-          answer = answer_of reply;
+          answer = answer_of reply.entry;
           operation = operation;
           arguments = arguments.now;
         }))) }

@@ -73,6 +73,7 @@ none_refused {X} {A} {B} P Q verb words is xs more old out rest why each none fi
     same_why stop.Memory x others h = tt
     same_why (stop.Bad left cause) x others h = h
     same_why (stop.Line line cause) x others h = h
+
     go : (left : List X) → left ≡ so.left → Gives P (let r : Result A Stop = Err why in r)
     go [] same = absurd (none (subst (HasFirst verb) (so.rest_is ∙ ap (λ l. lines_of (rows verb words l) ++ more) (sym same)) first))
     go (x ∷ left) same =

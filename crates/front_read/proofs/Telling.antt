@@ -1,6 +1,6 @@
 -- What the words of a line tell.
 use Rattle.std.proofs.Common.{◌≡◌, ℕ, ◌≤◌, Bool, true, false, cond, List, [], ◌∷◌, refl, sym, ap, subst, ◌∙◌, arith}
-use Rattle.std.specs.Prelude.{Option, Some, None, option_map, codes, nat_le, ◌&&◌, bytes_eq}
+use Rattle.std.specs.Prelude.{Option, Some, None, IfSome, option_map, map, codes, nat_le, ◌&&◌, bytes_eq}
 use Rattle.std.proofs.lemmas.Bool.{and_parts}
 use Rattle.std.proofs.lemmas.Bool.Decides.{nat_tests}
 use Rattle.decl_core.specs.ObjectForm.{ObjectForm}
@@ -9,7 +9,10 @@ use Rattle.word_core.specs.Data.{◌>>=◌, integer_of, bare_of}
 use Rattle.trace_core.specs.Laws.{HasNames}
 use Rattle.front_core.specs.declared.past.PastRun.{PastRun}
 use Rattle.front_core.specs.declared.past.PastRun.TheVariants.{Calls, Begins, Ends}
-use Rattle.front_core.specs.Front.{IsOperation, IsRun}
+use Rattle.value_core.specs.declared.datum.Datum.{Datum}
+use Rattle.value_core.specs.Datum.{IsDatum, elem_of}
+use Rattle.trace_core.specs.Events.{body_at}
+use Rattle.front_core.specs.Front.{Every, IsOperation, IsCall, IsRun}
 use Rattle.front_core.specs.Text.{run_words}
 use Rattle.front_read.specs.Reads.{place_in, run_of, run_by}
 use Rattle.front_read.proofs.Finding.{operation_is, run_found}
@@ -59,6 +62,18 @@ run_read o words found run is named told same = is ∙ ap (run_of o) same ∙ ru
 
 pub run_is : (o : ObjectForm) (words : List Word) (run : PastRun) (found : Option PastRun) → found ≡ run_of o words → found ≡ Some run → IsRun o run
 run_is o words run found is some = run_told o words run (sym is ∙ some)
+
+pub run_all : (o : ObjectForm) (words : List Word) (found : Option PastRun) → found ≡ run_of o words → IfSome found (IsRun o)
+run_all o words None is = tt
+run_all o words (Some run) is = run_told o words run (sym is)
+
+-- a call of an operation by its name
+pub call_told : (o : ObjectForm) (name : List ℕ) (op : ℕ) (given kept : List Datum) → Some op ≡ place_in o name → map elem_of given ≡ (body_at o op).params → Every IsDatum given → kept ≡ given → IsCall o op kept
+call_told o name op given kept is fit each same = record {
+  operation = operation_is o name op (sym is);
+  fit = ap (map elem_of) same ∙ fit;
+  each = subst (Every IsDatum) (sym same) each;
+}
 
 -- what was found is what is there
 pub missing : {X A P : Type 0} (view : X → A) (r : Option X) (a : Option A) (x : A) → r ≡ None → option_map view r ≡ a → a ≡ Some x → P

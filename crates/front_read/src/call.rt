@@ -8,6 +8,7 @@ ghost use Rattle.word_core.specs.View.{words_of as words_in};
 ghost use Rattle.trace_core.specs.Events.{body_at};
 ghost use Rattle.front_core.specs.Front.{Every, IsCall};
 ghost use Rattle.front_core.specs.Text.{call_words};
+ghost use Rattle.front_read.specs.Reads.{place_in};
 ghost use Rattle.front_read.specs.Reads.{carried_head as carried_head_in, kept_head as kept_head_in, heads_view};
 
 use crate::words::{integer_front, long_front, operation_of, session_front};
@@ -74,6 +75,14 @@ pub(crate) fn see_datum(datum: &Datum)
     }
 }
 
+// The place of the first operation of the object of this name.
+fn operation_in(object: &Object, name: &[u8]) -> Option<OpId>
+    ensures place { result ≡ place_in (object_of object.now) name.now }
+    ensures within { IfSome result (λ k. k < length object.now.operations.items) }
+{
+    operation_of(&object.operations, name)
+}
+
 // Whether the arguments fit the operation at this place.
 fn fits(object: &Object, operation: OpId, arguments: &[Datum]) -> bool
     requires { operation < length object.now.operations.items }
@@ -83,20 +92,18 @@ fn fits(object: &Object, operation: OpId, arguments: &[Datum]) -> bool
 }
 
 /// The operation that the first word names, and the arguments that the words behind it are, where they fit it.
+#[tactic(auto, using(crate::proofs::Telling::call_told))]
 pub(crate) fn call_of(
     alloc: Global,
     object: &Object,
     words: &[Word],
 ) -> Result<Option<(OpId, Slims)>, AllocError>
-    ensures found { (op : ℕ) (arguments : List ADatum) → IsCall (object_of object.now) op arguments →
-        words_in words.now ≡ call_words (object_of object.now) op arguments →
-        IfOk result (λ found. found ≡ Some (op, arguments)) }
     ensures told { IfOk result (λ found. IfSome found (λ c. IsCall (object_of object.now) c.0 c.1)) }
 {
     let Some((name, rest)) = bare_of(words) else {
         return Ok(None);
     };
-    let Some(operation) = operation_of(&object.operations, name) else {
+    let Some(operation) = operation_in(object, name) else {
         return Ok(None);
     };
     let Some(arguments) = data_of(alloc, rest)? else {

@@ -64,9 +64,6 @@ pub(crate) fn read_object<'a>(
     name: &[u8],
     text: &'a [u8],
 ) -> Result<(u64, &'a [u8]), Stop>
-    ensures found { (epoch : ℕ) (more : List ℕ) → IsName name.now → 1 ≤ epoch → IsLong epoch →
-        text.now ≡ line_of (object_words name.now epoch) ++ more →
-        Gives (λ p. (p.0 ≡ epoch) × (p.1.now ≡ more)) result }
     ensures told { IfOk result (λ p. (1 ≤ p.0) × IsLong p.0) }
 {
     let Some((words, rest)) = line_words(alloc, text)? else {
@@ -85,9 +82,6 @@ pub(crate) fn read_object<'a>(
 
 /// The base of the line that tells it, and the text behind the line.
 pub(crate) fn read_base<'a>(alloc: Global, text: &'a [u8]) -> Result<(u64, &'a [u8]), Stop>
-    ensures found { (base : ℕ) (more : List ℕ) → IsLong base →
-        text.now ≡ line_of (base_words base) ++ more →
-        Gives (λ p. (p.0 ≡ base) × (p.1.now ≡ more)) result }
     ensures told { IfOk result (λ p. IsLong p.0) }
 {
     let Some((words, rest)) = line_words(alloc, text)? else {
@@ -100,9 +94,7 @@ pub(crate) fn read_base<'a>(alloc: Global, text: &'a [u8]) -> Result<(u64, &'a [
 }
 
 // The number that a word spells in sixteen digits in lower-case hexadecimal.
-fn number_of(word: &[u8]) -> Option<u64>
-    ensures { (n : ℕ) → IsLong n → word.now ≡ encode_lower (to_be_bytes w64 n) → result ≡ Some n }
-{
+fn number_of(word: &[u8]) -> Option<u64> {
     let mut bytes = [0u8; 8];
     match hex::decode_to_slice(word, &mut bytes) {
         Ok(()) => Some(u64::from_be_bytes(bytes)),
@@ -120,9 +112,6 @@ fn hex_of<'a>(words: &[Word<'a>], first: &[u8]) -> Option<&'a [u8]>
 
 /// The number of the line of a source, and the text behind the line.
 pub(crate) fn read_source<'a>(alloc: Global, text: &'a [u8]) -> Result<(u64, &'a [u8]), Stop>
-    ensures found { (source : ℕ) (more : List ℕ) → IsLong source →
-        text.now ≡ line_of (source_words source) ++ more →
-        Gives (λ p. (p.0 ≡ source) × (p.1.now ≡ more)) result }
     ensures told { IfOk result (λ p. IsLong p.0) }
 {
     let Some((words, rest)) = line_words(alloc, text)? else {
@@ -139,8 +128,6 @@ pub(crate) fn read_source<'a>(alloc: Global, text: &'a [u8]) -> Result<(u64, &'a
 
 // The value of a kind that a word spells in hexadecimal.
 fn value_of(alloc: Global, kind: Kind, word: &[u8]) -> Result<Option<Value>, AllocError>
-    ensures found { (value : Contents) → IsContents value → kind_of value ≡ kind →
-        word.now ≡ encode_lower (spelling value) → IfOk result (λ found. found ≡ Some value) }
     ensures told { IfOk result (λ found. IfSome found (λ value. (kind_of value ≡ kind) × IsContents value)) }
 {
     let bytes = match hex::decode(alloc, word) {
@@ -165,9 +152,6 @@ fn part_hex<'a>(name: &[u8], words: &[Word<'a>]) -> Option<&'a [u8]>
 
 // The value of the line of a part, and the text behind the line.
 fn read_part<'a>(alloc: Global, part: &Part, text: &'a [u8]) -> Result<(Value, &'a [u8]), Stop>
-    ensures found { (value : Contents) (more : List ℕ) → IsContents value → kind_of value ≡ part.now.kind →
-        IsName part.now.name → text.now ≡ line_of (part_words part.now.name value) ++ more →
-        Gives (λ p. (p.0 ≡ value) × (p.1.now ≡ more)) result }
     ensures told { IfOk result (λ p. (kind_of p.0 ≡ part.now.kind) × IsContents p.0) }
 {
     let Some((words, rest)) = line_words(alloc, text)? else {
@@ -198,10 +182,6 @@ pub(crate) fn read_parts<'a>(
     text: &'a [u8],
     out: &mut Vec<Value>,
 ) -> Result<&'a [u8], Stop>
-    ensures found { (values : List Contents) (more : List ℕ) → Every IsContents values →
-        map kind_of values ≡ map (λ p. p.kind) parts.now → Every (λ p. IsName p.name) parts.now →
-        text.now ≡ lines_of (parts_words (parts_of parts.now) values) ++ more →
-        Gives (λ rest. (out.new.items ≡ out.old.items ++ values) × (rest.now ≡ more)) result }
     ensures kinds { IfOk result (λ rest. map kind_of out.new.items
         ≡ map kind_of out.old.items ++ map (λ p. p.kind) parts.now) }
     ensures contents { Every IsContents out.old.items → IfOk result (λ rest. Every IsContents out.new.items) }

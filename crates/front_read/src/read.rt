@@ -44,10 +44,6 @@ fn read_calls(
     past: Vec<PastRun>,
     base: u64,
 ) -> Result<Front, Stop>
-    ensures found { (f : Opening) (more : List ℕ) → HasNames (object_of object.now) →
-        HasRows (object_of object.now) f → EndsFront more →
-        text.now ≡ calls_text (object_of object.now) f ++ more →
-        Gives (λ r. (r.carried.items ≡ f.carried) × (r.clients.items ≡ f.clients) × (r.kept.items ≡ f.kept)) result }
     ensures told { IfOk result (λ r. Every (IsCarried (object_of object.now)) r.carried.items
         × Every IsClient r.clients.items × Every (IsKept (object_of object.now)) r.kept.items) }
     ensures same { IfOk result (λ r. (r.epoch ≡ head.epoch) × (r.source ≡ head.source)
@@ -73,11 +69,6 @@ fn read_calls(
 
 // The front of this head whose other lines, from the past on, stand at the beginning of a text.
 fn read_behind_parts(alloc: Global, object: &Object, text: &[u8], head: Head) -> Result<Front, Stop>
-    ensures found { (f : Opening) (more : List ℕ) → HasNames (object_of object.now) →
-        HasRows (object_of object.now) f → EndsFront more →
-        text.now ≡ behind_parts (object_of object.now) f ++ more →
-        Gives (λ r. (r.past.items ≡ f.past) × (r.base ≡ f.base) × (r.carried.items ≡ f.carried)
-        × (r.clients.items ≡ f.clients) × (r.kept.items ≡ f.kept)) result }
     ensures told { IfOk result (λ r. Every (IsRun (object_of object.now)) r.past.items × IsLong r.base
         × Every (IsCarried (object_of object.now)) r.carried.items × Every IsClient r.clients.items
         × Every (IsKept (object_of object.now)) r.kept.items) }
@@ -93,9 +84,6 @@ fn read_behind_parts(alloc: Global, object: &Object, text: &[u8], head: Head) ->
 
 // The front whose lines stand at the beginning of a text, if one does: whether they are written so is not asked here.
 fn read_lines(alloc: Global, object: &Object, text: &[u8]) -> Result<Front, Stop>
-    ensures found { (f : Opening) (more : List ℕ) → HasNames (object_of object.now) →
-        HasRows (object_of object.now) f → EndsFront more →
-        text.now ≡ front_text (object_of object.now) f ++ more → Gives (λ r. opening_of r ≡ f) result }
     ensures told { IfOk result (λ r. HasRows (object_of object.now) (opening_of r)) }
 {
     let (epoch, rest) = read_object(alloc, object.name.as_bytes(), text)?;
@@ -130,9 +118,6 @@ fn ends_front(text: &[u8]) -> bool
 
 // How many bytes of a text are the lines of a front, where its beginning is just these.
 fn front_len(alloc: Global, object: &Object, text: &[u8], front: &Front) -> Result<usize, Stop>
-    ensures found { (more : List ℕ) → EndsFront more →
-        text.now ≡ front_text (object_of object.now) (opening_of front.now) ++ more →
-        Gives (λ len. len ≡ length (front_text (object_of object.now) (opening_of front.now))) result }
     ensures told { IfOk result (λ len. (len ≡ length (front_text (object_of object.now) (opening_of front.now)))
         × IsFrontOf (object_of object.now) text.now (opening_of front.now)) }
 {
@@ -193,10 +178,6 @@ fn agree(front: &Front) -> Result<(), Stop>
 
 // A front, and how many bytes of a text its lines are.
 fn read_whole(alloc: Global, object: &Object, text: &[u8]) -> Result<(Front, usize), Stop>
-    ensures found { (f : Opening) (more : List ℕ) → HasNames (object_of object.now) →
-        IsFront (object_of object.now) f → EndsFront more →
-        text.now ≡ front_text (object_of object.now) f ++ more →
-        Gives (λ p. (opening_of p.0 ≡ f) × (p.1 ≡ length (front_text (object_of object.now) f))) result }
     ensures told { IfOk result (λ p. IsFront (object_of object.now) (opening_of p.0)
         × (p.1 ≡ length (front_text (object_of object.now) (opening_of p.0)))
         × IsFrontOf (object_of object.now) text.now (opening_of p.0)) }
@@ -229,10 +210,6 @@ pub fn read_front(
     object: &Object,
     text: &[u8],
 ) -> Result<Result<(Front, usize), FrontFault>, AllocError>
-    ensures found { (f : Opening) (more : List ℕ) → HasNames (object_of object.now) →
-        IsFront (object_of object.now) f → EndsFront more →
-        text.now ≡ front_text (object_of object.now) f ++ more →
-        IfOk result (IsReadAs (object_of object.now) f) }
     ensures told { IfOk result (λ read. IfOk read (λ p. IsFront (object_of object.now) (opening_of p.0)
         × (p.1 ≡ length (front_text (object_of object.now) (opening_of p.0)))
         × IsFrontOf (object_of object.now) text.now (opening_of p.0))) }

@@ -37,8 +37,6 @@ pub(crate) trait Row: Sized + Drop {
 
     /// What is told by the words behind the first one.
     fn read(alloc: Global, object: &Object, behind: &[Word]) -> Result<Option<Self>, AllocError>
-        ensures found { (x : Self) → HasNames (object_of object.now) → is (object_of object.now) x →
-            words_in behind.now ≡ words (object_of object.now) x → IfOk result (λ found. found ≡ Some x) }
         ensures told { IfOk result (λ found. IfSome found (is (object_of object.now))) };
 }
 
@@ -48,10 +46,6 @@ fn read_row<'a, R: Row>(
     object: &Object,
     text: &'a [u8],
 ) -> Result<(R, &'a [u8]), Stop>
-    ensures found { (x : R) (more : List ℕ) → HasNames (object_of object.now) → R.is (object_of object.now) x →
-        IsLine (bare R.verb ∷ R.words (object_of object.now) x) →
-        text.now ≡ line_of (bare R.verb ∷ R.words (object_of object.now) x) ++ more →
-        Gives (λ p. (p.0 ≡ x) × (p.1.now ≡ more)) result }
     ensures told { IfOk result (λ p. R.is (object_of object.now) p.0) }
     ensures shorter { IfOk result (λ p. length p.1.now < length text.now) }
 {
@@ -79,18 +73,13 @@ fn push_row<R: Drop>(out: &mut Vec<R>, row: R) -> Result<(), AllocError>
 
 /// Adds what the lines at the beginning of a text tell, as long as they begin with this first word; and the text behind
 /// them.
+#[tactic(auto, using(crate::proofs::RowByRow::every_more))]
 pub(crate) fn read_rows<'a, R: Row>(
     alloc: Global,
     object: &Object,
     text: &'a [u8],
     out: &mut Vec<R>,
 ) -> Result<&'a [u8], Stop>
-    ensures found { (xs : List R) (more : List ℕ) → HasNames (object_of object.now) →
-        Every (R.is (object_of object.now)) xs →
-        ((x : R) → R.is (object_of object.now) x → IsLine (bare R.verb ∷ R.words (object_of object.now) x)) →
-        (HasFirst R.verb more → ⊥) →
-        text.now ≡ lines_of (rows R.verb (R.words (object_of object.now)) xs) ++ more →
-        Gives (λ rest. (out.new.items ≡ out.old.items ++ xs) × (rest.now ≡ more)) result }
     ensures told { Every (R.is (object_of object.now)) out.old.items → IfOk result (λ rest.
         Every (R.is (object_of object.now)) out.new.items) }
 {

@@ -40,8 +40,6 @@ pub(crate) fn line_words<'a>(
     alloc: Global,
     text: &'a [u8],
 ) -> Result<Option<(Vec<Word<'a>>, &'a [u8])>, AllocError>
-    ensures found { (words : List AWord) (more : List ℕ) → IsLine words → text.now ≡ line_of words ++ more →
-        IfOk result (λ found. MatchOption found ⊥ (λ p. (words_in p.0.items ≡ words) × (p.1.now ≡ more))) }
     ensures shorter { IfOk result (λ found. IfSome found (λ p. length p.1.now < length text.now)) }
 {
     let Some((line, rest)) = cut_line(text) else {
