@@ -1,5 +1,5 @@
 -- What a key says of a call.
-use Rattle.std.proofs.Common.{◌≡◌, ◌≢◌, ◌+◌, ◌-◌, ◌<◌, ◌≤◌, ℕ, inl, inr, length, Some, sym, ap, ◌∙◌, subst, arith, Option, List}
+use Rattle.std.proofs.Common.{◌≡◌, ◌-◌, ◌<◌, ℕ, inl, inr, sym, ap, ◌∙◌, arith}
 use Rattle.std.specs.Prelude.{slice_get}
 use Rattle.guest_core.specs.declared.kept.Asked.{Asked}
 use Rattle.guest_core.specs.declared.kept.Kept.{Kept}

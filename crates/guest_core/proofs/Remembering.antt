@@ -1,5 +1,5 @@
 -- One call more that is kept.
-use Rattle.std.proofs.Common.{◌≡◌, ◌+◌, ◌<◌, ◌≤◌, ℕ, zero, suc, List, [], ◌∷◌, length, take, Option, None, refl, ap, ◌∙◌, subst, arith}
+use Rattle.std.proofs.Common.{◌≡◌, ◌+◌, ◌<◌, ◌≤◌, ℕ, zero, suc, List, [], ◌∷◌, length, take, Option, None, ap, ◌∙◌, arith}
 use Rattle.guest_core.specs.declared.kept.Asked.{Asked}
 use Rattle.guest_core.specs.declared.kept.Kept.{Kept}
 use Rattle.guest_core.specs.Keys.{Keys, remembered}

@@ -1,10 +1,9 @@
 -- Repeats are answered exactly where a call is kept that was told.
-use Rattle.std.proofs.Common.{◌≡◌, ◌+◌, ◌<◌, ℕ, zero, suc, List, [], ◌∷◌, length, take, Some, refl, sym, ap, ◌∙◌, subst, arith}
+use Rattle.std.proofs.Common.{◌≡◌, ◌+◌, ◌<◌, ℕ, zero, suc, List, [], ◌∷◌, length, take, Some, sym, ap, ◌∙◌, subst, arith}
 use Rattle.std.specs.Prelude.{slice_get}
 use Rattle.guest_core.specs.declared.guest.Guest.{Guest}
-use Rattle.guest_core.specs.declared.kept.Kept.{Kept}
 use Rattle.guest_core.specs.Guests.{Guests, IsAt, IsSound}
-use Rattle.guest_core.specs.Steps.{Told, Stands, IsTold, RepeatsAreExact}
+use Rattle.guest_core.specs.Steps.{Told, Stands, RepeatsAreExact}
 use Rattle.guest_core.proofs.Items.{one_item}
 
 get_taken : {X : Type 0} (n k : ℕ) (xs : List X) (x : X) → slice_get (take n xs) k ≡ Some x → (k < n) × (slice_get xs k ≡ Some x)

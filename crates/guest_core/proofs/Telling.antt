@@ -1,6 +1,6 @@
 -- What each step tells of the calls of a name.
-use Rattle.std.proofs.Common.{◌≡◌, ◌≢◌, ◌+◌, ◌<◌, ◌≤◌, ℕ, zero, suc, ◌⊎◌, inl, inr, List, [], ◌∷◌, ◌++◌, length, take, Bool, true, false, Option, Some, None, Result, Ok, Err, refl, sym, ap, ◌∙◌, subst, arith}
-use Rattle.std.specs.Prelude.{slice_get, slice_set, unwrap_or}
+use Rattle.std.proofs.Common.{◌≡◌, ◌≢◌, ◌+◌, ℕ, zero, suc, ◌⊎◌, inl, inr, List, [], ◌∷◌, ◌++◌, length, take, Bool, true, false, Option, Some, None, Result, Ok, Err, refl, sym, ap, ◌∙◌, subst, arith}
+use Rattle.std.specs.Prelude.{slice_get, slice_set}
 use Rattle.std.proofs.lemmas.Bool.{cases_eq}
 use Rattle.guest_core.specs.declared.guest.Guest.{Guest}
 use Rattle.guest_core.specs.declared.guests.Entered.{Entered}
@@ -12,10 +12,10 @@ use Rattle.guest_core.specs.declared.seats.Seat.TheVariants.{Void, Free, Nameles
 use Rattle.guest_core.specs.declared.guests.EnterFault.TheVariants.{InUse, Full, Memory}
 use Rattle.guest_core.specs.declared.guests.AdmitFault.TheVariants as admit
 use Rattle.guest_core.specs.declared.keys.AskFault.TheVariants.{SessionBusy, KeysSpent, Memory as NoMemory}
-use Rattle.guest_core.specs.Guests.{Guests, IsAt, IsNamed, IsSound, IsUnknown, HasNoName, with_keys, with_seat, with_guest, with_other, with_away}
-use Rattle.guest_core.specs.Keys.{Keys, Asks, Ends, withdrawn, remembered, fresh_keys}
-use Rattle.guest_core.specs.Entering.{Enters, Admits, Leaves, GetsName, GetsPlace, ComesNew}
-use Rattle.guest_core.specs.Steps.{Step, entered, admitted, seated, left, asked, withdrew, ended, renews, AtName, Does, Told, Stands, StandsSo, HasEnded, Tells, comes, named as gets_name, forgotten, ends, nothing, Plays, begins, goes, TellsAll, nothing_yet, further, KeysAreConsecutive}
+use Rattle.guest_core.specs.Guests.{Guests, IsAt, IsNamed, IsSound, IsUnknown, HasNoName, with_keys}
+use Rattle.guest_core.specs.Keys.{Keys, Asks, Ends, remembered, fresh_keys}
+use Rattle.guest_core.specs.Entering.{Enters, Admits, Leaves, GetsName, ComesNew}
+use Rattle.guest_core.specs.Steps.{Step, entered, admitted, seated, left, asked, withdrew, ended, renews, Does, Told, Stands, StandsSo, Tells, comes, named as gets_name, forgotten, ends, nothing, begins, goes, nothing_yet, further, KeysAreConsecutive}
 use Rattle.guest_core.proofs.Items.{get_more, get_set, get_front, get_last, get_here, get_there, one_item}
 use Rattle.guest_core.proofs.Finding.{which}
 

@@ -1,15 +1,15 @@
 -- What each call makes of the clients as a whole.
-use Rattle.std.proofs.Common.{◌≡◌, ◌≢◌, ◌<◌, ◌≤◌, ◌⊎◌, ℕ, inl, inr, List, [], ◌∷◌, ◌++◌, length, Bool, true, false, Option, Some, None, Result, Ok, Err, IsTrue, refl, sym, ◌∙◌, ap, subst, arith}
+use Rattle.std.proofs.Common.{◌≡◌, ◌≢◌, ◌<◌, ◌≤◌, ℕ, inl, inr, List, [], ◌∷◌, ◌++◌, length, Bool, true, false, Option, Some, None, Ok, Err, IsTrue, refl, sym, ◌∙◌, ap, subst, arith}
 use Rattle.std.specs.Prelude.{slice_get, slice_set}
 use Rattle.guest_core.specs.declared.guest.Guest.{Guest}
 use Rattle.guest_core.specs.declared.guests.Entered.{Entered}
 use Rattle.guest_core.specs.declared.guests.EnterFault.TheVariants.{InUse, Full, Memory}
 use Rattle.guest_core.specs.declared.seats.Seat.{Seat}
 use Rattle.guest_core.specs.declared.seats.Seat.TheVariants.{Free, Nameless, Named, Retired}
-use Rattle.guest_core.specs.Entering.{Enters, Leaves, MayForget, IsLongestAway, NoneMayForget, IsFull, ComesAgain}
+use Rattle.guest_core.specs.Entering.{Enters, Leaves, IsLongestAway, NoneMayForget, IsFull, ComesAgain}
 use Rattle.guest_core.specs.Guests.{Guests, IsAt, IsNamed, IsSound, IsUnknown, HasNoName, with_keys, with_seat, with_guest, with_other, guest_of}
 use Rattle.guest_core.specs.Keys.{Keys, withdrawn}
-use Rattle.guest_core.specs.Seats.{IsLeastFree, NoneIsFree, free_seats}
+use Rattle.guest_core.specs.Seats.{IsLeastFree, free_seats}
 use Rattle.guest_core.proofs.Items.{get_some, get_within, one_item}
 use Rattle.guest_core.proofs.Sound.{one_place, sound_changed, sound_more, sound_other, sound_seat, sound_new}
 

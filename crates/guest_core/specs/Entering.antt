@@ -1,13 +1,13 @@
 -- How a client gets its session.
-use Rattle.std.specs.Prelude.{◌≡◌, ◌≢◌, ◌⊎◌, ℕ, ◌≤◌, ◌<◌, ◌+◌, List, length, slice_get, slice_set}
-use Rattle.std.specs.Prelude.{true, false, Bool, Option, Some, None, Result, Ok, Err}
+use Rattle.std.specs.Prelude.{◌≡◌, ◌≢◌, ◌⊎◌, ℕ, ◌≤◌, ◌<◌, ◌+◌, List, length, slice_get}
+use Rattle.std.specs.Prelude.{true, false, Bool, Some, None, Result, Ok, Err}
 use Rattle.guest_core.specs.declared.guest.Guest.{Guest}
 use Rattle.guest_core.specs.declared.guests.Entered.{Entered}
 use Rattle.guest_core.specs.declared.guests.EnterFault.{EnterFault}
 use Rattle.guest_core.specs.declared.guests.EnterFault.TheVariants.{InUse, Full, Memory}
 use Rattle.guest_core.specs.declared.guests.AdmitFault.{AdmitFault}
 use Rattle.guest_core.specs.declared.guests.AdmitFault.TheVariants as admit
-use Rattle.guest_core.specs.declared.seats.Seat.TheVariants.{Free, Nameless, Named}
+use Rattle.guest_core.specs.declared.seats.Seat.TheVariants.{Free, Nameless}
 use Rattle.guest_core.specs.Keys.{fresh_keys}
 use Rattle.guest_core.specs.Seats.{IsLeastFree, NoneIsFree}
 use Rattle.guest_core.specs.Guests.{Guests, IsAt, IsNamed, IsUnknown, with_away, with_seat, with_guest, with_other, guest_of}

@@ -1,5 +1,5 @@
 -- The numbers of sessions, as they lie in memory.
-use Rattle.std.specs.Prelude.{◌≡◌, ◌≢◌, ℕ, ◌<◌, ◌≤◌, length, slice_get, Some}
+use Rattle.std.specs.Prelude.{◌≢◌, ℕ, ◌<◌, ◌≤◌, length, slice_get, Some}
 use Rattle.guest_core.specs.declared.seats.Seat.TheVariants.{Free}
 use Rattle.guest_core.specs.declared.seats.Seats.TheInside.{Inside}
 

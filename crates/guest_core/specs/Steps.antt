@@ -1,6 +1,6 @@
 -- What happens to the clients of an object, and what it tells of the calls of each name.
 use Rattle.std.specs.Prelude.{◌≡◌, ◌≢◌, ◌↔◌, ℕ, ◌+◌, ◌<◌, List, [], ◌∷◌, length, take, map, slice_get}
-use Rattle.std.specs.Prelude.{Bool, true, false, Option, Some, None, Result, Ok, Err}
+use Rattle.std.specs.Prelude.{Bool, true, Option, Some, None, Result, Ok}
 use Rattle.apply_core.specs.declared.reply.Reply.{Reply}
 use Rattle.guest_core.specs.declared.guest.Guest.{Guest}
 use Rattle.guest_core.specs.declared.guests.Entered.{Entered}

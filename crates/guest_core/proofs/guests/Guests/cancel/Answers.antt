@@ -1,13 +1,6 @@
-use Rattle.std.proofs.Common.{◌≡◌, ◌≢◌, ◌∙◌, ◌<◌, ℕ, List, Some, None, length, sym, ap, subst}
-use Rattle.std.specs.Prelude.{slice_get, slice_set}
-use Rattle.guest_core.specs.declared.guest.Guest.{Guest}
-use Rattle.guest_core.specs.declared.seats.Seat.{Seat}
-use Rattle.guest_core.specs.declared.seats.Seat.TheVariants.{Free, Nameless, Named, Retired}
-use Rattle.guest_core.specs.Guests.{Guests, IsSound, IsUnknown, guest_of}
+use Rattle.std.proofs.Common.{None}
 use Rattle.guest_core.specs.GuestsView.{guests_of}
-use Rattle.guest_core.specs.Keys.{asks, Asks, Ends, withdrawn}
-use Rattle.guest_core.proofs.Items.{get_some}
-use Rattle.guest_core.proofs.Sound.{sound_renewed}
+use Rattle.guest_core.specs.Keys.{Ends}
 use Rattle.guest_core.proofs.Whole.{sound_keys}
 use Rattle.guest_core.proofs.guests.Guests.cancel.Goals as goal
 

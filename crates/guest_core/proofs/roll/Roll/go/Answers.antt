@@ -1,10 +1,4 @@
-use Rattle.std.proofs.Common.{◌≡◌, ◌≤◌, Some, None, bytes_eq, sym, ap, subst}
-use Rattle.std.proofs.Math.ListN.{length-set}
-use Rattle.indexmap.specs.IndexMap.{get}
-use Rattle.guest_core.specs.declared.guest.Guest.{Guest}
-use Rattle.guest_core.specs.Keys.{asks, Asks, Ends, withdrawn}
 use Rattle.guest_core.proofs.Changing.{here, went_not}
-use Rattle.guest_core.proofs.Finding.{found_changed, known_changed}
 use Rattle.guest_core.proofs.roll.Roll.go.Goals as goal
 
 pub returns-clause-none : goal.returns-clause-none
