@@ -14,7 +14,7 @@ use Rattle.keep_loop.specs.declared.outside.Read.{Read}
 use Rattle.keep_loop.specs.declared.served.Note.{Note}
 use Rattle.keep_loop.proofs.Grown.{grown, same}
 use Rattle.keep_loop.proofs.Owed.{owes_handed}
-use Rattle.keep_loop.proofs.Stood.{rests_kept, stands_added, stands_stored, stands_changed}
+use Rattle.keep_loop.proofs.Stood.{rests_kept, stands_added, stands_stored, stands_changed, stands_synced}
 use Rattle.keep_loop.proofs.Honest.{honest, honest_read, honest_noticed, honest_added, honest_wrote}
 
 module _ {S : Type 0} (gives : Gives S) where
@@ -179,6 +179,12 @@ module _ {S : Type 0} (gives : Gives S) where
   pub fails_changed : (journal : ℕ) (front : List ℕ) (before after : Option (List Happened)) (old : Keep S) → Grows (Changed journal front) before after → Fails gives before old after
   fails_changed journal front before after old is =
       fails_event (Changed journal front) before after old is (λ first limits seen s. honest gives first limits (Changed journal front ∷ seen) old (stands_changed gives first limits seen old journal front s))
+
+  -- a journal was stored for which no answer waits
+  pub keeps_synced : (journal : ℕ) (before after : Option (List Happened)) (old : Keep S) → old.limits.waits ≡ false → Grows (Stored journal) before after → Keeps gives before old after old
+  keeps_synced journal before after old waits is =
+      keeps_event (Stored journal) before after old old is
+      (λ first limits seen s. stands_synced gives first limits seen old journal (sym (ap (λ l. l.waits) s.limited) ∙ waits) s)
 
 pub on_err : {T E X : Type 0} (r : Result T E) → X → OnErr r X
 on_err (Ok t) x = tt

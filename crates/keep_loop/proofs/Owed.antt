@@ -100,6 +100,21 @@ module _ (limits : Limits) (written kept added : ℕ → List ℕ) where
       moved j true is = append-nil (added j ++ text_at old.lines.items journal) ∙ ap (λ i. added j ++ text_at old.lines.items i) (eqb-true journal j is)
       moved j false is = ap (λ (l : List ℕ). l ++ text_at old.lines.items j) (append-nil (added j))
 
+  -- the same are kept
+  pub owes_stored : (kept_now : ℕ → List ℕ) (post : Post) (base : ℕ) (kept_turns later : List Turn) → ((j : ℕ) → kept_now j ≡ kept j) →
+      Owes limits written kept added post base kept_turns later → Owes limits written kept_now added post base kept_turns later
+  owes_stored kept_now post base kept_turns later same o = record {
+    journals = o.journals;
+    begun_kept = λ j is. subst (λ (l : List ℕ). Begins (added_by j kept_turns) l) (sym (same j)) (o.begun_kept j is);
+    even = λ j is. same j ∙ o.even j is;
+    lines = o.lines;
+    here = o.here;
+    begun = o.begun;
+    owed = o.owed;
+    fresh = o.fresh;
+    unwritten = o.unwritten;
+  }
+
   -- all lines are kept
   pub owes_kept : (post : Post) (base : ℕ) (kept_turns later : List Turn) → ((j : ℕ) → j < limits.journals → text_at post.lines.items j ≡ []) →
       Owes limits written kept added post base kept_turns later → Owes limits written kept added post base (kept_turns ++ later) []

@@ -22,7 +22,7 @@ use Rattle.keep_loop.specs.declared.served.Note.TheVariants.{Joins}
 use Rattle.keep_loop.proofs.Turns.{runs_last, heard_last, notes_last}
 use Rattle.keep_loop.proofs.Cuts.{cut_of_fed, fed_more, fed_line, cut_long, cut_last, cut_more, cut_later}
 use Rattle.keep_loop.proofs.Places.{same_place, here_of_hears, is_same}
-use Rattle.keep_loop.proofs.Owed.{owes_turn, owes_same, owes_handed, owes_kept, owes_wrote}
+use Rattle.keep_loop.proofs.Owed.{owes_turn, owes_same, owes_handed, owes_kept, owes_stored, owes_wrote}
 use Rattle.keep_loop.proofs.Heeded.{heeds_note, heeds_one, heeds_same, heeds_came, heeds_turn}
 
 came_next : (b : Bool) (came done more : List ℕ) → b ≡ true → came ++ (if b then done ++ more else []) ≡ (came ++ (if b then done else [])) ++ more
@@ -573,3 +573,17 @@ module _ {S : Type 0} (gives : Gives S) (first : S) (limits : Limits) where
 
   pub stands_changed : (seen : List Happened) (keep : Keep S) (journal : ℕ) (front : List ℕ) → Stands gives first limits seen keep → Stands gives first limits (Changed journal front ∷ seen) keep
   stands_changed seen keep journal front s = record { kept_turns = s.kept_turns; later = s.later; limited = s.limited; runs = s.runs; owes = s.owes; heeds = s.heeds }
+
+  -- a journal was stored for which no answer waits
+  pub stands_synced : (seen : List Happened) (keep : Keep S) (journal : ℕ) → limits.waits ≡ false → Stands gives first limits seen keep → Stands gives first limits (Stored journal ∷ seen) keep
+  stands_synced seen keep journal waits s = record {
+    kept_turns = s.kept_turns;
+    later = s.later;
+    limited = s.limited;
+    runs = s.runs;
+    owes = owes_stored limits (λ c. written_to c seen) (λ j. kept_in limits.waits j seen) (λ j. added_in j seen) (λ j. kept_in limits.waits j (Stored journal ∷ seen)) keep.post keep.base
+        s.kept_turns s.later
+        (λ j. ap (λ w. if w then (if journal == j then added_in j seen else stored_in j seen) else added_in j seen) waits ∙ sym (ap (λ w. if w then stored_in j seen else added_in j seen) waits))
+        s.owes;
+    heeds = s.heeds;
+  }

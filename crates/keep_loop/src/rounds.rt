@@ -360,6 +360,34 @@ fn change<O: Served, W: Outside>(
     }
 }
 
+// Stores a journal for which no answer waits.
+fn store_one<O: Served, W: Outside>(
+    keep: &Keep<O>,
+    outside: &mut W,
+    journal: usize,
+) -> Result<(), Fault>
+    requires { keep.now.limits.waits ≡ false }
+    ensures ok { OnOk result (Keeps O.gives (W.seen outside.old) keep.now (W.seen outside.new) keep.now) }
+    ensures err { OnErr result (Fails O.gives (W.seen outside.old) keep.now (W.seen outside.new)) }
+{
+    outside.sync(journal)?;
+    Ok(())
+}
+
+// Stores all journals, where no answer waits for that and it is time.
+fn store<O: Served, W: Outside>(keep: &Keep<O>, outside: &mut W) -> Result<(), Fault>
+    ensures ok { OnOk result (Keeps O.gives (W.seen outside.old) keep.now (W.seen outside.new) keep.now) }
+    ensures err { OnErr result (Fails O.gives (W.seen outside.old) keep.now (W.seen outside.new)) }
+{
+    if keep.limits.waits || !outside.is_sync_due() {
+        return Ok(());
+    }
+    for journal in 0..keep.post.journals() {
+        store_one(keep, outside, journal)?;
+    }
+    Ok(())
+}
+
 // Hears all there is.
 fn listen<O: Served, W: Outside>(
     keep: &mut Keep<O>,
@@ -390,6 +418,7 @@ fn round<O: Served, W: Outside>(
     listen(keep, outside, piece)?;
     settle(keep, outside)?;
     send(keep, outside)?;
+    store(keep, outside)?;
     change(keep, outside, piece)?;
     Ok(())
 }

@@ -2,12 +2,10 @@
 
 ghost use Rattle.std.specs.Prelude.{◌≡◌, ◌<◌, ◌+◌, ◌^◌, length, true};
 ghost use Rattle.journal_core.specs.Journal.{AreLines};
-ghost use Rattle.journal_core.specs.Order.{IsInOrder};
-ghost use Rattle.std.specs.Prelude.{None};
 
 use journal_core::device::DeviceError;
 use journal_core::folder::FolderFile;
-use journal_core::journal::{Journal, recovered_len};
+use journal_core::journal::{Journal, recovered_are_lines, recovered_len};
 use std::alloc::{AllocError, Global};
 use std::rt::Files;
 
@@ -17,13 +15,14 @@ pub struct Ordered<R: Files + AllocGlobal> {
     journal: Journal<FolderFile<R>>,
     // Whether lines were added since it was stored.
     is_loose: bool,
-    ghost in_order: { IsInOrder (λ f. None) (λ f c. ⊥) journal },
+    ghost fits: { journal.size + journal.room < 2 ^ 62 },
 }
 
 // Whether these bytes are whole lines, none of which has a byte 0.
 fn are_lines(bytes: &[u8]) -> bool
     ensures { result ≡ true → AreLines bytes.now }
 {
+    recovered_are_lines();
     recovered_len(bytes) == bytes.len()
 }
 
@@ -62,7 +61,7 @@ fn begin_one<R: Files + AllocGlobal + Drop>(
     }
 }
 
-impl<R: Files + AllocGlobal> Ordered<R> {
+impl<R: Files + AllocGlobal + Drop> Ordered<R> {
     // Begun anew, or nothing where that failed.
     fn change(self, alloc: Global, front: &[u8], room: usize) -> Option<Ordered<R>>
         requires lines { AreLines front.now }
@@ -144,7 +143,7 @@ impl<R: Files + AllocGlobal + Copy + Drop> Journals<R> {
     }
 }
 
-impl<R: Files + AllocGlobal> Journals<R> {
+impl<R: Files + AllocGlobal + Drop> Journals<R> {
     /// Adds lines to a journal. `false`: they are not whole lines, or it has no room, or it failed; it is shut then.
     pub fn append(&mut self, at: usize, lines: &[u8]) -> bool {
         if !are_lines(lines) {

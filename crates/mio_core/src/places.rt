@@ -36,6 +36,31 @@ pub(crate) enum Got {
     Broken,
 }
 
+// Reads once.
+fn read_from(
+    wire: &mut Wire,
+    buffer: &mut Vec<u8>,
+    piece: &mut Vec<u8>,
+) -> Result<Got, AllocError> {
+    match wire.stream.read(buffer.as_mut_slice()) {
+        Ok(0) => Ok(Got::End),
+        Ok(n) => {
+            let got = n.min(buffer.len());
+            piece.extend_from_slice(&buffer[..got])?;
+            if got == buffer.len() || wire.is_ending {
+                Ok(Got::Some)
+            } else {
+                Ok(Got::All)
+            }
+        }
+        Err(error) => match error.kind() {
+            ErrorKind::WouldBlock => Ok(Got::All),
+            ErrorKind::Interrupted => Ok(Got::Some),
+            _ => Ok(Got::Broken),
+        },
+    }
+}
+
 impl Places {
     /// So many places, for pieces of so many bytes. The error is that memory was refused.
     pub fn new(alloc: Global, count: usize, piece: usize) -> Result<Places, AllocError> {
@@ -87,28 +112,15 @@ impl Places {
     pub fn read(&mut self, who: u64, piece: &mut Vec<u8>) -> Result<Got, AllocError> {
         piece.clear();
         let place = self.place_of(who);
-        let Some(Some(wire)) = self.wires.get_mut(place) else {
-            return Ok(Got::Broken);
-        };
-        if wire.who != who {
-            return Ok(Got::Broken);
-        }
-        match wire.stream.read(self.piece.as_mut_slice()) {
-            Ok(0) => Ok(Got::End),
-            Ok(n) => {
-                let got = n.min(self.piece.len());
-                piece.extend_from_slice(&self.piece[..got])?;
-                if got == self.piece.len() || wire.is_ending {
-                    Ok(Got::Some)
+        match self.wires.get_mut(place) {
+            Some(Some(wire)) => {
+                if wire.who == who {
+                    read_from(wire, &mut self.piece, piece)
                 } else {
-                    Ok(Got::All)
+                    Ok(Got::Broken)
                 }
             }
-            Err(error) => match error.kind() {
-                ErrorKind::WouldBlock => Ok(Got::All),
-                ErrorKind::Interrupted => Ok(Got::Some),
-                _ => Ok(Got::Broken),
-            },
+            _ => Ok(Got::Broken),
         }
     }
 

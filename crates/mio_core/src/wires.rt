@@ -8,7 +8,7 @@ use mio::net::TcpListener;
 use mio::unix::SourceFd;
 use mio::{Events, Interest, Poll, Token};
 use std::alloc::AllocError;
-use std::io::{self, ErrorKind, Input};
+use std::io::{self, ErrorKind, Input, Read as _};
 use std::net::Net;
 use std::rt::Files;
 use std::time::{Clock, Duration};
@@ -90,7 +90,7 @@ impl<R: Files + AllocGlobal + Input + Clock + Drop> Wires<R> {
     }
 }
 
-impl<R: Files + AllocGlobal + Input + Clock> Wires<R> {
+impl<R: Files + AllocGlobal + Input + Clock + Drop> Wires<R> {
     // Has the end of standard input end the server. What cannot be waited for, as a file, is at its end.
     fn listen_to_input(&mut self) {
         self.input = Some(self.rt.reader());
@@ -160,7 +160,7 @@ impl<R: Files + AllocGlobal + Input + Clock> Wires<R> {
     }
 }
 
-impl<R: Files + AllocGlobal + Input + Clock> Outside for Wires<R> {
+impl<R: Files + AllocGlobal + Input + Clock + Drop> Outside for Wires<R> {
     ghost use Rattle.std.specs.Prelude.{None};
 
     ghost seen = { λ _. None };
