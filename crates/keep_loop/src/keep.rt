@@ -133,6 +133,14 @@ impl<O: Served> Keep<O> {
         Some((self.base + place as u64, next))
     }
 
+    // Connections are looked for that wait for a place.
+    pub(crate) fn looks(&mut self)
+        ensures stands { (first : O) (limits : Limits) (seen : List Happened) → Stands O.gives first limits seen self.old
+            → Stands O.gives first limits seen self.new }
+    {
+        self.has_freed = false;
+    }
+
     // A connection comes, under this number. No number below the second one is given again.
     pub(crate) fn joined(&mut self, who: u64, next: u64) -> Result<(), AllocError>
         requires from { self.old.base ≤ who }

@@ -64,8 +64,8 @@ fn take_one<O: Served, W: Outside>(keep: &mut Keep<O>, outside: &mut W) -> Resul
     }
 }
 
-// Takes connections that wait.
-fn take<O: Served, W: Outside>(keep: &mut Keep<O>, outside: &mut W) -> Result<(), Fault>
+// Takes connections that wait, so many at most.
+fn take_some<O: Served, W: Outside>(keep: &mut Keep<O>, outside: &mut W) -> Result<(), Fault>
     ensures ok { OnOk result (Keeps O.gives (W.seen outside.old) keep.old (W.seen outside.new) keep.new) }
     ensures err { OnErr result (Fails O.gives (W.seen outside.old) keep.old (W.seen outside.new)) }
 {
@@ -75,6 +75,15 @@ fn take<O: Served, W: Outside>(keep: &mut Keep<O>, outside: &mut W) -> Result<()
         }
     }
     Ok(())
+}
+
+// Takes connections that wait.
+fn take<O: Served, W: Outside>(keep: &mut Keep<O>, outside: &mut W) -> Result<(), Fault>
+    ensures ok { OnOk result (Keeps O.gives (W.seen outside.old) keep.old (W.seen outside.new) keep.new) }
+    ensures err { OnErr result (Fails O.gives (W.seen outside.old) keep.old (W.seen outside.new)) }
+{
+    keep.looks();
+    take_some(keep, outside)
 }
 
 // Hears what a connection has to say.

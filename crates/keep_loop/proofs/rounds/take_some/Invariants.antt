@@ -1,5 +1,5 @@
 use Rattle.keep_loop.specs.Stands.{Keeps}
-use Rattle.keep_loop.proofs.rounds.take.Given as goal
+use Rattle.keep_loop.proofs.rounds.take_some.Given as goal
 
 abbrev pub invariant-loop-taken : goal.invariant-loop-taken
 invariant-loop-taken g l = record {
