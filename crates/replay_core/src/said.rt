@@ -6,7 +6,7 @@ ghost use Rattle.replay_core.specs.Said.{asked_of, start_of, cancel_of, end_of, 
 ghost use Rattle.replay_core.specs.Said.{said_by as said_in};
 ghost use Rattle.replay_core.specs.View.{asked_view, said_view, IsSaid};
 
-use audit_core::said as trace;
+use audit_core::said as lines;
 use audit_core::told::ToldReply;
 use line_core::words::is_same_word;
 use line_read::front::{next_bare, only_bare};
@@ -73,8 +73,8 @@ fn said_by<'a>(alloc: Global, verb: &[u8], line: &'a [u8]) -> Result<Option<Said
 fn call_said(alloc: Global, line: &[u8]) -> Result<Option<Asked<'_>>, AllocError>
     ensures { IfOk result (Reads asked_of asked_view line.now) }
 {
-    match trace::start_said(alloc, line)? {
-        Some(trace::Said::Start(number, session, name, arguments)) => Ok(Some(Asked {
+    match lines::start_said(alloc, line)? {
+        Some(lines::Said::Start(number, session, name, arguments)) => Ok(Some(Asked {
             number,
             session,
             name,
@@ -105,8 +105,8 @@ fn cancel_said(alloc: Global, line: &[u8]) -> Result<Option<Said<'_>>, AllocErro
 fn end_said(alloc: Global, line: &[u8]) -> Result<Option<Said<'_>>, AllocError>
     ensures { IfOk result (Reads end_of said_view line.now) }
 {
-    match trace::end_said(alloc, line)? {
-        Some(trace::Said::End(number, reply)) => Ok(Some(Said::End(number, reply))),
+    match lines::end_said(alloc, line)? {
+        Some(lines::Said::End(number, reply)) => Ok(Some(Said::End(number, reply))),
         _ => Ok(None),
     }
 }
