@@ -1,4 +1,0 @@
-pub mod Exact
-pub mod Reads
-pub mod Told
-pub mod Whole
