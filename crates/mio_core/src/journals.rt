@@ -3,10 +3,9 @@
 ghost use Rattle.std.specs.Prelude.{◌≡◌, ◌<◌, ◌+◌, ◌^◌, length, true};
 ghost use Rattle.journal_core.specs.Journal.{AreLines};
 
-use journal_core::device::DeviceError;
 use journal_core::folder::FolderFile;
 use journal_core::journal::{Journal, recovered_are_lines, recovered_len};
-use std::alloc::{AllocError, Global};
+use std::alloc::Global;
 use std::rt::Files;
 
 /// A journal in a folder that is in order.

@@ -1,5 +1,7 @@
 //! The sockets of connections, each at the place of its number.
 
+ghost use Rattle.std.specs.Prelude.{◌≤◌, IfSome, length};
+
 use mio::net::TcpStream;
 use std::alloc::{AllocError, Global};
 use std::io::{ErrorKind, Read, Write};
@@ -125,7 +127,9 @@ impl Places {
     }
 
     /// Writes a front of these bytes, and says how many it took, or `None` where the connection broke.
-    pub fn write(&mut self, who: u64, bytes: &[u8]) -> Option<usize> {
+    pub fn write(&mut self, who: u64, bytes: &[u8]) -> Option<usize>
+        ensures { IfSome result (λ n. n ≤ length bytes.now) }
+    {
         let wire = self.wire(who)?;
         for _try in 0..MOST_TRIES {
             match wire.stream.write(bytes) {
