@@ -2,10 +2,8 @@
 
 use crate::fakes::{CELL, accepted, only_object};
 use apply_core::fits::{arguments_fit, parts_fit};
-use apply_core::reply::Reply;
 use check_core::report::CheckFault;
 use exclude_core::analyse::Refusal;
-use known_core::apply::apply_all;
 use path_count::counters::compile;
 use std::alloc::Global;
 use std::process::Abort;
@@ -40,24 +38,18 @@ fn array(rt: &impl Abort, alloc: Global, number: u8) -> Vec<Value> {
     values
 }
 
-// No case can show it: an object that is taken out of what was accepted. A body of it is done on values in place.
+// No case can show it: an object that is taken out of what was accepted, and whether arguments and values fit a body.
 #[test]
-fn a_body_is_done_on_values(rt: HostRuntime) {
+fn values_fit_a_body(rt: HostRuntime) {
     let alloc = rt.alloc();
     let object = accepted(&rt, alloc, CELL).into_object();
     let bump = object.operations.last().expect(&rt, "an operation");
     let args = [Datum::Integer(4)];
-    let mut values = array(&rt, alloc, 3);
-    if !arguments_fit(bump, &args) || !parts_fit(bump, &values) {
-        panic!(&rt; "no such call");
-    }
-    let reply = apply_all(alloc, bump, &args, &mut values).expect(&rt, "memory");
-    let left = values.first().expect(&rt, "a value");
-    let bytes = encode(alloc, left).expect(&rt, "memory");
-    assert!(rt;
-        reply == Reply::Done(None)
-            && bytes.as_slice() == b"\x02\x01\x00\x01\x00\x00\x00\x07".as_slice()
-    );
+    let values = array(&rt, alloc, 3);
+    assert!(rt; arguments_fit(bump, &args) && parts_fit(bump, &values));
+    let value = values.first().expect(&rt, "a value");
+    let bytes = encode(alloc, value).expect(&rt, "memory");
+    assert!(rt; bytes.as_slice() == b"\x02\x01\x00\x01\x00\x00\x00\x03".as_slice());
 }
 
 // No case can show it: words in a list, read and written again.
