@@ -2,13 +2,13 @@
 #![tactic(auto)]
 
 pub mod audit;
-mod calls;
-mod counters;
+pub mod calls;
+pub mod counters;
 pub mod laws;
 mod part;
-mod replay;
-mod said;
-mod start;
+pub mod replay;
+pub mod said;
+pub mod start;
 mod state;
-mod told;
+pub mod told;
 pub mod verdict;

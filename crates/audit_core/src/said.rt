@@ -85,7 +85,8 @@ fn part_of<'a>(name: &'a [u8], line: &'a [u8]) -> Option<Said<'a>>
     }
 }
 
-fn start_said(alloc: Global, line: &[u8]) -> Result<Option<Said<'_>>, AllocError>
+/// What the words behind `start` say.
+pub fn start_said(alloc: Global, line: &[u8]) -> Result<Option<Said<'_>>, AllocError>
     ensures { IfOk result (Reads start_in said_view line.now) }
 {
     match next_bare(line) {
@@ -145,7 +146,8 @@ fn start_of<'a>(
     }
 }
 
-fn end_said(alloc: Global, line: &[u8]) -> Result<Option<Said<'_>>, AllocError>
+/// What the words behind `end` say.
+pub fn end_said(alloc: Global, line: &[u8]) -> Result<Option<Said<'_>>, AllocError>
     ensures { IfOk result (Reads end_in said_view line.now) }
 {
     match next_bare(line) {

@@ -1,0 +1,164 @@
+//! What a line of a client asks for.
+
+use line_core::words::is_same_word;
+use line_read::arguments::data_of;
+use line_read::front::{next_bare, only_bare};
+use path_tree::name::Name;
+use session_text::line::Refusal;
+use session_text::session::{Action, Session};
+use std::alloc::{AllocError, Global};
+use value_core::datum::Datum;
+
+/// What a line asks for.
+#[derive(Drop)]
+pub enum Ask {
+    /// An object of this name is to be opened, for a client that has a name or none.
+    Open(Name, Option<Name>),
+    /// A call of this operation is to be made, under a key or none, with these arguments.
+    Call(Option<u64>, Name, Vec<Datum>),
+    /// The call of this number is to be cancelled.
+    Cancel(u64),
+    /// The session ends, behind its calls.
+    Quit,
+    /// The line is refused.
+    Answer(Refusal),
+}
+
+// The integer of these bytes: decimal digits, of a value below 2 ^ 64.
+fn number_of(bytes: &[u8]) -> Option<u64> {
+    if bytes.is_empty() {
+        return None;
+    }
+    let mut value: u64 = 0;
+    for byte in bytes {
+        if !byte.is_ascii_digit() {
+            return None;
+        }
+        value = value.checked_mul(10)?.checked_add(u64::from(*byte - b'0'))?;
+    }
+    Some(value)
+}
+
+// The number behind `cancel`, where this is such a line.
+fn cancelled_by(line: &[u8]) -> Option<u64> {
+    let (verb, rest) = next_bare(line)?;
+    if !is_same_word(verb, b"cancel") {
+        return None;
+    }
+    let word = only_bare(rest)?;
+    number_of(word)
+}
+
+// The key behind `call #`, and what stands behind it.
+fn key_of(line: &[u8]) -> Option<(u64, &[u8])> {
+    let (verb, rest) = next_bare(line)?;
+    if !is_same_word(verb, b"call") {
+        return None;
+    }
+    let (word, rest) = next_bare(rest)?;
+    match word {
+        [b'#', digits @ ..] => {
+            let key = number_of(digits)?;
+            Some((key, rest))
+        }
+        _ => None,
+    }
+}
+
+// A call under a key, by the words behind it.
+fn call_under(alloc: Global, key: u64, line: &[u8]) -> Result<Option<Ask>, AllocError> {
+    let Some((word, rest)) = next_bare(line) else {
+        return Ok(None);
+    };
+    let Some(name) = Name::read(alloc, word)? else {
+        return Ok(None);
+    };
+    match data_of(alloc, rest)? {
+        Some(arguments) => Ok(Some(Ask::Call(Some(key), name, arguments))),
+        None => Ok(None),
+    }
+}
+
+// A call under a key that may have more than 32 bits.
+fn keyed_call(alloc: Global, line: &[u8]) -> Result<Option<Ask>, AllocError> {
+    match key_of(line) {
+        Some((key, rest)) => call_under(alloc, key, rest),
+        None => Ok(None),
+    }
+}
+
+fn asked_by(action: Action) -> Ask {
+    match action {
+        Action::Open(name, client) => Ask::Open(name, client),
+        Action::Call(None, name, arguments) => Ask::Call(None, name, arguments),
+        Action::Call(Some(key), name, arguments) => {
+            Ask::Call(Some(u64::from(key)), name, arguments)
+        }
+        Action::Cancel(number) => Ask::Cancel(u64::from(number)),
+        Action::Quit => Ask::Quit,
+        Action::Answer(refusal) => Ask::Answer(refusal),
+    }
+}
+
+// What the table of sessions does for a line.
+fn fed(alloc: Global, is_open: bool, is_whole: bool, line: &[u8]) -> Result<Action, AllocError> {
+    let mut session = Session::new();
+    session.opened(is_open);
+    if is_whole {
+        return session.feed(alloc, line);
+    }
+    session.feed_last(alloc, line)
+}
+
+// What a line asks for whose number or key has more than 32 bits, and nothing where it is bad.
+fn wide(alloc: Global, is_open: bool, is_whole: bool, line: &[u8]) -> Result<Ask, AllocError> {
+    if let Some(number) = cancelled_by(line) {
+        return Ok(wide_cancel(is_open, is_whole, number));
+    }
+    match keyed_call(alloc, line)? {
+        None => Ok(Ask::Answer(Refusal::BadLine)),
+        Some(call) => Ok(wide_call(is_open, is_whole, call)),
+    }
+}
+
+fn wide_cancel(is_open: bool, is_whole: bool, number: u64) -> Ask {
+    if !is_open {
+        return Ask::Answer(Refusal::NotOpen);
+    }
+    if !is_whole {
+        return Ask::Answer(Refusal::BadLine);
+    }
+    Ask::Cancel(number)
+}
+
+fn wide_call(is_open: bool, is_whole: bool, call: Ask) -> Ask {
+    if !is_open {
+        return Ask::Answer(Refusal::NotOpen);
+    }
+    if !is_whole {
+        return Ask::Answer(Refusal::Gone);
+    }
+    call
+}
+
+/// What a line asks for, of a connection that has opened an object or none, by the table of sessions; numbers and keys
+/// may have 64 bits. `is_whole`: an LF stood behind it; else it may be the front of a longer line.
+///
+/// The error is that memory was refused.
+pub fn ask_of(
+    alloc: Global,
+    is_open: bool,
+    is_whole: bool,
+    line: &[u8],
+) -> Result<Ask, AllocError> {
+    match asked_by(fed(alloc, is_open, is_whole, line)?) {
+        Ask::Answer(Refusal::BadLine) => wide(alloc, is_open, is_whole, line),
+        ask => Ok(ask),
+    }
+}
+
+/// The number of the call that a line asks to cancel, where it does, of a connection that has opened an object. It takes
+/// no memory.
+pub fn cancel_of(line: &[u8]) -> Option<u64> {
+    cancelled_by(line)
+}

@@ -1,0 +1,244 @@
+//! All connections.
+
+use crate::ask::{Ask, ask_of};
+use crate::client::{Client, Opened};
+use std::alloc::{AllocError, Global};
+
+/// At most so many bytes of lines of a connection are held; then nothing more is read of it.
+pub const MOST_HELD: usize = 65_536;
+
+/// The places of connections, each found by the number of its connection, and those whose held lines may be done, the
+/// one that waits longest first.
+#[derive(Drop)]
+pub struct Clients {
+    alloc: Global,
+    rows: Vec<Client>,
+    first: Option<usize>,
+    last: Option<usize>,
+}
+
+impl Clients {
+    /// So many places, which nobody has. The error is that memory was refused.
+    pub fn new(alloc: Global, count: usize) -> Result<Clients, AllocError> {
+        let mut rows = Vec::with_capacity(alloc, count)?;
+        for _ in 0..count {
+            rows.push(Client::nobody(alloc))?;
+        }
+        Ok(Clients {
+            alloc,
+            rows,
+            first: None,
+            last: None,
+        })
+    }
+
+    // The place that a connection of this number has, if it is there.
+    fn place_for(&self, who: u64) -> Option<usize> {
+        let count = self.rows.len();
+        if count == 0 {
+            return None;
+        }
+        Some((who % count as u64) as usize)
+    }
+
+    /// How many places there are.
+    pub fn count(&self) -> usize {
+        self.rows.len()
+    }
+
+    /// The place of a connection that is here.
+    pub fn place_of(&self, who: u64) -> Option<usize> {
+        let place = self.place_for(who)?;
+        let client = self.rows.get(place)?;
+        if client.is_here && client.who == who {
+            return Some(place);
+        }
+        None
+    }
+
+    /// The place that a connection that comes will have, where another one has it.
+    pub fn taken_by(&self, who: u64) -> Option<usize> {
+        let place = self.place_for(who)?;
+        let client = self.rows.get(place)?;
+        if client.is_here {
+            return Some(place);
+        }
+        None
+    }
+
+    /// A connection comes.
+    pub fn come(&mut self, who: u64) {
+        let Some(place) = self.place_for(who) else {
+            return;
+        };
+        let alloc = self.alloc;
+        if let Some(client) = self.rows.get_mut(place) {
+            client.come(alloc, who);
+        }
+    }
+
+    /// The one at a place has gone.
+    pub fn go(&mut self, place: usize) {
+        let alloc = self.alloc;
+        if let Some(client) = self.rows.get_mut(place) {
+            client.go(alloc);
+        }
+    }
+
+    /// The number of the connection at a place, where it is here.
+    pub fn who(&self, place: usize) -> Option<u64> {
+        let client = self.rows.get(place)?;
+        if client.is_here {
+            return Some(client.who);
+        }
+        None
+    }
+
+    /// What the one at a place has opened.
+    pub fn opened(&self, place: usize) -> Option<Opened> {
+        let client = self.rows.get(place)?;
+        client.opened
+    }
+
+    /// The one at a place has opened this.
+    pub fn set_opened(&mut self, place: usize, opened: Opened) {
+        if let Some(client) = self.rows.get_mut(place) {
+            client.opened = Some(opened);
+        }
+    }
+
+    /// A call of the one at a place waits, or waits no more.
+    pub fn set_waits(&mut self, place: usize, waits: bool) {
+        if let Some(client) = self.rows.get_mut(place) {
+            if let Some(opened) = &mut client.opened {
+                opened.waits = waits;
+            }
+        }
+    }
+
+    /// Whether a line of the one at a place has to be held: a call of it waits, or lines are held that came before.
+    pub fn must_hold(&self, place: usize) -> bool {
+        match self.rows.get(place) {
+            Some(client) => client.waits() || client.holds(),
+            None => false,
+        }
+    }
+
+    /// Whether lines of the one at a place may be done: some are held, and no call of it waits.
+    fn may_go_on(&self, place: usize) -> bool {
+        match self.rows.get(place) {
+            Some(client) => client.is_here && client.holds() && !client.waits(),
+            None => false,
+        }
+    }
+
+    /// Whether more may be read of the one at a place.
+    pub fn may_read(&self, place: usize) -> bool {
+        match self.rows.get(place) {
+            Some(client) => client.held_bytes() <= MOST_HELD,
+            None => false,
+        }
+    }
+
+    /// Holds a line of the one at a place. The error is that memory was refused: then it is not held.
+    pub fn hold(&mut self, place: usize, line: &[u8], is_whole: bool) -> Result<(), AllocError> {
+        match self.rows.get_mut(place) {
+            Some(client) => client.hold(line, is_whole),
+            None => Ok(()),
+        }
+    }
+
+    // What the next held line of the one at a place asks for.
+    fn asked(&self, place: usize) -> Option<Result<Ask, AllocError>> {
+        let client = self.rows.get(place)?;
+        let (line, is_whole) = client.line()?;
+        Some(ask_of(self.alloc, client.opened.is_some(), is_whole, line))
+    }
+
+    /// Takes what the next held line of the one at a place asks for. `None`: no line is held. The error is that memory was
+    /// refused; then too the line is held no more.
+    pub fn take(&mut self, place: usize) -> Option<Result<Ask, AllocError>> {
+        let asked = self.asked(place);
+        let alloc = self.alloc;
+        if let Some(client) = self.rows.get_mut(place) {
+            client.pass(alloc);
+        }
+        asked
+    }
+
+    /// The held lines of the one at a place may be done, where some are held and no call of it waits.
+    pub fn ready(&mut self, place: usize) {
+        if !self.may_go_on(place) {
+            return;
+        }
+        let Some(client) = self.rows.get_mut(place) else {
+            return;
+        };
+        if client.is_ready {
+            return;
+        }
+        client.is_ready = true;
+        client.is_stalled = false;
+        client.next = None;
+        self.append(place);
+    }
+
+    // Puts a place behind all that are ready.
+    fn append(&mut self, place: usize) {
+        match self.last {
+            None => self.first = Some(place),
+            Some(last) => {
+                if let Some(client) = self.rows.get_mut(last) {
+                    client.next = Some(place);
+                }
+            }
+        }
+        self.last = Some(place);
+    }
+
+    /// Takes the first of those whose held lines may be done.
+    pub fn next(&mut self) -> Option<usize> {
+        let place = self.first?;
+        let behind = match self.rows.get_mut(place) {
+            None => None,
+            Some(client) => {
+                client.is_ready = false;
+                client.next
+            }
+        };
+        self.first = behind;
+        if behind.is_none() {
+            self.last = None;
+        }
+        Some(place)
+    }
+
+    /// Whether lines of the one at a place may be done now. Else it waits for its turn again.
+    pub fn goes_on(&self, place: usize) -> bool {
+        self.may_go_on(place)
+    }
+
+    /// The held lines of the one at a place are done later, since too much is owed to it.
+    pub fn stall(&mut self, place: usize) {
+        if let Some(client) = self.rows.get_mut(place) {
+            client.is_stalled = true;
+        }
+    }
+
+    /// Whether the held lines of the one at a place are done later.
+    fn is_stalled(&self, place: usize) -> bool {
+        match self.rows.get(place) {
+            Some(client) => client.is_stalled,
+            None => false,
+        }
+    }
+
+    /// All whose held lines were to be done later are ready again.
+    pub fn wake(&mut self) {
+        for place in 0..self.rows.len() {
+            if self.is_stalled(place) {
+                self.ready(place);
+            }
+        }
+    }
+}

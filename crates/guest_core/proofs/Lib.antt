@@ -1,0 +1,11 @@
+pub mod Changing
+pub mod Finding
+pub mod Items
+pub mod Judging
+pub mod Longest
+pub mod Remembering
+pub mod Repeating
+pub mod Seating
+pub mod Sound
+pub mod Telling
+pub mod Whole

@@ -1,0 +1,10 @@
+pub mod Entering
+pub mod Finds
+pub mod Guests
+pub mod GuestsView
+pub mod Keys
+pub mod KeysView
+pub mod RollView
+pub mod Seats
+pub mod SeatsView
+pub mod Steps

@@ -1,0 +1,20 @@
+//! Laws of clients and keys, over the definitions alone.
+
+ghost use Rattle.guest_core.specs.Steps.{KeysStandOnce, KeysAreConsecutive, RepeatsAreExact};
+
+/// A key is that of at most one call among those that are kept of a name.
+pub fn keys_stand_once()
+    ensures { KeysStandOnce }
+{}
+
+/// Along any steps the key of the next call of a name is the one behind all calls that were told since it is known, and
+/// the last 16 of them are kept.
+pub fn keys_are_consecutive()
+    ensures { KeysAreConsecutive }
+{}
+
+/// A repeat is answered exactly where one of the last 16 calls that were told has this key and asked for the same; and
+/// what is kept of it is what was told.
+pub fn repeats_are_exact()
+    ensures { RepeatsAreExact }
+{}

@@ -1,0 +1,11 @@
+pub mod Crashed
+pub mod Cuts
+pub mod Grown
+pub mod Heeded
+pub mod Honest
+pub mod Kept
+pub mod Owed
+pub mod Places
+pub mod Slots
+pub mod Stood
+pub mod Turns

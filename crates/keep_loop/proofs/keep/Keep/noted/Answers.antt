@@ -1,0 +1,11 @@
+use Rattle.std.proofs.Common.{refl}
+use Rattle.keep_loop.specs.declared.keep.Keep.{Keep}
+use Rattle.keep_loop.proofs.Stood.{stands_note}
+use Rattle.keep_loop.proofs.keep.Keep.noted.Goals as goal
+
+pub returns : goal.returns
+returns g c = record {
+  stands = λ first limits seen s.
+      let new : Keep g.row.O.Denot = record { object = c.note.new.self; post = c.note.new.post; held = c.args.self.now.held; base = c.args.self.now.base; free = c.args.self.now.free; has_freed = c.args.self.now.has_freed; limits = c.args.self.now.limits } in
+      stands_note g.O.Served.gives first limits seen c.args.self.now new c.args.note c.requires refl refl refl c.in_ok-note.ensures s;
+}

@@ -1,0 +1,5 @@
+use Rattle.keep_loop.proofs.Crashed.{survives}
+use Rattle.keep_loop.proofs.laws.crash_keeps_what_was_answered.Goals as goal
+
+pub returns : goal.returns
+returns g c first limits seen found waits h between = survives g.O.Served.gives first limits seen found waits h between

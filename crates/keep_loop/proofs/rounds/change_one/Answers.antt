@@ -1,0 +1,18 @@
+use Rattle.std.proofs.Common.{◌≡◌}
+use Rattle.keep_loop.proofs.Kept.{keeps_none, keeps_changed, fails_of_keeps, fails_changed, on_err}
+use Rattle.keep_loop.proofs.rounds.change_one.Goals as goal
+
+pub returns-in_err-went-clause-err : goal.returns-in_err-went-clause-err
+returns-in_err-went-clause-err g c =
+    on_err _ (fails_changed g.O.Served.gives c.args.journal c.args.front.now (g.W.Outside.seen c.args.outside.now) (g.W.Outside.seen c.change.new.self) c.args.keep.now c.in_err-went.ensures.err)
+
+pub returns-in_err-changed-clause-err : goal.returns-in_err-changed-clause-err
+returns-in_err-changed-clause-err g c =
+    on_err _ (fails_of_keeps g.O.Served.gives (g.W.Outside.seen c.args.outside.now) (g.W.Outside.seen c.change.new.self) c.args.keep.now c.args.keep.now
+    (keeps_changed g.O.Served.gives c.args.journal c.args.front.now c.in_ok-went.went (g.W.Outside.seen c.args.outside.now) (g.W.Outside.seen c.change.new.self) c.args.keep.now c.args.keep.now c.in_ok-went.ensures.ok
+    (λ first limits seen s. s)))
+
+pub returns-clause-ok : goal.returns-clause-ok
+returns-clause-ok g c =
+    keeps_changed g.O.Served.gives c.args.journal c.args.front.now c.in_ok-went.went (g.W.Outside.seen c.args.outside.now) (g.W.Outside.seen c.change.new.self) c.args.keep.now c.changed.new.self c.in_ok-went.ensures.ok
+    c.in_ok-changed.ensures.stands

@@ -1,0 +1,7 @@
+use Rattle.keep_loop.specs.Stands.{Keeps}
+use Rattle.keep_loop.proofs.rounds.hear.Given as goal
+
+abbrev pub invariant-loop-turn : goal.invariant-loop-turn
+invariant-loop-turn g l = record {
+  goes : Keeps g.O.Served.gives (g.W.Outside.seen l.fn.outside) l.fn.keep (g.W.Outside.seen l.outside) l.keep;
+}

@@ -1,0 +1,18 @@
+use Rattle.std.proofs.Common.{◌≡◌, ◌≤◌, ◌∷◌, ◌∙◌, refl, sym, ap, subst, true≢false, eqb-true, take}
+use Rattle.keep_loop.specs.declared.served.Note.TheVariants.{Joins, Leaves, Ticks, Ends}
+use Rattle.keep_loop.specs.Seen.Happened.{Noticed}
+use Rattle.keep_loop.proofs.Kept.{keeps_quiet, keeps_event, keeps_then, fails_then, fails_note, on_err}
+use Rattle.keep_loop.proofs.rounds.part_one.Goals as goal
+
+pub returns-in_err-left-in-Some-clause-err : goal.returns-in_err-left-in-Some-clause-err
+returns-in_err-left-in-Some-clause-err g c =
+    on_err c.from_residual.result (fails_then g.O.Served.gives (g.W.Outside.seen c.args.outside.now) (g.W.Outside.seen c.args.outside.now) (g.W.Outside.seen c.leave.new.self) c.args.keep.now c.next_quit.new.self
+    (keeps_quiet g.O.Served.gives (g.W.Outside.seen c.args.outside.now) (g.W.Outside.seen c.args.outside.now) c.args.keep.now c.next_quit.new.self refl c.next_quit.ensures.stands)
+    (fails_note g.O.Served.gives (Leaves c.in-Some.who) (g.W.Outside.seen c.args.outside.now) (g.W.Outside.seen c.leave.new.self) c.next_quit.new.self c.leave.ensures (λ k is. absurd (true≢false (sym is)))))
+
+pub returns-in_ok-left-in-Some-clause-ok : goal.returns-in_ok-left-in-Some-clause-ok
+returns-in_ok-left-in-Some-clause-ok g c =
+    keeps_then g.O.Served.gives (g.W.Outside.seen c.args.outside.now) (g.W.Outside.seen c.args.outside.now) (g.W.Outside.seen c.leave.new.self) c.args.keep.now c.next_quit.new.self c.left.new.self
+    (keeps_quiet g.O.Served.gives (g.W.Outside.seen c.args.outside.now) (g.W.Outside.seen c.args.outside.now) c.args.keep.now c.next_quit.new.self refl c.next_quit.ensures.stands)
+    (keeps_event g.O.Served.gives (Noticed (Leaves c.in-Some.who)) (g.W.Outside.seen c.args.outside.now) (g.W.Outside.seen c.leave.new.self) c.next_quit.new.self c.left.new.self c.leave.ensures
+    c.in_ok-left-in-Some.ensures.stands)

@@ -1,0 +1,15 @@
+//! Laws.
+
+ghost use Rattle.std.specs.Prelude.{◌≡◌, ◌<◌, ℕ, List, true};
+ghost use Rattle.keep_loop.specs.Seen.{Happened, stored_in, added_in};
+ghost use Rattle.keep_loop.specs.Stands.{IsHonest, IsBetween, Survives};
+
+use crate::keep::Limits;
+use crate::served::Served;
+
+/// After a crash, where answers wait for the disk: the lines that are found in each journal have each turn of which a
+/// connection may have read, and are those of a history that goes on as the one that was seen.
+pub fn crash_keeps_what_was_answered<O: Served>()
+    ensures { (first : O) (limits : Limits) (seen : List Happened) (found : ℕ → List ℕ) → limits.waits ≡ true → IsHonest O.gives first limits seen
+        → ((j : ℕ) → j < limits.journals → IsBetween (stored_in j seen) (added_in j seen) (found j)) → Survives O.gives first limits seen found }
+{}

@@ -1,0 +1,18 @@
+//! One loop that serves an object to many connections: a line is done at once, its lines join a journal, and its
+//! answers are written after the sync of the round.
+#![tactic(auto)]
+
+mod cut;
+mod keep;
+mod laws;
+mod outside;
+mod post;
+mod rounds;
+mod served;
+
+pub use keep::{Limits, MOST_LINE};
+pub use laws::crash_keeps_what_was_answered;
+pub use outside::{Fault, Outside, Read};
+pub use post::{Place, Post, Stage, Text};
+pub use rounds::run;
+pub use served::{LineEnd, Note, Served};

@@ -1,0 +1,103 @@
+//! What is outside of the loop: connections, a clock, and journals.
+
+ghost use Rattle.std.specs.Prelude.{◌≡◌, ◌≤◌, true, false, List, Option, length, take, OnOk, OnErr, IfOk, IfSome, IfNone};
+ghost use Rattle.keep_loop.specs.Seen.{Happened, Grows, GrowsIf, read_of};
+ghost use Rattle.keep_loop.specs.Seen.Happened.{Wrote, Noticed, Added, Stored, Changed};
+ghost use Rattle.keep_loop.specs.declared.served.Note.TheVariants.{Joins, Leaves, Ticks, Ends};
+
+use std::alloc::AllocError;
+
+/// Why a loop ends.
+#[derive(Clone, Copy, Debug, PartialEq, Eq)]
+pub enum Fault {
+    /// Memory was refused.
+    Memory,
+    /// Lines could not be added to this journal, or not be stored, or it could not begin anew.
+    Journal(usize),
+}
+
+impl From<AllocError> for Fault {
+    fn from(_: AllocError) -> Fault {
+        Fault::Memory
+    }
+}
+
+/// What a read brought.
+#[derive(Clone, Copy, Debug, PartialEq, Eq)]
+pub enum Read {
+    /// These bytes, and there may be more.
+    More,
+    /// These bytes, which may be none, and there are no more for now: who has more will be told by `next`.
+    NoMore,
+    /// The input has ended.
+    Ended,
+    /// The connection broke.
+    Broken,
+}
+
+/// Connections, a clock, and journals. A connection is known by its number, and a journal by its place.
+pub trait Outside {
+    /// All that was seen, the newest first, or `None` where nothing is known, as of real connections and files.
+    ghost seen: { Self → Option (List Happened) };
+
+    /// Waits until something is there, or it is time for a tick. `idle`: there is nothing else to do; else it only looks.
+    fn wait(&mut self, idle: bool)
+        ensures { seen self.new ≡ seen self.old };
+
+    /// A connection that can be read or written again, or `None` where this round has no more.
+    fn next(&mut self) -> Option<u64>
+        ensures { seen self.new ≡ seen self.old };
+
+    /// Takes a connection that waits, under this number. `false`: none waits.
+    fn accept(&mut self, who: u64) -> bool
+        ensures taken { result ≡ true → Grows (Noticed (Joins who)) (seen self.old) (seen self.new) }
+        ensures none { result ≡ false → seen self.new ≡ seen self.old };
+
+    /// Reads once, in place of what is in `piece`. At `Ended` and `Broken` what is then in `piece` counts for nothing.
+    fn read(&mut self, who: u64, piece: &mut Vec<u8>) -> Result<Read, AllocError>
+        ensures ok { IfOk result (λ read. Grows (read_of who piece.new.items read) (seen self.old) (seen self.new)) }
+        ensures err { OnErr result (seen self.new ≡ seen self.old) };
+
+    /// Writes a front of these bytes, and says how many it took, or `None` where the connection broke.
+    fn write(&mut self, who: u64, bytes: &[u8]) -> Option<usize>
+        ensures bound { IfSome result (λ n. n ≤ length bytes.now) }
+        ensures took { IfSome result (λ n. Grows (Wrote who (take n bytes.now)) (seen self.old) (seen self.new)) }
+        ensures broke { IfNone result (seen self.new ≡ seen self.old) };
+
+    /// Reads nothing more of a connection.
+    fn leave(&mut self, who: u64)
+        ensures { Grows (Noticed (Leaves who)) (seen self.old) (seen self.new) };
+
+    /// Closes a connection.
+    fn close(&mut self, who: u64)
+        ensures { seen self.new ≡ seen self.old };
+
+    /// The time, in seconds since the server began, where it is time for a tick.
+    fn tick(&mut self) -> Option<u64>
+        ensures ticks { IfSome result (λ time. Grows (Noticed (Ticks time)) (seen self.old) (seen self.new)) }
+        ensures none { IfNone result (seen self.new ≡ seen self.old) };
+
+    /// Whether the server is to end.
+    fn ends(&mut self) -> bool
+        ensures ends { result ≡ true → Grows (Noticed Ends) (seen self.old) (seen self.new) }
+        ensures none { result ≡ false → seen self.new ≡ seen self.old };
+
+    /// Whether it is time to store what no answer waits for.
+    fn is_sync_due(&mut self) -> bool
+        ensures { seen self.new ≡ seen self.old };
+
+    /// Hands lines to a journal: whether or not it answers `Ok`, any of their bytes may be there from now on.
+    fn append(&mut self, journal: usize, lines: &[u8]) -> Result<(), Fault>
+        ensures { Grows (Added journal lines.now) (seen self.old) (seen self.new) };
+
+    /// Stores all that a journal was handed.
+    fn sync(&mut self, journal: usize) -> Result<(), Fault>
+        ensures ok { OnOk result (Grows (Stored journal) (seen self.old) (seen self.new)) }
+        ensures err { OnErr result (seen self.new ≡ seen self.old) };
+
+    /// Begins a journal anew with this front, in one step. `false`: it could not, and the journal is as it was. After an
+    /// `Err` nobody knows.
+    fn change(&mut self, journal: usize, front: &[u8]) -> Result<bool, Fault>
+        ensures ok { IfOk result (λ went. GrowsIf went (Changed journal front.now) (seen self.old) (seen self.new)) }
+        ensures err { OnErr result (Grows (Changed journal front.now) (seen self.old) (seen self.new)) };
+}

@@ -1,0 +1,515 @@
+//! Rounds: hear, store, and only then write.
+
+ghost use Rattle.std.specs.Prelude.{◌≡◌, ◌<◌, [], ℕ, List, true, false, OnOk, OnErr, IfSome, length, if◌then◌else◌, ◌==◌};
+ghost use Rattle.keep_loop.specs.Posts.{is_here};
+ghost use Rattle.keep_loop.specs.Seen.{Happened, Grows, Always};
+ghost use Rattle.keep_loop.specs.Seen.Happened.{Stored};
+ghost use Rattle.keep_loop.specs.Stands.{IsHonest, Stands, Keeps, Settles, Sends, Fails, FailsRested};
+ghost use Rattle.keep_loop.specs.Texts.{text_at};
+
+use crate::keep::{Keep, Limits};
+use crate::outside::{Fault, Outside};
+use crate::served::{Note, Served};
+use std::alloc::{AllocError, Global};
+
+// So many connections that can be read or written are noted in a round.
+const MOST_EVENTS: u32 = 16_384;
+
+// So many connections are taken in a round.
+const MOST_TAKEN: u32 = 256;
+
+// A round hears no more once so many bytes of lines wait to be stored.
+const MOST_LINES: usize = 65_536;
+
+// So many rounds are made at the end, for those who take what they are owed slowly.
+const LAST_ROUNDS: u32 = 16;
+
+// A connection can be read or written again.
+fn ready<O: Served>(keep: &mut Keep<O>, who: u64) -> Result<(), AllocError>
+    ensures stands { OnOk result ((first : O) (limits : Limits) (seen : List Happened) → Stands O.gives first limits seen keep.old
+        → Stands O.gives first limits seen keep.new) }
+{
+    keep.post.ready(who)?;
+    Ok(())
+}
+
+// Notes who can be read or written again.
+fn look<O: Served, W: Outside>(keep: &mut Keep<O>, outside: &mut W) -> Result<(), Fault>
+    ensures ok { OnOk result (Keeps O.gives (W.seen outside.old) keep.old (W.seen outside.new) keep.new) }
+    ensures err { OnErr result (Fails O.gives (W.seen outside.old) keep.old (W.seen outside.new)) }
+{
+    for _event in 0..MOST_EVENTS {
+        match outside.next() {
+            Some(who) => ready(keep, who)?,
+            None => return Ok(()),
+        }
+    }
+    Ok(())
+}
+
+// Takes a connection that waits. `false`: none waits, or there is no place for it.
+fn take_one<O: Served, W: Outside>(keep: &mut Keep<O>, outside: &mut W) -> Result<bool, Fault>
+    ensures ok { OnOk result (Keeps O.gives (W.seen outside.old) keep.old (W.seen outside.new) keep.new) }
+    ensures err { OnErr result (Fails O.gives (W.seen outside.old) keep.old (W.seen outside.new)) }
+{
+    match keep.next_number() {
+        Some((who, next)) => {
+            if !outside.accept(who) {
+                return Ok(false);
+            }
+            keep.joined(who, next)?;
+            Ok(true)
+        }
+        None => Ok(false),
+    }
+}
+
+// Takes connections that wait, so many at most.
+fn take_some<O: Served, W: Outside>(keep: &mut Keep<O>, outside: &mut W) -> Result<(), Fault>
+    ensures ok { OnOk result (Keeps O.gives (W.seen outside.old) keep.old (W.seen outside.new) keep.new) }
+    ensures err { OnErr result (Fails O.gives (W.seen outside.old) keep.old (W.seen outside.new)) }
+{
+    for _taken in 0..MOST_TAKEN {
+        if !take_one(keep, outside)? {
+            return Ok(());
+        }
+    }
+    Ok(())
+}
+
+// Takes connections that wait.
+fn take<O: Served, W: Outside>(keep: &mut Keep<O>, outside: &mut W) -> Result<(), Fault>
+    ensures ok { OnOk result (Keeps O.gives (W.seen outside.old) keep.old (W.seen outside.new) keep.new) }
+    ensures err { OnErr result (Fails O.gives (W.seen outside.old) keep.old (W.seen outside.new)) }
+{
+    keep.looks();
+    take_some(keep, outside)
+}
+
+// Hears what a connection has to say.
+fn hear_one<O: Served, W: Outside>(
+    keep: &mut Keep<O>,
+    outside: &mut W,
+    who: u64,
+    piece: &mut Vec<u8>,
+) -> Result<(), Fault>
+    ensures ok { OnOk result (Keeps O.gives (W.seen outside.old) keep.old (W.seen outside.new) keep.new) }
+    ensures err { OnErr result (Fails O.gives (W.seen outside.old) keep.old (W.seen outside.new)) }
+{
+    if keep.pauses(who)? {
+        return Ok(());
+    }
+    if !keep.is_to_read(who) {
+        return Ok(());
+    }
+    let read = outside.read(who, piece)?;
+    keep.came(who, piece.as_slice(), read)?;
+    Ok(())
+}
+
+// Hears one that waits to be heard. `false`: none does, or enough was heard.
+fn hear_next<O: Served, W: Outside>(
+    keep: &mut Keep<O>,
+    outside: &mut W,
+    piece: &mut Vec<u8>,
+) -> Result<bool, Fault>
+    ensures ok { OnOk result (Keeps O.gives (W.seen outside.old) keep.old (W.seen outside.new) keep.new) }
+    ensures err { OnErr result (Fails O.gives (W.seen outside.old) keep.old (W.seen outside.new)) }
+{
+    if keep.post.size >= MOST_LINES {
+        return Ok(false);
+    }
+    match keep.next_called() {
+        Some(who) => {
+            hear_one(keep, outside, who, piece)?;
+            Ok(true)
+        }
+        None => Ok(false),
+    }
+}
+
+// Hears those who wait to be heard, once each.
+fn hear<O: Served, W: Outside>(
+    keep: &mut Keep<O>,
+    outside: &mut W,
+    piece: &mut Vec<u8>,
+) -> Result<(), Fault>
+    ensures ok { OnOk result (Keeps O.gives (W.seen outside.old) keep.old (W.seen outside.new) keep.new) }
+    ensures err { OnErr result (Fails O.gives (W.seen outside.old) keep.old (W.seen outside.new)) }
+{
+    for _turn in 0..keep.post.called.len() {
+        if !hear_next(keep, outside, piece)? {
+            return Ok(());
+        }
+    }
+    Ok(())
+}
+
+// Notes who may be read again that might not for a while.
+fn resume<O: Served, W: Outside>(keep: &mut Keep<O>, outside: &mut W) -> Result<(), Fault>
+    ensures ok { OnOk result (Keeps O.gives (W.seen outside.old) keep.old (W.seen outside.new) keep.new) }
+    ensures err { OnErr result (Fails O.gives (W.seen outside.old) keep.old (W.seen outside.new)) }
+{
+    for _paused in 0..keep.post.paused.len() {
+        keep.resume_one()?;
+    }
+    Ok(())
+}
+
+// Tells the object of one that quit. `false`: there is none.
+fn part_one<O: Served, W: Outside>(keep: &mut Keep<O>, outside: &mut W) -> Result<bool, Fault>
+    ensures ok { OnOk result (Keeps O.gives (W.seen outside.old) keep.old (W.seen outside.new) keep.new) }
+    ensures err { OnErr result (Fails O.gives (W.seen outside.old) keep.old (W.seen outside.new)) }
+{
+    match keep.next_quit() {
+        Some(who) => {
+            outside.leave(who);
+            keep.left(who)?;
+            Ok(true)
+        }
+        None => Ok(false),
+    }
+}
+
+// Tells the object of those that quit.
+fn part<O: Served, W: Outside>(keep: &mut Keep<O>, outside: &mut W) -> Result<(), Fault>
+    ensures ok { OnOk result (Keeps O.gives (W.seen outside.old) keep.old (W.seen outside.new) keep.new) }
+    ensures err { OnErr result (Fails O.gives (W.seen outside.old) keep.old (W.seen outside.new)) }
+{
+    for _left in 0..keep.post.places() {
+        if !part_one(keep, outside)? {
+            return Ok(());
+        }
+    }
+    Ok(())
+}
+
+// Tells the object the time, where it is time for that.
+fn tick<O: Served, W: Outside>(keep: &mut Keep<O>, outside: &mut W) -> Result<(), Fault>
+    ensures ok { OnOk result (Keeps O.gives (W.seen outside.old) keep.old (W.seen outside.new) keep.new) }
+    ensures err { OnErr result (Fails O.gives (W.seen outside.old) keep.old (W.seen outside.new)) }
+{
+    match outside.tick() {
+        Some(time) => {
+            keep.noted(Note::Ticks(time))?;
+            Ok(())
+        }
+        None => Ok(()),
+    }
+}
+
+// Whether the server is to end, which the object is told.
+fn end<O: Served, W: Outside>(keep: &mut Keep<O>, outside: &mut W) -> Result<bool, Fault>
+    ensures ok { OnOk result (Keeps O.gives (W.seen outside.old) keep.old (W.seen outside.new) keep.new) }
+    ensures err { OnErr result (Fails O.gives (W.seen outside.old) keep.old (W.seen outside.new)) }
+{
+    if !outside.ends() {
+        return Ok(false);
+    }
+    keep.noted(Note::Ends)?;
+    Ok(true)
+}
+
+// There are no bytes.
+fn is_none(bytes: &[u8]) -> bool
+    ensures { result ≡ true → bytes.now ≡ [] }
+{
+    bytes.is_empty()
+}
+
+// Stores what a journal was handed, where answers wait for it.
+fn sync_if<W: Outside>(outside: &mut W, journal: usize, waits: bool) -> Result<(), Fault>
+    ensures stored { OnOk result (waits ≡ true → Grows (Stored journal) (W.seen outside.old) (W.seen outside.new)) }
+    ensures none { waits ≡ false → W.seen outside.new ≡ W.seen outside.old }
+    ensures err { OnErr result (W.seen outside.new ≡ W.seen outside.old) }
+{
+    if !waits {
+        return Ok(());
+    }
+    outside.sync(journal)
+}
+
+// Hands a journal the lines of the round, and stores them, where answers wait for that.
+fn settle_one<O: Served, W: Outside>(
+    keep: &mut Keep<O>,
+    outside: &mut W,
+    journal: usize,
+) -> Result<(), Fault>
+    requires { journal < length keep.old.post.lines.items }
+    ensures ok { OnOk result (Keeps O.gives (W.seen outside.old) keep.old (W.seen outside.new) keep.new) }
+    ensures count { OnOk result (length keep.new.post.lines.items ≡ length keep.old.post.lines.items) }
+    ensures handed { OnOk result ((j : ℕ) → text_at keep.new.post.lines.items j
+        ≡ (if journal == j then [] else text_at keep.old.post.lines.items j)) }
+    ensures err { OnErr result (Fails O.gives (W.seen outside.old) keep.old (W.seen outside.new)) }
+{
+    if is_none(keep.post.lines(journal)) {
+        return Ok(());
+    }
+    outside.append(journal, keep.post.lines(journal))?;
+    sync_if(outside, journal, keep.limits.waits)?;
+    keep.hand(journal);
+    Ok(())
+}
+
+// Hands the journals the lines of the round, and stores them, where answers wait for that.
+fn settle<O: Served, W: Outside>(keep: &mut Keep<O>, outside: &mut W) -> Result<(), Fault>
+    ensures ok { OnOk result (Settles O.gives (W.seen outside.old) keep.old (W.seen outside.new) keep.new) }
+    ensures err { OnErr result (Fails O.gives (W.seen outside.old) keep.old (W.seen outside.new)) }
+{
+    for journal in 0..keep.post.journals() {
+        settle_one(keep, outside, journal)?;
+    }
+    Ok(())
+}
+
+// Writes to a connection what it takes of what it is owed.
+fn write_one<O: Served, W: Outside>(
+    keep: &mut Keep<O>,
+    outside: &mut W,
+    who: u64,
+) -> Result<(), Fault>
+    requires { is_here keep.old.post.places.items who ≡ true }
+    ensures ok { OnOk result (Sends O.gives (W.seen outside.old) keep.old (W.seen outside.new) keep.new) }
+    ensures err { OnErr result (FailsRested O.gives (W.seen outside.old) keep.old (W.seen outside.new)) }
+{
+    match outside.write(who, keep.post.owed(who)) {
+        Some(n) => keep.wrote(who, n)?,
+        None => keep.unwritten(who)?,
+    }
+    Ok(())
+}
+
+// Closes a connection that has left, once nothing more can be written to it.
+fn close_one<O: Served, W: Outside>(
+    keep: &mut Keep<O>,
+    outside: &mut W,
+    who: u64,
+) -> Result<(), Fault>
+    ensures ok { OnOk result (Sends O.gives (W.seen outside.old) keep.old (W.seen outside.new) keep.new) }
+    ensures err { OnErr result (FailsRested O.gives (W.seen outside.old) keep.old (W.seen outside.new)) }
+{
+    if !keep.is_done(who) {
+        return Ok(());
+    }
+    outside.close(who);
+    keep.closed(who)?;
+    Ok(())
+}
+
+// Writes to a connection, where it is owed something.
+fn send_one<O: Served, W: Outside>(
+    keep: &mut Keep<O>,
+    outside: &mut W,
+    who: u64,
+) -> Result<(), Fault>
+    ensures ok { OnOk result (Sends O.gives (W.seen outside.old) keep.old (W.seen outside.new) keep.new) }
+    ensures err { OnErr result (FailsRested O.gives (W.seen outside.old) keep.old (W.seen outside.new)) }
+{
+    if keep.is_owed(who) {
+        write_one(keep, outside, who)?;
+    }
+    close_one(keep, outside, who)
+}
+
+// Writes to one that was told something. `false`: there is none.
+fn send_next<O: Served, W: Outside>(keep: &mut Keep<O>, outside: &mut W) -> Result<bool, Fault>
+    ensures ok { OnOk result (Sends O.gives (W.seen outside.old) keep.old (W.seen outside.new) keep.new) }
+    ensures err { OnErr result (FailsRested O.gives (W.seen outside.old) keep.old (W.seen outside.new)) }
+{
+    match keep.next_told() {
+        Some(who) => {
+            send_one(keep, outside, who)?;
+            Ok(true)
+        }
+        None => Ok(false),
+    }
+}
+
+// Writes what is owed.
+fn send<O: Served, W: Outside>(keep: &mut Keep<O>, outside: &mut W) -> Result<(), Fault>
+    ensures ok { OnOk result (Sends O.gives (W.seen outside.old) keep.old (W.seen outside.new) keep.new) }
+    ensures err { OnErr result (FailsRested O.gives (W.seen outside.old) keep.old (W.seen outside.new)) }
+{
+    for _sent in 0..keep.post.told.len() {
+        if !send_next(keep, outside)? {
+            return Ok(());
+        }
+    }
+    Ok(())
+}
+
+// Begins a journal anew with this front, and has the object know.
+fn change_one<O: Served, W: Outside>(
+    keep: &mut Keep<O>,
+    outside: &mut W,
+    journal: usize,
+    front: &[u8],
+) -> Result<(), Fault>
+    requires { O.fronts keep.old.object journal front.now }
+    ensures ok { OnOk result (Keeps O.gives (W.seen outside.old) keep.old (W.seen outside.new) keep.new) }
+    ensures err { OnErr result (Fails O.gives (W.seen outside.old) keep.old (W.seen outside.new)) }
+{
+    let went = outside.change(journal, front)?;
+    keep.changed(journal, front, went)?;
+    Ok(())
+}
+
+// Begins a journal anew, where one is due. The front is put in place of what is in `front`.
+fn change<O: Served, W: Outside>(
+    keep: &mut Keep<O>,
+    outside: &mut W,
+    front: &mut Vec<u8>,
+) -> Result<(), Fault>
+    ensures ok { OnOk result (Keeps O.gives (W.seen outside.old) keep.old (W.seen outside.new) keep.new) }
+    ensures err { OnErr result (Fails O.gives (W.seen outside.old) keep.old (W.seen outside.new)) }
+{
+    match keep.object.due(front)? {
+        Some(journal) => change_one(keep, outside, journal, front.as_slice()),
+        None => Ok(()),
+    }
+}
+
+// Stores a journal for which no answer waits.
+fn store_one<O: Served, W: Outside>(
+    keep: &Keep<O>,
+    outside: &mut W,
+    journal: usize,
+) -> Result<(), Fault>
+    requires { keep.now.limits.waits ≡ false }
+    ensures ok { OnOk result (Keeps O.gives (W.seen outside.old) keep.now (W.seen outside.new) keep.now) }
+    ensures err { OnErr result (Fails O.gives (W.seen outside.old) keep.now (W.seen outside.new)) }
+{
+    outside.sync(journal)?;
+    Ok(())
+}
+
+// Stores all journals, where no answer waits for that and it is time.
+fn store<O: Served, W: Outside>(keep: &Keep<O>, outside: &mut W) -> Result<(), Fault>
+    ensures ok { OnOk result (Keeps O.gives (W.seen outside.old) keep.now (W.seen outside.new) keep.now) }
+    ensures err { OnErr result (Fails O.gives (W.seen outside.old) keep.now (W.seen outside.new)) }
+{
+    if keep.limits.waits || !outside.is_sync_due() {
+        return Ok(());
+    }
+    for journal in 0..keep.post.journals() {
+        store_one(keep, outside, journal)?;
+    }
+    Ok(())
+}
+
+// Hears all there is.
+fn listen<O: Served, W: Outside>(
+    keep: &mut Keep<O>,
+    outside: &mut W,
+    piece: &mut Vec<u8>,
+) -> Result<(), Fault>
+    ensures ok { OnOk result (Keeps O.gives (W.seen outside.old) keep.old (W.seen outside.new) keep.new) }
+    ensures err { OnErr result (Fails O.gives (W.seen outside.old) keep.old (W.seen outside.new)) }
+{
+    look(keep, outside)?;
+    take(keep, outside)?;
+    hear(keep, outside, piece)?;
+    part(keep, outside)?;
+    tick(keep, outside)?;
+    resume(keep, outside)?;
+    Ok(())
+}
+
+// One round. What is in `piece` counts for nothing.
+fn round<O: Served, W: Outside>(
+    keep: &mut Keep<O>,
+    outside: &mut W,
+    piece: &mut Vec<u8>,
+) -> Result<(), Fault>
+    ensures ok { OnOk result (Keeps O.gives (W.seen outside.old) keep.old (W.seen outside.new) keep.new) }
+    ensures err { OnErr result (Fails O.gives (W.seen outside.old) keep.old (W.seen outside.new)) }
+{
+    listen(keep, outside, piece)?;
+    settle(keep, outside)?;
+    send(keep, outside)?;
+    store(keep, outside)?;
+    change(keep, outside, piece)?;
+    Ok(())
+}
+
+// One round of the end. `false`: nothing more is owed.
+fn last_round<O: Served, W: Outside>(keep: &mut Keep<O>, outside: &mut W) -> Result<bool, Fault>
+    ensures ok { OnOk result (Keeps O.gives (W.seen outside.old) keep.old (W.seen outside.new) keep.new) }
+    ensures err { OnErr result (Fails O.gives (W.seen outside.old) keep.old (W.seen outside.new)) }
+{
+    settle(keep, outside)?;
+    send(keep, outside)?;
+    if !keep.post.owes() {
+        return Ok(false);
+    }
+    outside.wait(true);
+    look(keep, outside)?;
+    Ok(true)
+}
+
+// Writes what is owed at the end.
+fn finish<O: Served, W: Outside>(keep: &mut Keep<O>, outside: &mut W) -> Result<(), Fault>
+    ensures ok { OnOk result (Keeps O.gives (W.seen outside.old) keep.old (W.seen outside.new) keep.new) }
+    ensures err { OnErr result (Fails O.gives (W.seen outside.old) keep.old (W.seen outside.new)) }
+{
+    for _round in 0..LAST_ROUNDS {
+        if !last_round(keep, outside)? {
+            return Ok(());
+        }
+    }
+    Ok(())
+}
+
+// Waits, and makes a round. `false`: the server is to end.
+fn go_on<O: Served, W: Outside>(
+    keep: &mut Keep<O>,
+    outside: &mut W,
+    piece: &mut Vec<u8>,
+) -> Result<bool, Fault>
+    ensures ok { OnOk result (Keeps O.gives (W.seen outside.old) keep.old (W.seen outside.new) keep.new) }
+    ensures err { OnErr result (Fails O.gives (W.seen outside.old) keep.old (W.seen outside.new)) }
+{
+    outside.wait(keep.is_idle());
+    if end(keep, outside)? {
+        return Ok(false);
+    }
+    round(keep, outside, piece)?;
+    Ok(true)
+}
+
+// Serves so many rounds, or until the server is to end.
+fn serve<O: Served, W: Outside>(
+    keep: &mut Keep<O>,
+    outside: &mut W,
+    piece: &mut Vec<u8>,
+    rounds: u64,
+) -> Result<(), Fault>
+    ensures { Fails O.gives (W.seen outside.old) keep.old (W.seen outside.new) }
+{
+    for _round in 0..rounds {
+        if !go_on(keep, outside, piece)? {
+            finish(keep, outside)?;
+            return Ok(());
+        }
+    }
+    Ok(())
+}
+
+/// Serves an object for so many rounds, or until the server is to end.
+///
+/// `Err`: memory was refused, or a journal failed. Nothing was written then that waits for lines that are not stored.
+pub fn run<O: Served + Drop, W: Outside>(
+    alloc: Global,
+    object: O,
+    limits: Limits,
+    outside: &mut W,
+    rounds: u64,
+) -> Result<(), Fault>
+    requires { IfSome (W.seen outside.old) (λ seen. seen ≡ []) }
+    // However it ends, and at each moment of it.
+    ensures honest { IfSome (W.seen outside.new) (λ seen. Always (IsHonest O.gives object limits) seen) }
+{
+    let mut keep = Keep::new(alloc, object, limits)?;
+    let mut piece = Vec::new(alloc);
+    serve(&mut keep, outside, &mut piece, rounds)
+}

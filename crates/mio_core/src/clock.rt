@@ -1,0 +1,68 @@
+//! When it is time for what.
+
+use std::io;
+use std::time::{Clock, Duration, Instant};
+
+/// How often things are due, in milliseconds.
+#[derive(Clone, Copy, Debug, PartialEq, Eq)]
+pub struct Pace {
+    /// So often the object is told the time.
+    pub tick: u64,
+    /// So often journals are stored for which no answer waits.
+    pub sync: u64,
+}
+
+/// The time since a server began, and what is due when.
+#[derive(Drop)]
+pub struct Watch {
+    start: Instant,
+    pace: Pace,
+    tick_at: u64,
+    sync_at: u64,
+    now: u64,
+}
+
+impl Watch {
+    /// It begins now. The error is that of the clock.
+    pub fn begin(clock: &impl Clock, pace: Pace) -> io::Result<Watch> {
+        Ok(Watch {
+            start: Instant::now(clock)?,
+            pace,
+            tick_at: pace.tick,
+            sync_at: pace.sync,
+            now: 0,
+        })
+    }
+
+    /// Looks at the clock. Where it fails, the time stays.
+    pub fn look(&mut self, clock: &impl Clock) {
+        if let Ok(time) = self.start.elapsed(clock) {
+            let now = u64::try_from(time.as_millis()).unwrap_or(u64::MAX);
+            self.now = self.now.max(now);
+        }
+    }
+
+    /// The time until something is due.
+    pub fn rest(&self) -> Duration {
+        let next = self.tick_at.min(self.sync_at);
+        Duration::from_millis(next.saturating_sub(self.now))
+    }
+
+    /// The time, in seconds since the server began, where the object is to be told. It never falls.
+    pub fn tick(&mut self) -> Option<u64> {
+        if self.now < self.tick_at {
+            return None;
+        }
+        self.tick_at = self.now.saturating_add(self.pace.tick);
+        Some(self.now / 1_000)
+    }
+
+    /// Whether journals are to be stored.
+    pub fn is_sync_due(&mut self) -> bool {
+        if self.now < self.sync_at {
+            return false;
+        }
+        self.sync_at = self.now.saturating_add(self.pace.sync);
+        true
+    }
+}

@@ -1,0 +1,10 @@
+pub mod Said
+pub mod View
+pub mod Steps
+pub mod Numbers
+pub mod Carried
+pub mod Counts
+pub mod Tells
+pub mod Sound
+pub mod Stands
+pub mod Laws
