@@ -1,12 +1,13 @@
 //! How a remembered call ended.
 
-ghost use Rattle.std.specs.Prelude.{◌≡◌, ℕ, List, IfSome, MatchOption, Some, option_map};
+ghost use Rattle.std.specs.Prelude.{◌≡◌, ℕ, List, IfSome, MatchOption, Some, option_map, ◌&&◌, not, codes};
+ghost use Rattle.std.specs.Str.{bytes_eq};
 ghost use Rattle.decl_core.specs.RefusalWord.{IsRefusalWord};
 ghost use Rattle.apply_core.specs.declared.reply.Reply.{Reply as AReply};
 ghost use Rattle.apply_core.specs.declared.reply.Failure.{Failure as AFailure};
 ghost use Rattle.apply_core.specs.declared.reply.Reply.TheVariants.{Done as done_reply, Refused as refused_reply, Failed as failed_reply};
 ghost use Rattle.trace_core.specs.Laws.{IsReply};
-ghost use Rattle.trace_core.specs.Text.{failure_word, reply_ending};
+ghost use Rattle.trace_core.specs.Text.{failure_word, reply_ending, reply_words};
 ghost use Rattle.word_core.specs.View.{words_of as words_in, ending_view};
 ghost use Rattle.front_read.specs.Answers.{tells_datum, FindsAnswer, FindsInTwo};
 
@@ -37,10 +38,17 @@ pub(crate) fn answer_first<'a, 'b>(words: &'b [Word<'a>]) -> Option<(Ended, &'b 
     if is_same_word(verb, b"cancelled") {
         return Some((Ended::Cancelled, rest));
     }
-    if is_same_word(verb, b"done") && !tells_datum(rest) {
+    if is_nothing(verb, rest) {
         return Some((Ended::Replied(Reply::Done(None)), rest));
     }
     reply_in_two(words)
+}
+
+// Whether a word and those behind it say that a call was done and replied nothing.
+fn is_nothing(verb: &[u8], rest: &[Word]) -> bool
+    ensures { result ≡ (bytes_eq verb.now (codes "done") && not (tells_datum (words_in rest.now))) }
+{
+    is_same_word(verb, b"done") && !tells_datum(rest)
 }
 
 // Whether the first word is an integer or a text.
@@ -61,18 +69,30 @@ fn reply_in_two<'a, 'b>(words: &'b [Word<'a>]) -> Option<(Ended, &'b [Word<'a>])
         return None;
     }
     let (two, rest) = words.split_at(2);
-    let ending = ending_of(two)?;
-    let reply = reply_of(ending)?;
-    Some((Ended::Replied(reply), rest))
+    match reply_of_two(two) {
+        Some(reply) => Some((Ended::Replied(reply), rest)),
+        None => None,
+    }
+}
+
+// The reply that these words tell.
+fn reply_of_two(words: &[Word]) -> Option<Reply>
+    ensures found { (reply : AReply) → IsReply reply → words_in words.now ≡ reply_words reply → result ≡ Some reply }
+    ensures is { IfSome result (λ reply. IsReply reply) }
+{
+    match ending_of(words) {
+        Some(ending) => reply_of(&ending),
+        None => None,
+    }
 }
 
 // The reply of a call that ended so.
-fn reply_of(ending: Ending) -> Option<Reply>
-    ensures found { (reply : AReply) → IsReply reply → ending_view ending ≡ reply_ending reply → result ≡ Some reply }
+fn reply_of(ending: &Ending) -> Option<Reply>
+    ensures found { (reply : AReply) → IsReply reply → ending_view ending.now ≡ reply_ending reply → result ≡ Some reply }
     ensures is { IfSome result (λ reply. IsReply reply) }
 {
     match ending {
-        Ending::Done(result) => done_with(result),
+        Ending::Done(result) => done_with(*result),
         Ending::Refused(word) => refused_by(word),
         Ending::Failed(word) => failed_by(word),
     }
