@@ -62,6 +62,7 @@ pub nothing_found : (verb : List ℕ) (rest : Bor (List declared.Word)) (ws : Li
 nothing_found verb rest ws first is = (found, tt) where
   parts : (bytes_eq verb (codes "done") ≡ true) × (tells_datum (words_of rest.now) ≡ false)
   parts = both (bytes_eq verb (codes "done")) (tells_datum (words_of rest.now)) is
+
   found : (answer : Answer) (more : List Word) → IsAnswer answer → tells_datum more ≡ false → ws ≡ answer_words answer ++ more → ◌≡◌ {A = Option (Answer × List Word)} (Some (Replied (Done None), words_of rest.now)) (Some (answer, more))
   found Cancelled more its none same =
       let v = verb_is verb (codes "cancelled") (words_of rest.now) more ws first same in absurd (other_verb verb (codes "cancelled") (codes "done") v.0 parts.0 refl)

@@ -1,5 +1,9 @@
 mod Answering
 mod Calling
+mod Clear
 mod Forms
 mod Numerals
+mod Parting
+mod Standing
+mod Telling
 mod Texts

@@ -111,7 +111,10 @@ pub(crate) fn take_run<'a>(
     object_has_names(object);
     match words_of(alloc, first_line(text))? {
         Some(words) => match run_of(object, &words) {
-            Some(run) => take_this_run(alloc, object, out, text, run),
+            Some(run) => {
+                let found = take_this_run(alloc, object, out, text, run)?;
+                Ok(found)
+            }
             None => Ok(None),
         },
         None => Ok(None),
@@ -207,7 +210,10 @@ pub(crate) fn take_carried<'a>(
     object_has_names(object);
     match words_of(alloc, first_line(text))? {
         Some(words) => match carried_of(alloc, object, &words)? {
-            Some(row) => take_this_carried(alloc, object, out, text, &row),
+            Some(row) => {
+                let found = take_this_carried(alloc, object, out, text, &row)?;
+                Ok(found)
+            }
             None => Ok(None),
         },
         None => Ok(None),
@@ -296,7 +302,10 @@ pub(crate) fn take_client<'a>(
 {
     match words_of(alloc, first_line(text))? {
         Some(words) => match client_of(&words) {
-            Some(row) => take_named(alloc, out, text, row),
+            Some(row) => {
+                let found = take_named(alloc, out, text, row)?;
+                Ok(found)
+            }
             None => Ok(None),
         },
         None => Ok(None),
@@ -313,7 +322,10 @@ fn take_named<'a>(
     ensures { IfOk result (λ found. TakesNamed (client_row row) text.now out.old.items found out.new.items) }
 {
     match Name::read(alloc, row.name)? {
-        Some(name) => take_this_client(alloc, out, text, row.session, name, row.keys),
+        Some(name) => {
+            let found = take_this_client(alloc, out, text, row.session, name, row.keys)?;
+            Ok(found)
+        }
         None => Ok(None),
     }
 }
@@ -419,7 +431,10 @@ pub(crate) fn take_kept<'a>(
     object_has_names(object);
     match words_of(alloc, first_line(text))? {
         Some(words) => match kept_of(alloc, object, &words)? {
-            Some(row) => take_this_kept(alloc, object, out, text, &row),
+            Some(row) => {
+                let found = take_this_kept(alloc, object, out, text, &row)?;
+                Ok(found)
+            }
             None => Ok(None),
         },
         None => Ok(None),
