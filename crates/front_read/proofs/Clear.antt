@@ -216,3 +216,9 @@ kept_clear o named k is = (
     ),
   ),
 )
+
+-- operations have names
+pub named_is : (operations : List OperationForm) (place : ℕ) → All (λ f. IsName f.name) operations → place < length operations → IsName (slice_index_or (map (λ f. f.name) operations) place [])
+named_is [] place names within = absurd (omega arith)
+named_is (x ∷ operations) zero names within = All-head (λ f. IsName f.name) x operations names
+named_is (x ∷ operations) (suc place) names within = named_is operations place (All-tail (λ f. IsName f.name) x operations names) (omega arith)

@@ -4,6 +4,7 @@ mod Clear
 mod Forms
 mod Numerals
 mod Parting
+mod Rowing
 mod Standing
 mod Telling
 mod Texts

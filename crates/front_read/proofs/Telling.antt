@@ -13,8 +13,8 @@ use Rattle.front_core.specs.declared.front.Client.{Client}
 use Rattle.front_core.specs.declared.front.KeptCall.{KeptCall}
 use Rattle.front_core.specs.Front.{IsSession, IsLong, IsCount, IsKey, IsCarried, IsClient, IsKept}
 use Rattle.front_core.specs.Text.{object_words, base_words, carried_words, client_words, kept_words, call_words, answer_words}
-use Rattle.front_read.specs.declared.rows.CarriedHead.{CarriedHead}
-use Rattle.front_read.specs.declared.rows.KeptHead.{KeptHead}
+use Rattle.front_read.specs.declared.carried.CarriedHead.{CarriedHead}
+use Rattle.front_read.specs.declared.kept.KeptHead.{KeptHead}
 use Rattle.front_read.specs.Words.{long_of, behind_verb, long_first, key_first, count_first, session_first, carried_head, kept_head, epoch_of, base_of}
 use Rattle.front_read.specs.Rows.{Finds, row_words}
 use Rattle.front_read.specs.Row.{client_of}
@@ -35,7 +35,7 @@ by_function Is w view f ws (Some y) told is found = ((λ x its same. found ∙ a
 long_told : (n : ℕ) (more : List Word) → IsLong n → long_first (bare (decimal n) ∷ more) ≡ Some (n, more)
 long_told n more is = ap (λ o. o >>= λ number. Some (number, more)) (long_of-decimal n is)
 
-not_zero : (n : ℕ) → 1 ≤ n → (n == 0) ≡ false
+pub not_zero : (n : ℕ) → 1 ≤ n → (n == 0) ≡ false
 not_zero n some = grind (arith, nat_tests)
 
 key_told : (n : ℕ) (more : List Word) → IsKey n → key_first (bare (decimal n) ∷ more) ≡ Some (n, more)
@@ -95,7 +95,7 @@ long_is ws r is =
     let same : b.0 ≡ r.0 = ap (λ (x : ℕ × List Word). x.0) (some_same b.2) in
     subst IsLong same (long_fits a.0.0 b.0 b.1)
 
-zero_not : (n : ℕ) → (n == 0) ≡ false → 1 ≤ n
+pub zero_not : (n : ℕ) → (n == 0) ≡ false → 1 ≤ n
 zero_not n isnt = grind (arith, nat_tests)
 
 key_is : (ws : List Word) (r : ℕ × List Word) → key_first ws ≡ Some r → IsKey r.0
@@ -114,7 +114,7 @@ count_is ws r is =
 few_not : (n : ℕ) → nat_lt 65535 n ≡ false → n ≤ 65535
 few_not n isnt = grind (arith, nat_tests)
 
-two_tests : {X : Type 0} (a b : Bool) (v n : X) → cond a None (cond b None (Some v)) ≡ Some n → (a ≡ false) × (b ≡ false) × (v ≡ n)
+pub two_tests : {X : Type 0} (a b : Bool) (v n : X) → cond a None (cond b None (Some v)) ≡ Some n → (a ≡ false) × (b ≡ false) × (v ≡ n)
 two_tests true b v n is = absurd cc
 two_tests false true v n is = absurd cc
 two_tests false false v n is = (refl, refl, cc)

@@ -10,6 +10,8 @@ use Rattle.front_core.specs.Front.{IsAnswer}
 use Rattle.front_core.specs.Text.{answer_words}
 use Rattle.front_core.specs.declared.front.Answer.{Answer}
 use Rattle.front_core.specs.declared.front.Answer.TheVariants.{Replied, Cancelled}
+use Rattle.front_read.specs.declared.answer.Answered.{Answered}
+use Rattle.front_read.specs.declared.answer.Answered.TheVariants as answers
 use Rattle.front_read.specs.declared.answer.Ended.{Ended}
 use Rattle.front_read.specs.declared.answer.Ended.TheVariants as ended
 
@@ -20,6 +22,11 @@ answer_of_end ended.Cancelled = Cancelled
 abbrev pub is_some : {A : Type 0} → Option A → Bool
 is_some (Some x) = true
 is_some None = false
+
+-- what was found, if anything
+abbrev pub found_in : Answered → Option (Ended × Bor (List declared.Word))
+found_in (answers.Found ended rest) = Some (ended, rest)
+found_in answers.Nothing = None
 
 -- the first word is an integer or a text
 abbrev pub tells_datum : List Word → Bool

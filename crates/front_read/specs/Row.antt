@@ -16,10 +16,10 @@ use Rattle.front_core.specs.declared.front.KeptCall.{KeptCall}
 use Rattle.front_core.specs.declared.front.Answer.{Answer}
 use Rattle.front_core.specs.Front.{IsRun, IsCall}
 use Rattle.front_core.specs.Text.{run_words, client_words, call_words}
-use Rattle.front_read.specs.declared.rows.CarriedRow.{CarriedRow}
-use Rattle.front_read.specs.declared.rows.ClientRow.{ClientRow}
-use Rattle.front_read.specs.declared.rows.KeptHead.{KeptHead}
-use Rattle.front_read.specs.declared.rows.KeptRow.{KeptRow}
+use Rattle.front_read.specs.declared.carried.CarriedRow.{CarriedRow}
+use Rattle.front_read.specs.declared.client.ClientRow.{ClientRow}
+use Rattle.front_read.specs.declared.kept.KeptHead.{KeptHead}
+use Rattle.front_read.specs.declared.kept.KeptRow.{KeptRow}
 use Rattle.front_read.specs.Words.{behind_verb, session_first, long_first}
 use Rattle.front_read.specs.Rows.{row_words, IsRow}
 use Rattle.front_read.specs.Answers.{answer_of_end}

@@ -9,7 +9,8 @@ ghost use Rattle.apply_core.specs.declared.reply.Reply.TheVariants.{Done as done
 ghost use Rattle.trace_core.specs.Laws.{IsReply};
 ghost use Rattle.trace_core.specs.Text.{failure_word, reply_ending, reply_words};
 ghost use Rattle.word_core.specs.View.{words_of as words_in, ending_view};
-ghost use Rattle.front_read.specs.Answers.{tells_datum, FindsAnswer, FindsInTwo};
+ghost use Rattle.word_core.specs.Data.{bare_of as bare_in};
+ghost use Rattle.front_read.specs.Answers.{tells_datum, found_in, FindsAnswer, FindsInTwo};
 
 use apply_core::reply::{Failure, Reply};
 use decl_core::word::is_refusal_word;
@@ -30,16 +31,34 @@ pub(crate) enum Ended {
     Cancelled,
 }
 
+// How a call ended, and the words behind those that say so.
+pub(crate) enum Answered<'a, 'b> {
+    // It ended so, and these words stand behind.
+    Found(Ended, &'b [Word<'a>]),
+    // The words say nothing of the kind.
+    Nothing,
+}
+
 // How a call ended, as the first words say it, and the words behind these.
-pub(crate) fn answer_first<'a, 'b>(words: &'b [Word<'a>]) -> Option<(Ended, &'b [Word<'a>])>
-    ensures { FindsAnswer (words_in words.now) result }
+pub(crate) fn answer_first<'a, 'b>(words: &'b [Word<'a>]) -> Answered<'a, 'b>
+    ensures { FindsAnswer (words_in words.now) (found_in result) }
 {
-    let (verb, rest) = bare_of(words)?;
+    match bare_of(words) {
+        Some((verb, rest)) => answer_by(words, verb, rest),
+        None => Answered::Nothing,
+    }
+}
+
+// How a call ended, as words say it whose first one stands bare, with the words behind that one.
+fn answer_by<'a, 'b>(words: &'b [Word<'a>], verb: &[u8], rest: &'b [Word<'a>]) -> Answered<'a, 'b>
+    requires { bare_in (words_in words.now) ≡ Some (verb.now, words_in rest.now) }
+    ensures { FindsAnswer (words_in words.now) (found_in result) }
+{
     if is_same_word(verb, b"cancelled") {
-        return Some((Ended::Cancelled, rest));
+        return Answered::Found(Ended::Cancelled, rest);
     }
     if is_nothing(verb, rest) {
-        return Some((Ended::Replied(Reply::Done(None)), rest));
+        return Answered::Found(Ended::Replied(Reply::Done(None)), rest);
     }
     reply_in_two(words)
 }
@@ -62,16 +81,16 @@ fn tells_datum(words: &[Word]) -> bool
 }
 
 // The reply that the first two words tell, and the words behind them.
-fn reply_in_two<'a, 'b>(words: &'b [Word<'a>]) -> Option<(Ended, &'b [Word<'a>])>
-    ensures { FindsInTwo (words_in words.now) result }
+fn reply_in_two<'a, 'b>(words: &'b [Word<'a>]) -> Answered<'a, 'b>
+    ensures { FindsInTwo (words_in words.now) (found_in result) }
 {
     if words.len() < 2 {
-        return None;
+        return Answered::Nothing;
     }
     let (two, rest) = words.split_at(2);
     match reply_of_two(two) {
-        Some(reply) => Some((Ended::Replied(reply), rest)),
-        None => None,
+        Some(reply) => Answered::Found(Ended::Replied(reply), rest),
+        None => Answered::Nothing,
     }
 }
 

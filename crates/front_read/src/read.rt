@@ -10,8 +10,11 @@ ghost use Rattle.front_read.specs.Parts.{TakesParts, IsCut};
 ghost use Rattle.front_read.specs.Read.{IsLineAt, IsLine};
 ghost use Rattle.front_read.specs.Read.{TakesClients, TakesCalls, TakesBase, TakesPast, FrontWith, FrontOf, FrontIn, FrontAt};
 
+use crate::carried::take_carried;
+use crate::client::take_client;
 use crate::head::{take_base, take_object, take_part, take_source};
-use crate::rows::{take_carried, take_client, take_kept, take_run};
+use crate::kept::take_kept;
+use crate::run::take_run;
 use crate::text::{begins_with, feeds_in, goes_on};
 use decl_core::object::{Object, Part};
 use front_core::front::{CarriedCall, Client, Front, KeptCall};

@@ -1,7 +1,0 @@
-use Rattle.std.proofs.Common.{sym, ◌∙◌}
-use Rattle.word_core.specs.View.{words_of}
-use Rattle.front_read.proofs.Answering.{nothing_found}
-use Rattle.front_read.proofs.answer.answer_first.Goals as goal
-
-pub returns-then-is_nothing : goal.returns-then-is_nothing
-returns-then-is_nothing c = nothing_found c.in_ok-verb.verb.now c.in_ok-verb.rest (words_of c.args.words.now) c.in_ok-verb.ensures (sym c.is_nothing.ensures ∙ c.if-is_nothing.true)
