@@ -1,14 +1,11 @@
 -- How a call ended is read from the words that tell it.
 use Rattle.std.proofs.Common.{◌≡◌, ℕ, Bool, true, false, not, ◌&&◌, List, [], ◌∷◌, ◌++◌, refl, sym, ap, ◌∙◌, subst}
-use Rattle.std.specs.Prelude.{Option, Some, None, codes}
+use Rattle.std.specs.Prelude.{Option, Some, None, codes, drop}
 use Rattle.std.specs.Str.{bytes_eq}
-use Rattle.std.specs.Borrow.{Bor}
 use Rattle.apply_core.specs.declared.reply.Failure.{Failure}
 use Rattle.apply_core.specs.declared.reply.Reply.{Reply}
 use Rattle.apply_core.specs.declared.reply.Reply.TheVariants.{Done, Refused, Failed}
 use Rattle.value_core.specs.declared.datum.Datum.{Datum}
-use Rattle.word_core.specs.declared.word.Word as declared
-use Rattle.word_core.specs.View.{words_of}
 use Rattle.word_core.specs.Words.{Word, bare}
 use Rattle.word_core.specs.Data.{bare_of, datum_word, datum_of}
 use Rattle.word_core.specs.Ending.{Ending, ending_words, ending_of, TellEnding}
@@ -57,21 +54,19 @@ told_datum : (datum : Datum) (more : List Word) → IsReply (Done (Some datum)) 
 told_datum datum more is = ap is_some (written_datum datum is).1
 
 -- it was done, and replied nothing
-pub nothing_found : (verb : List ℕ) (rest : Bor (List declared.Word)) (ws : List Word) → First verb (words_of rest.now) ws → (bytes_eq verb (codes "done") && not (tells_datum (words_of rest.now))) ≡ true
-    → FindsAnswer ws (Some (ended.Replied (Done None), rest))
+pub nothing_found : (verb : List ℕ) (rest ws : List Word) → First verb rest ws → (bytes_eq verb (codes "done") && not (tells_datum rest)) ≡ true → FindsAnswer ws (Some (ended.Replied (Done None), 1))
 nothing_found verb rest ws first is = (found, tt) where
-  parts : (bytes_eq verb (codes "done") ≡ true) × (tells_datum (words_of rest.now) ≡ false)
-  parts = both (bytes_eq verb (codes "done")) (tells_datum (words_of rest.now)) is
+  parts : (bytes_eq verb (codes "done") ≡ true) × (tells_datum rest ≡ false)
+  parts = both (bytes_eq verb (codes "done")) (tells_datum rest) is
 
-  found : (answer : Answer) (more : List Word) → IsAnswer answer → tells_datum more ≡ false → ws ≡ answer_words answer ++ more → ◌≡◌ {A = Option (Answer × List Word)} (Some (Replied (Done None), words_of rest.now)) (Some (answer, more))
+  found : (answer : Answer) (more : List Word) → IsAnswer answer → tells_datum more ≡ false → ws ≡ answer_words answer ++ more → ◌≡◌ {A = Option (Answer × List Word)} (Some (Replied (Done None), drop 1 ws)) (Some (answer, more))
   found Cancelled more its none same =
-      let v = verb_is verb (codes "cancelled") (words_of rest.now) more ws first same in absurd (other_verb verb (codes "cancelled") (codes "done") v.0 parts.0 refl)
-  found (Replied (Done None)) more its none same =
-      let v = verb_is verb (codes "done") (words_of rest.now) more ws first same in ap (λ (m : List Word). Some (Replied (Done None), m)) v.1
+      let v = verb_is verb (codes "cancelled") rest more ws first same in absurd (other_verb verb (codes "cancelled") (codes "done") v.0 parts.0 refl)
+  found (Replied (Done None)) more its none same = ap (λ (m : List Word). Some (Replied (Done None), drop 1 m)) same
   found (Replied (Done (Some datum))) more its none same =
-      let v = verb_is verb (codes "done") (words_of rest.now) (datum_word datum ∷ more) ws first same in
-      absurd (apart (tells_datum (datum_word datum ∷ more)) (tells_datum (words_of rest.now)) (told_datum datum more its) (ap tells_datum (sym v.1)) parts.1)
+      let v = verb_is verb (codes "done") rest (datum_word datum ∷ more) ws first same in
+      absurd (apart (tells_datum (datum_word datum ∷ more)) (tells_datum rest) (told_datum datum more its) (ap tells_datum (sym v.1)) parts.1)
   found (Replied (Refused word)) more its none same =
-      let v = verb_is verb (codes "refused") (words_of rest.now) (bare word ∷ more) ws first same in absurd (other_verb verb (codes "refused") (codes "done") v.0 parts.0 refl)
+      let v = verb_is verb (codes "refused") rest (bare word ∷ more) ws first same in absurd (other_verb verb (codes "refused") (codes "done") v.0 parts.0 refl)
   found (Replied (Failed failure)) more its none same =
-      let v = verb_is verb (codes "failed") (words_of rest.now) (bare (failure_word failure) ∷ more) ws first same in absurd (other_verb verb (codes "failed") (codes "done") v.0 parts.0 refl)
+      let v = verb_is verb (codes "failed") rest (bare (failure_word failure) ∷ more) ws first same in absurd (other_verb verb (codes "failed") (codes "done") v.0 parts.0 refl)

@@ -1,6 +1,6 @@
 -- Rows of calls, clients and pasts are read from their words.
 use Rattle.std.proofs.Common.{◌≡◌, ℕ, ◌<◌, ◌≤◌, ◌==◌, true, false, Bool, cond, List, [], ◌∷◌, ◌++◌, refl, sym, ap, ◌∙◌, subst, arith, inl, inr}
-use Rattle.std.specs.Prelude.{Option, Some, None, option_map, decimal, nat_lt, codes, IfSome, ◌&&◌}
+use Rattle.std.specs.Prelude.{Option, Some, None, option_map, decimal, nat_lt, codes, IfSome, ◌&&◌, drop, Result, Ok, Err, IfOk}
 use Rattle.std.specs.Str.{bytes_eq, all_ascii_digits, str_to_ascii_lowercase}
 use Rattle.path_tree.proofs.Spelling.{name_lower}
 use Rattle.std.specs.Char.{is_ascii_digit}
@@ -11,8 +11,6 @@ use Rattle.path_tree.specs.Identifier.{IsName, IsLetter}
 use Rattle.value_core.specs.declared.datum.Datum.{Datum}
 use Rattle.value_core.specs.declared.datum.Datum.TheVariants.{Integer}
 use Rattle.decl_core.specs.ObjectForm.{ObjectForm, OperationForm}
-use Rattle.word_core.specs.declared.word.Word as declared
-use Rattle.word_core.specs.View.{words_of}
 use Rattle.word_core.specs.Words.{Word, bare, AreWords, line_of}
 use Rattle.word_core.specs.Data.{◌>>=◌, integer_of}
 use Rattle.word_core.proofs.Numerals.{no_digits}
@@ -233,25 +231,25 @@ call_no_datum : (o : ObjectForm) (op : ℕ) (arguments : List Datum) → HasName
 call_no_datum o op arguments named is = ap (λ r. is_some (option_map Integer r)) (operation_no_integer o op named is.operation)
 
 -- the words behind the head of a remembered call
-behind_same : (o : ObjectForm) (ws rest : List Word) (head : KeptHead) (found : Option (Ended × Bor (List declared.Word))) (x : KeptCall) → HasNames o → Found head rest (kept_head ws) → FindsAnswer rest found → IsKept o x
-    → ws ≡ row_words (codes "kept") (kept_words o) x → (head ≡ record { session = x.session; key = x.key; told = x.told }) × (option_map answered found ≡ Some (x.answer, call_words o x.operation x.arguments))
+behind_same : (o : ObjectForm) (ws rest : List Word) (head : KeptHead) (found : Option (Ended × ℕ)) (x : KeptCall) → HasNames o → Found head rest (kept_head ws) → FindsAnswer rest found → IsKept o x
+    → ws ≡ row_words (codes "kept") (kept_words o) x → (head ≡ record { session = x.session; key = x.key; told = x.told }) × (option_map (answered rest) found ≡ Some (x.answer, call_words o x.operation x.arguments))
 behind_same o ws rest head found x named first finds is same =
     let e = kept_same o ws rest head x first is same in
     (ap (λ (p : KeptHead × List Word). p.0) e, finds.0 x.answer (call_words o x.operation x.arguments) is.answer (call_no_datum o x.operation x.arguments named is.call) (ap (λ (p : KeptHead × List Word). p.1) e))
 
-pub kept_found : (o : ObjectForm) (ws rest : List Word) (head : KeptHead) (ended : Ended) (behind : Bor (List declared.Word)) (found : Option KeptRow) → HasNames o → Found head rest (kept_head ws) → FindsAnswer rest (Some (ended, behind))
-    → KeptBy o head (answer_of_end ended) (words_of behind.now) found → Finds (IsKept o) (row_words (codes "kept") (kept_words o)) kept_row ws found
-kept_found o ws rest head ended behind None named first finds by = (
+pub kept_found : (o : ObjectForm) (ws rest : List Word) (head : KeptHead) (ended : Ended) (count : ℕ) (found : Option KeptRow) → HasNames o → Found head rest (kept_head ws) → FindsAnswer rest (Some (ended, count))
+    → KeptBy o head (answer_of_end ended) (drop count rest) found → Finds (IsKept o) (row_words (codes "kept") (kept_words o)) kept_row ws found
+kept_found o ws rest head ended count None named first finds by = (
   (λ x is same.
-      let e = behind_same o ws rest head (Some (ended, behind)) x named first finds is same in
-      let f : ◌≡◌ {A = Answer × List Word} (answer_of_end ended, words_of behind.now) (x.answer, call_words o x.operation x.arguments) = some_same e.1 in
+      let e = behind_same o ws rest head (Some (ended, count)) x named first finds is same in
+      let f : ◌≡◌ {A = Answer × List Word} (answer_of_end ended, drop count rest) (x.answer, call_words o x.operation x.arguments) = some_same e.1 in
       absurd (by x.operation x.arguments is.call (ap (λ (p : Answer × List Word). p.1) f))),
   tt,
 )
-kept_found o ws rest head ended behind (Some row) named first finds by = (
+kept_found o ws rest head ended count (Some row) named first finds by = (
   (λ x is same.
-      let e = behind_same o ws rest head (Some (ended, behind)) x named first finds is same in
-      let f : ◌≡◌ {A = Answer × List Word} (answer_of_end ended, words_of behind.now) (x.answer, call_words o x.operation x.arguments) = some_same e.1 in
+      let e = behind_same o ws rest head (Some (ended, count)) x named first finds is same in
+      let f : ◌≡◌ {A = Answer × List Word} (answer_of_end ended, drop count rest) (x.answer, call_words o x.operation x.arguments) = some_same e.1 in
       let call = by.3 x.operation x.arguments is.call (ap (λ (p : Answer × List Word). p.1) f) in
       let h : row.head ≡ record { session = x.session; key = x.key; told = x.told } = by.1 ∙ e.0 in
       let a : answer_of_end row.ended ≡ x.answer = by.2 ∙ ap (λ (p : Answer × List Word). p.0) f in
@@ -283,3 +281,8 @@ named_takes client name text old (Some rest) new is same takes = (name, is, take
 
 pub name_same : (bytes name : List ℕ) → name ≡ str_to_ascii_lowercase bytes → IsName bytes → name ≡ bytes
 name_same bytes name read is = read ∙ name_lower bytes is.1
+
+pub kept_ok : {E : Type 0} (o : ObjectForm) (ws rest behind : List Word) (head : KeptHead) (ended : Ended) (count : ℕ) (found : Result (Option KeptRow) E) → HasNames o → Found head rest (kept_head ws) → FindsAnswer rest (Some (ended, count)) → behind ≡ drop count rest
+    → IfOk found (KeptBy o head (answer_of_end ended) behind) → IfOk found (Finds (IsKept o) (row_words (codes "kept") (kept_words o)) kept_row ws)
+kept_ok o ws rest behind head ended count (Ok found) named first finds are by = kept_found o ws rest head ended count found named first finds (subst (λ b. KeptBy o head (answer_of_end ended) b found) are by)
+kept_ok o ws rest behind head ended count (Err e) named first finds are by = tt

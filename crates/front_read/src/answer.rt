@@ -1,6 +1,6 @@
 //! How a remembered call ended.
 
-ghost use Rattle.std.specs.Prelude.{◌≡◌, ℕ, List, IfSome, MatchOption, Some, option_map, ◌&&◌, not, codes};
+ghost use Rattle.std.specs.Prelude.{◌≡◌, ℕ, List, IfSome, MatchOption, Some, option_map, ◌&&◌, not, codes, drop};
 ghost use Rattle.std.specs.Str.{bytes_eq};
 ghost use Rattle.decl_core.specs.RefusalWord.{IsRefusalWord};
 ghost use Rattle.apply_core.specs.declared.reply.Reply.{Reply as AReply};
@@ -10,7 +10,7 @@ ghost use Rattle.trace_core.specs.Laws.{IsReply};
 ghost use Rattle.trace_core.specs.Text.{failure_word, reply_ending, reply_words};
 ghost use Rattle.word_core.specs.View.{words_of as words_in, ending_view};
 ghost use Rattle.word_core.specs.Data.{bare_of as bare_in};
-ghost use Rattle.front_read.specs.Answers.{tells_datum, found_in, FindsAnswer, FindsInTwo};
+ghost use Rattle.front_read.specs.Answers.{tells_datum, FindsAnswer, FindsInTwo};
 
 use apply_core::reply::{Failure, Reply};
 use decl_core::word::is_refusal_word;
@@ -31,36 +31,40 @@ pub(crate) enum Ended {
     Cancelled,
 }
 
-// How a call ended, and the words behind those that say so.
-pub(crate) enum Answered<'a, 'b> {
-    // It ended so, and these words stand behind.
-    Found(Ended, &'b [Word<'a>]),
-    // The words say nothing of the kind.
-    Nothing,
-}
-
-// How a call ended, as the first words say it, and the words behind these.
-pub(crate) fn answer_first<'a, 'b>(words: &'b [Word<'a>]) -> Answered<'a, 'b>
-    ensures { FindsAnswer (words_in words.now) (found_in result) }
+// How a call ended, as the first words say it, and how many these are.
+pub(crate) fn answer_first(words: &[Word]) -> Option<(Ended, usize)>
+    ensures { FindsAnswer (words_in words.now) result }
 {
     match bare_of(words) {
         Some((verb, rest)) => answer_by(words, verb, rest),
-        None => Answered::Nothing,
+        None => None,
     }
 }
 
-// How a call ended, as words say it whose first one stands bare, with the words behind that one.
-fn answer_by<'a, 'b>(words: &'b [Word<'a>], verb: &[u8], rest: &'b [Word<'a>]) -> Answered<'a, 'b>
+// How a call ended, as words say it whose first one stands bare.
+fn answer_by(words: &[Word], verb: &[u8], rest: &[Word]) -> Option<(Ended, usize)>
     requires { bare_in (words_in words.now) ≡ Some (verb.now, words_in rest.now) }
-    ensures { FindsAnswer (words_in words.now) (found_in result) }
+    ensures { FindsAnswer (words_in words.now) result }
 {
     if is_same_word(verb, b"cancelled") {
-        return Answered::Found(Ended::Cancelled, rest);
+        return Some((Ended::Cancelled, 1));
     }
     if is_nothing(verb, rest) {
-        return Answered::Found(Ended::Replied(Reply::Done(None)), rest);
+        return Some((Ended::Replied(Reply::Done(None)), 1));
     }
     reply_in_two(words)
+}
+
+// The words behind the first ones, so many.
+pub(crate) fn behind_first<'a, 'b>(words: &'b [Word<'a>], count: usize) -> &'b [Word<'a>]
+    ensures { words_in result.now ≡ drop count (words_in words.now) }
+{
+    if words.len() < count {
+        let (_, none) = words.split_at(words.len());
+        return none;
+    }
+    let (_, rest) = words.split_at(count);
+    rest
 }
 
 // Whether a word and those behind it say that a call was done and replied nothing.
@@ -80,17 +84,17 @@ fn tells_datum(words: &[Word]) -> bool
     }
 }
 
-// The reply that the first two words tell, and the words behind them.
-fn reply_in_two<'a, 'b>(words: &'b [Word<'a>]) -> Answered<'a, 'b>
-    ensures { FindsInTwo (words_in words.now) (found_in result) }
+// The reply that the first two words tell.
+fn reply_in_two(words: &[Word]) -> Option<(Ended, usize)>
+    ensures { FindsInTwo (words_in words.now) result }
 {
     if words.len() < 2 {
-        return Answered::Nothing;
+        return None;
     }
-    let (two, rest) = words.split_at(2);
+    let (two, _) = words.split_at(2);
     match reply_of_two(two) {
-        Some(reply) => Answered::Found(Ended::Replied(reply), rest),
-        None => Answered::Nothing,
+        Some(reply) => Some((Ended::Replied(reply), 2)),
+        None => None,
     }
 }
 

@@ -11,7 +11,7 @@ ghost use Rattle.front_read.specs.Rows.{Finds, Takes, TakesThis, row_words};
 ghost use Rattle.front_read.specs.Answers.{answer_of_end};
 ghost use Rattle.front_read.specs.Row.{kept_row, KeptBy};
 
-use crate::answer::{Answered, Ended, answer_first};
+use crate::answer::{Ended, answer_first, behind_first};
 use crate::call::call_of;
 use crate::names::object_has_names;
 use crate::number::{behind_verb, key_first, long_first, session_first};
@@ -64,8 +64,10 @@ fn kept_of(alloc: Global, object: &Object, words: &[Word]) -> Result<Option<Kept
 {
     match kept_head(words) {
         Some((head, rest)) => match answer_first(rest) {
-            Answered::Found(ended, rest) => kept_by(alloc, object, head, &ended, rest),
-            Answered::Nothing => Ok(None),
+            Some((ended, count)) => {
+                kept_by(alloc, object, head, &ended, behind_first(rest, count))
+            }
+            None => Ok(None),
         },
         None => Ok(None),
     }
