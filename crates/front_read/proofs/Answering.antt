@@ -50,7 +50,7 @@ both true true is = absurd cc
 both true false is = (refl, refl)
 both false b is = absurd cc
 
-told_datum : (datum : Datum) (more : List Word) → IsReply (Done (Some datum)) → tells_datum (datum_word datum ∷ more) ≡ true
+pub told_datum : (datum : Datum) (more : List Word) → IsReply (Done (Some datum)) → tells_datum (datum_word datum ∷ more) ≡ true
 told_datum datum more is = ap is_some (written_datum datum is).1
 
 -- it was done, and replied nothing

@@ -20,7 +20,7 @@ use Rattle.front_read.specs.Parts.{IsValueOf, IsHexOf}
 use Rattle.front_read.proofs.Calling.{some_same, not_some}
 use Rattle.front_read.proofs.Clear.{long_bytes}
 
-ok_same : {X E : Type 0} (x y : X) → ◌≡◌ {A = Result X E} (Ok x) (Ok y) → x ≡ y
+pub ok_same : {X E : Type 0} (x y : X) → ◌≡◌ {A = Result X E} (Ok x) (Ok y) → x ≡ y
 ok_same x y is = cc
 
 spelled_bytes : (word bytes : List ℕ) (kind : Kind) (value : Contents) → decode_of word ≡ Ok bytes → IsValueOf kind value → word ≡ encode_lower (spelling value) → bytes ≡ spelling value

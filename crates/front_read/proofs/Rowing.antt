@@ -198,10 +198,19 @@ no_event o first second run none isnt (ends_facts op' other p q) = differ (opera
 pub event_none : (o : ObjectForm) (first second : List ℕ) → HasNames o → None ≡ count_in second → None ≡ operation_in o second → FindsRun o first second None
 event_none o first second named none isnt = ((λ run is same. absurd (no_event o first second run (sym none) (sym isnt) (facts o first second run named is same))), tt)
 
+facts_same : (o : ObjectForm) (first second : List ℕ) (x y : PastRun) → RunFacts o first second x → RunFacts o first second y → ◌≡◌ {A = Option PastRun} (Some x) (Some y)
+facts_same o first second x y (calls_facts op count p q) fy = calls_told o first second op count y q p fy
+facts_same o first second x y (begins_facts op none p q) fy = sym (event_told o first second op (Begins op) none p (begins_facts op none p q)) ∙ event_told o first second op y none p fy
+facts_same o first second x y (ends_facts op none p q) fy = sym (event_told o first second op (Ends op) none p (ends_facts op none p q)) ∙ event_told o first second op y none p fy
+
 two_told : (o : ObjectForm) (run : PastRun) → (a b : List ℕ) × (two_in (row_words (codes "past") (run_words o) run) ≡ Some (a, b)) × (◌≡◌ {A = List Word} (bare a ∷ bare b ∷ []) (run_words o run))
 two_told o (Calls op count) = (operation_name o op, decimal count, refl, refl)
 two_told o (Begins op) = (codes "begin", operation_name o op, refl, refl)
 two_told o (Ends op) = (codes "end", operation_name o op, refl, refl)
+
+pub run_same : (o : ObjectForm) (x y : PastRun) → HasNames o → IsRun o x → IsRun o y → run_words o x ≡ run_words o y → x ≡ y
+run_same o x y named p q same =
+    let two = two_told o x in some_same (facts_same o two.0 two.1 x y (facts o two.0 two.1 x named p two.3) (facts o two.0 two.1 y named q (two.3 ∙ same)))
 
 pub run_found : (o : ObjectForm) (ws : List Word) (first second : List ℕ) (found : Option PastRun) → Found first second (two_in ws) → FindsRun o first second found → Finds (IsRun o) (row_words (codes "past") (run_words o)) (λ run. run) ws found
 run_found o ws first second found said finds = (
@@ -227,7 +236,7 @@ kept_same : (o : ObjectForm) (ws rest : List Word) (head : KeptHead) (x : KeptCa
     → ◌≡◌ {A = KeptHead × List Word} (head, rest) (record { session = x.session; key = x.key; told = x.told }, answer_words x.answer ++ call_words o x.operation x.arguments)
 kept_same o ws rest head x first is same = some_same (first ∙ ap kept_head same ∙ kept_told o x is)
 
-call_no_datum : (o : ObjectForm) (op : ℕ) (arguments : List Datum) → HasNames o → IsCall o op arguments → tells_datum (call_words o op arguments) ≡ false
+pub call_no_datum : (o : ObjectForm) (op : ℕ) (arguments : List Datum) → HasNames o → IsCall o op arguments → tells_datum (call_words o op arguments) ≡ false
 call_no_datum o op arguments named is = ap (λ r. is_some (option_map Integer r)) (operation_no_integer o op named is.operation)
 
 -- the words behind the head of a remembered call
