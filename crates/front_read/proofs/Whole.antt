@@ -1,6 +1,6 @@
 -- What is read of a front, from its parts.
-use Rattle.std.proofs.Common.{◌≡◌, ℕ, suc, ◌+◌, ◌-◌, ◌≤◌, false, List, [], ◌∷◌, ◌++◌, length, take, refl, sym, ap, ◌∙◌, subst, append_assoc, arith, map}
-use Rattle.std.specs.Prelude.{Result, Ok, Err, IfOk, MatchResult, All}
+use Rattle.std.proofs.Common.{◌≡◌, ℕ, suc, ◌+◌, ◌-◌, ◌≤◌, true, false, List, [], ◌∷◌, ◌++◌, length, take, refl, sym, ap, ◌∙◌, subst, append_assoc, arith, map}
+use Rattle.std.specs.Prelude.{Result, Ok, Err, IfOk, MatchResult, codes}
 use Rattle.std.specs.Borrow.{Bor}
 use Rattle.std.proofs.lemmas.List.{length-append}
 use Rattle.value_core.specs.declared.kind.Kind.{Kind}
@@ -10,13 +10,17 @@ use Rattle.decl_core.specs.ObjectForm.{ObjectForm}
 use Rattle.word_core.specs.Words.{line_of}
 use Rattle.trace_core.specs.Laws.{HasNames}
 use Rattle.trace_core.specs.Text.{part_words, parts_words, lines_of}
-use Rattle.front_core.specs.Front.{Every, IsKey, IsLong, HasRows, Opening, opening_of}
-use Rattle.front_core.specs.Text.{object_words, source_words, base_words, runs_text, carried_text, clients_text, kept_text, calls_text, behind_parts, front_text}
+use Rattle.front_core.specs.Front.{Every, IsKey, IsLong, IsRun, IsCarried, IsClient, IsKept, HasRows, Opening, opening_of}
+use Rattle.front_core.specs.Text.{object_words, source_words, base_words, runs_text, carried_text, clients_text, kept_text, calls_text, behind_parts, front_text, run_words, carried_words, client_words, kept_words}
+use Rattle.front_core.specs.declared.past.PastRun.{PastRun}
+use Rattle.front_core.specs.declared.front.CarriedCall.{CarriedCall}
+use Rattle.front_core.specs.declared.front.Client.{Client}
+use Rattle.front_core.specs.declared.front.KeptCall.{KeptCall}
 use Rattle.front_read.specs.Text.{goes_on}
-use Rattle.front_read.specs.Rows.{IsRow, NoRow}
+use Rattle.front_read.specs.Rows.{IsRow, NoRow, AreRows, has_verb}
 use Rattle.front_read.specs.Parts.{IsValueOf, AreParts, NoParts, IsCut, TakesParts}
-use Rattle.front_read.specs.Read.{BehindParts, BehindSource, BehindObject, OnFront, NoFront, AFront, FrontWith, FrontOf, FrontIn, FrontAt}
-use Rattle.front_read.proofs.Levels.{no_part, no_parts, behind_none, source_none, front_none, front_same}
+use Rattle.front_read.specs.Read.{BehindParts, BehindSource, BehindObject, OnFront, NoFront, AFront, FrontWith, FrontOf, FrontIn, FrontAt, OnClients, NoClients, TakesClients, TakesCalls, TakesBase, TakesPast}
+use Rattle.front_read.proofs.Levels.{no_part, no_parts, behind_none, source_none, front_none, front_same, goes_break, no_calls, none_past}
 
 -- the parts, one more
 pub parts_more : (part : List ℕ × Kind) (parts : List (List ℕ × Kind)) (text mid : List ℕ) (v : Contents) (old now new : List Contents) (found : Result (Bor (List ℕ)) (Bor (List ℕ))) → IsName part.0 → IsRow (IsValueOf part.1) (part_words part.0) text v mid
@@ -154,3 +158,45 @@ rest_short text front rest is = let l = length-append front rest in let e = ap l
 
 pub front_long : (text front rest : List ℕ) → text ≡ front ++ rest → length text - length rest ≡ length front
 front_long text front rest is = let l = length-append front rest in let e = ap length is in omega (arith, l, e)
+
+take_append : (front rest : List ℕ) → take (length front) (front ++ rest) ≡ front
+take_append [] rest = refl
+take_append (b ∷ front) rest = ap (λ t. b ∷ t) (take_append front rest)
+
+-- what was found has this length
+pub told_of : (o : ObjectForm) (text rest : List ℕ) (f : Opening) → OnFront o text f rest → (length text - length rest ≤ length text) × (take (length text - length rest) text ≡ front_text o f) × HasRows o f
+told_of o text rest f on =
+    let there = front_stands o text rest f on in
+    let long = front_long text (front_text o f) rest there.0 in
+    (omega arith, ap (λ n. take n text) long ∙ ap (take (length (front_text o f))) there.0 ∙ take_append (front_text o f) rest, there.1)
+
+pub found_of : (o : ObjectForm) (text r : List ℕ) (g : Opening) → HasNames o → OnFront o text g r → (f : Opening) (rest : List ℕ) → HasRows o f → goes_on rest ≡ false → text ≡ front_text o f ++ rest → (g ≡ f) × (length text - length r ≡ length (front_text o f))
+found_of o text r g named on f rest rows ends stands =
+    let same = front_same o text r rest g f named on (front_there o text rest f rows ends stands) in
+    (same.0, ap (λ x. length text - length x) same.1 ∙ front_long text (front_text o f) rest stands)
+
+pub not_found : (o : ObjectForm) (text : List ℕ) → NoFront o text → (f : Opening) (rest : List ℕ) → HasRows o f → goes_on rest ≡ false → text ≡ front_text o f ++ rest → ⊥
+not_found o text none f rest rows ends stands = none f rest (front_there o text rest f rows ends stands)
+
+-- all parts were taken
+pub all_parts : (parts ps : List (List ℕ × Kind)) (text : List ℕ) (old new : List Contents) (rest : Bor (List ℕ)) → TakesParts ps text old (Ok rest) new → ps ≡ parts → old ≡ [] → AreParts parts text new rest.now
+all_parts parts ps text old new rest takes same empty =
+    subst (λ xs. AreParts parts text xs rest.now) (sym (takes.1 ∙ ap (λ xs. xs ++ takes.0) empty)) (subst (λ x. AreParts x text takes.0 rest.now) same takes.2)
+
+-- the clients, and nothing behind them
+pub end_takes : (o : ObjectForm) (text mid rest : List ℕ) (cs : List Client) (ks : List KeptCall) (found : Result (Bor (List ℕ)) (Bor (List ℕ))) → HasNames o → AreRows IsClient (codes "client") client_words text cs mid × (has_verb (codes "client") mid ≡ false)
+    → AreRows (IsKept o) (codes "kept") (kept_words o) mid ks rest × (has_verb (codes "kept") rest ≡ false) → MatchResult found (λ r. (r.now ≡ rest) × (goes_on rest ≡ false)) (λ r. (r.now ≡ rest) × (goes_on rest ≡ true)) → TakesClients o text found cs ks
+end_takes o text mid rest cs ks (Ok r) named p q ends =
+    subst (λ t. OnClients o text cs ks t) (sym ends.0) (record { mid = mid; clients_are = p.0; kept_are = q.0; ends = ends.1 })
+end_takes o text mid rest cs ks (Err r) named p q ends =
+    subst (λ t. NoClients o text × IsCut text t) (sym ends.0) (goes_break o text mid rest cs ks named p.0 p.1 q.0 q.1 ends.1)
+
+pub calls_take : (o : ObjectForm) (text mid : List ℕ) (xs : List CarriedCall) (cs : List Client) (ks : List KeptCall) (found : Result (Bor (List ℕ)) (Bor (List ℕ))) → HasNames o
+    → AreRows (IsCarried o) (codes "carried") (carried_words o) text xs mid × (has_verb (codes "carried") mid ≡ false) → TakesClients o mid found cs ks → TakesCalls o text found xs cs ks
+calls_take o text mid xs cs ks (Ok r) named p takes = record { mid = mid; carried_are = p.0; clients_on = takes }
+calls_take o text mid xs cs ks (Err r) named p takes = no_calls o text mid r.now xs named p.0 p.1 takes
+
+pub past_takes : (o : ObjectForm) (text mid : List ℕ) (runs : List PastRun) (xs : List CarriedCall) (cs : List Client) (ks : List KeptCall) (found : Result (ℕ × Bor (List ℕ)) (Bor (List ℕ))) → HasNames o
+    → AreRows (IsRun o) (codes "past") (run_words o) text runs mid × (has_verb (codes "past") mid ≡ false) → TakesBase o mid found xs cs ks → TakesPast o text found runs xs cs ks
+past_takes o text mid runs xs cs ks (Ok r) named p takes = record { mid = mid; past_is = p.0; base_on = takes }
+past_takes o text mid runs xs cs ks (Err r) named p takes = none_past o text mid r.now runs named p.0 p.1 takes

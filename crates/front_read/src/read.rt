@@ -34,15 +34,18 @@ fn take_parts<'a>(
 ) -> Result<Result<&'a [u8], &'a [u8]>, AllocError>
     ensures { IfOk result (λ found. TakesParts (parts_of parts.now) text.now out.old.items found out.new.items) }
 {
-    match parts {
-        [] => Ok(Ok(text)),
-        [part, parts @ ..] => match take_part(alloc, part, out, text)? {
-            Some(rest) => {
-                let found = take_parts(alloc, parts, out, rest)?;
-                Ok(found)
+    match parts.split_first() {
+        None => Ok(Ok(text)),
+        Some((part, parts)) => {
+            part.name.as_bytes();
+            match take_part(alloc, part, out, text)? {
+                Some(rest) => {
+                    let found = take_parts(alloc, parts, out, rest)?;
+                    Ok(found)
+                }
+                None => Ok(Err(text)),
             }
-            None => Ok(Err(text)),
-        },
+        }
     }
 }
 
