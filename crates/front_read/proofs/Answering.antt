@@ -1,14 +1,13 @@
 -- How a call ended is read from the words that tell it.
-use Rattle.std.proofs.Common.{◌≡◌, ℕ, Bool, true, false, not, ◌&&◌, List, [], ◌∷◌, ◌++◌, refl, sym, ap, ◌∙◌, subst}
+use Rattle.std.proofs.Common.{◌≡◌, ℕ, Bool, true, false, not, ◌&&◌, List, ◌∷◌, ◌++◌, refl, sym, ap, ◌∙◌}
 use Rattle.std.specs.Prelude.{Option, Some, None, codes, drop}
 use Rattle.std.specs.Str.{bytes_eq}
-use Rattle.apply_core.specs.declared.reply.Failure.{Failure}
 use Rattle.apply_core.specs.declared.reply.Reply.{Reply}
 use Rattle.apply_core.specs.declared.reply.Reply.TheVariants.{Done, Refused, Failed}
 use Rattle.value_core.specs.declared.datum.Datum.{Datum}
 use Rattle.word_core.specs.Words.{Word, bare}
-use Rattle.word_core.specs.Data.{bare_of, datum_word, datum_of}
-use Rattle.word_core.specs.Ending.{Ending, ending_words, ending_of, TellEnding}
+use Rattle.word_core.specs.Data.{bare_of, datum_word}
+use Rattle.word_core.specs.Ending.{ending_words, ending_of, TellEnding}
 use Rattle.word_core.proofs.Endings.{ending_exact}
 use Rattle.word_core.proofs.Written.{written_datum}
 use Rattle.trace_core.specs.Laws.{IsReply}
@@ -18,7 +17,7 @@ use Rattle.front_core.specs.Text.{answer_words}
 use Rattle.front_core.specs.declared.front.Answer.{Answer}
 use Rattle.front_core.specs.declared.front.Answer.TheVariants.{Replied, Cancelled}
 use Rattle.front_read.specs.declared.answer.Ended.TheVariants as ended
-use Rattle.front_read.specs.Answers.{tells_datum, answered, is_some, FindsAnswer}
+use Rattle.front_read.specs.Answers.{tells_datum, is_some, FindsAnswer}
 use Rattle.front_read.proofs.Calling.{some_same}
 
 ending_told : (reply : Reply) → IsReply reply → TellEnding (reply_ending reply) (ending_words (reply_ending reply))

@@ -1,6 +1,6 @@
 -- Calls are read from the words that tell them.
-use Rattle.std.proofs.Common.{◌≡◌, ℕ, List, [], ◌∷◌, refl, sym, ap, ◌∙◌, subst}
-use Rattle.std.specs.Prelude.{All, Option, Some, None, MatchOption, option_map, map}
+use Rattle.std.proofs.Common.{◌≡◌, ℕ, List, [], ◌∷◌, sym, ap, ◌∙◌, subst}
+use Rattle.std.specs.Prelude.{All, Option, Some, None, MatchOption, map}
 use Rattle.std.specs.Global.{Vec}
 use Rattle.std.proofs.lemmas.List.Elements.{All-cons, All-nil}
 use Rattle.value_core.specs.declared.datum.Datum.{Datum}

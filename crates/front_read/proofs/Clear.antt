@@ -28,7 +28,7 @@ use Rattle.apply_core.specs.declared.reply.Reply.{Reply}
 use Rattle.apply_core.specs.declared.reply.Reply.TheVariants.{Done, Refused, Failed}
 use Rattle.text_core.specs.Plain.{IsPlain}
 use Rattle.line_core.specs.Runs.{NoLineFeed}
-use Rattle.word_core.specs.Words.{Word, bare, words_text}
+use Rattle.word_core.specs.Words.{Word, words_text}
 use Rattle.word_core.specs.Data.{datum_word, session_word}
 use Rattle.word_core.proofs.Numerals.{digits}
 use Rattle.trace_core.specs.Text.{failure_word, reply_words, part_words}

@@ -145,11 +145,12 @@ clients_mid o text mid r cs ds ks are isnt on = rows_same IsClient (codes "clien
 
 pub kept_break : (o : ObjectForm) (text mid rest : List ℕ) (cs : List Client) → HasNames o → AreRows IsClient (codes "client") client_words text cs mid → has_verb (codes "client") mid ≡ false → Breaks (IsKept o) (codes "kept") (kept_words o) mid rest
     → NoClients o text × IsCut text rest
-kept_break o text mid rest cs named are isnt breaks =
-    ((λ ds ks r on.
+kept_break o text mid rest cs named are isnt breaks = (
+  (λ ds ks r on.
       let same = clients_mid o text mid r cs ds ks are isnt on in
       rows_stuck (IsKept o) (codes "kept") (kept_words o) mid rest r ks (kept_clear o named) (begin_kept o) breaks (subst (λ m. AreRows (IsKept o) (codes "kept") (kept_words o) m ks r) (sym same.1) on.kept_are) (is_end r on.ends).kept),
-    further text mid rest (lines_of (rows (codes "client") client_words cs)) are.stand (breaks_cut (IsKept o) (codes "kept") (kept_words o) mid rest breaks))
+  further text mid rest (lines_of (rows (codes "client") client_words cs)) are.stand (breaks_cut (IsKept o) (codes "kept") (kept_words o) mid rest breaks),
+)
 
 rests_same : (o : ObjectForm) (mid rest r : List ℕ) (ks js : List KeptCall) → HasNames o → AreRows (IsKept o) (codes "kept") (kept_words o) mid ks rest → has_verb (codes "kept") rest ≡ false → AreRows (IsKept o) (codes "kept") (kept_words o) mid js r
     → has_verb (codes "kept") r ≡ false → (ks ≡ js) × (rest ≡ r)
@@ -157,12 +158,13 @@ rests_same o mid rest r ks js named p no_a q no_b = rows_same (IsKept o) (codes 
 
 pub goes_break : (o : ObjectForm) (text mid rest : List ℕ) (cs : List Client) (ks : List KeptCall) → HasNames o → AreRows IsClient (codes "client") client_words text cs mid → has_verb (codes "client") mid ≡ false
     → AreRows (IsKept o) (codes "kept") (kept_words o) mid ks rest → has_verb (codes "kept") rest ≡ false → goes_on rest ≡ true → NoClients o text × IsCut text rest
-goes_break o text mid rest cs ks named are isnt kept_are no_kept goes =
-    ((λ ds js r on.
+goes_break o text mid rest cs ks named are isnt kept_are no_kept goes = (
+  (λ ds js r on.
       let same = clients_mid o text mid r cs ds js are isnt on in
       let end = rests_same o mid rest r ks js named kept_are no_kept (subst (λ m. AreRows (IsKept o) (codes "kept") (kept_words o) m js r) (sym same.1) on.kept_are) (is_end r on.ends).kept in
       clash (goes_on r) (ap goes_on (sym end.1) ∙ goes) on.ends),
-    further text mid rest (lines_of (rows (codes "client") client_words cs)) are.stand (record { before = lines_of (rows (codes "kept") (kept_words o) ks); cut = kept_are.stand }))
+  further text mid rest (lines_of (rows (codes "client") client_words cs)) are.stand (record { before = lines_of (rows (codes "kept") (kept_words o) ks); cut = kept_are.stand }),
+)
 
 clients_same : (o : ObjectForm) (text r s : List ℕ) (cs ds : List Client) (ks js : List KeptCall) → HasNames o → OnClients o text cs ks r → OnClients o text ds js s → (cs ≡ ds) × (ks ≡ js) × (r ≡ s)
 clients_same o text r s cs ds ks js named p q =
@@ -172,9 +174,10 @@ clients_same o text r s cs ds ks js named p q =
 
 -- from the rows of the waiting calls on
 pub carried_break : (o : ObjectForm) (text rest : List ℕ) → HasNames o → Breaks (IsCarried o) (codes "carried") (carried_words o) text rest → NoCalls o text × IsCut text rest
-carried_break o text rest named breaks =
-    ((λ xs cs ks r on. rows_stuck (IsCarried o) (codes "carried") (carried_words o) text rest on.mid xs (carried_clear o named) (begin_carried o) breaks on.carried_are (no_carried o on.mid r cs ks on.clients_on)),
-    breaks_cut (IsCarried o) (codes "carried") (carried_words o) text rest breaks)
+carried_break o text rest named breaks = (
+  (λ xs cs ks r on. rows_stuck (IsCarried o) (codes "carried") (carried_words o) text rest on.mid xs (carried_clear o named) (begin_carried o) breaks on.carried_are (no_carried o on.mid r cs ks on.clients_on)),
+  breaks_cut (IsCarried o) (codes "carried") (carried_words o) text rest breaks,
+)
 
 carried_mid : (o : ObjectForm) (text mid r : List ℕ) (xs ys : List CarriedCall) (cs : List Client) (ks : List KeptCall) → HasNames o → AreRows (IsCarried o) (codes "carried") (carried_words o) text xs mid → has_verb (codes "carried") mid ≡ false
     → (on : OnCalls o text ys cs ks r) → (xs ≡ ys) × (mid ≡ on.mid)
@@ -183,9 +186,10 @@ carried_mid o text mid r xs ys cs ks named are isnt on =
 
 pub no_calls : (o : ObjectForm) (text mid rest : List ℕ) (xs : List CarriedCall) → HasNames o → AreRows (IsCarried o) (codes "carried") (carried_words o) text xs mid → has_verb (codes "carried") mid ≡ false → NoClients o mid × IsCut mid rest
     → NoCalls o text × IsCut text rest
-no_calls o text mid rest xs named are isnt none =
-    ((λ ys cs ks r on. let same = carried_mid o text mid r xs ys cs ks named are isnt on in none.0 cs ks r (subst (λ m. OnClients o m cs ks r) (sym same.1) on.clients_on)),
-    further text mid rest (lines_of (rows (codes "carried") (carried_words o) xs)) are.stand none.1)
+no_calls o text mid rest xs named are isnt none = (
+  (λ ys cs ks r on. let same = carried_mid o text mid r xs ys cs ks named are isnt on in none.0 cs ks r (subst (λ m. OnClients o m cs ks r) (sym same.1) on.clients_on)),
+  further text mid rest (lines_of (rows (codes "carried") (carried_words o) xs)) are.stand none.1,
+)
 
 calls_same : (o : ObjectForm) (text r s : List ℕ) (xs ys : List CarriedCall) (cs ds : List Client) (ks js : List KeptCall) → HasNames o → OnCalls o text xs cs ks r → OnCalls o text ys ds js s → (xs ≡ ys) × (cs ≡ ds) × (ks ≡ js) × (r ≡ s)
 calls_same o text r s xs ys cs ds ks js named p q =
@@ -195,9 +199,10 @@ calls_same o text r s xs ys cs ds ks js named p q =
 
 -- from the row of the base on
 pub no_base : (o : ObjectForm) (text mid rest : List ℕ) (base : ℕ) → IsRow IsLong base_words text base mid → NoCalls o mid × IsCut mid rest → NoBase o text × IsCut text rest
-no_base o text mid rest base row none =
-    ((λ b xs cs ks r on. let same = row_cut IsLong base_words text mid on.mid base b base_clear row on.base_is in none.0 xs cs ks r (subst (λ m. OnCalls o m xs cs ks r) (sym same.1) on.calls_on)),
-    further text mid rest (line_of (base_words base)) row.stands none.1)
+no_base o text mid rest base row none = (
+  (λ b xs cs ks r on. let same = row_cut IsLong base_words text mid on.mid base b base_clear row on.base_is in none.0 xs cs ks r (subst (λ m. OnCalls o m xs cs ks r) (sym same.1) on.calls_on)),
+  further text mid rest (line_of (base_words base)) row.stands none.1,
+)
 
 base_same : (o : ObjectForm) (text r s : List ℕ) (b d : ℕ) (xs ys : List CarriedCall) (cs ds : List Client) (ks js : List KeptCall) → HasNames o → OnBase o text b xs cs ks r → OnBase o text d ys ds js s
     → (b ≡ d) × (xs ≡ ys) × (cs ≡ ds) × (ks ≡ js) × (r ≡ s)
@@ -217,9 +222,10 @@ past_mid o text mid r runs others b xs cs ks named are isnt on =
     rows_same (IsRun o) (codes "past") (run_words o) text runs others mid on.mid (run_clear o named) (run_once o named) (begin_run o) are on.past_is isnt (no_past on.mid on.base_on.mid b on.base_on.base_is)
 
 pub none_past : (o : ObjectForm) (text mid rest : List ℕ) (runs : List PastRun) → HasNames o → AreRows (IsRun o) (codes "past") (run_words o) text runs mid → has_verb (codes "past") mid ≡ false → NoBase o mid × IsCut mid rest → NoPast o text × IsCut text rest
-none_past o text mid rest runs named are isnt none =
-    ((λ others b xs cs ks r on. let same = past_mid o text mid r runs others b xs cs ks named are isnt on in none.0 b xs cs ks r (subst (λ m. OnBase o m b xs cs ks r) (sym same.1) on.base_on)),
-    further text mid rest (lines_of (rows (codes "past") (run_words o) runs)) are.stand none.1)
+none_past o text mid rest runs named are isnt none = (
+  (λ others b xs cs ks r on. let same = past_mid o text mid r runs others b xs cs ks named are isnt on in none.0 b xs cs ks r (subst (λ m. OnBase o m b xs cs ks r) (sym same.1) on.base_on)),
+  further text mid rest (lines_of (rows (codes "past") (run_words o) runs)) are.stand none.1,
+)
 
 -- from the rows of the parts on
 parts_same : (parts : List (List ℕ × Kind)) (text a b : List ℕ) (vs us : List Contents) → All (λ p. IsName p.0) parts → AreParts parts text vs a → AreParts parts text us b → (vs ≡ us) × (a ≡ b)
@@ -259,21 +265,24 @@ pub parts_none : (o : ObjectForm) (text rest : List ℕ) → NoParts o.parts tex
 parts_none o text rest none = ((λ f r on. none.0 f.parts on.mid on.parts_are), none.1)
 
 pub behind_none : (o : ObjectForm) (text mid rest : List ℕ) (vs : List Contents) → HasNames o → AreParts o.parts text vs mid → NoPast o mid × IsCut mid rest → NoneBehindSource o text × IsCut text rest
-behind_none o text mid rest vs named are none =
-    ((λ f r on.
+behind_none o text mid rest vs named are none = (
+  (λ f r on.
       let same = parts_same o.parts text mid on.mid vs f.parts named.parts are on.parts_are in
       none.0 f.past f.base f.carried f.clients f.kept r (subst (λ m. BehindParts o m f r) (sym same.1) on.past_on)),
-    let front = parts_text o.parts text mid vs are in further text mid rest front.0 front.1 none.1)
+  let front = parts_text o.parts text mid vs are in further text mid rest front.0 front.1 none.1,
+)
 
 pub source_none : (o : ObjectForm) (text mid rest : List ℕ) (source : ℕ) → IsRow IsLong source_words text source mid → NoneBehindSource o mid × IsCut mid rest → NoneBehindObject o text × IsCut text rest
-source_none o text mid rest source row none =
-    ((λ f r on. let same = row_cut IsLong source_words text mid on.mid source f.source source_clear row on.source_is in none.0 f r (subst (λ m. BehindSource o m f r) (sym same.1) on.parts_on)),
-    further text mid rest (line_of (source_words source)) row.stands none.1)
+source_none o text mid rest source row none = (
+  (λ f r on. let same = row_cut IsLong source_words text mid on.mid source f.source source_clear row on.source_is in none.0 f r (subst (λ m. BehindSource o m f r) (sym same.1) on.parts_on)),
+  further text mid rest (line_of (source_words source)) row.stands none.1,
+)
 
 pub front_none : (o : ObjectForm) (text mid rest : List ℕ) (epoch : ℕ) → HasNames o → IsRow IsKey (object_words o.name) text epoch mid → NoneBehindObject o mid × IsCut mid rest → NoFront o text × IsCut text rest
-front_none o text mid rest epoch named row none =
-    ((λ f r on. let same = row_cut IsKey (object_words o.name) text mid on.mid epoch f.epoch (object_clear o.name named.own) row on.epoch_is in none.0 f r (subst (λ m. BehindObject o m f r) (sym same.1) on.source_on)),
-    further text mid rest (line_of (object_words o.name epoch)) row.stands none.1)
+front_none o text mid rest epoch named row none = (
+  (λ f r on. let same = row_cut IsKey (object_words o.name) text mid on.mid epoch f.epoch (object_clear o.name named.own) row on.epoch_is in none.0 f r (subst (λ m. BehindObject o m f r) (sym same.1) on.source_on)),
+  further text mid rest (line_of (object_words o.name epoch)) row.stands none.1,
+)
 
 -- the whole front
 pub front_same : (o : ObjectForm) (text r s : List ℕ) (f g : Opening) → HasNames o → OnFront o text f r → OnFront o text g s → (f ≡ g) × (r ≡ s)

@@ -1,5 +1,5 @@
 -- Decimal numbers of 64 bits.
-use Rattle.std.proofs.Common.{◌≡◌, inl, inr, ℕ, ◌<◌, ◌≤◌, ◌^◌, true, false, Bool, cond, List, length, refl, sym, ap, arith}
+use Rattle.std.proofs.Common.{◌≡◌, inl, inr, ℕ, ◌<◌, ◌≤◌, ◌^◌, true, false, Bool, cond, List, length, refl, sym, arith}
 use Rattle.std.specs.Prelude.{Option, Some, None, MatchOption, IfSome, decimal, nat_lt, ◌&&◌}
 use Rattle.std.specs.Str.{all_ascii_digits}
 use Rattle.std.specs.Str.Parse.{digits_value}

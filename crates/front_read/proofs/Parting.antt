@@ -1,5 +1,5 @@
 -- Values of parts, and sources, are read from their words.
-use Rattle.std.proofs.Common.{◌≡◌, ℕ, ◌<◌, ◌^◌, List, [], ◌∷◌, refl, sym, ap, ◌∙◌, subst}
+use Rattle.std.proofs.Common.{◌≡◌, ℕ, ◌<◌, ◌^◌, List, sym, ap, ◌∙◌}
 use Rattle.std.specs.Prelude.{Option, Some, None, option_map, IfSome, Result, Ok}
 use Rattle.std.specs.Int.{w64, to_be_bytes}
 use Rattle.hex.specs.Hex.{encode_lower, decode_of}

@@ -4,13 +4,12 @@ use Rattle.std.specs.Prelude.{Option, Some, None, option_map, decimal, nat_lt, c
 use Rattle.std.specs.Str.{bytes_eq, all_ascii_digits, str_to_ascii_lowercase}
 use Rattle.path_tree.proofs.Spelling.{name_lower}
 use Rattle.std.specs.Char.{is_ascii_digit}
-use Rattle.std.specs.Global.{Vec}
 use Rattle.std.specs.Borrow.{Bor}
 use Rattle.std.proofs.lemmas.Bool.Decides.{nat_tests}
 use Rattle.path_tree.specs.Identifier.{IsName, IsLetter}
 use Rattle.value_core.specs.declared.datum.Datum.{Datum}
 use Rattle.value_core.specs.declared.datum.Datum.TheVariants.{Integer}
-use Rattle.decl_core.specs.ObjectForm.{ObjectForm, OperationForm}
+use Rattle.decl_core.specs.ObjectForm.{ObjectForm}
 use Rattle.word_core.specs.Words.{Word, bare, AreWords, line_of}
 use Rattle.word_core.specs.Data.{◌>>=◌, integer_of}
 use Rattle.word_core.proofs.Numerals.{no_digits}
@@ -31,13 +30,12 @@ use Rattle.front_read.specs.declared.carried.CarriedRow.{CarriedRow}
 use Rattle.front_read.specs.declared.kept.KeptHead.{KeptHead}
 use Rattle.front_read.specs.declared.kept.KeptRow.{KeptRow}
 use Rattle.front_read.specs.Words.{carried_head, kept_head}
-use Rattle.front_read.specs.Rows.{Finds, IsRow, NoRow, Takes, TakesThis, row_words}
+use Rattle.front_read.specs.Rows.{Finds, NoRow, Takes, TakesThis, row_words}
 use Rattle.front_read.specs.Calls.{operation_in, IsAsked, asked_words, asked_of}
 use Rattle.front_read.specs.Answers.{FindsAnswer, answer_of_end, answered, tells_datum, is_some}
 use Rattle.front_read.specs.Row.{two_in, count_in, event_in, FindsRun, carried_row, client_of, TakesNamed, kept_row, KeptBy}
 use Rattle.front_read.proofs.Calling.{some_same, not_some}
 use Rattle.front_read.proofs.Forms.{first_of}
-use Rattle.front_read.proofs.Numerals.{integer_fits}
 use Rattle.front_read.proofs.Standing.{IsFirstLine, same_words}
 use Rattle.front_read.proofs.Clear.{client_clear, named_is}
 use Rattle.front_read.proofs.Telling.{bind_some, two_tests, zero_not, not_zero, carried_told, carried_is, kept_told, kept_is, client_told, client_is}

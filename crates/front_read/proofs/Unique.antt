@@ -1,6 +1,6 @@
 -- What rows tell is told in one way.
-use Rattle.std.proofs.Common.{◌≡◌, ℕ, ◌<◌, ◌^◌, true, false, Bool, List, [], ◌∷◌, ◌++◌, refl, sym, ap, ◌∙◌, subst, append_assoc, map}
-use Rattle.std.specs.Prelude.{Option, Some, None, codes, Ok}
+use Rattle.std.proofs.Common.{◌≡◌, ℕ, true, false, List, [], ◌∷◌, ◌++◌, refl, sym, ap, ◌∙◌, subst, append_assoc, map}
+use Rattle.std.specs.Prelude.{Some, None, codes}
 use Rattle.std.specs.Str.{bytes_eq}
 use Rattle.std.specs.Int.{w64, to_be_bytes, from_be_bytes}
 use Rattle.std.proofs.lemmas.Nat.{from_be_bytes-to_be_bytes_8}
@@ -10,7 +10,6 @@ use Rattle.value_core.specs.declared.datum.Datum.{Datum}
 use Rattle.value_core.specs.declared.kind.Kind.{Kind}
 use Rattle.value_core.specs.declared.format.Format.TheVariants.{Second}
 use Rattle.value_core.specs.Datum.{IsDatum}
-use Rattle.value_core.specs.Contents.{Contents}
 use Rattle.value_core.specs.Spelling.{spelling}
 use Rattle.value_core.proofs.Bytes.{spelling_is_bytes}
 use Rattle.decl_core.specs.ObjectForm.{ObjectForm}
@@ -26,10 +25,6 @@ use Rattle.trace_core.specs.Laws.{HasNames}
 use Rattle.trace_core.specs.Text.{operation_name, part_words, failure_word}
 use Rattle.trace_core.proofs.Plain.{EachSafe, each_word}
 use Rattle.trace_core.proofs.Reading.{replies_apart}
-use Rattle.front_core.specs.declared.past.PastRun.{PastRun}
-use Rattle.front_core.specs.declared.front.CarriedCall.{CarriedCall}
-use Rattle.front_core.specs.declared.front.Client.{Client}
-use Rattle.front_core.specs.declared.front.KeptCall.{KeptCall}
 use Rattle.front_core.specs.declared.front.Answer.{Answer}
 use Rattle.front_core.specs.declared.front.Answer.TheVariants.{Replied, Cancelled}
 use Rattle.front_core.specs.Front.{IsCall, IsKey, IsLong, IsRun, IsCarried, IsClient, IsKept, IsAnswer}
@@ -89,9 +84,10 @@ run_once o named x y p q same = run_same o x y named p q (tail_same same) where
 
 call_same : (o : ObjectForm) (op op' : ℕ) (args args' : List Datum) → IsCall o op args → IsCall o op' args' → call_words o op args ≡ call_words o op' args' → (op ≡ op') × (args ≡ args')
 call_same o op op' args args' p q same =
-    let e : ◌≡◌ {A = List ℕ × List Word} (operation_name o op, map datum_word args) (operation_name o op', map datum_word args') = some_same (ap bare_of same) in
-    (some_same (sym p.operation.first ∙ ap (λ (n : List ℕ × List Word). operation_in o n.0) e ∙ q.operation.first),
-    some_same (sym (written_data args (all_of IsDatum args p.each)).2 ∙ ap (λ (n : List ℕ × List Word). data_of n.1) e ∙ (written_data args' (all_of IsDatum args' q.each)).2))
+    let e : ◌≡◌ {A = List ℕ × List Word} (operation_name o op, map datum_word args) (operation_name o op', map datum_word args') = some_same (ap bare_of same) in (
+      some_same (sym p.operation.first ∙ ap (λ (n : List ℕ × List Word). operation_in o n.0) e ∙ q.operation.first),
+      some_same (sym (written_data args (all_of IsDatum args p.each)).2 ∙ ap (λ (n : List ℕ × List Word). data_of n.1) e ∙ (written_data args' (all_of IsDatum args' q.each)).2),
+    )
 
 pub carried_once : (o : ObjectForm) → IsOnce (IsCarried o) (row_words (codes "carried") (carried_words o))
 carried_once o x y p q same =

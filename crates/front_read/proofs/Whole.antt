@@ -1,5 +1,5 @@
 -- What is read of a front, from its parts.
-use Rattle.std.proofs.Common.{◌≡◌, ℕ, suc, ◌+◌, ◌-◌, ◌≤◌, true, false, List, [], ◌∷◌, ◌++◌, length, take, refl, sym, ap, ◌∙◌, subst, append_assoc, arith, map}
+use Rattle.std.proofs.Common.{◌≡◌, ℕ, ◌-◌, ◌≤◌, true, false, List, [], ◌∷◌, ◌++◌, length, take, refl, sym, ap, ◌∙◌, subst, append_assoc, arith, map}
 use Rattle.std.specs.Prelude.{Result, Ok, Err, IfOk, MatchResult, codes}
 use Rattle.std.specs.Borrow.{Bor}
 use Rattle.std.proofs.lemmas.List.{length-append}
@@ -10,7 +10,7 @@ use Rattle.decl_core.specs.ObjectForm.{ObjectForm}
 use Rattle.word_core.specs.Words.{line_of}
 use Rattle.trace_core.specs.Laws.{HasNames}
 use Rattle.trace_core.specs.Text.{part_words, parts_words, lines_of}
-use Rattle.front_core.specs.Front.{Every, IsKey, IsLong, IsRun, IsCarried, IsClient, IsKept, HasRows, Opening, opening_of}
+use Rattle.front_core.specs.Front.{Every, IsKey, IsLong, IsRun, IsCarried, IsClient, IsKept, HasRows, Opening}
 use Rattle.front_core.specs.Text.{object_words, source_words, base_words, runs_text, carried_text, clients_text, kept_text, calls_text, behind_parts, front_text, run_words, carried_words, client_words, kept_words}
 use Rattle.front_core.specs.declared.past.PastRun.{PastRun}
 use Rattle.front_core.specs.declared.front.CarriedCall.{CarriedCall}
@@ -19,7 +19,7 @@ use Rattle.front_core.specs.declared.front.KeptCall.{KeptCall}
 use Rattle.front_read.specs.Text.{goes_on}
 use Rattle.front_read.specs.Rows.{IsRow, NoRow, AreRows, has_verb}
 use Rattle.front_read.specs.Parts.{IsValueOf, AreParts, NoParts, IsCut, TakesParts}
-use Rattle.front_read.specs.Read.{BehindParts, BehindSource, BehindObject, OnFront, NoFront, AFront, FrontWith, FrontOf, FrontIn, FrontAt, OnClients, NoClients, TakesClients, TakesCalls, TakesBase, TakesPast}
+use Rattle.front_read.specs.Read.{OnFront, NoFront, AFront, FrontWith, FrontOf, FrontIn, FrontAt, OnClients, NoClients, TakesClients, TakesCalls, TakesBase, TakesPast}
 use Rattle.front_read.proofs.Levels.{no_part, no_parts, behind_none, source_none, front_none, front_same, goes_break, no_calls, none_past}
 
 -- the parts, one more
@@ -87,19 +87,20 @@ front_stands o text rest f on =
     let c : past.mid ≡ (line_of (base_words f.base) ++ calls_text o f) ++ rest = two (line_of (base_words f.base)) (calls_text o f) past.mid base.mid base.base_is.stands rest b in
     let d : parts.mid ≡ behind_parts o f ++ rest = two (runs_text o f.past) (line_of (base_words f.base) ++ calls_text o f) parts.mid past.mid past.past_is.stand rest c in
     let e = two (lines_of (parts_words o.parts f.parts)) (behind_parts o f) source.mid parts.mid these.0 rest d in
-    let g = two (line_of (source_words f.source)) (lines_of (parts_words o.parts f.parts) ++ behind_parts o f) on.mid source.mid source.source_is.stands rest e in
-    (two (line_of (object_words o.name f.epoch)) (line_of (source_words f.source) ++ (lines_of (parts_words o.parts f.parts) ++ behind_parts o f)) text on.mid on.epoch_is.stands rest g,
-    record {
-      epoch = on.epoch_is.is;
-      source = source.source_is.is;
-      kinds = these.1;
-      contents = these.2;
-      past = past.past_is.each;
-      base = base.base_is.is;
-      carried = calls.carried_are.each;
-      clients = clients.clients_are.each;
-      kept = clients.kept_are.each;
-    })
+    let g = two (line_of (source_words f.source)) (lines_of (parts_words o.parts f.parts) ++ behind_parts o f) on.mid source.mid source.source_is.stands rest e in (
+      two (line_of (object_words o.name f.epoch)) (line_of (source_words f.source) ++ (lines_of (parts_words o.parts f.parts) ++ behind_parts o f)) text on.mid on.epoch_is.stands rest g,
+      record {
+        epoch = on.epoch_is.is;
+        source = source.source_is.is;
+        kinds = these.1;
+        contents = these.2;
+        past = past.past_is.each;
+        base = base.base_is.is;
+        carried = calls.carried_are.each;
+        clients = clients.clients_are.each;
+        kept = clients.kept_are.each;
+      },
+    )
 
 -- what stands there is a front
 parts_there : (parts : List (List ℕ × Kind)) (mid : List ℕ) (vs : List Contents) → map kind_of vs ≡ map (λ p. p.1) parts → Every IsContents vs → AreParts parts (lines_of (parts_words parts vs) ++ mid) vs mid

@@ -15,6 +15,4 @@ mod names;
 mod number;
 pub mod read;
 mod run;
-#[cfg(test)]
-mod tests;
 mod text;

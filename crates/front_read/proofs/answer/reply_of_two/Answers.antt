@@ -1,4 +1,4 @@
-use Rattle.std.proofs.Common.{sym, ◌∙◌}
+use Rattle.std.proofs.Common.{◌∙◌}
 use Rattle.word_core.specs.View.{words_of}
 use Rattle.front_read.proofs.Calling.{some_same, not_some}
 use Rattle.front_read.proofs.Answering.{ending_read}
