@@ -468,10 +468,10 @@ impl Table {
     fn ended(&mut self, at: usize, ran: &Ran, post: &mut Post) -> Result<(), AllocError>
         ensures { OnOk result (GoesOn self.old post.old self.new post.new) }
     {
-        let Some(object) = self.objects.get_mut(at) else {
+        let Some(object) = self.objects.get(at) else {
             return Ok(());
         };
-        let told = object.ended(ran)?;
+        let told = object.told(ran.call.number());
         let Some(place) = object.owner(ran.call.session()) else {
             return Ok(());
         };
@@ -604,7 +604,7 @@ impl Table {
         }
         let now = self.now;
         if let Some(object) = self.objects.get_mut(opened.object) {
-            object.leave(opened.session, now);
+            let _was_here = object.leave(opened.session, now);
         }
     }
 
