@@ -40,9 +40,9 @@ the_one old new c d session k there of same left t held =
     let there2 : slice_get (left.front ++ c ∷ left.behind) k ≡ Some d = subst (λ (ws : List Called). slice_get ws k ≡ Some d) left.waited there in
     only_one left.front left.behind c d k each there2 (of ∙ sym same)
 
-pub cancelled_by : (old new : Scene) (session told own : ℕ) (before after : List ℕ) (c : Called) → TellsCancel old session before (Some (told, own)) after →
-    LetsGo old session told c new → Cancels old session told before after new
-cancelled_by old new session told own before after c tells goes = record {
+pub cancelled_by : (old first new : Scene) (session : ℕ) (found : ℕ × ℕ) (before after : List ℕ) → TellsCancel old session before (Some found) after →
+    first ≡ old → (c : Called) × LetsGo first session found.0 c new → Cancels old session found.0 before after new
+cancelled_by old first new session found before after tells same_first gone = record {
   call = c;
   lets_go = goes;
   lines = tells.4.0;
@@ -51,10 +51,16 @@ cancelled_by old new session told own before after c tells goes = record {
   line = λ t held. subst (λ (x : Called). IsCancelLine old session x tells.4.0) (same t held) tells.4.2;
 }
   where
+    c : Called
+    c = gone.0
+
+    goes : LetsGo old session found.0 c new
+    goes = subst (λ (s : Scene). LetsGo s session found.0 c new) same_first gone.1
+
     same : (t : Told) → IsHeld old.hall t → tells.0 ≡ c
     same t held = the_one old.hall new.hall c tells.0 session tells.1.0 tells.1.1 tells.2 goes.of goes.left t held
 
 -- it was told of a call, so one waits
-pub not_told : (old : Scene) (session told own : ℕ) (before after : List ℕ) → TellsCancel old session before (Some (told, own)) after →
+pub not_told : (old : Scene) (session : ℕ) (found : ℕ × ℕ) (before after : List ℕ) → TellsCancel old session before (Some found) after →
     Every (λ (d : Called). d.session ≢ session) old.hall.waiting → ⊥
-not_told old session told own before after tells none = some_waits old.hall.waiting session tells.1.0 tells.0 tells.1.1 tells.2 none
+not_told old session found before after tells none = some_waits old.hall.waiting session tells.1.0 tells.0 tells.1.1 tells.2 none

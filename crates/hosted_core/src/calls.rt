@@ -1,6 +1,6 @@
 //! What clients ask of an object: to come in, to make a call, and to cancel one.
 
-ghost use Rattle.std.specs.Prelude.{◌≡◌, ℕ, ◌++◌, [], IsTrue, IfOk, OnOk, OnErr, MatchOption, Some, slice_get, false, if◌then◌else◌};
+ghost use Rattle.std.specs.Prelude.{◌≡◌, ◌≢◌, ◌++◌, [], IsTrue, IfOk, OnOk, OnErr, false, if◌then◌else◌};
 ghost use Rattle.decl_core.specs.ObjectMap.{object_of};
 ghost use Rattle.word_core.specs.Words.{line_of};
 ghost use Rattle.trace_core.specs.Events.{Called};
@@ -142,9 +142,7 @@ impl Hosted {
         ensures { IfOk result (λ r. Calls self.old session operation arguments.items lines.old.items r lines.new.items
             self.new) }
     {
-        if is_first {
-            self.look_back();
-        }
+        self.look_back(is_first);
         match self.submit(session, operation, arguments) {
             Err(fault) => Ok(Err(fault)),
             Ok(taken) => {
@@ -161,9 +159,10 @@ impl Hosted {
         ensures left { self.new ≡ with_guests self.old self.new.guests }
         ensures err { OnErr result (self.new ≡ self.old) }
     {
+        let _is_named = self.has_name(session);
         match self.guests.ask(session, operation, arguments) {
-            Ok(()) => Ok(()),
-            Err(fault) => Err(asking_fault(fault)),
+            Ok(()) => return Ok(()),
+            Err(fault) => return Err(asking_fault(fault)),
         }
     }
 
@@ -177,6 +176,7 @@ impl Hosted {
         ensures ok { IfOk result (λ a. Takes self.old session operation arguments.items a self.new) }
         ensures err { OnErr result (self.new ≡ self.old) }
     {
+        let _is_named = self.has_name(session);
         self.ask(session, operation, &arguments)?;
         let own = most_of(self.live.object(), operation, &arguments);
         match self.live.submit(u32::from(session), operation, arguments) {
@@ -215,7 +215,8 @@ impl Hosted {
             Some((ran, rest)) => {
                 self.note(ran)?;
                 self.remember(ran);
-                self.remember_all(rest)
+                self.remember_all(rest)?;
+                Ok(())
             }
         }
     }
@@ -251,9 +252,10 @@ impl Hosted {
         ensures { IfOk result (λ told. CancelsSome self.old session lines.old.items told lines.new.items self.new) }
     {
         let before = lines.len();
-        let Some((told, own)) = self.tell_cancel(session, lines)? else {
+        let Some(found) = self.tell_cancel(session, lines)? else {
             return Ok(None);
         };
+        let (told, own) = found;
         self.add(lines.len().saturating_sub(before));
         if !self.let_go(session, told, own) {
             return Ok(None);
@@ -273,7 +275,7 @@ impl Hosted {
         let Some(call) = self.waiting_of(session) else {
             return Ok(None);
         };
-        if self.guests.guest(session).is_some() {
+        if self.has_name(session) {
             push_cancelled(lines, self.live.object(), call)?;
         }
         let own = most_of(self.live.object(), call.operation(), call.arguments());

@@ -1,10 +1,11 @@
 //! An object that is served, with its clients.
 
-ghost use Rattle.std.specs.Prelude.{◌≡◌, ◌≢◌, ◌↔◌, ℕ, [], IfOk, IfSome, IfNone, Some, slice_get};
+ghost use Rattle.std.specs.Prelude.{◌≡◌, ◌≢◌, ℕ, [], true, false, IfOk, IfSome, IfNone, Some, slice_get};
 ghost use Rattle.trace_core.specs.Events.{Called};
+ghost use Rattle.guest_core.specs.declared.guest.Guest.{Guest as AGuest};
 ghost use Rattle.guest_core.specs.declared.seats.Seat.TheVariants.{Nameless};
 ghost use Rattle.guest_core.specs.Entering.{Leaves};
-ghost use Rattle.guest_core.specs.Guests.{with_seat};
+ghost use Rattle.guest_core.specs.Guests.{with_seat, IsNamed, HasNoName};
 ghost use Rattle.guest_core.specs.Seats.{IsLeastFree, NoneIsFree};
 ghost use Rattle.live_core.specs.Hall.{Every};
 ghost use Rattle.hosted_core.specs.Scene.{told_of, with_guests};
@@ -111,12 +112,13 @@ impl Model for Hosted {
     ghost use Rattle.live_core.specs.contracts.live.Live as l;
     ghost use Rattle.guest_core.specs.contracts.guests.Guests as g;
     ghost use Rattle.hosted_core.specs.Scene.{Scene};
+    ghost use Rattle.hosted_core.specs.View.{scene_of};
 
     ghost Value = { Scene };
 
     ghost coded = { Prim.hlevel (codes, l.the_row.coded, g.the_row.coded) };
 
-    ghost view = { λ h. record { hall = h.live; guests = h.guests; carried = h.carried.items; base = h.base } };
+    ghost view = { scene_of };
 }
 
 // The place of the operation of this name in an object.
@@ -265,6 +267,17 @@ impl Hosted {
         }
     }
 
+    // Whether a session has a name.
+    pub(crate) fn has_name(&self, session: u16) -> bool
+        ensures yes { result ≡ true → (p : ℕ) × (g : AGuest) × IsNamed self.now.guests session p g }
+        ensures no { result ≡ false → HasNoName self.now.guests session }
+    {
+        match self.guests.guest(session) {
+            Some(_) => true,
+            None => false,
+        }
+    }
+
     /// The waiting call of a session.
     pub fn waiting_of(&self, session: u16) -> Option<&Call>
         ensures some { IfSome result (λ c. (k : ℕ) × (slice_get self.now.hall.waiting k ≡ Some c.now)
@@ -390,11 +403,12 @@ impl Hosted {
         self.tried = self.behind;
     }
 
-    // A call is the first one of a round: where a new epoch was to be tried behind the round before, it could not begin.
-    pub(crate) fn look_back(&mut self)
+    // Where a call is the first one of a round, and a new epoch was to be tried behind the round before, it could not
+    // begin.
+    pub(crate) fn look_back(&mut self, is_first: bool)
         ensures { self.new ≡ self.old }
     {
-        if self.is_due_at(self.behind.saturating_sub(1)) {
+        if is_first && self.is_due_at(self.behind.saturating_sub(1)) {
             self.put_off();
         }
     }

@@ -32,7 +32,7 @@ const MOST_LINE: usize = 8_192;
 // The most bytes of the lines that tell of a name or of a cancel.
 const SHORT_LINE: usize = 192;
 
-/// All objects of a kept server, and all connections. A contract sees what the hands of the objects hold.
+/// All objects of a kept server, and all connections. A contract sees each object with its clients.
 #[derive(Drop)]
 pub struct Table {
     alloc: Global,
@@ -47,12 +47,12 @@ pub struct Table {
 impl Model for Table {
     ghost use Rattle.std.specs.Prelude.{List};
     ghost use Rattle.std.specs.Coded.{coded_list};
-    ghost use Rattle.live_core.specs.Hall.{Hall};
-    ghost use Rattle.live_core.specs.contracts.live.Live as l;
+    ghost use Rattle.hosted_core.specs.Scene.{Scene};
+    ghost use Rattle.hosted_core.specs.contracts.hosted.Hosted as h;
 
-    ghost Value = { List Hall };
+    ghost Value = { List Scene };
 
-    ghost coded = { coded_list l.the_row.coded };
+    ghost coded = { coded_list h.the_row.coded };
 
     ghost view = { λ t. t.objects.items };
 }
@@ -844,7 +844,7 @@ impl Served for Table {
 
     ghost gives = { Gives };
 
-    ghost fronts = { λ halls journal front. Unit {0} };
+    ghost fronts = { λ scenes journal front. Unit {0} };
 
     fn hear(
         &mut self,
