@@ -5,13 +5,13 @@ use Rattle.std.proofs.lemmas.Bool.Decides.{eqb_tells}
 use Rattle.std.proofs.lemmas.List.{append-nil, length-set}
 use Rattle.std.proofs.lemmas.Option.{same_Some, slice_get_within, slice_get-get_or}
 use Rattle.hosted_core.specs.Scene.{Scene}
-use Rattle.keep_loop.specs.Posts.{Tells, Does, is_here, owed_to}
-use Rattle.keep_loop.specs.Texts.{text_at, to}
-use Rattle.keep_loop.specs.declared.post.Post.{Post}
+use Rattle.post_core.specs.Posts.{Tells, Does, is_here, owed_to}
+use Rattle.post_core.specs.Texts.{text_at, to}
+use Rattle.post_core.specs.declared.post.Post.{Post}
 use Rattle.hosted_core.specs.Steps.{Steps, rests, goes_on}
-use Rattle.keep_loop.specs.Turns.Asked.{Heard, Noted}
-use Rattle.keep_loop.specs.declared.served.LineEnd.{LineEnd}
-use Rattle.keep_loop.specs.declared.served.Note.{Note}
+use Rattle.post_core.specs.Turns.Asked.{Heard, Noted}
+use Rattle.post_core.specs.declared.served.LineEnd.{LineEnd}
+use Rattle.post_core.specs.declared.served.Note.{Note}
 use Rattle.table_core.specs.Moves.{Moves, Gives}
 use Rattle.table_core.specs.Along.{Along, GoesOn, Keeps}
 

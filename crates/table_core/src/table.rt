@@ -1,7 +1,7 @@
 //! All objects of a kept server, and all connections.
 
 ghost use Rattle.std.specs.Prelude.{◌≡◌, [], OnOk, IfOk};
-ghost use Rattle.keep_loop.specs.Posts.{Tells};
+ghost use Rattle.post_core.specs.Posts.{Tells};
 ghost use Rattle.table_core.specs.Along.{GoesOn, Keeps};
 
 use crate::objects::{Comer, Made, begin_at, call_at, cancel_at, enter_at, leave_at, seat_at};
