@@ -5,7 +5,7 @@ use Rattle.std.proofs.lemmas.Bool.Decides.{eqb_tells}
 use Rattle.std.proofs.lemmas.List.{append-nil, length-set}
 use Rattle.std.proofs.lemmas.Option.{same_Some, slice_get_within, slice_get-get_or}
 use Rattle.hosted_core.specs.Scene.{Scene}
-use Rattle.post_core.specs.Posts.{Tells, Does, is_here, owed_to}
+use Rattle.post_core.specs.Posts.{Tells, Does, owed_to}
 use Rattle.post_core.specs.Texts.{text_at, to}
 use Rattle.post_core.specs.declared.post.Post.{Post}
 use Rattle.hosted_core.specs.Steps.{Steps, rests, goes_on}
