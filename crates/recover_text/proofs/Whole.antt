@@ -13,7 +13,7 @@ use Rattle.recover_core.specs.declared.recover.Recovered.{Recovered}
 use Rattle.recover_core.specs.declared.recover.RecoverFault.{RecoverFault}
 use Rattle.recover_core.specs.Lines.{IsLine, joined, line_ends}
 use Rattle.recover_core.specs.Recovered.{IsBehind, RefusesBehind}
-use Rattle.recover_text.specs.Text.{IsRecovered, Refuses}
+use Rattle.recover_text.specs.Text.{IsRead, IsRecovered, Refuses}
 
 chosen : {A : Type 0} (b : Bool) (x y z : A) → cond b x y ≡ z → ((b ≡ true) × (x ≡ z)) ⊎ ((b ≡ false) × (y ≡ z))
 chosen true x y z is = inl (refl, is)
@@ -42,7 +42,7 @@ if_ok (Ok a) on is = on a is
 if_ok (Err e) on is = tt
 
 module _ (o : ObjectForm) (h : House) (f : Opening) (text before behind : List ℕ) (bytes lines : ℕ) (rows : HasRows o f) (within : bytes ≤ length text) (told : take bytes text ≡ front_text o f) (front : before ≡ take bytes text)
-  (back : behind ≡ drop bytes text) (counted : lines ≡ line_ends before) (ended : whole text ≡ text) where
+    (back : behind ≡ drop bytes text) (counted : lines ≡ line_ends before) (ended : whole text ≡ text) where
   cut : text ≡ front_text o f ++ behind
   cut = sym (take-append-drop bytes text) ∙ ap (λ t. t ++ drop bytes text) told ∙ ap (λ t. front_text o f ++ t) (sym back)
 
@@ -52,7 +52,7 @@ module _ (o : ObjectForm) (h : House) (f : Opening) (text before behind : List �
   lines_is : lines ≡ line_ends (front_text o f)
   lines_is = counted ∙ ap line_ends (front ∙ told)
 
-  recovered_so : (r : Recovered) → IsBehind o h f bytes behind r → IsRecovered o h text r
+  recovered_so : (r : Recovered) → IsBehind o h f bytes behind r → IsRead o h text f r
   recovered_so r is =
       let b : IsBehind o h f (length (front_text o f)) behind r = record {
         lines = is.lines;
@@ -71,7 +71,6 @@ module _ (o : ObjectForm) (h : House) (f : Opening) (text before behind : List �
       } in
       let all : text ≡ (front_text o f ++ joined is.lines) ++ is.rest = cut ∙ ap (λ t. front_text o f ++ t) is.cut ∙ sym (append_assoc (front_text o f) (joined is.lines) is.rest) in
       record {
-        front = f;
         rows = rows;
         behind = behind;
         text_is = cut;
@@ -82,11 +81,18 @@ module _ (o : ObjectForm) (h : House) (f : Opening) (text before behind : List �
   refused_so : (fault : RecoverFault) → RefusesBehind o f lines behind fault → Refuses o text fault
   refused_so fault is = inr (f, behind, rows, cut, subst (λ n. RefusesBehind o f n behind fault) lines_is is)
 
-  found_so : (found : Result Recovered RecoverFault) → MatchResult found (IsBehind o h f bytes behind) (RefusesBehind o f lines behind) → MatchResult found (IsRecovered o h text) (Refuses o text)
+  found_so : (found : Result Recovered RecoverFault) → MatchResult found (IsBehind o h f bytes behind) (RefusesBehind o f lines behind) → MatchResult found (IsRead o h text f) (Refuses o text)
   found_so (Ok r) is = recovered_so r is
   found_so (Err fault) is = refused_so fault is
 
   -- what was found behind the front is what was found in the text
   pub found_in : {E : Type 0} (result : Result (Result Recovered RecoverFault) E) → IfOk result (λ found. MatchResult found (IsBehind o h f bytes behind) (RefusesBehind o f lines behind)) →
-      IfOk result (λ found. MatchResult found (IsRecovered o h text) (Refuses o text))
+      IfOk result (λ found. MatchResult found (IsRead o h text f) (Refuses o text))
   found_in result = if_ok result found_so
+
+-- what was read with a front is recovered
+pub recovered_by : {E : Type 0} (o : ObjectForm) (h : House) (text : List ℕ) (f : Opening) (result : Result (Result Recovered RecoverFault) E) → IfOk result (λ found. MatchResult found (IsRead o h text f) (Refuses o text)) →
+    IfOk result (λ found. MatchResult found (IsRecovered o h text) (Refuses o text))
+recovered_by o h text f (Ok (Ok r)) is = (f, is)
+recovered_by o h text f (Ok (Err fault)) is = is
+recovered_by o h text f (Err e) is = tt
