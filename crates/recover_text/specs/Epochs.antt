@@ -24,7 +24,7 @@ pub record IsNext (o : ObjectForm) (text : List ℕ) (old new : Epochs) : Type 0
   pub read : IsRead o all_clients text front came
   pub follows : MayFollow o old.last front
   pub last : new.last ≡ Some came
-  pub count : new.count ≡ old.count + 1
+  pub count : old.count + 1 < 2 ^ 64 → new.count ≡ old.count + 1
   pub entries : old.entries + came.ended < 2 ^ 64 → new.entries ≡ old.entries + came.ended
 
 -- these texts, the newest first, are of epochs each of which may follow the one before it

@@ -39,7 +39,7 @@ pub enum EpochFault {
 pub struct Epochs {
     /// What the last of them came to.
     pub last: Option<Recovered>,
-    /// How many they are.
+    /// How many they are, as far as 64 bits tell.
     pub count: u64,
     /// How many calls ended in them, as far as 64 bits tell.
     pub entries: u64,
@@ -70,7 +70,6 @@ impl Epochs {
         object: &Object,
         text: &[u8],
     ) -> Result<Result<(), EpochFault>, AllocError>
-        requires { self.old.count + 1 < 2 ^ 64 }
         ensures { IfOk result (λ found. IfOk found (λ _. IsNext (object_of object.now) (recovered text.now) self.old
             self.new)) }
     {
@@ -110,7 +109,6 @@ impl Epochs {
         requires told { take bytes text.now ≡ front_text (object_of object.now) (opening_of front) }
         requires rows { HasRows (object_of object.now) (opening_of front) }
         requires ended { whole_of text.now ≡ text.now }
-        requires count { self.old.count + 1 < 2 ^ 64 }
         ensures { IfOk result (λ found. IfOk found (λ _. IsNext (object_of object.now) text.now self.old self.new)) }
     {
         let epoch = front.epoch;
@@ -128,12 +126,11 @@ impl Epochs {
 
     // An epoch came to this.
     fn take(&mut self, came: Recovered)
-        requires { self.old.count + 1 < 2 ^ 64 }
         ensures last { self.new.last ≡ Some came }
-        ensures count { self.new.count ≡ self.old.count + 1 }
+        ensures count { self.old.count + 1 < 2 ^ 64 → self.new.count ≡ self.old.count + 1 }
         ensures entries { self.old.entries + came.ended < 2 ^ 64 → self.new.entries ≡ self.old.entries + came.ended }
     {
-        self.count += 1;
+        self.count = self.count.saturating_add(1);
         self.entries = self.entries.saturating_add(came.ended);
         self.last = Some(came);
     }

@@ -1,8 +1,9 @@
 //! The lines that tell of the epochs of an object.
 
-ghost use Rattle.std.specs.Prelude.{◌≡◌, ◌++◌, OnOk, codes, decimal};
+ghost use Rattle.std.specs.Prelude.{◌≡◌, ◌≤◌, ◌++◌, ◌==◌, if◌then◌else◌, OnOk, codes, decimal};
 ghost use Rattle.recover_text.specs.Said.{at_line, line_words, chain_words, fault_words, of_epoch, epoch_words};
 ghost use Rattle.recover_text.specs.Said.{whole_words};
+ghost use Rattle.recover_text.specs.Stray.{past_zero, solid_bytes};
 
 use crate::epochs::EpochFault;
 use audit_core::verdict::Fault;
@@ -118,4 +119,49 @@ pub fn push_whole(out: &mut Vec<u8>, count: u64, entries: u64) -> Result<(), All
     push_number(out, b" entries ", entries)?;
     out.extend_from_slice(b" whole\n")?;
     Ok(())
+}
+
+// What stands behind the first byte 0 of a file.
+fn behind_zero(file: &[u8]) -> &[u8]
+    ensures { result.now ≡ past_zero file.now }
+{
+    let mut rest = file;
+    'bytes: while let Some((byte, more)) = rest.split_first() {
+        if *byte == 0 {
+            return more;
+        }
+        rest = more;
+    }
+    &[]
+}
+
+// How many bytes are not 0.
+fn count_bytes(bytes: &[u8]) -> u64
+    ensures { result ≡ solid_bytes bytes.now }
+{
+    let mut rest = bytes;
+    let mut count: u64 = 0;
+    'bytes: while let Some((byte, more)) = rest.split_first() {
+        count += is_solid(*byte);
+        rest = more;
+    }
+    count
+}
+
+// 1 where a byte is not 0.
+fn is_solid(byte: u8) -> u64
+    ensures one { result ≡ (if byte == 0 then 0 else 1) }
+    ensures few { result ≤ 1 }
+{
+    if byte == 0 {
+        return 0;
+    }
+    1
+}
+
+/// How many bytes of a file are not 0 behind its first byte 0: such as a crash left there, or somebody else.
+pub fn stray_bytes(file: &[u8]) -> u64
+    ensures { result ≡ solid_bytes (past_zero file.now) }
+{
+    count_bytes(behind_zero(file))
 }
