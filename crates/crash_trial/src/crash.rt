@@ -17,7 +17,7 @@ pub enum How {
 }
 
 // A number that hangs on all three, and looks as if drawn.
-fn mixed(seed: u64, call: usize, byte: usize) -> u64 {
+pub(crate) fn mixed(seed: u64, call: usize, byte: usize) -> u64 {
     let first = seed
         .wrapping_add((call as u64).wrapping_mul(0x9e37_79b9_7f4a_7c15))
         .wrapping_add((byte as u64).wrapping_mul(0xbf58_476d_1ce4_e5b9));

@@ -1,0 +1,36 @@
+//! What is told of a state that was recovered.
+
+use decl_core::object::Object;
+use front_core::source::source_of;
+use hosted_core::start::{Ended, begin_again};
+use live_core::call::Limits;
+use recover_core::recover::Recovered;
+use std::alloc::{AllocError, Global};
+
+/// The front with which an object goes on behind what was recovered. `None`: it cannot. The error is that memory was
+/// refused.
+pub fn front_behind(
+    alloc: Global,
+    object: Object,
+    recovered: Recovered,
+    limits: Limits,
+) -> Result<Option<Vec<u8>>, AllocError> {
+    let source = source_of(&object);
+    let ended = Ended {
+        epoch: recovered.epoch,
+        base: recovered.base,
+        greatest: recovered.played.greatest,
+        contents: recovered.played.contents,
+        counters: recovered.played.counters,
+        long: recovered.played.long,
+        guests: recovered.guests,
+    };
+    match begin_again(alloc, object, ended, source, limits)? {
+        None => Ok(None),
+        Some(hosted) => {
+            let mut front = Vec::new(alloc);
+            hosted.push_first(&mut front)?;
+            Ok(Some(front))
+        }
+    }
+}

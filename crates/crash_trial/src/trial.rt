@@ -1,0 +1,176 @@
+//! A scenario, and the crashes that are tried in it.
+
+use crate::crash::{How, mixed};
+use crate::device::{Happened, Kept};
+use crate::drive::{Drive, LIMITS, Stop};
+use crate::judge::{Outcome, judge, standing_behind};
+use crate::tell::front_behind;
+use decl_core::object::Object;
+use line_core::write_whole;
+use recover_core::recover::{House, Recovered};
+use script_open::open::{Opened, open_script};
+use std::alloc::{AllocError, Global};
+use std::io::Write;
+
+/// What is tried.
+#[derive(Drop)]
+pub struct Asked {
+    /// The text of FILE.
+    pub source: Vec<u8>,
+    /// The scenario, with its first line.
+    pub scenario: Vec<u8>,
+    /// So many crashes are drawn.
+    pub crashes: u64,
+    /// From this number on.
+    pub seed: u64,
+}
+
+/// How a trial ended.
+#[derive(Clone, Copy, Debug, PartialEq, Eq)]
+pub enum Ended {
+    /// No crash was wrong.
+    Right,
+    /// One was, or there was nothing to play.
+    Wrong,
+}
+
+/// Why a trial did not end.
+#[derive(Clone, Copy, Debug, PartialEq, Eq)]
+pub enum Fault {
+    /// Memory was refused.
+    Memory,
+    /// A line could not be written.
+    Written,
+}
+
+impl From<AllocError> for Fault {
+    fn from(_: AllocError) -> Self {
+        Fault::Memory
+    }
+}
+
+/// Clients of a trial.
+const HOUSE: House = House {
+    sessions: LIMITS.sessions,
+    names: 64,
+    now: 0,
+};
+
+// What was tried so far.
+struct Tried {
+    crashes: u64,
+    wrong: u64,
+    // Of each state that was recovered: which epoch, and how many bytes of it.
+    states: Vec<(u64, usize)>,
+}
+
+fn tell<W: Write>(writer: &mut W, text: &[u8]) -> Result<(), Fault> {
+    match write_whole(writer, text) {
+        Ok(()) => Ok(()),
+        Err(_) => Err(Fault::Written),
+    }
+}
+
+// A text up to its first line end, and what stands behind that.
+fn cut_line(text: &[u8]) -> (&[u8], &[u8]) {
+    for place in 0..text.len() {
+        if text[place] == b'\n' {
+            return (&text[..place], &text[place + 1..]);
+        }
+    }
+    (text, &[])
+}
+
+// The object of a scenario.
+fn object_of(alloc: Global, asked: &Asked) -> Result<Option<Object>, AllocError> {
+    let (line, _) = cut_line(&asked.scenario);
+    let mut head = line.to_vec(alloc)?;
+    head.push(b'\n')?;
+    match open_script(alloc, &asked.source, &head)? {
+        Opened::Ready(accepted) => Ok(Some(accepted.into_object())),
+        Opened::Told(_) => Ok(None),
+    }
+}
+
+// Plays a scenario, and gives the file with all that happened to it; or the number of the line that ended it.
+fn played(alloc: Global, object: Object, scenario: &[u8]) -> Result<Result<Kept, u64>, AllocError> {
+    let Some(mut drive) = Drive::new(alloc, object)? else {
+        return Ok(Err(0));
+    };
+    let mut number: u64 = 0;
+    let mut rest = scenario;
+    for _ in 0..scenario.len() {
+        if rest.is_empty() {
+            break;
+        }
+        number = number.saturating_add(1);
+        let (line, behind) = cut_line(rest);
+        rest = behind;
+        match drive.play(line) {
+            Ok(()) => {}
+            Err(Stop::Memory) => return Err(AllocError),
+            Err(_) => return Ok(Err(number)),
+        }
+    }
+    match drive.into_file() {
+        Some(file) => Ok(Ok(file)),
+        None => Ok(Err(number)),
+    }
+}
+
+// Tells a state, where it was not told before.
+fn tell_state<W: Write>(
+    alloc: Global,
+    asked: &Asked,
+    epoch: u64,
+    recovered: Recovered,
+    tried: &mut Tried,
+    writer: &mut W,
+) -> Result<bool, Fault> {
+    let length = recovered.length;
+    for state in &tried.states {
+        if state.0 == epoch && state.1 == length {
+            return Ok(true);
+        }
+    }
+    tried.states.push((epoch, length))?;
+    let Some(object) = object_of(alloc, asked)? else {
+        return Ok(false);
+    };
+    let Some(front) = front_behind(alloc, object, recovered, LIMITS)? else {
+        return Ok(false);
+    };
+    let line = format!(in alloc; "state {epoch} {length}\n")?;
+    tell(writer, line.as_bytes())?;
+    tell(writer, &front)?;
+    Ok(true)
+}
+
+// Tries a crash behind these calls.
+fn try_crash<W: Write>(
+    alloc: Global,
+    asked: &Asked,
+    object: &Object,
+    file: &Kept,
+    calls: usize,
+    how: &How,
+    tried: &mut Tried,
+    writer: &mut W,
+) -> Result<(), Fault> {
+    let happened = file.happened();
+    let happened = &happened[..calls.min(happened.len())];
+    let epoch = standing_behind(alloc, happened)?.epochs;
+    tried.crashes = tried.crashes.saturating_add(1);
+    let why = match judge(alloc, object, HOUSE, file.first(), happened, how)? {
+        Outcome::Wrong(why) => why,
+        Outcome::Right(recovered) => {
+            if tell_state(alloc, asked, epoch, recovered, tried, writer)? {
+                return Ok(());
+            }
+            "it cannot go on"
+        }
+    };
+    tried.wrong = tried.wrong.saturating_add(1);
+    let line = format!(in alloc; "wrong {calls} {how:?} {why}\n")?;
+    tell(writer, line.as_bytes())
+}
