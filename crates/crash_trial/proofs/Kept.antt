@@ -31,6 +31,7 @@ elapses file happened h = record {
         split zero m = inl (omega arith)
         split (suc n) zero = inr (omega arith)
         split (suc n) (suc m) = ⊎_elim (λ le. inl (omega (arith, le))) (λ ge. inr (omega (arith, ge))) (split n m)
+
         before : since.moment ≤ length happened → LeftSince file happened t c ⊎ MayLeave file (happened ++ h ∷ []) c
         before le = inl (record {
           moment = since.moment;
@@ -38,6 +39,7 @@ elapses file happened h = record {
           been = le;
           left = subst (λ (l : List Happened). MayLeave file l c) (take-append-le since.moment happened (h ∷ []) le) since.left;
         })
+
         now : suc (length happened) ≤ since.moment → LeftSince file happened t c ⊎ MayLeave file (happened ++ h ∷ []) c
         now ge = let all : since.moment ≡ length (happened ++ h ∷ []) = omega (arith, ge, since.been, length-append happened (h ∷ [])) in
             inr (subst (λ (l : List Happened). MayLeave file l c) (ap (λ (n : ℕ). take n (happened ++ h ∷ [])) all ∙ take-length (happened ++ h ∷ [])) since.left)
@@ -122,7 +124,7 @@ leaves_length : (file left : List ℕ) (happened : List Happened) (c : List ℕ)
 leaves_length file left [] c same is = ap length is ∙ same
 leaves_length file left (Wrote a b ∷ happened) c same (fits, torn, is, rest) =
     leaves_length (with_bytes a b.items file) torn happened c
-      (torn_length left (with_bytes a b.items left) torn is ∙ same ∙ length-with_bytes a b.items file fits) rest
+    (torn_length left (with_bytes a b.items left) torn is ∙ same ∙ length-with_bytes a b.items file fits) rest
 leaves_length file left (Stored ∷ happened) c same is = leaves_length file file happened c refl is
 leaves_length file left (Replaced b ∷ happened) c same is = leaves_length b.items b.items happened c refl is
 
@@ -137,9 +139,12 @@ may_wrote file happened later at bytes same fits c left = of (subst (λ (l : Lis
   where
     of : MayLeave file (happened ++ Wrote at bytes ∷ []) c → (d : List ℕ) × MayLeave file happened d × IsTorn d (with_bytes at bytes.items d) c
     of (inl read) =
-        let was = read_behind file happened in
-        (was, inl refl, subst (IsTorn was (with_bytes at bytes.items was)) (sym (read ∙ read_wrote file happened at bytes))
-          (torn_new was (with_bytes at bytes.items was) (length-with_bytes at bytes.items was fits)))
+        let was = read_behind file happened in (
+          was,
+          inl refl,
+          subst (IsTorn was (with_bytes at bytes.items was)) (sym (read ∙ read_wrote file happened at bytes))
+              (torn_new was (with_bytes at bytes.items was) (length-with_bytes at bytes.items was fits)),
+        )
     of (inr torn) = let found = leaves_wrote file file happened at bytes c torn in (found.0, inr found.1, found.2)
 
 -- nothing was written: as a write that left each byte as it was

@@ -46,4 +46,3 @@ pub only : (file : List ℕ) (happened : List Happened) (c : List ℕ) → LeftS
 only file happened c left =
     let now : left.moment ≡ length happened = omega (arith, left.since, left.been) in
     subst (λ (l : List Happened). MayLeave file l c) (ap (λ (n : ℕ). take n happened) now ∙ take-length happened) left.left
-

@@ -64,7 +64,14 @@ fn left_behind(
             if *at > seen.len() || bytes.len() > seen.len() - *at || torn.len() != left.len() {
                 return Ok(None);
             }
-            tear(left, &mut torn, *at, at.saturating_add(bytes.len()), how, call);
+            tear(
+                left,
+                &mut torn,
+                *at,
+                at.saturating_add(bytes.len()),
+                how,
+                call,
+            );
             let seen = with(alloc, seen, *at, bytes)?;
             left_behind(alloc, &seen, &torn, happened, how, call.saturating_add(1))
         }

@@ -15,12 +15,10 @@ use line_read::front::next_bare;
 use live_core::call::Limits;
 use live_core::live::Live;
 use path_tree::name::Name;
-
 use std::alloc::{AllocError, Global};
 use value_core::datum::Datum;
 use value_core::value::Value;
 use word_core::number::session_of;
-
 
 /// Sessions of a scenario have the numbers from 1 to this one, and so many calls wait at most.
 pub const LIMITS: Limits = Limits {
@@ -236,7 +234,10 @@ impl Drive {
         };
         let mut lines = Vec::new(self.alloc);
         self.hosted.reserve()?;
-        match self.hosted.call(false, session, operation, arguments, &mut lines)? {
+        match self
+            .hosted
+            .call(false, session, operation, arguments, &mut lines)?
+        {
             Err(_) => Ok(()),
             Ok(taken) => {
                 for ran in &taken.ran {

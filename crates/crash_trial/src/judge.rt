@@ -28,7 +28,11 @@ pub enum Outcome {
 }
 
 // One call more.
-fn follow(alloc: Global, standing: &mut Standing, call: &Happened) -> Result<(), AllocError> {
+pub(crate) fn follow(
+    alloc: Global,
+    standing: &mut Standing,
+    call: &Happened,
+) -> Result<(), AllocError> {
     match call {
         Happened::Wrote(_, bytes) => standing.text.extend_from_slice(bytes),
         Happened::Stored => {

@@ -3,7 +3,7 @@
 use crate::crash::{How, mixed};
 use crate::device::{Happened, Kept};
 use crate::drive::{Drive, LIMITS, Stop};
-use crate::judge::{Outcome, judge, standing_behind};
+use crate::judge::{Outcome, follow, judge, standing_behind};
 use crate::tell::front_behind;
 use decl_core::object::Object;
 use line_core::write_whole;
@@ -173,4 +173,94 @@ fn try_crash<W: Write>(
     tried.wrong = tried.wrong.saturating_add(1);
     let line = format!(in alloc; "wrong {calls} {how:?} {why}\n")?;
     tell(writer, line.as_bytes())
+}
+
+// A number of a list of so many, drawn.
+fn drawn(seed: u64, at: u64, count: usize) -> usize {
+    let number = mixed(seed, at as usize, count);
+    (number % (count.max(1) as u64)) as usize
+}
+
+// Tries a crash at each byte of each write.
+fn try_each<W: Write>(
+    alloc: Global,
+    asked: &Asked,
+    object: &Object,
+    file: &Kept,
+    tried: &mut Tried,
+    writer: &mut W,
+) -> Result<(), Fault> {
+    for call in 0..file.happened().len() {
+        if let Happened::Wrote(_, bytes) = &file.happened()[call] {
+            for byte in 0..bytes.len() + 1 {
+                let how = How::Cut(call, byte);
+                try_crash(alloc, asked, object, file, call + 1, &how, tried, writer)?;
+            }
+        }
+    }
+    Ok(())
+}
+
+// Draws crashes.
+fn try_drawn<W: Write>(
+    alloc: Global,
+    asked: &Asked,
+    object: &Object,
+    file: &Kept,
+    tried: &mut Tried,
+    writer: &mut W,
+) -> Result<(), Fault> {
+    for crash in 0..asked.crashes {
+        let calls = 1 + drawn(asked.seed, crash, file.happened().len());
+        let how = How::Drawn(mixed(asked.seed, crash as usize, usize::MAX));
+        try_crash(alloc, asked, object, file, calls, &how, tried, writer)?;
+    }
+    Ok(())
+}
+
+// Tells the lines of each epoch.
+fn tell_epochs<W: Write>(alloc: Global, file: &Kept, writer: &mut W) -> Result<(), Fault> {
+    let mut standing = standing_behind(alloc, &[])?;
+    for call in file.happened() {
+        if let Happened::Replaced(_) = call {
+            tell(writer, &standing.text)?;
+            let epoch = standing.epochs.saturating_add(1);
+            let line = format!(in alloc; "epoch {epoch}\n")?;
+            tell(writer, line.as_bytes())?;
+        }
+        follow(alloc, &mut standing, call)?;
+    }
+    tell(writer, &standing.text)
+}
+
+/// Plays a scenario, and tries crashes in it. An `Err` is that memory was refused, or a line could not be written.
+pub fn run_trial<W: Write>(alloc: Global, asked: &Asked, writer: &mut W) -> Result<Ended, Fault> {
+    let (Some(object), Some(judged)) = (object_of(alloc, asked)?, object_of(alloc, asked)?) else {
+        tell(writer, b"no object\n")?;
+        return Ok(Ended::Wrong);
+    };
+    let (_, scenario) = cut_line(&asked.scenario);
+    let file = match played(alloc, object, scenario)? {
+        Ok(file) => file,
+        Err(number) => {
+            let line = format!(in alloc; "line {number} ends the scenario\n")?;
+            tell(writer, line.as_bytes())?;
+            return Ok(Ended::Wrong);
+        }
+    };
+    tell_epochs(alloc, &file, writer)?;
+    let mut tried = Tried {
+        crashes: 0,
+        wrong: 0,
+        states: Vec::new(alloc),
+    };
+    try_each(alloc, asked, &judged, &file, &mut tried, writer)?;
+    try_drawn(alloc, asked, &judged, &file, &mut tried, writer)?;
+    let (crashes, wrong) = (tried.crashes, tried.wrong);
+    let line = format!(in alloc; "crashes {crashes} wrong {wrong}\n")?;
+    tell(writer, line.as_bytes())?;
+    if wrong > 0 {
+        return Ok(Ended::Wrong);
+    }
+    Ok(Ended::Right)
 }

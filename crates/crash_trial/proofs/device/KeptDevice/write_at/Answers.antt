@@ -23,7 +23,7 @@ returns-clause-written c =
     let f = c.args.self.now.file.items in
     let h = c.args.self.now.happened.items in
     ap Some (ap (λ l. read_behind f l) c.in_ok-note.ensures.ok ∙ read_wrote f h c.args.at c.in_ok-bytes.bytes
-      ∙ ap (λ (l : List ℕ). with_bytes c.args.at l (read_behind f h)) same)
+    ∙ ap (λ (l : List ℕ). with_bytes c.args.at l (read_behind f h)) same)
 
 pub returns-clause-crash : goal.returns-clause-crash
 returns-clause-crash c =
@@ -31,8 +31,8 @@ returns-clause-crash c =
     let f = c.args.self.now.file.items in
     let h = c.args.self.now.happened.items in
     subst (λ (l : List ℕ). Writes c.args.at l (MayLeave f h) (MayLeave f c.note.new.happened.items)) same
-      (may_wrote f h c.note.new.happened.items c.args.at c.in_ok-bytes.bytes c.in_ok-note.ensures.ok
-        (subst (λ (l : List ℕ). c.args.at + length l ≤ length (read_behind f h)) (sym same) (c.requires (read_behind f h) refl)))
+    (may_wrote f h c.note.new.happened.items c.args.at c.in_ok-bytes.bytes c.in_ok-note.ensures.ok
+    (subst (λ (l : List ℕ). c.args.at + length l ≤ length (read_behind f h)) (sym same) (c.requires (read_behind f h) refl)))
 
 pub returns-clause-time : goal.returns-clause-time
 returns-clause-time c =
