@@ -9,7 +9,7 @@ use decl_core::object::Object;
 use line_core::write_whole;
 use recover_core::recover::{House, Recovered};
 use script_open::open::{Opened, open_script};
-use std::alloc::{AllocError, Global};
+use std::alloc::{AllocError, AllocFailed, Global};
 use std::io::Write;
 
 /// What is tried.
@@ -41,6 +41,12 @@ pub enum Fault {
     Memory,
     /// A line could not be written.
     Written,
+}
+
+impl<T: Drop> From<AllocFailed<T>> for Fault {
+    fn from(_: AllocFailed<T>) -> Self {
+        Fault::Memory
+    }
 }
 
 impl From<AllocError> for Fault {
