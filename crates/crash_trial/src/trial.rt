@@ -63,6 +63,7 @@ const HOUSE: House = House {
 };
 
 // What was tried so far.
+#[derive(Drop)]
 struct Tried {
     crashes: u64,
     wrong: u64,
