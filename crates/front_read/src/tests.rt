@@ -1,0 +1,1 @@
+//! What no clause says: that a front is read at all.
