@@ -9,13 +9,14 @@ use decl_core::object::Object;
 use front_core::source::source_of;
 use guest_core::guests::Guests;
 use hosted_core::hosted::{Begun, Hosted};
+use journal_core::device::Device;
 use journal_core::journal::{Journal, recovered_are_lines, recovered_len};
 use line_read::arguments::data_of;
 use line_read::front::next_bare;
 use live_core::call::Limits;
 use live_core::live::Live;
 use path_tree::name::Name;
-use std::alloc::{AllocError, Global};
+use std::alloc::{AllocError, AllocFailed, Global};
 use value_core::datum::Datum;
 use value_core::value::Value;
 use word_core::number::session_of;
@@ -40,17 +41,43 @@ pub enum Stop {
     Memory,
 }
 
+impl<T: Drop> From<AllocFailed<T>> for Stop {
+    fn from(_: AllocFailed<T>) -> Self {
+        Stop::Memory
+    }
+}
+
 impl From<AllocError> for Stop {
     fn from(_: AllocError) -> Self {
         Stop::Memory
     }
 }
 
+/// What a journal was asked for.
+#[derive(Clone, Copy, Debug, PartialEq, Eq)]
+pub enum Asked {
+    /// To begin with a front.
+    Front,
+    /// To add lines.
+    Lines,
+    /// To store all.
+    Sync,
+}
+
+/// What became of the file of a journal, and what the journal was asked for.
+#[derive(Drop)]
+pub struct Played {
+    /// The file, with all that happened to it.
+    pub file: Kept,
+    /// What the journal was asked for, the oldest first.
+    pub asked: Vec<Asked>,
+}
+
 // A journal in order.
 #[derive(Drop)]
-struct Ordered {
-    journal: Journal<Kept>,
-    ghost in_order: { IsInOrder Kept.seen Kept.may_leave journal },
+struct Ordered<D: Device + Drop> {
+    journal: Journal<D>,
+    ghost in_order: { IsInOrder D.seen D.may_leave journal },
 }
 
 // Whether these bytes are whole lines, none of which has a byte 0.
@@ -61,8 +88,8 @@ fn are_lines(bytes: &[u8]) -> bool
     recovered_len(bytes) == bytes.len()
 }
 
-impl Ordered {
-    fn begin(alloc: Global, file: Kept, front: &[u8]) -> Option<Ordered> {
+impl<D: Device + Drop> Ordered<D> {
+    fn begin(alloc: Global, file: D, front: &[u8]) -> Option<Ordered<D>> {
         if !are_lines(front) || front.len() > ROOM * 1_024 {
             return None;
         }
@@ -72,7 +99,7 @@ impl Ordered {
         }
     }
 
-    fn append(self, lines: &[u8]) -> Option<Ordered> {
+    fn append(self, lines: &[u8]) -> Option<Ordered<D>> {
         if !are_lines(lines) {
             return None;
         }
@@ -83,7 +110,7 @@ impl Ordered {
         }
     }
 
-    fn sync(self) -> Option<Ordered> {
+    fn sync(self) -> Option<Ordered<D>> {
         let Ordered { mut journal } = self;
         match journal.sync() {
             Ok(()) => Some(Ordered { journal }),
@@ -91,7 +118,7 @@ impl Ordered {
         }
     }
 
-    fn change(self, alloc: Global, front: &[u8]) -> Option<Ordered> {
+    fn change(self, alloc: Global, front: &[u8]) -> Option<Ordered<D>> {
         if !are_lines(front) || front.len() > ROOM * 1_024 {
             return None;
         }
@@ -108,9 +135,11 @@ impl Ordered {
 pub struct Drive {
     alloc: Global,
     hosted: Hosted,
-    journal: Option<Ordered>,
+    journal: Option<Ordered<Kept>>,
     // Of each place of a client its session.
     sessions: Vec<Option<u16>>,
+    // What the journal was asked for.
+    asked: Vec<Asked>,
 }
 
 // The values of the parts at first.
@@ -159,19 +188,25 @@ impl Drive {
         for _ in 0..65 {
             sessions.push(None)?;
         }
+        let mut asked = Vec::new(alloc);
+        asked.push(Asked::Front)?;
         Ok(Some(Drive {
             alloc,
             hosted,
             journal: Some(journal),
             sessions,
+            asked,
         }))
     }
 
-    /// The file, with all that happened to it; `None` where the journal has failed.
-    pub fn into_file(self) -> Option<Kept> {
-        let journal = self.journal?;
-        let Ordered { journal } = journal;
-        Some(journal.into_device())
+    /// What became of the file; `None` where the journal has failed.
+    pub fn end(self) -> Option<Played> {
+        let Drive { journal, asked, .. } = self;
+        let Ordered { journal } = journal?;
+        Some(Played {
+            file: journal.into_device(),
+            asked,
+        })
     }
 
     fn with_lines(&mut self, lines: &[u8]) -> Result<(), Stop> {
@@ -182,6 +217,7 @@ impl Drive {
             return Err(Stop::Journal);
         };
         self.journal = journal.append(lines);
+        self.asked.push(Asked::Lines)?;
         Ok(())
     }
 
@@ -190,6 +226,7 @@ impl Drive {
             return Err(Stop::Journal);
         };
         self.journal = journal.sync();
+        self.asked.push(Asked::Sync)?;
         Ok(())
     }
 
@@ -203,6 +240,7 @@ impl Drive {
             return Err(Stop::Journal);
         };
         self.journal = journal.change(self.alloc, &front);
+        self.asked.push(Asked::Front)?;
         if !self.hosted.begin_next()? {
             return Err(Stop::Journal);
         }

@@ -5,6 +5,7 @@ use front_core::source::source_of;
 use hosted_core::start::{Ended, begin_again};
 use live_core::call::Limits;
 use recover_core::recover::Recovered;
+use replay_core::replay::Played;
 use std::alloc::{AllocError, Global};
 
 /// The front with which an object goes on behind what was recovered. `None`: it cannot. The error is that memory was
@@ -16,14 +17,27 @@ pub fn front_behind(
     limits: Limits,
 ) -> Result<Option<Vec<u8>>, AllocError> {
     let source = source_of(&object);
+    let Recovered {
+        epoch,
+        base,
+        played,
+        guests,
+        ..
+    } = recovered;
+    let Played {
+        contents,
+        counters,
+        long,
+        greatest,
+    } = played;
     let ended = Ended {
-        epoch: recovered.epoch,
-        base: recovered.base,
-        greatest: recovered.played.greatest,
-        contents: recovered.played.contents,
-        counters: recovered.played.counters,
-        long: recovered.played.long,
-        guests: recovered.guests,
+        epoch,
+        base,
+        greatest,
+        contents,
+        counters,
+        long,
+        guests,
     };
     match begin_again(alloc, object, ended, source, limits)? {
         None => Ok(None),

@@ -2,7 +2,7 @@
 
 use crate::crash::{How, mixed};
 use crate::device::{Happened, Kept};
-use crate::drive::{Drive, LIMITS, Stop};
+use crate::drive::{Asked as Call, Drive, LIMITS, Played, Stop};
 use crate::judge::{Outcome, follow, judge, standing_behind};
 use crate::tell::front_behind;
 use decl_core::object::Object;
@@ -99,8 +99,12 @@ fn object_of(alloc: Global, asked: &Asked) -> Result<Option<Object>, AllocError>
     }
 }
 
-// Plays a scenario, and gives the file with all that happened to it; or the number of the line that ended it.
-fn played(alloc: Global, object: Object, scenario: &[u8]) -> Result<Result<Kept, u64>, AllocError> {
+// Plays a scenario, and gives what became of the file; or the number of the line that ended it.
+fn played(
+    alloc: Global,
+    object: Object,
+    scenario: &[u8],
+) -> Result<Result<Played, u64>, AllocError> {
     let Some(mut drive) = Drive::new(alloc, object)? else {
         return Ok(Err(0));
     };
@@ -119,8 +123,8 @@ fn played(alloc: Global, object: Object, scenario: &[u8]) -> Result<Result<Kept,
             Err(_) => return Ok(Err(number)),
         }
     }
-    match drive.into_file() {
-        Some(file) => Ok(Ok(file)),
+    match drive.end() {
+        Some(played) => Ok(Ok(played)),
         None => Ok(Err(number)),
     }
 }
@@ -180,6 +184,24 @@ fn try_crash<W: Write>(
     tried.wrong = tried.wrong.saturating_add(1);
     let line = format!(in alloc; "wrong {calls} {how:?} {why}\n")?;
     tell(writer, line.as_bytes())
+}
+
+// Whether each call of a journal reached its file, in order, and nothing else did.
+fn is_each_done(asked: &[Call], happened: &[Happened]) -> bool {
+    if asked.len() != happened.len() {
+        return false;
+    }
+    for place in 0..asked.len() {
+        let is_done = match &happened[place] {
+            Happened::Wrote(_, _) => asked[place] == Call::Lines,
+            Happened::Stored => asked[place] == Call::Sync,
+            Happened::Replaced(_) => asked[place] == Call::Front,
+        };
+        if !is_done {
+            return false;
+        }
+    }
+    true
 }
 
 // A number of a list of so many, drawn.
@@ -247,14 +269,21 @@ pub fn run_trial<W: Write>(alloc: Global, asked: &Asked, writer: &mut W) -> Resu
         return Ok(Ended::Wrong);
     };
     let (_, scenario) = cut_line(&asked.scenario);
-    let file = match played(alloc, object, scenario)? {
-        Ok(file) => file,
+    let Played { file, asked: calls } = match played(alloc, object, scenario)? {
+        Ok(played) => played,
         Err(number) => {
             let line = format!(in alloc; "line {number} ends the scenario\n")?;
             tell(writer, line.as_bytes())?;
             return Ok(Ended::Wrong);
         }
     };
+    if !is_each_done(&calls, file.happened()) {
+        tell(
+            writer,
+            b"wrong, the file heard other calls than the journal\n",
+        )?;
+        return Ok(Ended::Wrong);
+    }
     tell_epochs(alloc, &file, writer)?;
     let mut tried = Tried {
         crashes: 0,
