@@ -1,6 +1,6 @@
 //! Pieces of a text.
 
-ghost use Rattle.std.specs.Prelude.{◌≡◌, ◌++◌, ◌∷◌, ◌<◌, ◌^◌, ℕ, List, MatchOption, IsTrue, ◌↔◌};
+ghost use Rattle.std.specs.Prelude.{◌≡◌, [], ◌+◌, ◌++◌, ◌∷◌, ◌<◌, ◌^◌, ℕ, List, MatchOption, IsTrue, ◌↔◌};
 ghost use Rattle.line_core.specs.Runs.{NoLineFeed};
 ghost use Rattle.front_read.specs.Text.{begins, goes_on, goes_on_behind_parts, goes_on_with_calls, feeds_in};
 
@@ -59,12 +59,21 @@ fn in_calls(text: &[u8]) -> bool
     begins_with(text, b"carried ") || begins_with(text, b"client ") || begins_with(text, b"kept ")
 }
 
+// What stands before the first line feed, and what stands after it.
+fn split_line(bytes: &[u8]) -> Option<(&[u8], &[u8])>
+    ensures { MatchOption result (NoLineFeed bytes.now) (λ parts. NoLineFeed parts.0.now
+        × (bytes.now ≡ parts.0.now ++ 10 ∷ parts.1.now)) }
+{
+    let at = bytes.iter().position(|b| *b == b'\n')?;
+    Some((&bytes[..at], &bytes[at + 1..]))
+}
+
 // What stands before the first line feed; all where there is none.
 pub(crate) fn first_line(text: &[u8]) -> &[u8]
     ensures { (line rest : List ℕ) → NoLineFeed line → text.now ≡ line ++ 10 ∷ rest → result.now ≡ line }
 {
-    match text.iter().position(|b| *b == b'\n') {
-        Some(at) => &text[..at],
+    match split_line(text) {
+        Some((line, _)) => line,
         None => text,
     }
 }

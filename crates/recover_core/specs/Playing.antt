@@ -40,12 +40,12 @@ Counts notes.Began n = n ≡ 0
 Counts (notes.Cancelled known) n = n ≡ 0
 Counts (notes.Named session name) n = n ≡ 0
 
--- whether a call started by what a line told
-abbrev pub IsStart : Note → Bool → Type 0
-IsStart notes.Began so = so ≡ true
-IsStart (notes.Ran known reply) so = so ≡ false
-IsStart (notes.Cancelled known) so = so ≡ false
-IsStart (notes.Named session name) so = so ≡ false
+-- whether no call runs behind a line that told this
+abbrev pub IsRest : Note → Bool → Type 0
+IsRest notes.Began so = so ≡ false
+IsRest (notes.Ran known reply) so = so ≡ true
+IsRest (notes.Cancelled known) so = so ≡ true
+IsRest (notes.Named session name) so = so ≡ true
 
 -- what is kept of an epoch and its clients stands for what was told behind a front, with these clients at first
 pub record PlayStands (o : ObjectForm) (f : Opening) (now : ℕ) (opened : Guests) (p : Playing) (heard : Heard) : Type 0 where

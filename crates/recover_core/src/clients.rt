@@ -46,6 +46,7 @@ fn ask(
 
 // A call of a session was asked and ended with this reply, and its client was told this number. False: a call of it has
 // not ended, or its keys are spent.
+#[tactic(auto, using(crate::proofs::Coming::remembers))]
 pub(crate) fn remember_ended(
     guests: &mut Guests,
     session: u16,
@@ -66,6 +67,7 @@ pub(crate) fn remember_ended(
 
 // A call of a session was asked and cancelled, and its client was told this number. False: a call of it has not ended,
 // or its keys are spent.
+#[tactic(auto, using(crate::proofs::Coming::remembers))]
 pub(crate) fn remember_cancelled(
     guests: &mut Guests,
     session: u16,

@@ -50,8 +50,10 @@ pub(crate) fn carried_of(alloc: Global, calls: &[CarriedCall]) -> Result<Vec<Car
     ensures { IfOk result (λ v. carried_calls v.items ≡ calls_of calls.now) }
 {
     let mut all = Vec::new(alloc);
-    for call in calls {
+    let mut rest = calls;
+    'calls: while let Some((call, more)) = rest.split_first() {
         all.push(carried_from(alloc, call)?)?;
+        rest = more;
     }
     Ok(all)
 }

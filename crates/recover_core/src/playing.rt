@@ -7,7 +7,7 @@ ghost use Rattle.replay_core.specs.Steps.{ran, cancelled, named};
 ghost use Rattle.replay_core.specs.Stands.{known_call};
 ghost use Rattle.recover_core.specs.Clients.{Makes};
 ghost use Rattle.front_core.specs.declared.front.CarriedCall.{CarriedCall as CarriedCall_of};
-ghost use Rattle.recover_core.specs.Playing.{TakesNote, Counts, IsStart, PlaysAll};
+ghost use Rattle.recover_core.specs.Playing.{TakesNote, Counts, IsRest, PlaysAll};
 
 use crate::clients::{admit, remember_cancelled, remember_ended};
 use crate::lines::split_line;
@@ -139,13 +139,13 @@ fn ended_by(note: &Note) -> u64
     }
 }
 
-// Whether a line told that a call started.
-fn is_start(note: &Note) -> bool
-    ensures { IsStart note.now result }
+// Whether no call runs behind a line that told this.
+fn is_rest(note: &Note) -> bool
+    ensures { IsRest note.now result }
 {
     match note {
-        Note::Began => true,
-        _ => false,
+        Note::Began => false,
+        _ => true,
     }
 }
 
@@ -171,7 +171,7 @@ impl Playing {
             return Ok(Err(Refused::Odd));
         }
         self.ended += ended_by(&note);
-        Ok(Ok(!is_start(&note)))
+        Ok(Ok(is_rest(&note)))
     }
 }
 

@@ -1,0 +1,4 @@
+mod Calling
+mod Forms
+mod Numerals
+mod Texts
