@@ -2,13 +2,11 @@
 use Rattle.std.proofs.Common.{◌≡◌, ◌≢◌, ◌∙◌, ap, sym, subst, refl, arith, ℕ, zero, suc, List, [], ◌∷◌, ◌++◌}
 use Rattle.std.specs.Prelude.{Some, slice_get}
 use Rattle.std.proofs.lemmas.Option.{same_Some}
-use Rattle.decl_core.specs.ObjectMap.{object_of}
-use Rattle.word_core.specs.Words.{line_of}
 use Rattle.trace_core.specs.Events.{Called}
 use Rattle.live_core.specs.Hall.{Hall, Told, Every, EachPair, IsHeld}
 use Rattle.live_core.specs.Steps.{Leaves}
-use Rattle.hosted_core.specs.Lines.{cancel_words}
-use Rattle.hosted_core.specs.Steps.{Cancels}
+use Rattle.hosted_core.specs.Calls.{LetsGo, TellsCancel, Cancels, IsCancelLine}
+use Rattle.hosted_core.specs.Scene.{Scene, told_of}
 
 every_at : (P : Called → Type 0) (xs : List Called) (k : ℕ) (c : Called) → Every P xs → slice_get xs k ≡ Some c → P c
 every_at P [] k c all is = absurd (grind (arith, is))
@@ -34,14 +32,35 @@ pub some_waits : (waiting : List Called) (session k : ℕ) (c : Called) → slic
     Every (λ (d : Called). d.session ≢ session) waiting → ⊥
 some_waits waiting session k c there of none = every_at (λ d. d.session ≢ session) waiting k c none there of
 
--- the line of the call of a session tells of the one that waits no more
-pub cancelled_by : (old new : Hall) (c d : Called) (session k : ℕ) → slice_get old.waiting k ≡ Some d → d.session ≡ session →
-    c.session ≡ session → Leaves old c new → Cancels old (line_of (cancel_words (object_of old.object) d)) new
-cancelled_by old new c d session k there of same left = record {
+-- the one that waits no more is the one of which it was told
+the_one : (old new : Hall) (c d : Called) (session k : ℕ) → slice_get old.waiting k ≡ Some d → d.session ≡ session →
+    c.session ≡ session → Leaves old c new → (t : Told) → IsHeld old t → d ≡ c
+the_one old new c d session k there of same left t held =
+    let each = subst (EachPair (λ (a b : Called). a.session ≢ b.session)) left.waited held.kept.one_each in
+    let there2 : slice_get (left.front ++ c ∷ left.behind) k ≡ Some d = subst (λ (ws : List Called). slice_get ws k ≡ Some d) left.waited there in
+    only_one left.front left.behind c d k each there2 (of ∙ sym same)
+
+pub cancelled_by : (old first new : Scene) (session : ℕ) (found : ℕ × ℕ) (before after : List ℕ) → TellsCancel old session before (Some found) after →
+    first ≡ old → (c : Called) × LetsGo first session found.0 c new → Cancels old session found.0 before after new
+cancelled_by old first new session found before after tells same_first gone = record {
   call = c;
-  left = left;
-  told = λ t held.
-      let each = subst (EachPair (λ (a b : Called). a.session ≢ b.session)) left.waited held.kept.one_each in
-      let there2 : slice_get (left.front ++ c ∷ left.behind) k ≡ Some d = subst (λ (ws : List Called). slice_get ws k ≡ Some d) left.waited there in
-      ap (λ x. line_of (cancel_words (object_of old.object) x)) (only_one left.front left.behind c d k each there2 (of ∙ sym same));
+  lets_go = goes;
+  lines = tells.4.0;
+  added = tells.4.1;
+  told_is = λ t held. tells.3 ∙ ap (λ (x : Called). told_of old x.number) (same t held);
+  line = λ t held. subst (λ (x : Called). IsCancelLine old session x tells.4.0) (same t held) tells.4.2;
 }
+  where
+    c : Called
+    c = gone.0
+
+    goes : LetsGo old session found.0 c new
+    goes = subst (λ (s : Scene). LetsGo s session found.0 c new) same_first gone.1
+
+    same : (t : Told) → IsHeld old.hall t → tells.0 ≡ c
+    same t held = the_one old.hall new.hall c tells.0 session tells.1.0 tells.1.1 tells.2 goes.of goes.left t held
+
+-- it was told of a call, so one waits
+pub not_told : (old : Scene) (session : ℕ) (found : ℕ × ℕ) (before after : List ℕ) → TellsCancel old session before (Some found) after →
+    Every (λ (d : Called). d.session ≢ session) old.hall.waiting → ⊥
+not_told old session found before after tells none = some_waits old.hall.waiting session tells.1.0 tells.0 tells.1.1 tells.2 none

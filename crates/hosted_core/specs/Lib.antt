@@ -1,2 +1,5 @@
+pub mod Calls
 pub mod Lines
+pub mod Scene
 pub mod Steps
+pub mod View

@@ -1,43 +1,52 @@
--- What happens to an object, and the lines that tell of it.
-use Rattle.std.specs.Prelude.{◌≡◌, ℕ, List, [], ◌++◌}
+-- What happens to an object with its clients, and the lines that tell of it.
+use Rattle.std.specs.Prelude.{◌≡◌, ℕ, ◌+◌, List, [], ◌++◌, Bool, Result, map}
+use Rattle.value_core.specs.declared.datum.Datum.{Datum}
 use Rattle.decl_core.specs.ObjectMap.{object_of}
-use Rattle.word_core.specs.Words.{line_of}
 use Rattle.trace_core.specs.Events.{Called}
-use Rattle.live_core.specs.declared.call.Ran.{Ran}
-use Rattle.live_core.specs.Answers.{IsTaken}
-use Rattle.live_core.specs.Hall.{Hall, Told, IsHeld}
+use Rattle.past_core.specs.declared.past.PastEvent.{PastEvent}
+use Rattle.live_core.specs.declared.live.Taken.{Taken}
+use Rattle.live_core.specs.Epochs.{IsBegun}
 use Rattle.live_core.specs.Lines.{all_lines}
-use Rattle.live_core.specs.Steps.{joined, IsSame, Leaves, SettlesTo}
-use Rattle.hosted_core.specs.Lines.{cancel_words, name_words}
+use Rattle.guest_core.specs.declared.guests.Entered.{Entered}
+use Rattle.guest_core.specs.declared.guests.EnterFault.{EnterFault}
+use Rattle.guest_core.specs.declared.seats.Seat.TheVariants.{Nameless}
+use Rattle.guest_core.specs.Entering.{Enters, Leaves}
+use Rattle.guest_core.specs.Guests.{Guests, with_seat}
+use Rattle.guest_core.specs.Seats.{IsLeastFree, renewed}
+use Rattle.hosted_core.specs.Calls.{Does, Cancels}
+use Rattle.hosted_core.specs.Lines.{entered_lines}
+use Rattle.hosted_core.specs.Scene.{Scene, told_of, with_guests}
 
--- a call is taken, and these ran: it, if it may start, and then those that waited and may
-pub record Takes (old : Hall) (all : List Ran) (new : Hall) : Type 0 where
-  pub call : Called
-  pub taken : IsTaken old call
-  pub same : IsSame (joined old call) new
-  pub settles : (t : Told) → IsHeld old t → SettlesTo (joined old call) t all new
+-- What it answers where a client comes by its name, and the line that it adds.
+pub record Comes (old : Scene) (name : List ℕ) (now : ℕ) (before : List ℕ) (a : Result Entered EnterFault) (after : List ℕ)
+    (new : Scene) : Type 0 where
+  pub enters : Enters old.guests name now a new.guests
+  pub left : new ≡ with_guests old new.guests
+  pub added : after ≡ before ++ entered_lines name a
 
--- a waiting call is cancelled, and these are the lines that tell of it
-pub record Cancels (old : Hall) (lines : List ℕ) (new : Hall) : Type 0 where
-  pub call : Called
-  pub left : Leaves old call new
-  pub told : (t : Told) → IsHeld old t → lines ≡ line_of (cancel_words (object_of old.object) call)
-
--- One thing that happens to an object, and the lines that tell of it. A cancelled call has a line where its client has a
--- name.
-pub data Step : Hall → List ℕ → Hall → Type 0 where
-  takes : {old new : Hall} (all : List Ran) → Takes old all new → Step old (all_lines (object_of old.object) all) new
-  cancels : {old new : Hall} {lines : List ℕ} → Cancels old lines new → Step old lines new
-  lets_go : {old new : Hall} (c : Called) → Leaves old c new → Step old [] new
-  names : {old : Hall} (session : ℕ) (name : List ℕ) → Step old (line_of (name_words session name)) old
+-- One thing that happens to an object, and the lines that tell of it: a client comes by its name; a session without a name
+-- gets a number; a session leaves; a call is taken; a waiting call is cancelled.
+pub data Step : Scene → List ℕ → Scene → Type 0 where
+  comes : {old : Scene} (name : List ℕ) (now : ℕ) (a : Result Entered EnterFault) (guests : Guests) →
+      Enters old.guests name now a guests → Step old (entered_lines name a) (with_guests old guests)
+  gets_number : {old : Scene} (session : ℕ) → IsLeastFree old.guests.seats session →
+      Step old [] (with_guests old (with_seat old.guests session Nameless))
+  leaves : {old : Scene} (session now : ℕ) (was_here : Bool) (guests : Guests) → Leaves old.guests session now was_here guests →
+      Step old [] (with_guests old guests)
+  calls : {old new : Scene} (session operation : ℕ) (arguments : List Datum) (a : Taken) →
+      Does old session operation arguments a new → Step old (all_lines (object_of old.hall.object) a.ran.items) new
+  cancels : {old new : Scene} (session told : ℕ) (lines : List ℕ) → Cancels old session told [] lines new → Step old lines new
 
 -- such steps, one after the other, and all of their lines
-pub data Steps : Hall → List ℕ → Hall → Type 0 where
-  rests : {old : Hall} → Steps old [] old
-  does : {old new : Hall} {lines : List ℕ} → Step old lines new → Steps old lines new
-  goes_on : {old mid new : Hall} {lines added : List ℕ} → Steps old lines mid → Steps mid added new →
+pub data Steps : Scene → List ℕ → Scene → Type 0 where
+  rests : {old : Scene} → Steps old [] old
+  does : {old new : Scene} {lines : List ℕ} → Step old lines new → Steps old lines new
+  goes_on : {old mid new : Scene} {lines added : List ℕ} → Steps old lines mid → Steps mid added new →
       Steps old (lines ++ added) new
 
--- an object goes by such steps, and their lines are added to these
-abbrev pub Adds : Hall → List ℕ → Hall → List ℕ → Type 0
-Adds old before new after = (lines : List ℕ) × (after ≡ before ++ lines) × Steps old lines new
+-- an epoch more has begun: the calls that wait are told by the numbers that they had, and the numbers of forgotten names
+-- are free
+pub record IsFollowed (old : Scene) (past : List PastEvent) (new : Scene) : Type 0 where
+  pub begun : IsBegun old.hall past new.hall
+  pub carried : new.carried ≡ map (λ (c : Called). told_of old c.number) old.hall.waiting
+  pub guests : new.guests ≡ record old.guests { seats = map renewed old.guests.seats }

@@ -1,8 +1,11 @@
 //! The next epoch of an object.
 
-ghost use Rattle.std.specs.Prelude.{◌≡◌, true, false, List, Ok};
+ghost use Rattle.std.specs.Prelude.{◌≡◌, true, false, List, Ok, IfOk, map};
 ghost use Rattle.past_core.specs.declared.past.PastEvent.{PastEvent as AnEvent};
-ghost use Rattle.live_core.specs.Epochs.{IsBegun};
+ghost use Rattle.trace_core.specs.Events.{Called};
+ghost use Rattle.guest_core.specs.Seats.{renewed};
+ghost use Rattle.hosted_core.specs.Scene.{told_of};
+ghost use Rattle.hosted_core.specs.Steps.{IsFollowed};
 
 use crate::hosted::Hosted;
 use decl_core::object::Object;
@@ -106,7 +109,9 @@ fn count_of(count: usize) -> u32 {
 
 impl Hosted {
     // The numbers that were told of the calls that wait.
-    fn told_of_waiting(&self) -> Result<Vec<u64>, AllocError> {
+    fn told_of_waiting(&self) -> Result<Vec<u64>, AllocError>
+        ensures { IfOk result (λ v. v.items ≡ map (λ (c : Called). told_of self.now c.number) self.now.hall.waiting) }
+    {
         let mut all = Vec::with_capacity(self.alloc, self.live.waiting().len())?;
         for call in self.live.waiting() {
             all.push(self.told(call.number()))?;
@@ -203,7 +208,7 @@ impl Hosted {
     /// Begins the next epoch, whose front was written. False: no short past was found, or it leaves too few numbers for the
     /// calls that wait; then, and where memory was refused, nothing changes.
     pub fn begin_next(&mut self) -> Result<bool, AllocError>
-        ensures begun { result ≡ Ok true → (past : List AnEvent) × IsBegun self.old past self.new }
+        ensures begun { result ≡ Ok true → (past : List AnEvent) × IsFollowed self.old past self.new }
         ensures none { result ≡ Ok false → self.new ≡ self.old }
     {
         let carried = self.told_of_waiting()?;
@@ -219,7 +224,12 @@ impl Hosted {
 
     // The next epoch has begun, behind this past.
     fn begun(&mut self, past: Vec<PastEvent>, carried: Vec<u64>, base: u64)
-        ensures { self.new ≡ self.old }
+        ensures { self.new ≡ record {
+          hall = self.old.hall;
+          guests = record self.old.guests { seats = map renewed self.old.guests.seats };
+          carried = carried.items;
+          base = base;
+        } }
     {
         self.given = count_of(self.live.waiting().len());
         self.long = past;

@@ -1,23 +1,25 @@
 //! An object that is served, with its clients.
 
-ghost use Rattle.std.specs.Prelude.{◌≡◌, ◌≢◌, ℕ, [], false, IsTrue, IfOk, IfSome, OnErr, OnOk, Some, slice_get};
+ghost use Rattle.std.specs.Prelude.{◌≡◌, ◌≢◌, ℕ, [], true, false, IfOk, IfSome, IfNone, Some, slice_get};
 ghost use Rattle.trace_core.specs.Events.{Called};
+ghost use Rattle.guest_core.specs.declared.guest.Guest.{Guest as AGuest};
+ghost use Rattle.guest_core.specs.declared.seats.Seat.TheVariants.{Nameless};
+ghost use Rattle.guest_core.specs.Entering.{Leaves};
+ghost use Rattle.guest_core.specs.Guests.{with_seat, IsNamed, HasNoName};
+ghost use Rattle.guest_core.specs.Seats.{IsLeastFree, NoneIsFree};
 ghost use Rattle.live_core.specs.Hall.{Every};
-ghost use Rattle.live_core.specs.Steps.{Leaves};
-ghost use Rattle.hosted_core.specs.Steps.{Adds, Steps, Takes};
+ghost use Rattle.hosted_core.specs.Scene.{told_of, with_guests};
 
-use crate::event::{push_cancelled, push_name};
-use crate::size::{most_lines, most_told};
+use crate::calls::most_of;
+use crate::size::most_told;
 use apply_core::fits::arguments_fit;
 use apply_core::reply::Reply;
-use ask_core::answer::{Cancelled, KeyedFault, SubmitFault};
+use ask_core::answer::{Cancelled, KeyedFault};
 use decl_core::object::Object;
-use guest_core::guests::{EnterFault, Entered, Guests};
-use guest_core::keys::{AskFault, Judged};
-use live_core::call::{Call, Ran};
-use live_core::hall::Refusal;
-use live_core::lines::push_all;
-use live_core::live::{Live, Taken};
+use guest_core::guests::Guests;
+use guest_core::keys::Judged;
+use live_core::call::Call;
+use live_core::live::Live;
 use past_core::past::PastEvent;
 use path_tree::name::Name;
 use path_tree::node::OpId;
@@ -73,7 +75,8 @@ pub enum Keyed {
     Refused(KeyedFault),
 }
 
-/// An object that is served, with its clients. A contract sees what its hand holds.
+/// An object that is served, with its clients. A contract sees what its hand holds, who its clients are, and how calls are
+/// told (`specs/Scene.antt`).
 #[derive(Drop)]
 pub struct Hosted {
     pub(crate) alloc: Global,
@@ -105,14 +108,17 @@ pub struct Hosted {
 }
 
 impl Model for Hosted {
-    ghost use Rattle.live_core.specs.Hall.{Hall};
+    ghost use Rattle.std.specs.Coded.{codes};
     ghost use Rattle.live_core.specs.contracts.live.Live as l;
+    ghost use Rattle.guest_core.specs.contracts.guests.Guests as g;
+    ghost use Rattle.hosted_core.specs.Scene.{Scene};
+    ghost use Rattle.hosted_core.specs.View.{scene_of};
 
-    ghost Value = { Hall };
+    ghost Value = { Scene };
 
-    ghost coded = { l.the_row.coded };
+    ghost coded = { Prim.hlevel (codes, l.the_row.coded, g.the_row.coded) };
 
-    ghost view = { λ h. h.live };
+    ghost view = { scene_of };
 }
 
 // The place of the operation of this name in an object.
@@ -137,7 +143,8 @@ fn numbered(waiting: &[Call], number: u32) -> Option<&Call> {
 
 // The call of this session among those that wait.
 fn made_by(waiting: &[Call], session: u16) -> Option<&Call>
-    ensures { IfSome result (λ c. (k : ℕ) × (slice_get waiting.now k ≡ Some c.now) × (c.now.session ≡ session)) }
+    ensures some { IfSome result (λ c. (k : ℕ) × (slice_get waiting.now k ≡ Some c.now) × (c.now.session ≡ session)) }
+    ensures none { IfNone result (Every (λ (c : Called). c.session ≢ session) waiting.now) }
 {
     for place in 0..waiting.len() {
         if waiting[place].session() == u32::from(session) {
@@ -145,34 +152,6 @@ fn made_by(waiting: &[Call], session: u16) -> Option<&Call>
         }
     }
     None
-}
-
-// How many bytes the lines of a call have at most.
-fn most_of(object: &Object, operation: OpId, arguments: &[Datum]) -> usize {
-    match object.operations.get(operation as usize) {
-        Some(found) => most_lines(found, arguments),
-        None => 0,
-    }
-}
-
-fn fault_of(refusal: Refusal) -> SubmitFault {
-    match refusal {
-        Refusal::Gone => SubmitFault::Gone,
-        Refusal::UnknownOp => SubmitFault::UnknownOp,
-        Refusal::BadArgs => SubmitFault::BadArgs,
-        Refusal::SessionBusy => SubmitFault::SessionBusy,
-        Refusal::Full => SubmitFault::Full,
-        Refusal::HistoryFull => SubmitFault::HistoryFull,
-        Refusal::Memory => SubmitFault::Memory,
-    }
-}
-
-fn asking_fault(fault: AskFault) -> SubmitFault {
-    match fault {
-        AskFault::SessionBusy => SubmitFault::SessionBusy,
-        AskFault::KeysSpent => SubmitFault::HistoryFull,
-        AskFault::Memory => SubmitFault::Memory,
-    }
 }
 
 fn no_owners(alloc: Global, sessions: u16) -> Result<Vec<u32>, AllocError> {
@@ -186,7 +165,7 @@ fn no_owners(alloc: Global, sessions: u16) -> Result<Vec<u32>, AllocError> {
 impl Hosted {
     /// An object to which no client is connected. The error is that memory was refused.
     pub fn new(alloc: Global, begun: Begun) -> Result<Hosted, AllocError>
-        ensures { IfOk result (λ h. h ≡ begun.live) }
+        ensures { IfOk result (λ h. h ≡ record { hall = begun.live; guests = begun.guests; carried = []; base = begun.base }) }
     {
         let owners = no_owners(alloc, begun.sessions)?;
         let Begun {
@@ -231,7 +210,7 @@ impl Hosted {
 
     /// What it keeps.
     pub fn live(&self) -> &Live
-        ensures { result.now ≡ self.now }
+        ensures { result.now ≡ self.now.hall }
     {
         &self.live
     }
@@ -250,7 +229,9 @@ impl Hosted {
     }
 
     /// The number that is told of the call of this number in this epoch.
-    pub fn told(&self, number: u32) -> u64 {
+    pub fn told(&self, number: u32) -> u64
+        ensures { result ≡ told_of self.now number }
+    {
         let place = (number as usize).saturating_sub(1);
         match self.carried.get(place) {
             Some(told) => *told,
@@ -286,10 +267,22 @@ impl Hosted {
         }
     }
 
+    // Whether a session has a name.
+    pub(crate) fn has_name(&self, session: u16) -> bool
+        ensures yes { result ≡ true → (p : ℕ) × (g : AGuest) × IsNamed self.now.guests session p g }
+        ensures no { result ≡ false → HasNoName self.now.guests session }
+    {
+        match self.guests.guest(session) {
+            Some(_) => true,
+            None => false,
+        }
+    }
+
     /// The waiting call of a session.
     pub fn waiting_of(&self, session: u16) -> Option<&Call>
-        ensures { IfSome result (λ c. (k : ℕ) × (slice_get self.now.waiting k ≡ Some c.now)
+        ensures some { IfSome result (λ c. (k : ℕ) × (slice_get self.now.hall.waiting k ≡ Some c.now)
             × (c.now.session ≡ session)) }
+        ensures none { IfNone result (Every (λ (c : Called). c.session ≢ session) self.now.hall.waiting) }
     {
         made_by(self.live.waiting(), session)
     }
@@ -410,18 +403,21 @@ impl Hosted {
         self.tried = self.behind;
     }
 
-    // A call is the first one of a round: where a new epoch was to be tried behind the round before, it could not begin.
-    fn look_back(&mut self)
+    // Where a call is the first one of a round, and a new epoch was to be tried behind the round before, it could not
+    // begin.
+    pub(crate) fn look_back(&mut self, is_first: bool)
         ensures { self.new ≡ self.old }
     {
-        if self.is_due_at(self.behind.saturating_sub(1)) {
+        if is_first && self.is_due_at(self.behind.saturating_sub(1)) {
             self.put_off();
         }
     }
 
     /// Gives a number to a session without a name. `None`: no number is free.
     pub fn seat(&mut self) -> Option<u16>
-        ensures { self.new ≡ self.old }
+        ensures some { IfSome result (λ s. IsLeastFree self.old.guests.seats s
+            × (self.new ≡ with_guests self.old (with_seat self.old.guests s Nameless))) }
+        ensures none { IfNone result (NoneIsFree self.old.guests.seats × (self.new ≡ self.old)) }
     {
         self.guests.seat()
     }
@@ -444,206 +440,22 @@ impl Hosted {
         (*owner as usize).checked_sub(1)
     }
 
-    /// Takes the memory in which it is kept that a call and all that wait ran.
-    pub fn reserve(&mut self) -> Result<(), AllocError>
-        ensures { self.new ≡ self.old }
+    /// A session leaves in the second `now`. No call of it waits. False: nobody had it, or its client is away; then nothing
+    /// changes.
+    pub fn leave(&mut self, session: u16, now: u64) -> bool
+        ensures guests { Leaves self.old.guests session now result self.new.guests }
+        ensures left { self.new ≡ with_guests self.old self.new.guests }
     {
-        let calls = self.live.waiting().len().saturating_add(1);
-        self.long.reserve(calls.saturating_mul(2))
-    }
-
-    // Submits a call. A fault changes nothing.
-    fn submit(
-        &mut self,
-        session: u16,
-        operation: OpId,
-        arguments: Vec<Datum>,
-    ) -> Result<Taken, SubmitFault>
-        ensures ok { IfOk result (λ a. Takes self.old a.ran.items self.new) }
-        ensures err { OnErr result (self.new ≡ self.old) }
-    {
-        if let Err(fault) = self.guests.ask(session, operation, &arguments) {
-            return Err(asking_fault(fault));
-        }
-        let own = most_of(self.live.object(), operation, &arguments);
-        match self.live.submit(u32::from(session), operation, arguments) {
-            Ok(taken) => {
-                self.given = taken.number;
-                self.owing = self.owing.saturating_add(own);
-                Ok(taken)
-            }
-            Err(refusal) => {
-                self.guests.withdraw(session);
-                Err(fault_of(refusal))
-            }
-        }
-    }
-
-    /// Submits a call, and adds the lines of all that ran. `is_first`: no line was added since a new epoch was last asked
-    /// for. A fault changes nothing. The error is that memory was refused for the lines.
-    pub fn call(
-        &mut self,
-        is_first: bool,
-        session: u16,
-        operation: OpId,
-        arguments: Vec<Datum>,
-        lines: &mut Vec<u8>,
-    ) -> Result<Result<Taken, SubmitFault>, AllocError>
-        ensures { OnOk result (Adds self.old lines.old.items self.new lines.new.items) }
-    {
-        if is_first {
-            self.look_back();
-        }
-        match self.submit(session, operation, arguments) {
-            Err(fault) => Ok(Err(fault)),
-            Ok(taken) => {
-                push_all(lines, self.live.object(), &taken.ran)?;
-                self.add(lines.len());
-                Ok(Ok(taken))
-            }
-        }
-    }
-
-    // A call waits no more.
-    fn forget(&mut self, operation: OpId, arguments: &[Datum])
-        ensures { self.new ≡ self.old }
-    {
-        let own = most_of(self.live.object(), operation, arguments);
-        self.owing = self.owing.saturating_sub(own);
-    }
-
-    /// A call ran: it is kept that it did, and its client remembers it. It answers the number that is told. The error is
-    /// that memory was refused; there is none where `reserve` was called.
-    pub fn ended(&mut self, ran: &Ran) -> Result<u64, AllocError>
-        ensures { self.new ≡ self.old }
-    {
-        let operation = ran.call.operation();
-        self.long.push(PastEvent::Start(operation))?;
-        self.long.push(PastEvent::End(operation))?;
-        self.forget(operation, ran.call.arguments());
-        let told = self.told(ran.call.number());
-        self.remember(ran, told);
-        self.entries = self.entries.saturating_add(1);
-        Ok(told)
-    }
-
-    // The client of a call that ran remembers it.
-    fn remember(&mut self, ran: &Ran, told: u64)
-        ensures { self.new ≡ self.old }
-    {
-        if let Ok(session) = u16::try_from(ran.call.session()) {
-            let _named = self.guests.end(session, told, &ran.reply);
-        }
-    }
-
-    // The waiting call of a session is let go, and its client remembers it: it was told this number, and its lines have so
-    // many bytes at most. False: no call of the session waits.
-    fn let_go(&mut self, session: u16, told: u64, own: usize) -> bool
-        ensures gone { IsTrue result → (c : Called) × (c.session ≡ session) × Leaves self.old c self.new }
-        ensures none { result ≡ false → (self.new ≡ self.old)
-            × Every (λ (c : Called). c.session ≢ session) self.old.waiting }
-    {
-        if !self.live.leave(u32::from(session)) {
-            return false;
-        }
-        self.owing = self.owing.saturating_sub(own);
-        let _named = self.guests.cancel(session, told);
-        true
-    }
-
-    // Cancels the waiting call of a session that has a name, and adds the line that tells of it.
-    fn cancel_named(&mut self, session: u16, lines: &mut Vec<u8>) -> Result<Option<u64>, AllocError>
-        ensures { OnOk result (Adds self.old lines.old.items self.new lines.new.items) }
-    {
-        let Some(call) = self.waiting_of(session) else {
-            return Ok(None);
-        };
-        let told = self.told(call.number());
-        let own = most_of(self.live.object(), call.operation(), call.arguments());
-        push_cancelled(lines, self.live.object(), call)?;
-        self.add(lines.len());
-        if !self.let_go(session, told, own) {
-            return Ok(None);
-        }
-        Ok(Some(told))
-    }
-
-    // Cancels the waiting call of a session that has no name.
-    fn cancel_nameless(&mut self, session: u16) -> Option<u64>
-        ensures { Steps self.old [] self.new }
-    {
-        let call = self.waiting_of(session)?;
-        let told = self.told(call.number());
-        let own = most_of(self.live.object(), call.operation(), call.arguments());
-        if !self.let_go(session, told, own) {
-            return None;
-        }
-        Some(told)
-    }
-
-    /// The waiting call of a session is cancelled, and its client remembers it. Where the client has a name, the line that
-    /// tells of it is added. It answers the number that is told, and nothing where no call of the session waits. The error
-    /// is that memory was refused; how much then stands in `lines` is not said.
-    pub fn cancel(&mut self, session: u16, lines: &mut Vec<u8>) -> Result<Option<u64>, AllocError>
-        ensures { OnOk result (Adds self.old lines.old.items self.new lines.new.items) }
-    {
-        if self.guests.guest(session).is_some() {
-            return self.cancel_named(session, lines);
-        }
-        Ok(self.cancel_nameless(session))
-    }
-
-    /// A client comes by its name in the second `now`, on the connection at this place. Where the name is new, the line
-    /// that tells of it is added. The error is that memory was refused for the line.
-    pub fn enter(
-        &mut self,
-        name: &Name,
-        place: usize,
-        now: u64,
-        lines: &mut Vec<u8>,
-    ) -> Result<Result<Entered, EnterFault>, AllocError>
-        ensures { OnOk result (Adds self.old lines.old.items self.new lines.new.items) }
-    {
-        match self.guests.enter(name, now) {
-            Err(fault) => Ok(Err(fault)),
-            Ok(entered) => {
-                self.own(entered.session, place);
-                if entered.is_new {
-                    self.push_name(entered.session, name, lines)?;
-                }
-                Ok(Ok(entered))
-            }
-        }
-    }
-
-    // Adds the line that tells that a session got a name.
-    fn push_name(
-        &mut self,
-        session: u16,
-        name: &Name,
-        lines: &mut Vec<u8>,
-    ) -> Result<(), AllocError>
-        ensures { OnOk result (Adds self.old lines.old.items self.new lines.new.items) }
-    {
-        push_name(lines, session, name)?;
-        self.add(lines.len());
-        Ok(())
-    }
-
-    // So many bytes of lines more stand behind the front.
-    fn add(&mut self, size: usize)
-        ensures { self.new ≡ self.old }
-    {
-        self.added = self.added.saturating_add(size);
-    }
-
-    /// A session leaves in the second `now`. No call of it waits.
-    pub fn leave(&mut self, session: u16, now: u64)
-        ensures { self.new ≡ self.old }
-    {
-        let _was = self.guests.leave(session, now);
         if let Some(row) = self.owners.get_mut(session as usize) {
             *row = 0;
         }
+        self.guests.leave(session, now)
+    }
+
+    // So many bytes of lines more stand behind the front.
+    pub(crate) fn add(&mut self, size: usize)
+        ensures { self.new ≡ self.old }
+    {
+        self.added = self.added.saturating_add(size);
     }
 }

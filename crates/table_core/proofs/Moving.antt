@@ -3,7 +3,7 @@ use Rattle.std.proofs.Common.{◌≡◌, ◌∙◌, ap, sym, subst, refl, arith,
 use Rattle.std.specs.Prelude.{Bool, true, false, Some, slice_get, slice_set, if◌then◌else◌, ◌==◌}
 use Rattle.std.proofs.lemmas.List.{append-nil, length-set}
 use Rattle.std.proofs.lemmas.Option.{same_Some, slice_get_within, slice_get-get_or}
-use Rattle.live_core.specs.Hall.{Hall}
+use Rattle.hosted_core.specs.Scene.{Scene}
 use Rattle.keep_loop.specs.Posts.{Tells, Does, is_here, owed_to}
 use Rattle.keep_loop.specs.Texts.{text_at, to}
 use Rattle.keep_loop.specs.declared.post.Post.{Post}
@@ -47,14 +47,14 @@ tells_then a b c said more added further one two = record {
 }
 
 -- objects that are as they were
-pub moves_none : (halls : List Hall) → Moves halls [] halls
-moves_none halls = record {
+pub moves_none : (scenes : List Scene) → Moves scenes [] scenes
+moves_none scenes = record {
   count = refl;
   steps = λ j h k was is. subst (λ x. Steps h [] x) (same_Some h k (sym was ∙ is)) rests;
 }
 
 -- objects that go on and on
-moves_then : (a b c : List Hall) (added further : List (ℕ × List ℕ)) → Moves a added b → Moves b further c → Moves a (added ++ further) c
+moves_then : (a b c : List Scene) (added further : List (ℕ × List ℕ)) → Moves a added b → Moves b further c → Moves a (added ++ further) c
 moves_then a b c added further one two = record {
   count = two.count ∙ one.count;
   steps = λ j h k was is.
@@ -64,20 +64,20 @@ moves_then a b c added further one two = record {
       (goes_on (one.steps j h m.0 was m.1) (two.steps j m.0 k m.1 is));
 }
   where
-    get_at : (xs : List Hall) (j : ℕ) → j < length xs → (m : Hall) × (slice_get xs j ≡ Some m)
+    get_at : (xs : List Scene) (j : ℕ) → j < length xs → (m : Scene) × (slice_get xs j ≡ Some m)
     get_at [] j within = absurd (omega (arith, within))
     get_at (x ∷ xs) zero within = (x, refl)
     get_at (x ∷ xs) (suc j) within = get_at xs j (omega (arith, within))
 
-set_here : (xs : List Hall) (k : ℕ) (x y : Hall) → slice_get (slice_set xs k x) k ≡ Some y → x ≡ y
+set_here : (xs : List Scene) (k : ℕ) (x y : Scene) → slice_get (slice_set xs k x) k ≡ Some y → x ≡ y
 set_here [] k x y is = absurd (none_is_some is)
   where
-    none_is_some : slice_get (slice_set ([] {A = Hall}) k x) k ≡ Some y → ⊥
+    none_is_some : slice_get (slice_set ([] {A = Scene}) k x) k ≡ Some y → ⊥
     none_is_some e = grind (arith, e)
 set_here (z ∷ xs) zero x y is = same_Some x y is
 set_here (z ∷ xs) (suc k) x y is = set_here xs k x y is
 
-set_other : (xs : List Hall) (i j : ℕ) (x : Hall) → (i == j) ≡ false → slice_get (slice_set xs i x) j ≡ slice_get xs j
+set_other : (xs : List Scene) (i j : ℕ) (x : Scene) → (i == j) ≡ false → slice_get (slice_set xs i x) j ≡ slice_get xs j
 set_other [] i j x ne = refl
 set_other (y ∷ xs) zero zero x ne = absurd (grind (arith, ne))
 set_other (y ∷ xs) zero (suc j) x ne = refl
@@ -85,31 +85,31 @@ set_other (y ∷ xs) (suc i) zero x ne = refl
 set_other (y ∷ xs) (suc i) (suc j) x ne = set_other xs i j x ne
 
 -- one object goes on, and the others are as they were
-pub moves_one : (halls : List Hall) (at : ℕ) (old new : Hall) (lines : List ℕ) → slice_get halls at ≡ Some old → Steps old lines new →
-    Moves halls ((at, lines) ∷ []) (slice_set halls at new)
-moves_one halls at old new lines there goes = record {
-  count = length-set halls at new;
+pub moves_one : (scenes : List Scene) (at : ℕ) (old new : Scene) (lines : List ℕ) → slice_get scenes at ≡ Some old → Steps old lines new →
+    Moves scenes ((at, lines) ∷ []) (slice_set scenes at new)
+moves_one scenes at old new lines there goes = record {
+  count = length-set scenes at new;
   steps = λ j h k was is. one j h k was is (at == j) refl;
 }
   where
-    one : (j : ℕ) (h k : Hall) → slice_get halls j ≡ Some h → slice_get (slice_set halls at new) j ≡ Some k → (b : Bool) → (at == j) ≡ b →
+    one : (j : ℕ) (h k : Scene) → slice_get scenes j ≡ Some h → slice_get (slice_set scenes at new) j ≡ Some k → (b : Bool) → (at == j) ≡ b →
         Steps h ((if at == j then lines else []) ++ []) k
     one j h k was is true same =
         let at_is : at ≡ j = eqb-true at j same in
-        let h_is : old ≡ h = same_Some old h (sym there ∙ ap (slice_get halls) at_is ∙ was) in
-        let k_is : new ≡ k = set_here halls at new k (subst (λ n. slice_get (slice_set halls at new) n ≡ Some k) (sym at_is) is) in
+        let h_is : old ≡ h = same_Some old h (sym there ∙ ap (slice_get scenes) at_is ∙ was) in
+        let k_is : new ≡ k = set_here scenes at new k (subst (λ n. slice_get (slice_set scenes at new) n ≡ Some k) (sym at_is) is) in
         subst (λ b. Steps h ((if b then lines else []) ++ []) k) (sym same)
         (subst (λ l. Steps h l k) (sym (append-nil lines)) (subst (λ x. Steps h lines x) k_is (subst (λ x. Steps x lines new) h_is goes)))
     one j h k was is false other =
-        let same : h ≡ k = same_Some h k (sym was ∙ sym (set_other halls at j new other) ∙ is) in
+        let same : h ≡ k = same_Some h k (sym was ∙ sym (set_other scenes at j new other) ∙ is) in
         subst (λ b. Steps h ((if b then lines else []) ++ []) k) (sym other) (subst (λ x. Steps h [] x) same rests)
 
 -- a turn begins
-pub along_first : (halls : List Hall) (post : Post) → Along halls post halls post
-along_first halls post = record { said = []; added = []; tells = tells_none post; moves = moves_none halls }
+pub along_first : (scenes : List Scene) (post : Post) → Along scenes post scenes post
+along_first scenes post = record { said = []; added = []; tells = tells_none post; moves = moves_none scenes }
 
 -- a turn goes on, and something is told and added
-pub goes_by : (old new : List Hall) (a b : Post) (said added : List (ℕ × List ℕ)) → Moves old added new → Tells a b said added → GoesOn old a new b
+pub goes_by : (old new : List Scene) (a b : Post) (said added : List (ℕ × List ℕ)) → Moves old added new → Tells a b said added → GoesOn old a new b
 goes_by old new a b said added moves tells = λ first before along. record {
   said = along.said ++ said;
   added = along.added ++ added;
@@ -118,11 +118,11 @@ goes_by old new a b said added moves tells = λ first before along. record {
 }
 
 -- a turn goes on, and something is told
-pub tells_on : (halls : List Hall) (a b : Post) (said : List (ℕ × List ℕ)) → Tells a b said [] → GoesOn halls a halls b
-tells_on halls a b said tells = goes_by halls halls a b said [] (moves_none halls) tells
+pub tells_on : (scenes : List Scene) (a b : Post) (said : List (ℕ × List ℕ)) → Tells a b said [] → GoesOn scenes a scenes b
+tells_on scenes a b said tells = goes_by scenes scenes a b said [] (moves_none scenes) tells
 
 -- a turn goes on, and lines are added for what an object does
-pub adds_on : (halls : List Hall) (at : ℕ) (old new : Hall) (lines : List ℕ) (a b : Post) → slice_get halls at ≡ Some old → Steps old lines new →
-    Tells a b [] ((at, lines) ∷ []) → GoesOn halls a (slice_set halls at new) b
-adds_on halls at old new lines a b there goes tells =
-    goes_by halls (slice_set halls at new) a b [] ((at, lines) ∷ []) (moves_one halls at old new lines there goes) tells
+pub adds_on : (scenes : List Scene) (at : ℕ) (old new : Scene) (lines : List ℕ) (a b : Post) → slice_get scenes at ≡ Some old → Steps old lines new →
+    Tells a b [] ((at, lines) ∷ []) → GoesOn scenes a (slice_set scenes at new) b
+adds_on scenes at old new lines a b there goes tells =
+    goes_by scenes (slice_set scenes at new) a b [] ((at, lines) ∷ []) (moves_one scenes at old new lines there goes) tells

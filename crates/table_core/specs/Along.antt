@@ -1,17 +1,17 @@
 -- A turn that goes on.
 use Rattle.std.specs.Prelude.{ℕ, List}
-use Rattle.live_core.specs.Hall.{Hall}
+use Rattle.hosted_core.specs.Scene.{Scene}
 use Rattle.keep_loop.specs.Posts.{Tells}
 use Rattle.keep_loop.specs.declared.post.Post.{Post}
 use Rattle.table_core.specs.Moves.{Moves}
 
 -- since the turn began, this was told and added, and the objects moved so
-pub record Along (first : List Hall) (before : Post) (now : List Hall) (post : Post) : Type 0 where
+pub record Along (first : List Scene) (before : Post) (now : List Scene) (post : Post) : Type 0 where
   pub said : List (ℕ × List ℕ)
   pub added : List (ℕ × List ℕ)
   pub tells : Tells before post said added
   pub moves : Moves first added now
 
 -- a turn goes on
-abbrev pub GoesOn : List Hall → Post → List Hall → Post → Type 0
-GoesOn old post new after = (first : List Hall) (before : Post) → Along first before old post → Along first before new after
+abbrev pub GoesOn : List Scene → Post → List Scene → Post → Type 0
+GoesOn old post new after = (first : List Scene) (before : Post) → Along first before old post → Along first before new after

@@ -32,7 +32,7 @@ const MOST_LINE: usize = 8_192;
 // The most bytes of the lines that tell of a name or of a cancel.
 const SHORT_LINE: usize = 192;
 
-/// All objects of a kept server, and all connections. A contract sees what the hands of the objects hold.
+/// All objects of a kept server, and all connections. A contract sees each object with its clients.
 #[derive(Drop)]
 pub struct Table {
     alloc: Global,
@@ -47,12 +47,12 @@ pub struct Table {
 impl Model for Table {
     ghost use Rattle.std.specs.Prelude.{List};
     ghost use Rattle.std.specs.Coded.{coded_list};
-    ghost use Rattle.live_core.specs.Hall.{Hall};
-    ghost use Rattle.live_core.specs.contracts.live.Live as l;
+    ghost use Rattle.hosted_core.specs.Scene.{Scene};
+    ghost use Rattle.hosted_core.specs.contracts.hosted.Hosted as h;
 
-    ghost Value = { List Hall };
+    ghost Value = { List Scene };
 
-    ghost coded = { coded_list l.the_row.coded };
+    ghost coded = { coded_list h.the_row.coded };
 
     ghost view = { λ t. t.objects.items };
 }
@@ -468,10 +468,10 @@ impl Table {
     fn ended(&mut self, at: usize, ran: &Ran, post: &mut Post) -> Result<(), AllocError>
         ensures { OnOk result (GoesOn self.old post.old self.new post.new) }
     {
-        let Some(object) = self.objects.get_mut(at) else {
+        let Some(object) = self.objects.get(at) else {
             return Ok(());
         };
-        let told = object.ended(ran)?;
+        let told = object.told(ran.call.number());
         let Some(place) = object.owner(ran.call.session()) else {
             return Ok(());
         };
@@ -604,7 +604,7 @@ impl Table {
         }
         let now = self.now;
         if let Some(object) = self.objects.get_mut(opened.object) {
-            object.leave(opened.session, now);
+            let _was_here = object.leave(opened.session, now);
         }
     }
 
@@ -844,7 +844,7 @@ impl Served for Table {
 
     ghost gives = { Gives };
 
-    ghost fronts = { λ halls journal front. Unit {0} };
+    ghost fronts = { λ scenes journal front. Unit {0} };
 
     fn hear(
         &mut self,
