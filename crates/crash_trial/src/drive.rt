@@ -277,12 +277,7 @@ impl Drive {
             .call(false, session, operation, arguments, &mut lines)?
         {
             Err(_) => Ok(()),
-            Ok(taken) => {
-                for ran in &taken.ran {
-                    self.hosted.ended(ran)?;
-                }
-                self.with_lines(&lines)
-            }
+            Ok(_) => self.with_lines(&lines),
         }
     }
 
