@@ -28,7 +28,7 @@ pub const LIMITS: Limits = Limits {
 };
 
 /// Behind a front there is room for so many bytes.
-pub const ROOM: usize = 16_384;
+pub const ROOM: usize = 65_536;
 
 /// Why a scenario does not go on.
 #[derive(Drop)]
