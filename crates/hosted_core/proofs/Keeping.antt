@@ -1,5 +1,5 @@
 -- What is known of clients while their calls are made.
-use Rattle.std.proofs.Common.{◌≡◌, ◌≢◌, ◌∙◌, ap, sym, subst, refl, arith, ℕ, zero, suc, inl, inr, ◌⊎◌, List, [], ◌∷◌, ◌++◌, Bool, true, false, Option, Some, None, Ok, Err}
+use Rattle.std.proofs.Common.{◌≡◌, ◌∙◌, ap, sym, subst, refl, arith, ℕ, zero, suc, inl, inr, ◌⊎◌, List, [], ◌∷◌, ◌++◌, Bool, true, false, Some, None, Ok, Err}
 use Rattle.std.specs.Prelude.{slice_get, slice_set}
 use Rattle.value_core.specs.declared.datum.Datum.{Datum}
 use Rattle.decl_core.specs.ObjectMap.{object_of}
@@ -163,6 +163,7 @@ remembered_then old first mid new r all more same one left rest is =
     along : (xs : List Ran) (g : Guests) → AreRemembered (with_guests first mid.guests) g xs new.guests → AreRemembered first g xs new.guests
     along [] g is = is
     along (x ∷ xs) g is = (is.0, record { was_asked = is.1.was_asked; remembers = is.1.remembers }, along xs is.0 is.2)
+
     whole : AreRemembered first first.guests (r ∷ more) new.guests
     whole = (mid.guests, one, along more mid.guests (subst (λ (s : Scene). AreRemembered s mid.guests more new.guests) left rest))
 

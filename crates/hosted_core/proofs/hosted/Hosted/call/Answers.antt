@@ -1,4 +1,3 @@
-use Rattle.std.proofs.Common.{◌∙◌}
 use Rattle.hosted_core.proofs.Keeping.{did}
 use Rattle.hosted_core.proofs.hosted.Hosted.call.Goals as goal
 

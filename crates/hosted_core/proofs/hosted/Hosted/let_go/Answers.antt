@@ -1,5 +1,4 @@
 use Rattle.hosted_core.specs.View.{scene_of}
-use Rattle.std.proofs.Common.{refl}
 use Rattle.hosted_core.proofs.Keeping.{gone_by}
 use Rattle.hosted_core.proofs.hosted.Hosted.let_go.Goals as goal
 
