@@ -2,9 +2,8 @@
 
 ghost use Rattle.journal_core.specs.Journal.{AreLines};
 ghost use Rattle.journal_core.specs.Order.{IsInOrder};
-ghost use Rattle.std.specs.Prelude.{◌≡◌, ◌<◌, ◌+◌, ◌^◌, length, true};
+ghost use Rattle.std.specs.Prelude.{◌≡◌, ◌≢◌, ◌<◌, ◌+◌, ◌^◌, [], length, true, IfOk, IfSome, OnOk};
 
-use crate::device::Kept;
 use decl_core::object::Object;
 use front_core::source::source_of;
 use guest_core::guests::Guests;
@@ -64,22 +63,6 @@ pub enum Asked {
     Sync,
 }
 
-/// What became of the file of a journal, and what the journal was asked for.
-#[derive(Drop)]
-pub struct Played {
-    /// The file, with all that happened to it.
-    pub file: Kept,
-    /// What the journal was asked for, the oldest first.
-    pub asked: Vec<Asked>,
-}
-
-// A journal in order.
-#[derive(Drop)]
-struct Ordered<D: Device + Drop> {
-    journal: Journal<D>,
-    ghost in_order: { IsInOrder D.seen D.may_leave journal },
-}
-
 // Whether these bytes are whole lines, none of which has a byte 0.
 fn are_lines(bytes: &[u8]) -> bool
     ensures { result ≡ true → AreLines bytes.now }
@@ -88,54 +71,57 @@ fn are_lines(bytes: &[u8]) -> bool
     recovered_len(bytes) == bytes.len()
 }
 
-impl<D: Device + Drop> Ordered<D> {
-    fn begin(alloc: Global, file: D, front: &[u8]) -> Option<Ordered<D>> {
-        if !are_lines(front) || front.len() > ROOM * 1_024 {
-            return None;
-        }
-        match Journal::begin(alloc, file, front, ROOM) {
-            Ok(journal) => Some(Ordered { journal }),
-            Err(_) => None,
-        }
+// Adds lines to a journal.
+fn append<D: Device>(journal: &mut Journal<D>, lines: &[u8]) -> Result<(), Stop>
+    requires { IsInOrder D.seen D.may_leave journal.old }
+    ensures { OnOk result (IsInOrder D.seen D.may_leave journal.new) }
+{
+    if !are_lines(lines) {
+        return Err(Stop::Journal);
     }
-
-    fn append(self, lines: &[u8]) -> Option<Ordered<D>> {
-        if !are_lines(lines) {
-            return None;
-        }
-        let Ordered { mut journal } = self;
-        match journal.append(lines) {
-            Ok(()) => Some(Ordered { journal }),
-            Err(_) => None,
-        }
-    }
-
-    fn sync(self) -> Option<Ordered<D>> {
-        let Ordered { mut journal } = self;
-        match journal.sync() {
-            Ok(()) => Some(Ordered { journal }),
-            Err(_) => None,
-        }
-    }
-
-    fn change(self, alloc: Global, front: &[u8]) -> Option<Ordered<D>> {
-        if !are_lines(front) || front.len() > ROOM * 1_024 {
-            return None;
-        }
-        let Ordered { mut journal } = self;
-        match journal.change(alloc, front, ROOM) {
-            Ok(()) => Some(Ordered { journal }),
-            Err(_) => None,
-        }
+    match journal.append(lines) {
+        Ok(()) => Ok(()),
+        Err(_) => Err(Stop::Journal),
     }
 }
 
-/// A kept object over its journal, and the clients of a scenario.
+// Stores all lines of a journal.
+fn store<D: Device>(journal: &mut Journal<D>) -> Result<(), Stop>
+    requires { IsInOrder D.seen D.may_leave journal.old }
+    ensures { OnOk result (IsInOrder D.seen D.may_leave journal.new) }
+{
+    match journal.sync() {
+        Ok(()) => Ok(()),
+        Err(_) => Err(Stop::Journal),
+    }
+}
+
+// Whether a journal can begin with this front.
+fn is_front(front: &[u8]) -> bool
+    ensures { result ≡ true → AreLines front.now × (length front.now + 65536 < 2 ^ 62) }
+{
+    are_lines(front) && front.len() <= 1 << 40
+}
+
+// Begins a journal anew.
+fn renew<D: Device>(alloc: Global, journal: &mut Journal<D>, front: &[u8]) -> Result<(), Stop>
+    requires { IsInOrder D.seen D.may_leave journal.old }
+    ensures { OnOk result (IsInOrder D.seen D.may_leave journal.new) }
+{
+    if !is_front(front) {
+        return Err(Stop::Journal);
+    }
+    match journal.change(alloc, front, ROOM) {
+        Ok(()) => Ok(()),
+        Err(_) => Err(Stop::Journal),
+    }
+}
+
+/// A kept object, and the clients of a scenario.
 #[derive(Drop)]
 pub struct Drive {
     alloc: Global,
     hosted: Hosted,
-    journal: Option<Ordered<Kept>>,
     // Of each place of a client its session.
     sessions: Vec<Option<u16>>,
     // What the journal was asked for.
@@ -172,79 +158,87 @@ fn hosted_of(alloc: Global, object: Object) -> Result<Option<Hosted>, AllocError
     Ok(Some(Hosted::new(alloc, begun)?))
 }
 
+/// A text up to its first line end, and what stands behind that.
+pub fn cut_line(text: &[u8]) -> (&[u8], &[u8])
+    ensures { text.now ≢ [] → length result.1.now < length text.now }
+{
+    for place in 0..text.len() {
+        if text[place] == b'\n' {
+            return (&text[..place], &text[place + 1..]);
+        }
+    }
+    (text, &[])
+}
+
 impl Drive {
-    /// An object that nobody has used, over an empty file. `None`: it has no front. The error is that memory was refused.
+    /// An object that nobody has used. `None`: it cannot be begun. The error is that memory was refused.
     pub fn new(alloc: Global, object: Object) -> Result<Option<Drive>, AllocError> {
         let Some(hosted) = hosted_of(alloc, object)? else {
-            return Ok(None);
-        };
-        let mut front = Vec::new(alloc);
-        hosted.push_first(&mut front)?;
-        let file = Kept::new(alloc, Vec::new(alloc));
-        let Some(journal) = Ordered::begin(alloc, file, &front) else {
             return Ok(None);
         };
         let mut sessions = Vec::new(alloc);
         for _ in 0..65 {
             sessions.push(None)?;
         }
-        let mut asked = Vec::new(alloc);
-        asked.push(Asked::Front)?;
         Ok(Some(Drive {
             alloc,
             hosted,
-            journal: Some(journal),
             sessions,
-            asked,
+            asked: Vec::new(alloc),
         }))
     }
 
-    /// What became of the file; `None` where the journal has failed.
-    pub fn end(self) -> Option<Played> {
-        let Drive { journal, asked, .. } = self;
-        let Ordered { journal } = journal?;
-        Some(Played {
-            file: journal.into_device(),
-            asked,
-        })
+    /// What the journal was asked for.
+    pub fn asked(&self) -> &[Asked] {
+        &self.asked
     }
 
-    fn with_lines(&mut self, lines: &[u8]) -> Result<(), Stop> {
+    /// A journal over this file that begins with the front of the object. `None`: it cannot.
+    pub fn begin<D: Device + Drop>(&mut self, file: D) -> Result<Option<Journal<D>>, AllocError>
+        ensures { IfOk result (λ found. IfSome found (λ journal. IsInOrder D.seen D.may_leave journal)) }
+    {
+        let mut front = Vec::new(self.alloc);
+        self.hosted.push_first(&mut front)?;
+        self.asked.push(Asked::Front)?;
+        if !is_front(&front) {
+            return Ok(None);
+        }
+        match Journal::begin(self.alloc, file, &front, ROOM) {
+            Ok(journal) => Ok(Some(journal)),
+            Err(_) => Ok(None),
+        }
+    }
+
+    fn with_lines<D: Device>(&mut self, journal: &mut Journal<D>, lines: &[u8]) -> Result<(), Stop>
+        requires { IsInOrder D.seen D.may_leave journal.old }
+        ensures { OnOk result (IsInOrder D.seen D.may_leave journal.new) }
+    {
         if lines.is_empty() {
             return Ok(());
         }
-        let Some(journal) = self.journal.take() else {
-            return Err(Stop::Journal);
-        };
-        self.journal = journal.append(lines);
         self.asked.push(Asked::Lines)?;
-        Ok(())
+        append(journal, lines)
     }
 
-    fn sync(&mut self) -> Result<(), Stop> {
-        let Some(journal) = self.journal.take() else {
-            return Err(Stop::Journal);
-        };
-        self.journal = journal.sync();
+    fn sync<D: Device>(&mut self, journal: &mut Journal<D>) -> Result<(), Stop>
+        requires { IsInOrder D.seen D.may_leave journal.old }
+        ensures { OnOk result (IsInOrder D.seen D.may_leave journal.new) }
+    {
         self.asked.push(Asked::Sync)?;
-        Ok(())
+        store(journal)
     }
 
     // Begins the next epoch.
-    fn change(&mut self) -> Result<(), Stop> {
+    fn change<D: Device>(&mut self, journal: &mut Journal<D>) -> Result<(), Stop>
+        requires { IsInOrder D.seen D.may_leave journal.old }
+        ensures { OnOk result (IsInOrder D.seen D.may_leave journal.new) }
+    {
         let mut front = Vec::new(self.alloc);
-        if !self.hosted.write_next(&mut front)? {
+        if !self.hosted.write_next(&mut front)? || !self.hosted.begin_next()? {
             return Err(Stop::Journal);
         }
-        let Some(journal) = self.journal.take() else {
-            return Err(Stop::Journal);
-        };
-        self.journal = journal.change(self.alloc, &front);
         self.asked.push(Asked::Front)?;
-        if !self.hosted.begin_next()? {
-            return Err(Stop::Journal);
-        }
-        Ok(())
+        renew(self.alloc, journal, &front)
     }
 
     // The session at a place, which gets one where it has none.
@@ -263,62 +257,67 @@ impl Drive {
         }
     }
 
-    fn call(&mut self, place: usize, name: &Name, arguments: Vec<Datum>) -> Result<(), Stop> {
+    // Makes a call of the client at a place, and adds its lines.
+    fn call(
+        &mut self,
+        place: usize,
+        name: &Name,
+        arguments: Vec<Datum>,
+        lines: &mut Vec<u8>,
+    ) -> Result<(), Stop> {
         let Some(session) = self.session_at(place) else {
             return Ok(());
         };
         let Some(operation) = self.hosted.operation(name) else {
             return Err(Stop::BadLine);
         };
-        let mut lines = Vec::new(self.alloc);
         self.hosted.reserve()?;
-        match self
+        let _made = self
             .hosted
-            .call(false, session, operation, arguments, &mut lines)?
-        {
-            Err(_) => Ok(()),
-            Ok(_) => self.with_lines(&lines),
-        }
+            .call(false, session, operation, arguments, lines)?;
+        Ok(())
     }
 
-    fn enter(&mut self, place: usize, name: &Name) -> Result<(), Stop> {
+    // The client at a place comes by a name.
+    fn enter(&mut self, place: usize, name: &Name, lines: &mut Vec<u8>) -> Result<(), Stop> {
         if let Some(Some(_)) = self.sessions.get(place) {
             return Ok(());
         }
-        let mut lines = Vec::new(self.alloc);
-        match self.hosted.enter(name, place, 0, &mut lines)? {
-            Err(_) => Ok(()),
-            Ok(entered) => {
-                if let Some(row) = self.sessions.get_mut(place) {
-                    *row = Some(entered.session);
-                }
-                self.with_lines(&lines)
+        if let Ok(entered) = self.hosted.enter(name, place, 0, lines)? {
+            if let Some(row) = self.sessions.get_mut(place) {
+                *row = Some(entered.session);
             }
         }
+        Ok(())
     }
 
-    fn cancel(&mut self, place: usize) -> Result<(), Stop> {
-        let Some(Some(session)) = self.sessions.get(place) else {
-            return Ok(());
-        };
-        let session = *session;
-        let mut lines = Vec::new(self.alloc);
-        self.hosted.cancel(session, &mut lines)?;
-        self.with_lines(&lines)
+    // The waiting call of the client at a place is cancelled.
+    fn cancel(&mut self, place: usize, lines: &mut Vec<u8>) -> Result<(), Stop> {
+        if let Some(Some(session)) = self.sessions.get(place) {
+            let _told = self.hosted.cancel(*session, lines)?;
+        }
+        Ok(())
     }
 
-    fn leave(&mut self, place: usize) -> Result<(), Stop> {
-        self.cancel(place)?;
+    // The client at a place leaves.
+    fn leave(&mut self, place: usize, lines: &mut Vec<u8>) -> Result<(), Stop> {
+        self.cancel(place, lines)?;
         if let Some(row) = self.sessions.get_mut(place) {
             if let Some(session) = row.take() {
-                self.hosted.leave(session, 0);
+                let _left = self.hosted.leave(session, 0);
             }
         }
         Ok(())
     }
 
     // Does what a line says of the client at a place: a call, or that it comes by a name.
-    fn play_named(&mut self, verb: &[u8], place: usize, line: &[u8]) -> Result<(), Stop> {
+    fn play_named(
+        &mut self,
+        verb: &[u8],
+        place: usize,
+        line: &[u8],
+        lines: &mut Vec<u8>,
+    ) -> Result<(), Stop> {
         let Some((name, rest)) = next_bare(line) else {
             return Err(Stop::BadLine);
         };
@@ -326,17 +325,17 @@ impl Drive {
             return Err(Stop::BadLine);
         };
         match verb {
-            b"name" => self.enter(place, &name),
+            b"name" => self.enter(place, &name, lines),
             b"call" => match data_of(self.alloc, rest)? {
-                Some(arguments) => self.call(place, &name, arguments),
+                Some(arguments) => self.call(place, &name, arguments, lines),
                 None => Err(Stop::BadLine),
             },
             _ => Err(Stop::BadLine),
         }
     }
 
-    // Does what a line says of a client.
-    fn play_of(&mut self, verb: &[u8], line: &[u8]) -> Result<(), Stop> {
+    // Does what a line says of a client, and adds the lines that tell of it.
+    fn play_of(&mut self, verb: &[u8], line: &[u8], lines: &mut Vec<u8>) -> Result<(), Stop> {
         let Some((place, rest)) = next_bare(line) else {
             return Err(Stop::BadLine);
         };
@@ -345,22 +344,48 @@ impl Drive {
         };
         let place = place as usize;
         match verb {
-            b"cancel" => self.cancel(place),
-            b"leave" => self.leave(place),
-            _ => self.play_named(verb, place, rest),
+            b"cancel" => self.cancel(place, lines),
+            b"leave" => self.leave(place, lines),
+            _ => self.play_named(verb, place, rest, lines),
         }
     }
 
     /// Plays a line of a scenario: `call sP OP ARG ..` of the client at the place P, 1 to 64; `cancel sP` and `leave sP`;
     /// `name sP NAME`, by which it comes; `sync`; `epoch`. Calls that are refused change nothing.
-    pub fn play(&mut self, line: &[u8]) -> Result<(), Stop> {
+    pub fn play<D: Device>(&mut self, journal: &mut Journal<D>, line: &[u8]) -> Result<(), Stop>
+        requires { IsInOrder D.seen D.may_leave journal.old }
+        ensures { OnOk result (IsInOrder D.seen D.may_leave journal.new) }
+    {
         let Some((verb, rest)) = next_bare(line) else {
             return Err(Stop::BadLine);
         };
         match verb {
-            b"sync" => self.sync(),
-            b"epoch" => self.change(),
-            _ => self.play_of(verb, rest),
+            b"sync" => self.sync(journal),
+            b"epoch" => self.change(journal),
+            _ => {
+                let mut lines = Vec::new(self.alloc);
+                self.play_of(verb, rest, &mut lines)?;
+                self.with_lines(journal, &lines)
+            }
+        }
+    }
+
+    /// Plays the lines of a scenario. `Err`: why it does not go on, and the number of the line.
+    pub fn play_all<D: Device>(
+        &mut self,
+        journal: &mut Journal<D>,
+        scenario: &[u8],
+        number: u64,
+    ) -> Result<(), (Stop, u64)>
+        requires { IsInOrder D.seen D.may_leave journal.old }
+    {
+        if scenario.is_empty() {
+            return Ok(());
+        }
+        let (line, rest) = cut_line(scenario);
+        match self.play(journal, line) {
+            Ok(()) => self.play_all(journal, rest, number.saturating_add(1)),
+            Err(stop) => Err((stop, number)),
         }
     }
 }

@@ -2,7 +2,7 @@
 
 use crate::crash::{How, mixed};
 use crate::device::{Happened, Kept};
-use crate::drive::{Asked as Call, Drive, LIMITS, Played, Stop};
+use crate::drive::{Asked as Call, Drive, LIMITS, Stop, cut_line};
 use crate::judge::{Outcome, follow, judge, standing_behind};
 use crate::tell::front_behind;
 use decl_core::object::Object;
@@ -78,16 +78,6 @@ fn tell<W: Write>(writer: &mut W, text: &[u8]) -> Result<(), Fault> {
     }
 }
 
-// A text up to its first line end, and what stands behind that.
-fn cut_line(text: &[u8]) -> (&[u8], &[u8]) {
-    for place in 0..text.len() {
-        if text[place] == b'\n' {
-            return (&text[..place], &text[place + 1..]);
-        }
-    }
-    (text, &[])
-}
-
 // The object of a scenario.
 fn object_of(alloc: Global, asked: &Asked) -> Result<Option<Object>, AllocError> {
     let (line, _) = cut_line(&asked.scenario);
@@ -99,6 +89,13 @@ fn object_of(alloc: Global, asked: &Asked) -> Result<Option<Object>, AllocError>
     }
 }
 
+// What became of the file of a journal, and what the journal was asked for.
+#[derive(Drop)]
+struct Played {
+    file: Kept,
+    calls: Vec<Call>,
+}
+
 // Plays a scenario, and gives what became of the file; or the number of the line that ended it.
 fn played(
     alloc: Global,
@@ -108,24 +105,17 @@ fn played(
     let Some(mut drive) = Drive::new(alloc, object)? else {
         return Ok(Err(0));
     };
-    let mut number: u64 = 0;
-    let mut rest = scenario;
-    for _ in 0..scenario.len() {
-        if rest.is_empty() {
-            break;
-        }
-        number = number.saturating_add(1);
-        let (line, behind) = cut_line(rest);
-        rest = behind;
-        match drive.play(line) {
-            Ok(()) => {}
-            Err(Stop::Memory) => return Err(AllocError),
-            Err(_) => return Ok(Err(number)),
-        }
-    }
-    match drive.end() {
-        Some(played) => Ok(Ok(played)),
-        None => Ok(Err(number)),
+    let file = Kept::new(alloc, Vec::new(alloc));
+    let Some(mut journal) = drive.begin(file)? else {
+        return Ok(Err(0));
+    };
+    match drive.play_all(&mut journal, scenario, 1) {
+        Err((Stop::Memory, _)) => Err(AllocError),
+        Err((_, number)) => Ok(Err(number)),
+        Ok(()) => Ok(Ok(Played {
+            file: journal.into_device(),
+            calls: drive.asked().to_vec(alloc)?,
+        })),
     }
 }
 
@@ -269,7 +259,7 @@ pub fn run_trial<W: Write>(alloc: Global, asked: &Asked, writer: &mut W) -> Resu
         return Ok(Ended::Wrong);
     };
     let (_, scenario) = cut_line(&asked.scenario);
-    let Played { file, asked: calls } = match played(alloc, object, scenario)? {
+    let Played { file, calls } = match played(alloc, object, scenario)? {
         Ok(played) => played,
         Err(number) => {
             let line = format!(in alloc; "line {number} ends the scenario\n")?;
