@@ -97,7 +97,7 @@ struct Played {
 }
 
 // Plays a scenario, and gives what became of the file; or the number of the line that ended it.
-fn played(
+fn play_scenario(
     alloc: Global,
     object: Object,
     scenario: &[u8],
@@ -259,7 +259,7 @@ pub fn run_trial<W: Write>(alloc: Global, asked: &Asked, writer: &mut W) -> Resu
         return Ok(Ended::Wrong);
     };
     let (_, scenario) = cut_line(&asked.scenario);
-    let Played { file, calls } = match played(alloc, object, scenario)? {
+    let Played { file, calls } = match play_scenario(alloc, object, scenario)? {
         Ok(played) => played,
         Err(number) => {
             let line = format!(in alloc; "line {number} ends the scenario\n")?;
