@@ -60,7 +60,7 @@ pub record Follows (o : ObjectForm) (r : Recovered) (f : Opening) : Type 0 where
 -- what is told of one that may not
 abbrev pub Differs : Recovered → Opening → ChainFault → Type 0
 Differs r f faults.Epoch = f.epoch ≢ r.epoch + 1
-Differs r f faults.Values = Unit {0}
+Differs r f faults.Values = r.played.contents.items ≢ f.parts
 Differs r f faults.Past = Unit {0}
 Differs r f faults.Numbers = AreNumbered r.base r.played.greatest f.base (length f.carried) → ⊥
 Differs r f faults.Clients = Unit {0}

@@ -1,10 +1,9 @@
 -- What is recovered of the text of a journal.
-use Rattle.std.specs.Prelude.{◌≡◌, ◌≢◌, ◌⊎◌, ℕ, ◌+◌, List, [], ◌++◌, length, None, Result, MatchResult}
+use Rattle.std.specs.Prelude.{◌≡◌, ◌≢◌, ℕ, ◌+◌, List, [], ◌++◌, length, None, Result, MatchResult}
 use Rattle.path_tree.specs.Trace.{running_calls}
 use Rattle.path_count.specs.Stands.{StandsFor}
 use Rattle.decl_core.specs.ObjectForm.{ObjectForm}
-use Rattle.front_core.specs.Front.{Opening, HasRows}
-use Rattle.front_core.specs.Text.{front_text}
+use Rattle.front_core.specs.Front.{Opening}
 use Rattle.guest_core.specs.Guests.{Guests}
 use Rattle.guest_core.specs.Seats.{free_seats}
 use Rattle.replay_core.specs.Numbers.{greatest_in}
@@ -19,7 +18,7 @@ use Rattle.recover_core.specs.declared.recover.Head.{Head}
 use Rattle.recover_core.specs.declared.playing.Playing.{Playing}
 use Rattle.recover_core.specs.declared.playing.Refused.{Refused}
 use Rattle.recover_core.specs.declared.playing.Refused.TheVariants.{Faulty, Odd}
-use Rattle.recover_core.specs.Lines.{IsLine, AreLines, joined, line_ends}
+use Rattle.recover_core.specs.Lines.{IsLine, AreLines, joined}
 use Rattle.recover_core.specs.Carried.{AreCounted}
 use Rattle.recover_core.specs.Clients.{OpenAll, MakeAll}
 use Rattle.recover_core.specs.Playing.{begun_by, PlayStands, IsFaultyAt}
@@ -80,18 +79,3 @@ PlaysBehind o p head size behind found = (f : Opening) (h : House) (opened : Gue
     PlayStands o f h.now opened p nothing_heard → AreCounted 0 f.carried → OpenAll h.now (nobody h) f.clients f.kept opened →
     head.epoch ≡ f.epoch → head.source ≡ f.source → head.base ≡ f.base →
     MatchResult found (IsBehind o h f size.bytes behind) (RefusesBehind o f size.lines behind)
-
--- A text is that of a front and of whole lines behind it, and this is recovered of them.
-pub record IsRecovered (o : ObjectForm) (h : House) (text : List ℕ) (r : Recovered) : Type 0 where
-  pub front : Opening
-  pub rows : HasRows o front
-  pub behind : List ℕ
-  pub text_is : text ≡ front_text o front ++ behind
-  pub is : IsBehind o h front (length (front_text o front)) behind r
-  pub whole : is.rest ≡ []
-
--- why nothing is recovered of a text
-abbrev pub Refuses : ObjectForm → List ℕ → RecoverFault → Type 0
-Refuses o text fault = ((line : ℕ) × (fault ≡ faults.Front line))
-    ⊎ ((f : Opening) × (behind : List ℕ) × HasRows o f × (text ≡ front_text o f ++ behind)
-    × RefusesBehind o f (line_ends (front_text o f)) behind fault)

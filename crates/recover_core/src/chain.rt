@@ -1,6 +1,6 @@
 //! Whether an epoch may follow another one.
 
-ghost use Rattle.std.specs.Prelude.{◌≡◌, ◌+◌, ◌≤◌, ◌∷◌, ◌↔◌, length, IsTrue, IfOk, IfSome, MatchOption};
+ghost use Rattle.std.specs.Prelude.{◌≡◌, [], ◌+◌, ◌≤◌, ◌∷◌, ◌↔◌, length, IsTrue, IfOk, IfSome, MatchOption};
 ghost use Rattle.decl_core.specs.ObjectMap.{object_of};
 ghost use Rattle.front_core.specs.Front.{opening_of};
 ghost use Rattle.front_core.specs.Past.{events_in};
@@ -36,9 +36,16 @@ pub enum ChainFault {
     Clients,
 }
 
+// Whether an epoch is the one behind another.
+fn is_next(before: u64, next: u64) -> bool
+    ensures { IsTrue result ↔ (next ≡ before + 1) }
+{
+    before.checked_add(1) == Some(next)
+}
+
 // Whether both are the same value.
 fn is_same_value(alloc: Global, a: &Value, b: &Value) -> Result<bool, AllocError>
-    ensures { IfOk result (λ yes. IsTrue yes → a.now ≡ b.now) }
+    ensures { IfOk result (λ yes. IsTrue yes ↔ (a.now ≡ b.now)) }
 {
     let first = encode(alloc, a)?;
     let second = encode(alloc, b)?;
@@ -53,7 +60,7 @@ fn is_same(a: &[u8], b: &[u8]) -> bool
 
 // Whether both are the same values, in order.
 fn are_same_values(alloc: Global, a: &[Value], b: &[Value]) -> Result<bool, AllocError>
-    ensures { IfOk result (λ yes. IsTrue yes → a.now ≡ b.now) }
+    ensures { IfOk result (λ yes. IsTrue yes ↔ (a.now ≡ b.now)) }
 {
     match (a, b) {
         ([], []) => Ok(true),
@@ -118,12 +125,19 @@ fn is_same_answer(answer: &Answer, kept: &Kept) -> bool
 fn are_same_calls(calls: &[KeptCall], kept: &[Kept]) -> bool
     ensures { IsTrue result ↔ AreSameCalls calls.now kept.now }
 {
-    match (calls, kept) {
-        ([], []) => true,
-        ([call, calls @ ..], [kept @ .., last]) => is_same_call(call, last)
-            && are_same_calls(calls, kept),
-        _ => false,
+    match calls {
+        [] => is_none(kept),
+        [call, calls @ ..] => match kept.split_last() {
+            None => false,
+            Some((last, others)) => is_same_call(call, last) && are_same_calls(calls, others),
+        },
     }
+}
+
+fn is_none(kept: &[Kept]) -> bool
+    ensures { IsTrue result ↔ (kept.now ≡ []) }
+{
+    kept.is_empty()
 }
 
 // Whether a client was known before, with its session and key; then so many of its calls are kept.
@@ -182,7 +196,7 @@ pub fn follows(
         (Follows (object_of object.now) before.now (opening_of front.now))
         (Differs before.now (opening_of front.now))) }
 {
-    if before.epoch.checked_add(1) != Some(front.epoch) {
+    if !is_next(before.epoch, front.epoch) {
         return Ok(Some(ChainFault::Epoch));
     }
     if !are_same_values(alloc, &before.played.contents, &front.parts)? {

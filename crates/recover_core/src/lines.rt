@@ -12,8 +12,8 @@ pub(crate) fn split_line(text: &[u8]) -> Option<(&[u8], &[u8])>
     Some((&text[..at], &text[at + 1..]))
 }
 
-// How many lines end in a text.
-pub(crate) fn line_ends(text: &[u8]) -> u64
+/// How many lines end in a text.
+pub fn line_ends(text: &[u8]) -> u64
     ensures ends { result ≡ ends_in text.now }
     ensures few { result ≤ length text.now }
 {

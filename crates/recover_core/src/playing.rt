@@ -1,6 +1,6 @@
 //! The lines behind a front, played.
 
-ghost use Rattle.std.specs.Prelude.{◌≡◌, ◌+◌, ◌≤◌, ◌<◌, ◌^◌, IsTrue, List, ℕ, IfOk, cond};
+ghost use Rattle.std.specs.Prelude.{◌≡◌, ◌+◌, ◌≤◌, ◌<◌, ◌^◌, IsTrue, List, ℕ, IfOk, IfErr, cond, length};
 ghost use Rattle.audit_core.specs.View.{told_view};
 ghost use Rattle.decl_core.specs.ObjectMap.{object_of};
 ghost use Rattle.replay_core.specs.Steps.{ran, cancelled, named};
@@ -177,7 +177,8 @@ impl Playing {
 
 // How far is played: to here, where nothing runs, or only to there.
 fn mark_of(rests: bool, here: usize, there: usize) -> usize
-    ensures { result ≡ cond rests here there }
+    ensures mark { result ≡ cond rests here there }
+    ensures few { (n : ℕ) → here ≤ n → there ≤ n → result ≤ n }
 {
     if rests {
         return here;
@@ -193,7 +194,9 @@ pub(crate) fn play(
     behind: &[u8],
 ) -> Result<Result<usize, (u64, Refused)>, AllocError>
     requires { playing.old.ended ≡ 0 }
-    ensures { IfOk result (λ found. PlaysAll (object_of object.now) behind.now playing.old found playing.new) }
+    ensures played { IfOk result (λ found. PlaysAll (object_of object.now) behind.now playing.old found playing.new) }
+    ensures mark { IfOk result (λ found. IfOk found (λ mark. mark ≤ length behind.now)) }
+    ensures number { IfOk result (λ found. IfErr found (λ at. at.0 ≤ length behind.now)) }
 {
     let mut rest = behind;
     let mut number: u64 = 0;

@@ -3,17 +3,15 @@
 ghost use Rattle.std.specs.Prelude.{◌≡◌, ◌+◌, ◌<◌, ◌^◌, ℕ, length, IfOk, IfSome, IfNone, MatchResult};
 ghost use Rattle.decl_core.specs.ObjectForm.{ObjectForm};
 ghost use Rattle.decl_core.specs.ObjectMap.{object_of};
-ghost use Rattle.journal_core.specs.Journal.{recovered};
 ghost use Rattle.front_core.specs.Front.{Opening, opening_of};
 ghost use Rattle.guest_core.specs.Guests.{Guests as AllGuests};
 ghost use Rattle.replay_core.specs.Steps.{Heard, nothing_heard};
 ghost use Rattle.recover_core.specs.Carried.{AreCounted};
 ghost use Rattle.recover_core.specs.Clients.{OpenAll};
 ghost use Rattle.recover_core.specs.Playing.{PlayStands};
-ghost use Rattle.recover_core.specs.Recovered.{ComesTo, IsBehind, RefusesBehind, PlaysBehind, told_of, IsRecovered, Refuses};
+ghost use Rattle.recover_core.specs.Recovered.{ComesTo, IsBehind, RefusesBehind, PlaysBehind, told_of};
 
 use crate::clients::{Odd, open_all};
-use crate::lines::line_ends;
 use crate::numbers::{Numbers, carried_of, uncounted};
 use crate::playing::{Playing, Refused, play};
 use audit_core::verdict::Fault;
@@ -21,9 +19,7 @@ use decl_core::object::Object;
 use front_core::front::Front;
 use front_core::past::events_of;
 use front_core::source::source_of;
-use front_read::read::read_front;
 use guest_core::guests::Guests;
-use journal_core::journal::recovered_len;
 use replay_core::replay::{Played, Replay};
 use std::alloc::{AllocError, Global};
 
@@ -76,13 +72,6 @@ pub enum RecoverFault {
     Past,
     /// This line behind the front has this fault.
     Line(u64, Fault),
-}
-
-// The whole lines of a file, before its first byte 0.
-fn whole(file: &[u8]) -> &[u8]
-    ensures { result.now ≡ recovered file.now }
-{
-    &file[..recovered_len(file)]
 }
 
 // The number of a line of a front of so many lines.
@@ -248,33 +237,5 @@ pub fn recover_behind(
     match begin(alloc, object, guests, house.now, front)? {
         Some(playing) => recover_lines(object, playing, head, size, behind),
         None => Ok(Err(RecoverFault::Past)),
-    }
-}
-
-/// What the epoch of an object came to whose journal has this text, or begins with it: up to its first byte 0, and there
-/// up to its last whole line. A call that started in the last line, and whose end is not there, never was.
-///
-/// The errors are those of [`RecoverFault`], in their order; the outer error is that memory was refused.
-pub fn recover(
-    alloc: Global,
-    object: &Object,
-    house: House,
-    text: &[u8],
-) -> Result<Result<Recovered, RecoverFault>, AllocError>
-    ensures { IfOk result (λ found. MatchResult found
-        (IsRecovered (object_of object.now) house (recovered text.now))
-        (Refuses (object_of object.now) (recovered text.now))) }
-{
-    let text = whole(text);
-    match read_front(alloc, object, text)? {
-        Err(line) => Ok(Err(RecoverFault::Front(line))),
-        Ok((front, bytes)) => {
-            let (before, behind) = text.split_at(bytes);
-            let size = FrontSize {
-                lines: line_ends(before),
-                bytes,
-            };
-            recover_behind(alloc, object, house, front, size, behind)
-        }
     }
 }

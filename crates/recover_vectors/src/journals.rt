@@ -3,7 +3,8 @@
 use decl_core::object::Object;
 use decl_read::read::read_objects;
 use front_core::source::source_of;
-use recover_core::recover::{House, RecoverFault, Recovered, recover};
+use recover_core::recover::{House, RecoverFault, Recovered};
+use recover_text::recover::recover;
 use std::alloc::Global;
 use std::process::Abort;
 

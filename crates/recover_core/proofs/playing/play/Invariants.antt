@@ -13,6 +13,7 @@ invariant-lines l = record {
       Follows (object_of l.object) f now opened l.behind l.rest l.playing l.number l.mark;
   bound : l.number + length l.rest ≤ length l.behind;
   few : l.playing.ended ≤ l.number;
+  mark : l.mark ≤ length l.behind;
 }
 
 abbrev pub decreases-lines : goal.decreases-lines
