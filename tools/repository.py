@@ -38,8 +38,17 @@ def files(folder):
 
 
 # What a source is made of, as far as its braces go: comments, strings, characters (not lifetimes), words, and single marks.
-PIECE = re.compile(r"""//[^\n]*|"(?:\\.|[^"\\])*"|'(?:\\[^']*|[^\\'\n])'|\w+|\s+|.""", re.S)
+PIECE = re.compile(r"""//[^\n]*|"(?:\\.|[^"\\])*"|'(?:\\.[^']*|[^\\'\n])'|\w+|\s+|.""", re.S)
 CLAUSES = {"requires", "ensures", "ghost"}
+WORD = re.compile(r"[\w']+")
+
+
+def without_comments(source):
+    return "".join(it for it in PIECE.findall(source) if not it.startswith("//"))
+
+
+def has_macros(source):
+    return "macro_rules!" in source
 
 
 def without_bodies(source):
@@ -96,7 +105,13 @@ def without_bodies(source):
     return " ".join("".join(kept).split())
 
 
-IMPORT = re.compile(r"(?:(pub) )?(ghost )?\buse ([^;{}]*?)(?:\{([^{}]*)\}|(\w+))(?: as (\w+))?;")
+IMPORT = re.compile(r"(?:(pub)(?:\([^)]*\))? )?(ghost )?\buse ([^;{}]*?)(?:\{([^{}]*)\}|(\w+))(?: as (\w+))?;")
+
+
+def known_as(path, item):
+    """The name by which a file knows what it imports from behind this path."""
+    name = item.split(" as ")[-1].split("::")[-1].replace("◌", "").strip()
+    return WORD.findall(path)[-1] if name == "self" else name
 
 
 def without_spare_names(source):
@@ -104,8 +119,7 @@ def without_spare_names(source):
     source = re.sub(r"(?<!pub )\bmod \w+;", "", source)
     rest = IMPORT.sub("", source)
 
-    def is_named(item):
-        name = item.split(" as ")[-1].split("::")[-1].replace("◌", "").strip()
+    def is_named(name):
         if not re.fullmatch(r"[\w']+", name):
             return name in rest
         return re.search(rf"(?<![\w']){name}(?![\w'])", rest) is not None
@@ -113,7 +127,7 @@ def without_spare_names(source):
     def kept(found):
         public, ghost, path, several, one, other = found.groups()
         items = [it.strip() for it in several.split(",")] if several is not None else [f"{one} as {other}" if other else one]
-        items = [it for it in items if it and (public or is_named(it))]
+        items = [it for it in items if it and (public or is_named(known_as(path, it)))]
         return f"{public or ''} {ghost or ''}use {path}{{{', '.join(items)}}};" if items else ""
 
     return " ".join(IMPORT.sub(kept, source).split())
@@ -121,8 +135,10 @@ def without_spare_names(source):
 
 def interface(folder):
     """What a proof of a crate above may read of the crate in this folder: its definitions, and of its sources the types, the constants and
-    the signatures and clauses of the functions that other crates can name. A call is known by its contract alone."""
-    sources = {it.relative_to(folder): without_bodies(it.read_text(encoding="utf-8")) for it in files(folder / "src")}
+    the signatures and clauses of the functions that other crates can name. A call is known by its contract alone. A source
+    with a macro is read whole, since what a macro says becomes a body above."""
+    read = lambda text: without_comments(text) if has_macros(text) else without_bodies(text)
+    sources = {it.relative_to(folder): read(it.read_text(encoding="utf-8")) for it in files(folder / "src")}
     specs = {it.relative_to(folder): it.read_text(encoding="utf-8") for it in files(folder / "specs")}
     private = re.compile(r"\bconst (\w+): [^;{}]*;")
     text = "\n".join([*sources.values(), *specs.values()])
@@ -143,7 +159,7 @@ def imports_for(imports, text):
     for public, ghost, path, several, one, other in imports:
         items = [it.strip() for it in several.split(",")] if several is not None else [f"{one} as {other}" if other else one]
         for it in filter(None, items):
-            name = it.split(" as ")[-1].split("::")[-1].replace("◌", "").strip()
+            name = known_as(path, it)
             is_word = re.fullmatch(r"[\w']+", name)
             if public or (re.search(rf"(?<![\w']){name}(?![\w'])", text) if is_word else name in text and not path.startswith("Rattle.std.")):
                 found.add(f"{public or ''} {ghost or ''}use {path}{{{it}}};".strip())
@@ -206,16 +222,18 @@ def definitions_apart(text):
     return [(f"{imports_for(imports, it)}\n{it}", frozenset(ANTT_NAME.findall(it))) for it in blocks]
 
 
-WORD = re.compile(r"[\w']+")
-# Words that are joined to a path, with those in the braces at its end.
-PATH = re.compile(r"[\w']+(?:\s*(?:::|\.)\s*[\w']+)*(?:\s*(?:::|\.)\s*\{[^{}]*\})?")
+# Words that are joined to a path, with those in the braces at its end, or a star.
+PATH = re.compile(r"[\w']+(?:\s*(?:::|\.)\s*[\w']+)*(?:\s*(?:::|\.)\s*(?:\{[^{}]*\}|\*))?")
 DECLARED = re.compile(r"\b(?:struct|enum|trait|type|union) (\w+)")
-# The head of an impl, from the type on for which it is.
-IMPL_HEAD = re.compile(r"\bimpl\b(?:[^{};]*\bfor\b)?([^{]*)\{")
+# What has values, or methods that others give.
+HAS_IMPLS = re.compile(r"\b(?:struct|enum|trait|union) (\w+)")
+# The head of an impl: what stands before the type for which it is (a trait, if any), and this type.
+IMPL_HEAD = re.compile(r"\bimpl\b([^{};]*\bfor\b)?([^{]*)\{")
 # A part of what a crate above may read: of a source a function, or the rest of it, whose `function` is empty; of a file
 # of definitions a block, whose `function` are the names that it declares. Beside its text all its words, those of its
 # paths (each alone, and each with each before it in its path; a word outside of paths as a tuple of one), the types and
-# traits that it declares, the words of the heads of its impls from the type on, and the head of the impl of a method.
+# traits that it declares, of each of its impls the words of the head before the type and from there on, and the head of
+# the impl of a method.
 Part = collections.namedtuple("Part", "crate path function text words named types heads impl")
 
 
@@ -229,16 +247,20 @@ def meant(path, text):
 
 def part_of(crate, path, function, text, impl=None):
     named = set()
-    for words in map(WORD.findall, PATH.findall(text)):
-        named.update(words if len(words) > 1 else [(words[0],)], itertools.combinations(words, 2))
+    for at in PATH.findall(text):
+        words = WORD.findall(at)
+        named.update(words if len(words) > 1 or at.endswith("*") else [(words[0],)], itertools.combinations(words, 2))
     is_source = path.suffix == ".rt"
     types = frozenset(DECLARED.findall(text) if is_source else ())
-    heads = frozenset(word for it in IMPL_HEAD.findall(text) if is_source for word in WORD.findall(it))
+    heads = frozenset(tuple(frozenset(WORD.findall(it)) for it in head) for head in IMPL_HEAD.findall(text) if is_source)
     return Part(crate, path, function, text, frozenset(WORD.findall(text)), frozenset(named), types, heads, impl)
 
 
-# A type that no other crate can name.
-HIDDEN = re.compile(r"(?:#\[[^]]*\] )?pub\(\w+\) (?:struct|enum) [^{;]*(?:\{[^{}]*\}|;)")
+# The head of an item: what may be seen outside of its crate, what it is, and its name.
+ITEM = re.compile(r"(?:#\[[^]]*\] )*(pub )?(?!\()(?:\w+\([^)]*\) )?(struct|enum|union|trait|type|impl)\b ?(\w+)?")
+# What a struct, an enum or a variant holds, and a field of a struct that may be seen outside of its crate.
+BODY = re.compile(r"(?:\{|\((?!.*\{))(.*)", re.S)
+SHOWN_FIELD = re.compile(r"\bpub (?!\()(.*)", re.S)
 
 
 def public_modules(folder):
@@ -254,22 +276,72 @@ def public_modules(folder):
     return found
 
 
+def apart(text, marks):
+    """The parts of a text between those of these marks that stand outside of all brackets; a `}` stays with what it ends."""
+    found, depth = [""], 0
+    for it in PIECE.findall(text):
+        depth += (it in "([{") - (it in ")]}")
+        if depth == 0 and it in marks:
+            found[-1] += it if it == "}" else ""
+            found.append("")
+        else:
+            found[-1] += it
+    return [it.strip() for it in found if it.strip()]
+
+
+def types_of_impl(text):
+    """The words of the type for which the impl is that this text begins, or ends with the head of."""
+    return set(WORD.findall(IMPL_HEAD.search(text)[2]))
+
+
+def shown_of(rest, functions, is_public, types):
+    """Of the rest of a source and its functions, as triples: whether it is seen outside of its crate by itself, the names by
+    which it is else reached, and the words that are reached with it: of a struct its head and its public fields, of an enum
+    what its variants hold. An impl is reached by these types of its crate alone."""
+    found = []
+    for public, _, path, several, one, other in IMPORT.findall(rest):
+        if public:
+            items = several.split(",") if several is not None else [f"{one} as {other}" if other else one]
+            found.append((is_public, {known_as(path, it) for it in items}, {*WORD.findall(path), *WORD.findall(" ".join(items))}))
+    for item in apart(IMPORT.sub("", rest), "};"):
+        head = ITEM.match(item)
+        if not head:
+            found.append((True, set(), set(WORD.findall(item))))
+        elif head[2] == "impl":
+            names = types_of_impl(item[head.start(2) :] + "{") & types
+            found.append((not names, names, set(WORD.findall(item))))
+        else:
+            shown = [item]
+            if head[2] in ("struct", "enum") and (body := BODY.search(item, head.end())):
+                held = map((SHOWN_FIELD if head[2] == "struct" else BODY).search, apart(body[1][:-1], ","))
+                shown = [item[head.start(3) : body.start()], *(it[1] for it in held if it)]
+            found.append((is_public and bool(head[1]), {head[3]}, set(WORD.findall(" ".join(shown)))))
+    for name, text, impl in functions:
+        names = {name} if impl is None else types_of_impl(impl) & types
+        found.append((is_public and impl is None, names, set(WORD.findall(text))))
+    return found
+
+
 @functools.cache
 def parts_above(folder):
-    """The parts of the interface of the crate in this folder. Of a type of a private module that no public one names, but in
-    what is hidden, there is no value outside, so its methods are left out."""
-    public, found, shown = public_modules(folder), [], set()
+    """The parts of the interface of the crate in this folder. Of a type that no other crate can come by no method can be
+    called there, so what it has in private modules is left out."""
+    public, sources, found = public_modules(folder), {}, []
     for path, text in sorted(interface(folder).items()):
         if path.suffix == ".rt":
-            rest, functions = functions_apart(meant(path, text))
-            found += [part_of(folder.name, path, *it) for it in [("", rest), *functions]]
-            if path in public:
-                seen = HIDDEN.sub(" ", rest)
-                texts = [imports_for(IMPORT.findall(seen), IMPORT.sub("", seen)), *(it for _, it, _ in functions)]
-                shown.update(word for it in texts for found_in in IMPORT.finditer(it) for word in WORD.findall(found_in[0]))
+            text = meant(path, text)
+            sources[path] = (text, []) if has_macros(text) else functions_apart(text)
+            found += [part_of(folder.name, path, *it) for it in [("", sources[path][0]), *sources[path][1]]]
         else:
             found += [part_of(folder.name, path, names, it) for it, names in definitions_apart(meant(path, text))]
-    is_had = lambda it: not it.impl or it.path in public or not {it.path.stem, it.path.parent.name}.isdisjoint(shown)
+    types = {it for rest, _ in sources.values() for it in DECLARED.findall(rest)}
+    there = [it for path, (rest, functions) in sources.items() for it in shown_of(rest, functions, path in public, types)]
+    shown, more = set(), [it for it in there if it[0]]
+    while more:
+        shown.update(word for it in more for word in it[2])
+        there = [it for it in there if it not in more]
+        more = [it for it in there if not it[1].isdisjoint(shown)]
+    is_had = lambda it: not it.impl or it.path in public or not (types_of_impl(it.impl) & types).isdisjoint(shown)
     return [it for it in found if is_had(it)]
 
 
@@ -285,8 +357,8 @@ def calls_in(source):
 
 def calls_of(method):
     """How a method is called."""
-    takes = re.search(rf"\bfn {method.function}\b[^(]*\(\s*(?:&\s*)?(?:'\w+ )?(?:mut )?self\s*(,?)", method.text)
-    return {(method.function, bool(takes[1]))} if takes else {(method.function, True), (method.function, False)}
+    takes = re.search(rf"\bfn {method.function}\b[^(]*\(\s*(?:&\s*)?(?:'\w+ )?(?:mut )?self\s*(,(?!\s*\))|,?\s*\))", method.text)
+    return {(method.function, takes[1] == ",")} if takes else {(method.function, True), (method.function, False)}
 
 
 def parts_named(top, lines, name, folders):
@@ -294,33 +366,40 @@ def parts_named(top, lines, name, folders):
     texts, all_files = [], [it for folder in folders for it in files(top / "crates" / name / folder)]
     for file in all_files:
         text = file.read_text(encoding="utf-8")
-        source = "".join(it for it in PIECE.findall(text) if not it.startswith("//")) if file.suffix == ".rt" else text
+        source = without_comments(text) if file.suffix == ".rt" else text
         texts.append(source if file.suffix == ".edit" else meant(file, source))
     own = part_of(name, pathlib.Path("src/lib.rt"), "", "\n".join(texts))
     calls = calls_in("\n".join(it for file, it in zip(all_files, texts) if file.suffix != ".antt"))
     there = [it for crate in below(lines, name) for it in parts_above(top / "crates" / crate)]
+    # What the crate's bodies may name, and the names that were given to others on the way to it.
+    named, renamed = set(own.words), set()
+    has_impls = {it for part in there if part.path.suffix == ".rt" for it in HAS_IMPLS.findall(part.text)}
     waiting = collections.defaultdict(list)
     for it in there:
         waiting[it.crate, it.path].append(it)
     unreached = {crate: {it for it in waiting if it[0] == crate} for crate in {it.crate for it in there}}
+    # A macro is named at the root of its crate, wherever it stands.
+    roots = {it for it, parts in waiting.items() if it[1].name in ("Lib.antt", "lib.rt", "main.rt") or any(has_macros(part.text) for part in parts)}
     found, reached, types, words, fresh = set(), set(), set(), set(own.words), [own]
 
     def is_named(place, by):
         crate, path = place
         module = path.parent.name if path.stem == "mod" else path.stem
-        is_root = path.name in ("Lib.antt", "lib.rt", "main.rt")
-        if crate == by.crate:
-            return is_root or module in by.named
-        return is_root or (crate, module) in by.named or (crate,) in by.named and module in by.named
+        if place in roots or module in by.named and crate == by.crate:
+            return True
+        from_root = (crate, module) in by.named or (crate,) in by.named and module in by.named
+        return crate != by.crate and (from_root or module in by.named and any((crate, it) in by.named for it in path.parts[1:-1]))
 
     def is_of_types(part):
-        return any(name in part.heads and (crate == part.crate or crate in part.words) for crate, name in types)
+        # An impl for a type of no crate below, as one of the kit or a parameter, is found by its trait.
+        heads = {it for head, behind in part.heads for it in (behind if not behind.isdisjoint(has_impls) else head | behind)}
+        return any(name in heads and (crate == part.crate or crate in part.words) for crate, name in types)
 
     def counts(it):
         if it.path.suffix != ".rt":
             # A name that is no word (an operator) counts where its file does.
             return not it.function or any(name in words or not WORD.fullmatch(name) for name in it.function)
-        return not it.function or (it.function in own.words if not it.impl else not calls.isdisjoint(calls_of(it)))
+        return not it.function or (it.function in named if not it.impl else not calls.isdisjoint(calls_of(it)))
 
     while fresh:
         for by in fresh:
@@ -337,6 +416,12 @@ def parts_named(top, lines, name, folders):
         for it in fresh:
             types |= {(it.crate, name) for name in it.types}
             words |= it.words
+            renamed.update(re.findall(r"\b([\w']+) as ([\w']+)", it.text))
+            if has_macros(it.text):
+                named |= it.words
+                calls |= calls_in(it.text)
+        while more := {name for name, other in renamed if other in named} - named:
+            named |= more
         found.update(fresh)
         for place in reached:
             waiting[place] = [it for it in waiting[place] if it not in found]
@@ -352,14 +437,16 @@ def digest(top, lines, name, kit, *more):
     A wrong body is refused since it breaks a clause. Whether it does hangs on what the clause means, and on what is known
     of each call: on the words of the crate's own files, and what these are declared to be. (Which lemmas there are does
     not count: no lemma proves what is false.) No file can use a thing of another one without a path with the name of its
-    crate and of its module, or from where another file with both hands it on. So a file below is reached where a text that
-    counts has such a path (or the crate's name outside of paths, as for a name that is made of it, and the module's in
-    some path); the root of a crate where it has the crate's name; and where a file that counts declares a type or a trait,
-    each file in which an impl is for that name, and which is of its crate or names that, since methods are found by their
-    types alone. Of a file of definitions that is reached a block counts where a text that counts has a name that it
-    declares. Of a source the rest counts, and a function where its name stands in the crate's own files: a method where
-    it stands behind a point or two colons, with arguments or without as it takes them. An import counts where its name
-    stands. Names are compared as words, wherever they come from, so too much counts rather than too little."""
+    crate and of its module or of one that this is in, or from where another file with both hands it on. So a file below is
+    reached where a text that counts has such a path (or the crate's name outside of paths, as for a name that is made of
+    it, and the module's in some path); the root of a crate, and a file with a macro, where it has the crate's name; and
+    where a file that counts declares a type, each file in which an impl is for that name, and which is of its crate or
+    names that, since methods are found by their types alone. An impl for no type of a crate here is found by its trait.
+    Of a file of definitions that is reached a block counts where a text that counts has a name that it declares. Of a
+    source the rest counts, and a function where its name stands in the crate's own files, or in a macro that counts, or is
+    what a name there was given to: a method where it stands behind a point or two colons, with arguments or without as it
+    takes them. An import counts where its name stands. Names are compared as words, wherever they come from, so too much
+    counts rather than too little. gate/try_asked looks whether it does."""
     summed = hashlib.sha256()
 
     def add(part):

@@ -3,8 +3,9 @@
 
 usage: client.py PLACE OBJECT CALL ..    (a CALL is an operation with its arguments, as in "put 7")
 
-PLACE is a port of this machine, or the path of a socket, with a slash in it. Exit statuses: 0 each call was answered; 1 the object was not opened; 2 usage; 3 there is no server, or it was gone
-before the last answer. A program that calls is better off with pathclient.py, in this folder.
+PLACE is a port of this machine, or the path of a socket, with a slash in it. Exit statuses: 0 each call was answered; 1
+the object was not opened; 2 usage; 3 there is no server, or it was gone before the last answer. A program that calls is
+better off with pathclient.py, in this folder.
 """
 import socket
 import sys

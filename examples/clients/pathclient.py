@@ -14,8 +14,10 @@ calls are to overlap take an Object each.
 
 A call waits until the paths of the object let it start, which may be never. `book.call("number_of", "ada", within=5)`
 has it cancelled where it still waits after 5 seconds, and ends 2 seconds later at the latest, whatever the server does:
-a server that says nothing is Lost. `call` is also for operations whose names a method here has. `book.close()` in
-another thread ends a call that has not ended: it is Lost.
+a server that says nothing is Lost. `call` is also for operations whose names a method here has.
+
+`book.close()` is the end of an Object. In another thread it ends a call that has not ended, whatever that waits for:
+the call is Lost, with the word `closed`. So is each call after it.
 
 What can come in place of a reply is told by the exceptions below, which are all a CallError. Where a connection was
 lost, the next call makes a new one.
@@ -32,18 +34,22 @@ done a second time. Without a name a new connection is a new session, and no cal
 cannot tell a call that was sent again from a second one.
 """
 import contextlib
+import errno
+import os
 import re
+import selectors
 import socket
 import threading
 import time
 
 NAME = re.compile(r"[A-Za-z][A-Za-z0-9_]{0,63}", re.ASCII)
-# The longest line that a server writes has some 600 bytes.
+# A line that a server writes has at most some 2,100 bytes.
 LONGEST = 4096
 # How often a call is asked again whose connection breaks each time.
 TRIES = 10
-# How long a server may take to answer `cancel` and `quit`, in seconds.
-ANSWERS = 2
+# How long a server may take to answer `cancel` and `quit`, and how long passes between two looks or tries, in seconds.
+ANSWERS, PAUSE = 2, 0.1
+CLOSED = "closed"
 
 
 class CallError(Exception):
@@ -79,9 +85,9 @@ class NoServer(CallError):
 
 
 class Lost(CallError):
-    """The connection broke before the call's last line came. Nobody knows whether the call was done, but for the
-    trace. A session with a name says so only where it cannot ask again: no server answers, or one that was started
-    anew and knows nothing of it."""
+    """The connection broke before the call's last line came, or the object was closed (`closed`). Nobody knows whether
+    the call was done, but for the trace. A session with a name says so only where it cannot ask again: it was closed,
+    no server answers, or one that was started anew and knows nothing of it."""
 
 
 ENDS = {"refused": Refused, "failed": Failed, "cancelled": Cancelled}
@@ -119,8 +125,11 @@ class Object:
         self._opens = f"open {named(name)}" + (f" as {named(client)}" if client is not None else "")
         # The key of the next call, in a session with a name.
         self._key = None if client is None else 0
-        self._socket, self._rest, self._lock, self._closing = None, b"", threading.Lock(), False
-        with self._lock:
+        # The call that runs has the turn, and no other thread changes the socket.
+        self._socket, self._rest, self._turn = None, b"", threading.Lock()
+        # What `close` does is done in one moment, of which that call sees all or nothing: this is held for it.
+        self._closed, self._moment = threading.Event(), threading.RLock()
+        with self._turn:
             self._connect()
 
     # A connection, and its lines.
@@ -132,59 +141,94 @@ class Object:
         place = self._place if isinstance(self._place, str) else f"{self._place[0]}:{self._place[1]}"
         while True:
             try:
-                self._socket, self._rest = self._connected(), b""
-                answer = self._opened(end)
+                # A server that has taken all its connections leaves this one unanswered.
+                last = max(end, time.monotonic() + 1)
+                self._take(self._connected(last))
+                answer = self._opened(end, last)
                 if answer is not None:
                     break
                 why = f"the server at {place} says nothing: it may have as many clients as it takes"
             except (OSError, Lost):
                 why = f"no server answers at {place}"
             self._drop()
-            if self._closing:
-                raise Lost("closed")
+            self._go_on()
             if time.monotonic() >= end:
                 raise NoServer(why)
-            time.sleep(0.1)
+            self._closed.wait(PAUSE)
         if not answer.startswith("opened "):
             self._drop()
             raise Rejected(answer.removeprefix("no "), self._opens)
         if self._key is not None:
             self._key = int(answer.rpartition(" next ")[2])
 
-    def _connected(self):
-        """A new connection."""
+    def _connected(self, last):
+        """A new connection, made by this time."""
         if isinstance(self._place, str):
-            found = socket.socket(socket.AF_UNIX)
-            found.settimeout(max(self._wait, 1))
+            return self._reached(socket.AF_UNIX, self._place, last)
+        for family, _, _, _, place in socket.getaddrinfo(*self._place, type=socket.SOCK_STREAM):
             try:
-                found.connect(self._place)
-            except OSError:
-                found.close()
-                raise
-            return found
-        found = socket.create_connection(self._place, timeout=max(self._wait, 1))
-        found.setsockopt(socket.IPPROTO_TCP, socket.TCP_NODELAY, 1)
-        return found
+                return self._reached(family, place, last)
+            except OSError as error:
+                why = error
+        raise why
 
-    def _opened(self, end):
-        """The answer to `open`, or None where none came. While a session of this name has not ended, it is said again
-        over the same connection."""
+    def _reached(self, family, place, last):
+        """A new connection to this address. Until it is made, `close` is looked for."""
+        found = socket.socket(family, socket.SOCK_STREAM)
+        try:
+            if family != socket.AF_UNIX:
+                found.setsockopt(socket.IPPROTO_TCP, socket.TCP_NODELAY, 1)
+            found.setblocking(False)
+            state = found.connect_ex(place)
+            with selectors.DefaultSelector() as waits:
+                waits.register(found, selectors.EVENT_WRITE)
+                while state == errno.EINPROGRESS:
+                    self._go_on()
+                    if time.monotonic() >= last:
+                        raise TimeoutError
+                    if waits.select(PAUSE):
+                        state = found.getsockopt(socket.SOL_SOCKET, socket.SO_ERROR)
+            if state:
+                raise OSError(state, os.strerror(state))
+            return found
+        except BaseException:
+            found.close()
+            raise
+
+    def _go_on(self):
+        """Goes on, but where the object was closed."""
+        if self._closed.is_set():
+            raise Lost(CLOSED)
+
+    def _take(self, found):
+        """Takes a connection, which `close` ends from now on."""
+        with self._moment:
+            self._socket, self._rest = found, b""
+            self._go_on()
+
+    def _opened(self, end, last):
+        """The answer to `open`, or None where none came by the last time. While a session of this name has not ended,
+        it is said again over the same connection, until `end`."""
         while True:
-            self._send(self._opens)
-            # A server that has taken all its connections leaves this one unanswered.
-            answer = self._line(max(end, time.monotonic() + 1))
+            self._send(self._opens, last)
+            answer = self._line(last)
             if answer != "no InUse" or time.monotonic() >= end:
                 return answer
-            time.sleep(0.02)
+            self._closed.wait(PAUSE / 5)
 
     def _drop(self):
-        if self._socket is not None:
-            self._socket.close()
-            self._socket = None
+        with self._moment:
+            if self._socket is not None:
+                self._socket.close()
+                self._socket = None
 
-    def _send(self, line):
+    def _send(self, line, end=None):
+        """Sends a line, which has to be taken by this time."""
         try:
+            self._socket.settimeout(None if end is None else max(end - time.monotonic(), 0.001))
             self._socket.sendall(line.encode("ascii") + b"\n")
+        except TimeoutError as error:
+            raise Lost("the server takes nothing") from error
         except OSError as error:
             raise Lost("the server is gone") from error
 
@@ -209,7 +253,7 @@ class Object:
 
     def _ask(self, line, end=None):
         """Sends a line and gives the next one."""
-        self._send(line)
+        self._send(line, end)
         return self._answer(end)
 
     def _answer(self, end):
@@ -226,23 +270,31 @@ class Object:
         it."""
         text = " ".join([named(operation), *map(written, arguments)])
         end = None if within is None else time.monotonic() + within
-        if not self._lock.acquire(timeout=-1 if within is None else max(within, 0)):
+        has_turn = self._turn.acquire(timeout=-1 if within is None else max(within, 0))
+        if not has_turn:
             # Calls of other threads were before it all the time.
-            raise Cancelled("", text)
+            raise Lost(CLOSED, text) if self._closed.is_set() else Cancelled("", text)
         try:
-            if self._closing:
-                raise Lost("closed", text)
+            self._go_on()
             if self._socket is None:
                 self._connect(end)
             return self._done(f"call {text}", end) if self._key is None else self._kept(text, end)
         except (Refused, Failed, Cancelled, Rejected):
             raise
+        except (NoServer, Lost) as error:
+            self._drop()
+            if self._closed.is_set():
+                raise Lost(CLOSED, text) from error
+            raise
         except BaseException:
-            # The connection is lost, or in the middle of a call, as where Ctrl-C was pressed.
+            # The connection is in the middle of a call, as where Ctrl-C was pressed.
             self._drop()
             raise
         finally:
-            self._lock.release()
+            with self._moment:
+                if self._closed.is_set():
+                    self._drop()
+                self._turn.release()
 
     def _kept(self, text, end):
         """Calls under the next key. Where the connection breaks, it comes back and asks again under the same key."""
@@ -256,7 +308,7 @@ class Object:
                     raise Lost(f"the server has the call, and wrote no {error.word}") from error
                 raise
             except Lost as error:
-                if tries == TRIES or self._closing or end is not None and time.monotonic() >= end:
+                if tries == TRIES or self._closed.is_set() or end is not None and time.monotonic() >= end:
                     raise
                 self._drop()
                 try:
@@ -286,7 +338,7 @@ class Object:
             self._key += 1
         last = self._line(end)
         if last is None:
-            self._send(f"cancel {number}")
+            self._send(f"cancel {number}", last_end)
             # The call may have begun, or ended, in the meantime: its last line comes in any case, before or after the
             # other.
             lines = [self._answer(last_end), self._answer(last_end)]
@@ -310,21 +362,22 @@ class Object:
         return lambda *arguments, **options: self.call(operation, *arguments, **options)
 
     def close(self):
-        """Leaves the object. A call of another thread that has not ended is Lost. Where the server is gone, that is no
-        fault."""
-        if not self._lock.acquire(blocking=False):
-            self._closing = True
-            with contextlib.suppress(OSError, AttributeError):
-                self._socket.shutdown(socket.SHUT_RDWR)
-            self._lock.acquire()
-        try:
-            if self._socket is not None:
-                with contextlib.suppress(Lost):
-                    self._ask("quit", time.monotonic() + ANSWERS)
+        """Leaves the object, for good. A call of another thread that has not ended is Lost; this does not wait for it.
+        Where the server is gone, that is no fault."""
+        with self._moment:
+            self._closed.set()
+            has_turn = self._turn.acquire(blocking=False)
+            if not has_turn and self._socket is not None:
+                with contextlib.suppress(OSError):
+                    self._socket.shutdown(socket.SHUT_RDWR)
+        if has_turn:
+            try:
+                if self._socket is not None:
+                    with contextlib.suppress(Lost):
+                        self._ask("quit", time.monotonic() + ANSWERS)
+            finally:
                 self._drop()
-        finally:
-            self._closing = False
-            self._lock.release()
+                self._turn.release()
 
     def __enter__(self):
         return self

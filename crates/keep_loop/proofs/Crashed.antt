@@ -1,13 +1,12 @@
 -- What a crash leaves.
 use Rattle.std.proofs.Common.{◌≡◌, ℕ, ◌<◌, List, ◌++◌, subst}
-use Rattle.std.specs.Prelude.{true, false, if◌then◌else◌}
-use Rattle.keep_loop.specs.Texts.{Begins}
-use Rattle.keep_loop.specs.Turns.{Turn, Gives, added_by}
+use Rattle.std.specs.Prelude.{true, if◌then◌else◌}
+use Rattle.post_core.specs.Texts.{Begins}
+use Rattle.post_core.specs.Turns.{Gives, added_by}
 use Rattle.keep_loop.specs.Seen.{Happened, stored_in, added_in}
 use Rattle.keep_loop.specs.Stands.{IsHonest, IsBetween, Survives}
 use Rattle.keep_loop.specs.declared.keep.Limits.{Limits}
 use Rattle.keep_loop.proofs.Turns.{begins_twice}
-use Rattle.keep_loop.proofs.Kept.{keeps_then}
 
 pub survives : {S : Type 0} (gives : Gives S) (first : S) (limits : Limits) (seen : List Happened) (found : ℕ → List ℕ) → limits.waits ≡ true →
     IsHonest gives first limits seen → ((j : ℕ) → j < limits.journals → IsBetween (stored_in j seen) (added_in j seen) (found j)) → Survives gives first limits seen found

@@ -1,20 +1,19 @@
 -- What is heard, step by step.
-use Rattle.std.proofs.Common.{◌≡◌, ◌⊎◌, inl, inr, ℕ, ◌<◌, ◌≤◌, ◌+◌, ◌%◌, List, [], ◌∷◌, ◌++◌, refl, sym, ◌∙◌, ap, subst, length, eqb-true, true≢false, arith}
+use Rattle.std.proofs.Common.{◌≡◌, ◌⊎◌, inl, inr, ℕ, ◌<◌, ◌≤◌, ◌+◌, List, [], ◌∷◌, ◌++◌, refl, sym, ◌∙◌, ap, subst, length, true≢false, arith}
 use Rattle.std.specs.Prelude.{Bool, true, false, if◌then◌else◌, ◌==◌}
 use Rattle.std.proofs.lemmas.List.{append-nil}
-use Rattle.keep_loop.specs.Texts.{text_at}
-use Rattle.keep_loop.specs.Turns.{Turn, Asked, heard_of, notes_by, is_joining}
-use Rattle.keep_loop.specs.Turns.Asked.{Heard, Noted}
+use Rattle.post_core.specs.Turns.{Turn, heard_of, notes_by, is_joining}
+use Rattle.post_core.specs.Turns.Asked.{Noted}
 use Rattle.keep_loop.specs.Seen.{comings}
 use Rattle.keep_loop.specs.Cuts.{IsCut, IsFed}
-use Rattle.keep_loop.specs.Posts.{is_here, hears}
+use Rattle.post_core.specs.Posts.{is_here, hears}
 use Rattle.keep_loop.specs.Stands.{Heeds, held_of}
-use Rattle.keep_loop.specs.declared.post.Post.{Post}
-use Rattle.keep_loop.specs.declared.post.Text.{Text}
-use Rattle.keep_loop.specs.declared.served.Note.{Note}
+use Rattle.post_core.specs.declared.post.Post.{Post}
+use Rattle.post_core.specs.declared.post.Text.{Text}
+use Rattle.post_core.specs.declared.served.Note.{Note}
 use Rattle.keep_loop.proofs.Turns.{heard_last, notes_last, comings_last}
 use Rattle.keep_loop.proofs.Cuts.{fed_nothing}
-use Rattle.keep_loop.proofs.Places.{by_who}
+use Rattle.post_core.proofs.Places.{by_who}
 
 counted : (b : Bool) (n m : ℕ) → m ≡ n + (if b then 1 else 0) → n ≤ 1 → (b ≡ true → n ≡ 0) → m ≤ 1
 counted true n m is le none = (let zero_is = none refl in omega (arith, is, zero_is))

@@ -1,19 +1,17 @@
 -- What steps keep.
-use Rattle.std.proofs.Common.{◌≡◌, ℕ, ◌<◌, ◌≤◌, List, [], ◌∷◌, ◌++◌, refl, sym, ◌∙◌, ap, subst, length, take, true≢false}
-use Rattle.std.specs.Prelude.{Bool, true, false, Option, Result, Ok, Err, OnErr, IfSome, if◌then◌else◌, ◌==◌}
-use Rattle.std.proofs.lemmas.List.{append-nil}
-use Rattle.keep_loop.specs.Texts.{text_at}
-use Rattle.keep_loop.specs.Turns.{Turn, Gives, is_joining}
-use Rattle.keep_loop.specs.Seen.{Happened, Grows, GrowsIf, Always, added_in, stored_in, kept_in, notes_in, came_from, ended_in, written_to, read_of}
+use Rattle.std.proofs.Common.{◌≡◌, ℕ, ◌<◌, ◌≤◌, List, [], ◌∷◌, refl, sym, ◌∙◌, ap, subst, length, take}
+use Rattle.std.specs.Prelude.{Bool, true, false, Option, Result, Ok, Err, OnErr, if◌then◌else◌, ◌==◌}
+use Rattle.post_core.specs.Texts.{text_at}
+use Rattle.post_core.specs.Turns.{Gives, is_joining}
+use Rattle.keep_loop.specs.Seen.{Happened, Grows, GrowsIf, Always, read_of}
 use Rattle.keep_loop.specs.Seen.Happened.{Wrote, Noticed, Added, Stored, Changed}
-use Rattle.keep_loop.specs.Posts.{is_here, hears, owed_to}
-use Rattle.keep_loop.specs.Stands.{Owes, Heeds, Stands, Rests, IsHonest, Good, Rested, Honest, Keeps, Settles, Sends, Fails, FailsRested}
+use Rattle.post_core.specs.Posts.{is_here, hears, owed_to}
+use Rattle.keep_loop.specs.Stands.{Stands, Rests, IsHonest, Good, Rested, Keeps, Settles, Sends, Fails, FailsRested}
 use Rattle.keep_loop.specs.declared.keep.Keep.{Keep}
 use Rattle.keep_loop.specs.declared.keep.Limits.{Limits}
 use Rattle.keep_loop.specs.declared.outside.Read.{Read}
-use Rattle.keep_loop.specs.declared.served.Note.{Note}
+use Rattle.post_core.specs.declared.served.Note.{Note}
 use Rattle.keep_loop.proofs.Grown.{grown, same}
-use Rattle.keep_loop.proofs.Owed.{owes_handed}
 use Rattle.keep_loop.proofs.Stood.{rests_kept, stands_added, stands_stored, stands_changed, stands_synced}
 use Rattle.keep_loop.proofs.Honest.{honest, honest_read, honest_noticed, honest_added, honest_wrote}
 

@@ -5,7 +5,5 @@ pub mod Heeded
 pub mod Honest
 pub mod Kept
 pub mod Owed
-pub mod Places
-pub mod Slots
 pub mod Stood
 pub mod Turns

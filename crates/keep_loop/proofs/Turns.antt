@@ -1,11 +1,11 @@
 -- Histories that go on by a turn.
 use Rattle.std.proofs.Common.{◌≡◌, ℕ, ◌+◌, arith, List, [], ◌∷◌, ◌++◌, refl, sym, ◌∙◌, ap, subst, append_assoc, true≢false}
-use Rattle.std.specs.Prelude.{Bool, true, false, ◌||◌, if◌then◌else◌, ◌==◌}
+use Rattle.std.specs.Prelude.{Bool, true, false, ◌||◌, if◌then◌else◌}
 use Rattle.std.proofs.lemmas.List.{append-nil}
-use Rattle.keep_loop.specs.Texts.{Begins, to}
+use Rattle.post_core.specs.Texts.{Begins, to}
 use Rattle.keep_loop.specs.Seen.{comings}
-use Rattle.keep_loop.specs.Turns.{Turn, Gives, Runs, joins, is_joining, told, said_to, line_from, heard_of, added_by, note_of, notes_by, has_joined}
-use Rattle.keep_loop.specs.declared.served.Note.{Note}
+use Rattle.post_core.specs.Turns.{Turn, Gives, Runs, joins, is_joining, told, said_to, line_from, heard_of, added_by, note_of, notes_by, has_joined}
+use Rattle.post_core.specs.declared.served.Note.{Note}
 
 pub runs_last : {S : Type 0} (gives : Gives S) (old : S) (ts : List Turn) (mid : S) (t : Turn) (new : S) → Runs gives old ts mid →
     gives mid t.asked t.said t.added new → Runs gives old (ts ++ t ∷ []) new
@@ -72,12 +72,6 @@ notes_last (u ∷ ts) t = ap (λ l. note_of u.asked ++ l) (notes_last ts t) ∙ 
 pub comings_last : (c : ℕ) (ns : List Note) (n : Note) → comings c (ns ++ n ∷ []) ≡ comings c ns + (if is_joining c n then 1 else 0)
 comings_last c [] n = omega arith
 comings_last c (m ∷ ns) n = let is = comings_last c ns n in omega (arith, is)
-
-pub to_more : (c : ℕ) (a b : List (ℕ × List ℕ)) → to c (a ++ b) ≡ to c a ++ to c b
-to_more c [] b = refl
-to_more c (s ∷ a) b =
-    let one : List ℕ = if s.0 == c then s.1 else [] in
-    ap (λ (l : List ℕ). one ++ l) (to_more c a b) ∙ sym (append_assoc one (to c a) (to c b))
 
 pub begins_more : (front text more : List ℕ) → Begins front text → Begins front (text ++ more)
 begins_more front text more is = (is.0 ++ more, ap (λ (l : List ℕ). l ++ more) is.1 ∙ append_assoc front is.0 more)

@@ -1,6 +1,3 @@
 pub mod Cuts
-pub mod Posts
 pub mod Seen
 pub mod Stands
-pub mod Texts
-pub mod Turns

@@ -5,7 +5,7 @@ ghost use Rattle.keep_loop.specs.Seen.{Happened, stored_in, added_in};
 ghost use Rattle.keep_loop.specs.Stands.{IsHonest, IsBetween, Survives};
 
 use crate::keep::Limits;
-use crate::served::Served;
+use post_core::served::Served;
 
 /// After a crash, where answers wait for the disk: the lines that are found in each journal have each turn of which a
 /// connection may have read, and are those of a history that goes on as the one that was seen.

@@ -6,13 +6,11 @@ mod cut;
 mod keep;
 mod laws;
 mod outside;
-mod post;
 mod rounds;
-mod served;
 
 pub use keep::{Limits, MOST_LINE};
 pub use laws::crash_keeps_what_was_answered;
 pub use outside::{Fault, Outside, Read};
-pub use post::{Place, Post, Stage, Text};
+pub use post_core::post::{Place, Post, Stage, Text};
+pub use post_core::served::{LineEnd, Note, Served};
 pub use rounds::run;
-pub use served::{LineEnd, Note, Served};

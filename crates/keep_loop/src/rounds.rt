@@ -1,15 +1,15 @@
 //! Rounds: hear, store, and only then write.
 
 ghost use Rattle.std.specs.Prelude.{◌≡◌, ◌<◌, [], ℕ, List, true, false, OnOk, OnErr, IfSome, length, if◌then◌else◌, ◌==◌};
-ghost use Rattle.keep_loop.specs.Posts.{is_here};
+ghost use Rattle.post_core.specs.Posts.{is_here};
 ghost use Rattle.keep_loop.specs.Seen.{Happened, Grows, Always};
 ghost use Rattle.keep_loop.specs.Seen.Happened.{Stored};
 ghost use Rattle.keep_loop.specs.Stands.{IsHonest, Stands, Keeps, Settles, Sends, Fails, FailsRested};
-ghost use Rattle.keep_loop.specs.Texts.{text_at};
+ghost use Rattle.post_core.specs.Texts.{text_at};
 
 use crate::keep::{Keep, Limits};
 use crate::outside::{Fault, Outside};
-use crate::served::{Note, Served};
+use post_core::served::{Note, Served};
 use std::alloc::{AllocError, Global};
 
 // So many connections that can be read or written are noted in a round.
@@ -116,7 +116,7 @@ fn hear_next<O: Served, W: Outside>(
     ensures ok { OnOk result (Keeps O.gives (W.seen outside.old) keep.old (W.seen outside.new) keep.new) }
     ensures err { OnErr result (Fails O.gives (W.seen outside.old) keep.old (W.seen outside.new)) }
 {
-    if keep.post.size >= MOST_LINES {
+    if keep.post.size() >= MOST_LINES {
         return Ok(false);
     }
     match keep.next_called() {
@@ -137,7 +137,7 @@ fn hear<O: Served, W: Outside>(
     ensures ok { OnOk result (Keeps O.gives (W.seen outside.old) keep.old (W.seen outside.new) keep.new) }
     ensures err { OnErr result (Fails O.gives (W.seen outside.old) keep.old (W.seen outside.new)) }
 {
-    for _turn in 0..keep.post.called.len() {
+    for _turn in 0..keep.post.count_called() {
         if !hear_next(keep, outside, piece)? {
             return Ok(());
         }
@@ -150,7 +150,7 @@ fn resume<O: Served, W: Outside>(keep: &mut Keep<O>, outside: &mut W) -> Result<
     ensures ok { OnOk result (Keeps O.gives (W.seen outside.old) keep.old (W.seen outside.new) keep.new) }
     ensures err { OnErr result (Fails O.gives (W.seen outside.old) keep.old (W.seen outside.new)) }
 {
-    for _paused in 0..keep.post.paused.len() {
+    for _paused in 0..keep.post.count_paused() {
         keep.resume_one()?;
     }
     Ok(())
@@ -330,7 +330,7 @@ fn send<O: Served, W: Outside>(keep: &mut Keep<O>, outside: &mut W) -> Result<()
     ensures ok { OnOk result (Sends O.gives (W.seen outside.old) keep.old (W.seen outside.new) keep.new) }
     ensures err { OnErr result (FailsRested O.gives (W.seen outside.old) keep.old (W.seen outside.new)) }
 {
-    for _sent in 0..keep.post.told.len() {
+    for _sent in 0..keep.post.count_told() {
         if !send_next(keep, outside)? {
             return Ok(());
         }

@@ -2,10 +2,13 @@
 
 use crate::fakes::{CELL, accepted, only_object};
 use apply_core::fits::{arguments_fit, parts_fit};
+use apply_core::reply::Reply;
 use check_core::report::CheckFault;
+use decl_core::object::Operation;
 use exclude_core::analyse::Refusal;
+use known_core::apply::apply_all;
 use path_count::counters::compile;
-use std::alloc::Global;
+use std::alloc::{AllocError, Global};
 use std::process::Abort;
 use value_core::datum::Datum;
 use value_core::decode::decode;
@@ -38,18 +41,37 @@ fn array(rt: &impl Abort, alloc: Global, number: u8) -> Vec<Value> {
     values
 }
 
-// No case can show it: an object that is taken out of what was accepted, and whether arguments and values fit a body.
+// Does the body of an operation on these values where all fits it, and tells whether it was done without a value.
+fn is_done(
+    alloc: Global,
+    operation: &Operation,
+    args: &[Datum],
+    values: &mut Vec<Value>,
+) -> Result<bool, AllocError> {
+    if !arguments_fit(operation, args) {
+        return Ok(false);
+    }
+    if !parts_fit(operation, values) {
+        return Ok(false);
+    }
+    match apply_all(alloc, operation, args, values) {
+        Ok(reply) => Ok(reply == Reply::Done(None)),
+        Err(refused) => Err(refused),
+    }
+}
+
+// No case can show it: an object that is taken out of what was accepted. A body of it is done on values in place.
 #[test]
-fn values_fit_a_body(rt: HostRuntime) {
+fn a_body_is_done_on_values(rt: HostRuntime) {
     let alloc = rt.alloc();
     let object = accepted(&rt, alloc, CELL).into_object();
     let bump = object.operations.last().expect(&rt, "an operation");
-    let args = [Datum::Integer(4)];
-    let values = array(&rt, alloc, 3);
-    assert!(rt; arguments_fit(bump, &args) && parts_fit(bump, &values));
-    let value = values.first().expect(&rt, "a value");
-    let bytes = encode(alloc, value).expect(&rt, "memory");
-    assert!(rt; bytes.as_slice() == b"\x02\x01\x00\x01\x00\x00\x00\x03".as_slice());
+    let mut values = array(&rt, alloc, 3);
+    let is_done = is_done(alloc, bump, &[Datum::Integer(4)], &mut values);
+    assert!(rt; is_done.expect(&rt, "memory"));
+    let left = values.first().expect(&rt, "a value");
+    let bytes = encode(alloc, left).expect(&rt, "memory");
+    assert!(rt; bytes.as_slice() == b"\x02\x01\x00\x01\x00\x00\x00\x07".as_slice());
 }
 
 // No case can show it: words in a list, read and written again.

@@ -1,5 +1,4 @@
-use Rattle.std.proofs.Common.{◌≡◌}
-use Rattle.keep_loop.proofs.Kept.{keeps_none, keeps_changed, fails_of_keeps, fails_changed, on_err}
+use Rattle.keep_loop.proofs.Kept.{keeps_changed, fails_of_keeps, fails_changed, on_err}
 use Rattle.keep_loop.proofs.rounds.change_one.Goals as goal
 
 pub returns-in_err-went-clause-err : goal.returns-in_err-went-clause-err

@@ -1,4 +1,4 @@
-use Rattle.std.proofs.Common.{◌≡◌, ◌≤◌, ◌∷◌, ◌∙◌, refl, sym, ap, subst, true≢false, eqb-true, take}
+use Rattle.std.proofs.Common.{◌∷◌, refl, subst}
 use Rattle.keep_loop.specs.Seen.{read_of}
 use Rattle.keep_loop.specs.Stands.{Stands}
 use Rattle.keep_loop.proofs.Kept.{keeps_quiet, keeps_event, keeps_then, fails_then, fails_read, on_err}

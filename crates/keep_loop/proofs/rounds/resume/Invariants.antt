@@ -1,4 +1,3 @@
-use Rattle.std.proofs.Common.{◌≡◌}
 use Rattle.keep_loop.specs.Stands.{Keeps}
 use Rattle.keep_loop.proofs.rounds.resume.Given as goal
 

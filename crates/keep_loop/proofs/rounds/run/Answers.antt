@@ -1,5 +1,5 @@
-use Rattle.std.proofs.Common.{◌≡◌, [], List, refl, sym, subst}
-use Rattle.keep_loop.specs.Seen.{Always, Happened}
+use Rattle.std.proofs.Common.{◌≡◌, [], refl, sym, subst}
+use Rattle.keep_loop.specs.Seen.{Always}
 use Rattle.keep_loop.specs.Stands.{IsHonest, Stands}
 use Rattle.keep_loop.proofs.Grown.{same}
 use Rattle.keep_loop.proofs.Honest.{honest_none}

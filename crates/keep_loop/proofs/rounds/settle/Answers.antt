@@ -1,4 +1,4 @@
-use Rattle.std.proofs.Common.{◌≡◌, ◌≤◌, ◌<◌, arith, length}
+use Rattle.std.proofs.Common.{arith}
 use Rattle.keep_loop.proofs.Kept.{settles_all}
 use Rattle.keep_loop.proofs.rounds.settle.Goals as goal
 

@@ -1,5 +1,5 @@
 use Rattle.std.proofs.Common.{◌≡◌, ◌<◌, ℕ, [], length}
-use Rattle.keep_loop.specs.Texts.{text_at}
+use Rattle.post_core.specs.Texts.{text_at}
 use Rattle.keep_loop.specs.Stands.{Keeps}
 use Rattle.keep_loop.proofs.rounds.settle.Given as goal
 

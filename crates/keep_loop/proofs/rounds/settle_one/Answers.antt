@@ -1,4 +1,4 @@
-use Rattle.std.proofs.Common.{◌≡◌, ◌≤◌, ◌∷◌, ◌∙◌, refl, sym, ap, subst, true≢false, eqb-true, take}
+use Rattle.std.proofs.Common.{sym, subst}
 use Rattle.keep_loop.specs.Stands.{Fails, Honest}
 use Rattle.keep_loop.proofs.Kept.{fails_added, keeps_settled, on_err}
 use Rattle.keep_loop.proofs.rounds.settle_one.Goals as goal

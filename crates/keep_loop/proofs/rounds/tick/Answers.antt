@@ -1,5 +1,5 @@
-use Rattle.std.proofs.Common.{◌≡◌, ◌≤◌, ◌∷◌, ◌∙◌, refl, sym, ap, subst, true≢false, eqb-true, take}
-use Rattle.keep_loop.specs.declared.served.Note.TheVariants.{Joins, Leaves, Ticks, Ends}
+use Rattle.std.proofs.Common.{sym, true≢false}
+use Rattle.post_core.specs.declared.served.Note.TheVariants.{Ticks}
 use Rattle.keep_loop.specs.Seen.Happened.{Noticed}
 use Rattle.keep_loop.proofs.Kept.{keeps_event, fails_note, on_err}
 use Rattle.keep_loop.proofs.rounds.tick.Goals as goal

@@ -1,4 +1,3 @@
-use Rattle.std.proofs.Common.{◌≡◌, ◌≤◌, ◌∷◌, ◌∙◌, refl, sym, ap, subst, true≢false, eqb-true, take}
 use Rattle.keep_loop.proofs.Kept.{fails_wrote, sends_wrote, on_err}
 use Rattle.keep_loop.proofs.rounds.write_one.Goals as goal
 

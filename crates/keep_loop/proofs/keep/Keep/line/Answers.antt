@@ -1,4 +1,4 @@
-use Rattle.std.proofs.Common.{◌≡◌, ◌<◌, ◌≤◌, ◌++◌, ◌∷◌, [], length, subst}
+use Rattle.std.proofs.Common.{◌<◌, ◌≤◌, ◌++◌, ◌∷◌, [], length, subst}
 use Rattle.keep_loop.specs.Cuts.{most_line}
 use Rattle.keep_loop.proofs.Stood.{stands_line, stands_long}
 use Rattle.keep_loop.proofs.keep.Keep.line.Goals as goal

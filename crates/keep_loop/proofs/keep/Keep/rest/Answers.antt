@@ -1,4 +1,4 @@
-use Rattle.std.proofs.Common.{◌≡◌, ◌<◌, ◌≤◌, ◌++◌, ◌∷◌, [], length, subst}
+use Rattle.std.proofs.Common.{◌<◌, ◌≤◌, ◌++◌, ◌∷◌, [], length, subst}
 use Rattle.std.proofs.lemmas.List.{append-nil}
 use Rattle.keep_loop.specs.Cuts.{most_line}
 use Rattle.keep_loop.specs.Seen.Happened.{Came}

@@ -1,6 +1,6 @@
 use Rattle.std.proofs.Common.{◌≡◌, ℕ, [], length}
-use Rattle.keep_loop.specs.Texts.{text_at}
-use Rattle.keep_loop.proofs.post.no_texts.Given as goal
+use Rattle.post_core.specs.Texts.{text_at}
+use Rattle.post_core.proofs.post.no_texts.Given as goal
 
 abbrev pub invariant-loop-text : goal.invariant-loop-text
 invariant-loop-text l = record {

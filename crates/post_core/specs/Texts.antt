@@ -1,6 +1,6 @@
 -- Texts.
-use Rattle.std.specs.Prelude.{◌≡◌, ℕ, Bool, false, List, [], ◌∷◌, ◌++◌, All, if◌then◌else◌, ◌==◌, Option, Some, None, slice_get}
-use Rattle.keep_loop.specs.declared.post.Text.{Text}
+use Rattle.std.specs.Prelude.{◌≡◌, ℕ, false, List, [], ◌∷◌, ◌++◌, All, if◌then◌else◌, ◌==◌, Option, Some, None, slice_get}
+use Rattle.post_core.specs.declared.post.Text.{Text}
 
 -- no byte is an LF
 abbrev pub NoLineFeed : List ℕ → Type 0

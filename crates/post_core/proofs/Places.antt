@@ -2,14 +2,19 @@
 use Rattle.std.proofs.Common.{◌≡◌, ◌⊎◌, inl, inr, ℕ, ◌<◌, ◌%◌, List, [], ◌∷◌, ◌++◌, refl, sym, ◌∙◌, ap, subst, append_assoc, length, eqb-true, eq-eqb, true≢false, drop}
 use Rattle.std.specs.Prelude.{Bool, true, false, Option, Some, None, slice_get, if◌then◌else◌, ◌==◌}
 use Rattle.std.proofs.lemmas.List.{append-nil}
-use Rattle.keep_loop.specs.Texts.{text_at, to}
-use Rattle.keep_loop.specs.Posts.{is_here_in, hears_in, stage_in, owed_in, staged, stage_of, owed_to, is_here, hears, Tells, Opens, Closes, Writes, Does}
-use Rattle.keep_loop.specs.Turns.{Asked, Gives}
-use Rattle.keep_loop.specs.declared.post.Place.{Place}
-use Rattle.keep_loop.specs.declared.post.Post.{Post}
-use Rattle.keep_loop.specs.declared.post.Stage.{Stage}
-use Rattle.keep_loop.specs.declared.post.Stage.TheVariants.{Gone, Hears, Quits, Left}
-use Rattle.keep_loop.proofs.Turns.{to_more}
+use Rattle.post_core.specs.Texts.{text_at, to}
+use Rattle.post_core.specs.Posts.{is_here_in, hears_in, stage_in, owed_in, staged, stage_of, owed_to, is_here, hears, Tells, Opens, Closes, Writes, Does}
+use Rattle.post_core.specs.Turns.{Asked, Gives}
+use Rattle.post_core.specs.declared.post.Place.{Place}
+use Rattle.post_core.specs.declared.post.Post.{Post}
+use Rattle.post_core.specs.declared.post.Stage.{Stage}
+use Rattle.post_core.specs.declared.post.Stage.TheVariants.{Gone, Hears, Quits, Left}
+
+pub to_more : (c : ℕ) (a b : List (ℕ × List ℕ)) → to c (a ++ b) ≡ to c a ++ to c b
+to_more c [] b = refl
+to_more c (s ∷ a) b =
+    let one : List ℕ = if s.0 == c then s.1 else [] in
+    ap (λ (l : List ℕ). one ++ l) (to_more c a b) ∙ sym (append_assoc one (to c a) (to c b))
 
 by_who_if : (who c : ℕ) (P : ℕ → Type 0) (b : Bool) → (who == c) ≡ b → P who → ((who == c) ≡ false → P c) → P c
 by_who_if who c P true is holds fails = subst P (eqb-true who c is) holds

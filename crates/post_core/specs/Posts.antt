@@ -1,11 +1,11 @@
 -- What is owed to connections and to journals.
 use Rattle.std.specs.Prelude.{◌≡◌, ◌⊎◌, ◌<◌, ◌%◌, ℕ, Bool, true, false, List, [], ◌++◌, Option, Some, None, slice_get, length, drop, if◌then◌else◌, ◌==◌}
-use Rattle.keep_loop.specs.Texts.{text_at, to}
-use Rattle.keep_loop.specs.Turns.{Asked, Gives}
-use Rattle.keep_loop.specs.declared.post.Place.{Place}
-use Rattle.keep_loop.specs.declared.post.Post.{Post}
-use Rattle.keep_loop.specs.declared.post.Stage.{Stage}
-use Rattle.keep_loop.specs.declared.post.Stage.TheVariants.{Gone, Hears, Quits, Left}
+use Rattle.post_core.specs.Texts.{text_at, to}
+use Rattle.post_core.specs.Turns.{Asked, Gives}
+use Rattle.post_core.specs.declared.post.Place.{Place}
+use Rattle.post_core.specs.declared.post.Post.{Post}
+use Rattle.post_core.specs.declared.post.Stage.{Stage}
+use Rattle.post_core.specs.declared.post.Stage.TheVariants.{Gone, Hears, Quits, Left}
 
 abbrev pub stage_in : ℕ → Option Place → Stage
 stage_in c None = Gone

@@ -1,9 +1,9 @@
 -- One sequential history: what is asked of an object, one after the other, by whichever connections.
 use Rattle.std.specs.Prelude.{◌≡◌, ℕ, Bool, false, ◌||◌, List, [], ◌∷◌, ◌++◌, if◌then◌else◌, ◌==◌}
-use Rattle.keep_loop.specs.Texts.{to}
-use Rattle.keep_loop.specs.declared.served.LineEnd.{LineEnd}
-use Rattle.keep_loop.specs.declared.served.Note.{Note}
-use Rattle.keep_loop.specs.declared.served.Note.TheVariants as notes
+use Rattle.post_core.specs.Texts.{to}
+use Rattle.post_core.specs.declared.served.LineEnd.{LineEnd}
+use Rattle.post_core.specs.declared.served.Note.{Note}
+use Rattle.post_core.specs.declared.served.Note.TheVariants as notes
 
 -- a line of a connection, and how it ended; a note; that a journal has begun anew with this front, or could not
 pub data Asked : Type 0 where

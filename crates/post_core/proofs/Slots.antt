@@ -1,10 +1,10 @@
 -- Places of a list, one of which is changed.
-use Rattle.std.proofs.Common.{◌≡◌, ℕ, zero, suc, ◌+◌, ◌<◌, ◌%◌, List, [], ◌∷◌, refl, sym, ◌∙◌, ap, subst, length, arith, eqb-true, true≢false, eq-eqb, get_or, Some}
+use Rattle.std.proofs.Common.{◌≡◌, ℕ, zero, suc, ◌<◌, ◌%◌, List, [], ◌∷◌, refl, sym, ◌∙◌, ap, length, arith, eqb-true, true≢false, eq-eqb, Some}
 use Rattle.std.specs.Prelude.{Bool, true, false, Option, None, slice_get, slice_set, slice_index_or, if◌then◌else◌, ◌==◌}
-use Rattle.keep_loop.specs.Posts.{stage_in, stage_at, staged, stage_of}
-use Rattle.keep_loop.specs.declared.post.Place.{Place}
-use Rattle.keep_loop.specs.declared.post.Stage.{Stage}
-use Rattle.keep_loop.specs.declared.post.Stage.TheVariants.{Gone, Hears}
+use Rattle.post_core.specs.Posts.{stage_in, stage_at, staged, stage_of}
+use Rattle.post_core.specs.declared.post.Place.{Place}
+use Rattle.post_core.specs.declared.post.Stage.{Stage}
+use Rattle.post_core.specs.declared.post.Stage.TheVariants.{Gone, Hears}
 
 set_here : {X : Type 0} (xs : List X) (k : ℕ) (x : X) → k < length xs → slice_get (slice_set xs k x) k ≡ Some x
 set_here [] k x within = absurd (omega (arith, within))

@@ -2,10 +2,10 @@
 
 ghost use Rattle.std.specs.Prelude.{◌≡◌, ◌⊎◌, ◌<◌, ◌≤◌, ◌%◌, ◌++◌, ◌∷◌, [], ℕ, true, false, OnOk, IfOk, IfSome, IfNone, length, drop};
 ghost use Rattle.std.specs.Prelude.{slice_get, if◌then◌else◌, ◌==◌};
-ghost use Rattle.keep_loop.specs.Posts.{is_here_in, hears_in, stage_in, stage_at, owed_in, staged, stage_of, owed_to, is_here, hears};
-ghost use Rattle.keep_loop.specs.Posts.{Tells, Opens, Closes, Writes};
-ghost use Rattle.keep_loop.specs.Texts.{text_at};
-ghost use Rattle.keep_loop.specs.declared.post.Stage.TheVariants.{Gone, Hears};
+ghost use Rattle.post_core.specs.Posts.{is_here_in, hears_in, stage_in, stage_at, owed_in, staged, stage_of, owed_to, is_here, hears};
+ghost use Rattle.post_core.specs.Posts.{Tells, Opens, Closes, Writes};
+ghost use Rattle.post_core.specs.Texts.{text_at};
+ghost use Rattle.post_core.specs.declared.post.Stage.TheVariants.{Gone, Hears};
 
 use std::alloc::{AllocError, Global};
 use std::collections::VecDeque;
@@ -233,7 +233,7 @@ fn no_places(alloc: Global, count: usize) -> Result<Vec<Place>, AllocError>
 }
 
 /// Texts, so many, with nothing in them.
-pub(crate) fn no_texts(alloc: Global, count: usize) -> Result<Vec<Text>, AllocError>
+pub fn no_texts(alloc: Global, count: usize) -> Result<Vec<Text>, AllocError>
     ensures count { IfOk result (λ texts. length texts.items ≡ count) }
     ensures empty { IfOk result (λ texts. (k : ℕ) → text_at texts.items k ≡ []) }
 {
@@ -245,8 +245,8 @@ pub(crate) fn no_texts(alloc: Global, count: usize) -> Result<Vec<Text>, AllocEr
     Ok(texts)
 }
 
-// Adds bytes to the text at a place.
-pub(crate) fn join(texts: &mut Vec<Text>, at: usize, bytes: &[u8]) -> Result<(), AllocError>
+/// Adds bytes to the text at a place.
+pub fn join(texts: &mut Vec<Text>, at: usize, bytes: &[u8]) -> Result<(), AllocError>
     requires { at < length texts.old.items }
     ensures count { length texts.new.items ≡ length texts.old.items }
     ensures text { OnOk result ((k : ℕ) → text_at texts.new.items k ≡ text_at texts.old.items k ++ (if at == k then bytes.now else [])) }
@@ -255,8 +255,8 @@ pub(crate) fn join(texts: &mut Vec<Text>, at: usize, bytes: &[u8]) -> Result<(),
     Ok(())
 }
 
-// Lets the text at a place go.
-pub(crate) fn clear(texts: &mut Vec<Text>, at: usize)
+/// Lets the text at a place go.
+pub fn clear(texts: &mut Vec<Text>, at: usize)
     requires { at < length texts.old.items }
     ensures count { length texts.new.items ≡ length texts.old.items }
     ensures text { (k : ℕ) → text_at texts.new.items k ≡ (if at == k then [] else text_at texts.old.items k) }
@@ -320,6 +320,34 @@ impl Post {
             Some(at) => self.places[at].owed.as_slice(),
             None => &[],
         }
+    }
+
+    /// How many bytes of lines wait to be handed to journals.
+    pub fn size(&self) -> usize
+        ensures { result ≡ self.now.size }
+    {
+        self.size
+    }
+
+    /// How many connections wait to be read.
+    pub fn count_called(&self) -> usize
+        ensures { result ≡ length self.now.called.items }
+    {
+        self.called.len()
+    }
+
+    /// How many connections are not to be read for a while.
+    pub fn count_paused(&self) -> usize
+        ensures { result ≡ length self.now.paused.items }
+    {
+        self.paused.len()
+    }
+
+    /// To how many connections something may be written.
+    pub fn count_told(&self) -> usize
+        ensures { result ≡ length self.now.told.items }
+    {
+        self.told.len()
     }
 
     /// The lines that a journal is to be handed, and none where there is no such journal.
@@ -418,8 +446,8 @@ impl Post {
         }
     }
 
-    // Of a connection more may be read.
-    pub(crate) fn call_again(&mut self, who: u64) -> Result<(), AllocError>
+    /// Of a connection more may be read.
+    pub fn call_again(&mut self, who: u64) -> Result<(), AllocError>
         ensures { OnOk result (Tells self.old self.new [] []) }
     {
         match find(self.places.as_slice(), who) {
@@ -428,8 +456,8 @@ impl Post {
         }
     }
 
-    // The connection that is to be read next, where there is one.
-    pub(crate) fn next_called(&mut self) -> Option<u64>
+    /// The connection that is to be read next, where there is one.
+    pub fn next_called(&mut self) -> Option<u64>
         ensures { Tells self.old self.new [] [] }
     {
         let who = self.called.pop_front()?;
@@ -439,8 +467,8 @@ impl Post {
         Some(who)
     }
 
-    // The connection that is to be written to next, where there is one.
-    pub(crate) fn next_told(&mut self) -> Option<u64>
+    /// The connection that is to be written to next, where there is one.
+    pub fn next_told(&mut self) -> Option<u64>
         ensures { Tells self.old self.new [] [] }
     {
         let who = self.told.pop()?;
@@ -450,16 +478,16 @@ impl Post {
         Some(who)
     }
 
-    // A connection is not to be read for a while.
-    pub(crate) fn pause(&mut self, who: u64) -> Result<(), AllocError>
+    /// A connection is not to be read for a while.
+    pub fn pause(&mut self, who: u64) -> Result<(), AllocError>
         ensures { OnOk result (Tells self.old self.new [] []) }
     {
         self.paused.push_back(who)?;
         Ok(())
     }
 
-    // A connection is to be read again, or not for a while.
-    pub(crate) fn call_or_pause(&mut self, who: u64, may_read: bool) -> Result<(), AllocError>
+    /// A connection is to be read again, or not for a while.
+    pub fn call_or_pause(&mut self, who: u64, may_read: bool) -> Result<(), AllocError>
         ensures { OnOk result (Tells self.old self.new [] []) }
     {
         if may_read {
@@ -468,15 +496,15 @@ impl Post {
         self.pause(who)
     }
 
-    // The one that waits longest to be read again, where there is one.
-    pub(crate) fn next_paused(&mut self) -> Option<u64>
+    /// The one that waits longest to be read again, where there is one.
+    pub fn next_paused(&mut self) -> Option<u64>
         ensures { Tells self.old self.new [] [] }
     {
         self.paused.pop_front()
     }
 
-    // A connection that quit and was not told of, where there is one.
-    pub(crate) fn next_quit(&mut self) -> Option<u64>
+    /// A connection that quit and was not told of, where there is one.
+    pub fn next_quit(&mut self) -> Option<u64>
         ensures { Tells self.old self.new [] [] }
     {
         self.quits.pop()
@@ -491,8 +519,8 @@ impl Post {
         open(&mut self.places, at, who);
     }
 
-    // A connection is closed once nothing is owed to it.
-    pub(crate) fn leave(&mut self, who: u64) -> Result<(), AllocError>
+    /// A connection is closed once nothing is owed to it.
+    pub fn leave(&mut self, who: u64) -> Result<(), AllocError>
         ensures { OnOk result (Tells self.old self.new [] []) }
     {
         match find(self.places.as_slice(), who) {
@@ -504,8 +532,8 @@ impl Post {
         }
     }
 
-    // A connection is closed.
-    pub(crate) fn close(&mut self, who: u64) -> Option<usize>
+    /// A connection is closed.
+    pub fn close(&mut self, who: u64) -> Option<usize>
         ensures { Closes self.old self.new }
     {
         let at = find(self.places.as_slice(), who)?;
@@ -513,8 +541,8 @@ impl Post {
         Some(at)
     }
 
-    // So many bytes were written to a connection that is there.
-    pub(crate) fn wrote(&mut self, who: u64, n: usize)
+    /// So many bytes were written to a connection that is there.
+    pub fn wrote(&mut self, who: u64, n: usize)
         requires here { is_here self.old.places.items who ≡ true }
         requires bound { n ≤ length (owed_to self.old.places.items who) }
         ensures { Writes self.old self.new who n }
@@ -524,8 +552,8 @@ impl Post {
         }
     }
 
-    // A connection broke.
-    pub(crate) fn break_off(&mut self, who: u64) -> Result<(), AllocError>
+    /// A connection broke.
+    pub fn break_off(&mut self, who: u64) -> Result<(), AllocError>
         ensures { OnOk result (Tells self.old self.new [] []) }
     {
         if let Some(at) = find(self.places.as_slice(), who) {
@@ -534,8 +562,8 @@ impl Post {
         self.quit(who)
     }
 
-    // Whether a connection has left, and nothing more can be written to it.
-    pub(crate) fn is_done(&self, who: u64) -> bool {
+    /// Whether a connection has left, and nothing more can be written to it.
+    pub fn is_done(&self, who: u64) -> bool {
         match find(self.places.as_slice(), who) {
             Some(at) => {
                 let place = &self.places[at];
@@ -545,20 +573,20 @@ impl Post {
         }
     }
 
-    // Whether nothing waits to be read, told or stored.
-    pub(crate) fn is_quiet(&self) -> bool {
+    /// Whether nothing waits to be read, told or stored.
+    pub fn is_quiet(&self) -> bool {
         self.called.is_empty() && self.quits.is_empty() && self.size == 0
     }
 
-    // Whether something is owed to a connection.
-    pub(crate) fn owes(&self) -> bool {
+    /// Whether something is owed to a connection.
+    pub fn owes(&self) -> bool {
         self.places.iter().any(|place| place.stage != Stage::Gone
             && !place.is_broken
             && !place.owed.is_empty())
     }
 
-    // Of a connection more may be read, where this is so.
-    pub(crate) fn call_if(&mut self, who: u64, is_so: bool) -> Result<(), AllocError>
+    /// Of a connection more may be read, where this is so.
+    pub fn call_if(&mut self, who: u64, is_so: bool) -> Result<(), AllocError>
         ensures { OnOk result (Tells self.old self.new [] []) }
     {
         if !is_so {
@@ -567,8 +595,8 @@ impl Post {
         self.call_again(who)
     }
 
-    // A journal was handed its lines.
-    pub(crate) fn hand(&mut self, journal: usize)
+    /// A journal was handed its lines.
+    pub fn hand(&mut self, journal: usize)
         requires { journal < length self.old.lines.items }
         ensures places { self.new.places ≡ self.old.places }
         ensures count { length self.new.lines.items ≡ length self.old.lines.items }
@@ -578,8 +606,8 @@ impl Post {
         clear(&mut self.lines, journal);
     }
 
-    // A connection can be read or written again.
-    pub(crate) fn ready(&mut self, who: u64) -> Result<(), AllocError>
+    /// A connection can be read or written again.
+    pub fn ready(&mut self, who: u64) -> Result<(), AllocError>
         ensures { OnOk result (Tells self.old self.new [] []) }
     {
         match find(self.places.as_slice(), who) {

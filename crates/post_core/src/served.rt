@@ -1,9 +1,9 @@
 //! What is served.
 
 ghost use Rattle.std.specs.Prelude.{[], List, ℕ, OnOk, IfOk, IfSome};
-ghost use Rattle.keep_loop.specs.Posts.{Does};
-ghost use Rattle.keep_loop.specs.Turns.{Asked};
-ghost use Rattle.keep_loop.specs.Turns.Asked.{Heard, Noted, Changes};
+ghost use Rattle.post_core.specs.Posts.{Does};
+ghost use Rattle.post_core.specs.Turns.{Asked};
+ghost use Rattle.post_core.specs.Turns.Asked.{Heard, Noted, Changes};
 
 use crate::post::Post;
 use std::alloc::AllocError;

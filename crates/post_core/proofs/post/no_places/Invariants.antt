@@ -1,7 +1,7 @@
 use Rattle.std.proofs.Common.{◌≡◌, ℕ, length, slice_get}
-use Rattle.keep_loop.specs.Posts.{stage_at}
-use Rattle.keep_loop.specs.declared.post.Stage.TheVariants.{Gone}
-use Rattle.keep_loop.proofs.post.no_places.Given as goal
+use Rattle.post_core.specs.Posts.{stage_at}
+use Rattle.post_core.specs.declared.post.Stage.TheVariants.{Gone}
+use Rattle.post_core.proofs.post.no_places.Given as goal
 
 abbrev pub invariant-loop-place : goal.invariant-loop-place
 invariant-loop-place l = record {

@@ -1,0 +1,310 @@
+"""Closes an object of examples/clients/pathclient.py from another thread, at each moment of a call.
+
+A moment is a line of pathclient.py that the thread of the call is about to run. A trace holds it there, the object is
+closed by another thread, and then it goes on: so each order of the two is tried, and none is left to luck. Moments at
+which a thread waits in the system (a connection that is not made, a server that takes nothing) have a server that holds
+at that step, and the object is closed when the system says that the thread waits.
+
+Whatever the moment, the call raises Lost with the word `closed`, or replies where the server had heard it. After that
+the server hears nothing but the end of each connection.
+"""
+import contextlib
+import pathlib
+import socket
+import sys
+import threading
+import time
+
+TOP = pathlib.Path(__file__).resolve().parent.parent
+sys.path.append(str(TOP / "examples" / "clients"))
+import pathclient  # noqa: E402
+from pathclient import Cancelled, Lost, Object  # noqa: E402
+
+# How long anything may take, in seconds, and how long a closing that does not end is waited for while a call is held.
+SECONDS, HELD = 30, 0.2
+# The numbers that Linux gives to calls that wait for the other side (poll, connect, sendto, recvfrom, epoll_wait), and
+# to those that wait for a time, or for a thread of the program (clock_nanosleep, futex).
+WAITS, SLEEPS = {"7", "42", "44", "45", "232"}, {"230", "202"}
+# What a server does in place of an answer.
+CLOSES, HOLDS = object(), object()
+
+
+def awaited(what, holds):
+    """Waits until this holds."""
+    end = time.monotonic() + SECONDS
+    while not holds():
+        if time.monotonic() > end:
+            raise AssertionError(f"it never came to {what}")
+        time.sleep(0.001)
+
+
+class Answering:
+    """A server that answers a line by what its connection has for how the line begins, and else by nothing. Where that
+    is CLOSES, it closes the connection; where a connection has `then`, it reads nothing behind its first line until
+    `goes_on` is set. The last of `connections` stands for all after it; where that is HOLDS, no more are taken."""
+
+    def __init__(self, *connections):
+        self.connections, self.heard, self.taken, self.ends = connections, [], 0, 0
+        self.goes_on, self.kept = threading.Event(), []
+        self.socket = socket.create_server(("127.0.0.1", 0))
+        self.socket.setsockopt(socket.SOL_SOCKET, socket.SO_RCVBUF, 4096)
+        self.port = self.socket.getsockname()[1]
+        threading.Thread(target=self.serve, daemon=True).start()
+
+    def serve(self):
+        with contextlib.suppress(OSError):
+            while (answers := self.connections[min(self.taken, len(self.connections) - 1)]) is not HOLDS:
+                connection = self.socket.accept()[0]
+                self.taken += 1
+                threading.Thread(target=self.answer, args=(connection, answers), daemon=True).start()
+
+    def answer(self, connection, answers):
+        with connection, contextlib.suppress(OSError), connection.makefile("rb") as lines:
+            for line in lines:
+                self.heard.append(line.decode("ascii"))
+                sent = next((it for begin, it in answers.items() if self.heard[-1].startswith(begin)), b"")
+                if sent is CLOSES:
+                    break
+                connection.sendall(sent)
+                if "then" in answers:
+                    self.goes_on.wait()
+        self.ends += 1
+
+    def has_heard(self, word):
+        return any(it.split()[0] == word for it in list(self.heard))
+
+    def caught_up(self, place):
+        """What it has heard in all, once it has heard all and the connections have ended."""
+        self.goes_on.set()
+        if self.connections[-1] is not HOLDS:
+            # It takes one connection after the other, so this one after all that were made.
+            mark = f"mark {self.taken}\n"
+            with socket.create_connection(("127.0.0.1", self.port)) as it:
+                it.sendall(mark.encode())
+            awaited("a connection", lambda: mark in list(self.heard))
+        awaited(f"the end of the connections, closed at {place}", lambda: self.ends == self.taken)
+        return [it for it in self.heard if not it.startswith("mark ")]
+
+    def stop(self):
+        self.goes_on.set()
+        # (this wakes the thread that waits in it)
+        with contextlib.suppress(OSError):
+            self.socket.shutdown(socket.SHUT_RDWR)
+        self.socket.close()
+
+
+class Call:
+    """A call of `get` in a thread of its own. Where `held` is given, its lines are counted, and at the one of number
+    `moment` it is held, and `held` called."""
+
+    def __init__(self, cell, *arguments, moment=0, held=None, **options):
+        self.cell, self.arguments, self.options = cell, arguments, options
+        self.moment, self.held, self.lines, self.place, self.came = moment, held, 0, "", None
+        self.thread = threading.Thread(target=self.run, daemon=True)
+        self.thread.start()
+
+    def run(self):
+        if self.held is not None:
+            sys.settrace(self.watch)
+        try:
+            self.came = self.cell.call("get", *self.arguments, **self.options)
+        except Exception as error:  # what it raises is what is looked at
+            self.came = error
+        finally:
+            sys.settrace(None)
+
+    def watch(self, frame, event, _):
+        if frame.f_code.co_filename != pathclient.__file__:
+            return None
+        if event == "line":
+            self.lines += 1
+            if self.lines == self.moment:
+                self.held()
+                self.place = f"{frame.f_code.co_name}, line {frame.f_lineno}"
+        return self.watch
+
+    def has_ended(self):
+        return not self.thread.is_alive()
+
+    def waits(self, kinds=WAITS):
+        """Whether the thread waits in the system."""
+        try:
+            said = pathlib.Path(f"/proc/self/task/{self.thread.native_id}/syscall").read_text(encoding="ascii")
+        except OSError:
+            return False
+        return said.split()[0] in kinds
+
+    def is_lost(self, place, *others):
+        """Complains where the call does not end by Lost, with its word and the call, or in one of these other ways."""
+        awaited(f"the end of a call closed at {place}", self.has_ended)
+        came = self.came
+        if type(came) is Lost and came.word == "closed" and str(came).startswith("closed: get"):
+            return
+        if type(came) not in others and came not in others:
+            raise AssertionError(f"closed at {place}: {type(came).__name__}({came})")
+
+
+def left(server, cell, place):
+    """Complains where an object that was closed still calls, or holds a connection."""
+    heard = server.caught_up(place)
+    Call(cell).is_lost(f"{place}: the call after it")
+    more = server.caught_up(place)[len(heard) :]
+    if more:
+        raise AssertionError(f"closed at {place}: the server heard {more} after it")
+
+
+class Scene:
+    """A call, the server that it meets, and what it may be told in place of Lost where the server has heard it.
+
+    `begun` gives the object, and the calls that are under way, each of which is Lost too. Where the call waits for
+    ever, it does behind the server's line number `last`; where it goes on for ever, `most` of its lines are tried."""
+
+    def __init__(self, begun, *connections, others=(), last=None, most=None, **options):
+        self.begun, self.connections, self.others, self.options = begun, connections, others, options
+        self.last, self.most = last, most
+
+    @contextlib.contextmanager
+    def played(self):
+        """A server, an object of it, and the calls that are under way."""
+        server = Answering(*self.connections)
+        try:
+            cell, before = self.begun(server)
+            server.heard.clear()
+            yield server, cell, before
+            cell.close()
+        finally:
+            server.stop()
+
+    def lines(self):
+        """How many lines the call has."""
+        with self.played() as (server, cell, _):
+            call, seen = Call(cell, held=cell.close, **self.options), []
+
+            def stays():
+                """Whether nothing has come of it for a while."""
+                seen.append(call.lines)
+                stood = len(seen) > 200 and len(set(seen[-200:])) == 1
+                return stood and len(server.heard) == self.last and call.waits()
+
+            awaited("the end of a call", lambda: call.has_ended() or self.last and stays())
+            return call.lines
+
+    def closed_at(self, moment):
+        """Closes the object at this line of the call."""
+        with self.played() as (server, cell, before):
+            closer, others = threading.Thread(target=cell.close, daemon=True), []
+
+            def close():
+                closer.start()
+                # (one that waits for the call that is held is not waited for)
+                closer.join(HELD)
+                if server.has_heard("call") or before:
+                    others.extend(self.others)
+
+            call = Call(cell, moment=moment, held=close, **self.options)
+            awaited(f"line {moment} of the call", lambda: call.place)
+            call.is_lost(call.place, *others)
+            awaited(f"the end of closing at {call.place}", lambda: not closer.is_alive())
+            for it in before:
+                it.is_lost(f"{call.place}: the call before it")
+            left(server, cell, call.place)
+
+    def faults(self):
+        """What is wrong, by line."""
+        count = self.most or self.lines()
+        for moment in range(1, count + 1):
+            try:
+                self.closed_at(moment)
+            except AssertionError as error:
+                yield f"line {moment} of {count}: {error}"
+
+    def __call__(self, _):
+        for fault in self.faults():
+            raise AssertionError(fault)
+
+
+class Wait:
+    """A call that waits in the system at a server that holds at that step, behind its line number `last`."""
+
+    def __init__(self, begun, *connections, last, kinds=WAITS, arguments=(), **options):
+        self.begun, self.connections, self.last, self.kinds = begun, connections, last, kinds
+        self.arguments, self.options = arguments, options
+
+    def __call__(self, _):
+        server = Answering(*self.connections)
+        try:
+            cell, before = self.begun(server)
+            server.heard.clear()
+            call = Call(cell, *self.arguments, **self.options)
+            awaited("the wait", lambda: len(server.heard) >= self.last and call.waits(self.kinds))
+            closer = threading.Thread(target=cell.close, daemon=True)
+            closer.start()
+            awaited("the end of closing", lambda: not closer.is_alive())
+            for it in (call, *before):
+                it.is_lost("a wait")
+            left(server, cell, "a wait")
+        finally:
+            server.stop()
+
+
+def opened(server, **options):
+    """An object that is open."""
+    return Object(server.port, "cell", **options), []
+
+
+def lost(server, **options):
+    """An object whose connection broke."""
+    cell = Object(server.port, "cell", **options)
+    with contextlib.suppress(Lost):
+        cell.call("put", 1)
+    return cell, []
+
+
+def unreachable(server):
+    """An object whose connection broke, and whose server makes no new one: its queue is full."""
+    cell = Object(server.port, "cell", wait=99)
+    with contextlib.suppress(Lost):
+        cell.call("put", 1)
+    server.socket.listen(0)
+    for _ in range(3):
+        it = socket.socket()
+        it.setblocking(False)
+        it.connect_ex(("127.0.0.1", server.port))
+        server.kept.append(it)
+    return cell, []
+
+
+def behind(server):
+    """An object of which a call has the turn."""
+    cell = Object(server.port, "cell")
+    call = Call(cell)
+    awaited("the answer to a call", lambda: server.has_heard("call") and call.waits())
+    return cell, [call]
+
+
+OPEN = {"open": b"opened cell\n", "quit": b"bye\n"}
+WAITING = {**OPEN, "call get": b"accepted 1\n"}
+BREAKS = {**OPEN, "call": CLOSES}
+NAMED = {"open": b"opened cell next 5\n", "quit": b"bye\n"}
+NAMED_BREAKS = {**NAMED, "call": CLOSES}
+TRIES = [
+    ("closed at each line of a call", Scene(opened, WAITING, last=1)),
+    ("closed at each line of a call that is replied",
+     Scene(opened, {**OPEN, "call get": b"accepted 1\ndone 1 5\n"}, others=(5,))),
+    ("closed at each line of a call that connects", Scene(lost, BREAKS, WAITING, last=2)),
+    ("closed at each line of a call that comes back",
+     Scene(lambda it: opened(it, client="ann"), NAMED_BREAKS, {**NAMED, "call #5 get": b"accepted 9\n"}, last=3)),
+    ("closed at each line of a call that is cancelled", Scene(opened, WAITING, last=2, within=0.05)),
+    ("closed at each line of a call behind another one", Scene(behind, WAITING, others=(Cancelled,), within=1)),
+    ("closed at each line of a call whose name is in use",
+     Scene(lambda it: opened(it, client="ann"), NAMED_BREAKS, {"open": b"no InUse\n"}, most=80)),
+    ("closed at each line of a call that no server answers", Scene(lost, BREAKS, {"open": CLOSES}, most=80)),
+    ("closed while a connection is made", Wait(unreachable, BREAKS, HOLDS, last=0)),
+    ("closed while `open` is not answered", Wait(lost, BREAKS, {}, last=1)),
+    ("closed while a call is sent", Wait(opened, {**OPEN, "then": HOLDS}, last=0, arguments=("x" * 1000,) * 6000)),
+    ("closed while a call is not answered", Wait(opened, OPEN, last=1)),
+    ("closed while a call waits", Wait(opened, WAITING, last=1)),
+    ("closed while a cancel is not answered", Wait(opened, WAITING, last=2, within=0.05)),
+    ("closed between two tries", Wait(lost, BREAKS, {"open": CLOSES}, last=1, kinds=SLEEPS)),
+    ("closed behind another call", Wait(behind, WAITING, last=0, kinds=SLEEPS)),
+]
