@@ -4,7 +4,8 @@ use crate::crash::{How, crash};
 use crate::device::Happened;
 use decl_core::object::Object;
 use journal_core::journal::recovered_len;
-use recover_core::recover::{House, Recovered, recover};
+use recover_core::recover::{House, Recovered};
+use recover_text::recover::recover;
 use std::alloc::{AllocError, Global};
 
 /// What stands in a journal behind some calls.
