@@ -1,6 +1,7 @@
 -- Turns that go on.
-use Rattle.std.proofs.Common.{◌≡◌, ◌∙◌, ap, sym, subst, refl, arith, ℕ, zero, suc, ◌<◌, List, [], ◌∷◌, ◌++◌, length, append_assoc, eqb-true}
-use Rattle.std.specs.Prelude.{Bool, true, false, Some, slice_get, slice_set, if◌then◌else◌, ◌==◌}
+use Rattle.std.proofs.Common.{◌≡◌, ◌≢◌, inl, inr, ◌∙◌, ap, sym, subst, refl, arith, ℕ, zero, suc, ◌<◌, List, [], ◌∷◌, ◌++◌, length, append_assoc, eqb-true}
+use Rattle.std.specs.Prelude.{Bool, true, false, Some, slice_get, slice_set, slice_index_or, if◌then◌else◌, ◌==◌}
+use Rattle.std.proofs.lemmas.Bool.Decides.{eqb_tells}
 use Rattle.std.proofs.lemmas.List.{append-nil, length-set}
 use Rattle.std.proofs.lemmas.Option.{same_Some, slice_get_within, slice_get-get_or}
 use Rattle.hosted_core.specs.Scene.{Scene}
@@ -69,20 +70,20 @@ moves_then a b c added further one two = record {
     get_at (x ∷ xs) zero within = (x, refl)
     get_at (x ∷ xs) (suc j) within = get_at xs j (omega (arith, within))
 
-set_here : (xs : List Scene) (k : ℕ) (x y : Scene) → slice_get (slice_set xs k x) k ≡ Some y → x ≡ y
-set_here [] k x y is = absurd (none_is_some is)
-  where
-    none_is_some : slice_get (slice_set ([] {A = Scene}) k x) k ≡ Some y → ⊥
-    none_is_some e = grind (arith, e)
-set_here (z ∷ xs) zero x y is = same_Some x y is
-set_here (z ∷ xs) (suc k) x y is = set_here xs k x y is
+set_here : (xs : List Scene) (k : ℕ) (z x y : Scene) → slice_get xs k ≡ Some z → slice_get (slice_set xs k x) k ≡ Some y → x ≡ y
+set_here [] k z x y there is = absurd (grind (arith, there))
+set_here (w ∷ xs) zero z x y there is = same_Some x y is
+set_here (w ∷ xs) (suc k) z x y there is = set_here xs k z x y there is
 
-set_other : (xs : List Scene) (i j : ℕ) (x : Scene) → (i == j) ≡ false → slice_get (slice_set xs i x) j ≡ slice_get xs j
+set_other : (xs : List Scene) (i j : ℕ) (x : Scene) → i ≢ j → slice_get (slice_set xs i x) j ≡ slice_get xs j
 set_other [] i j x ne = refl
-set_other (y ∷ xs) zero zero x ne = absurd (grind (arith, ne))
+set_other (y ∷ xs) zero zero x ne = absurd (ne refl)
 set_other (y ∷ xs) zero (suc j) x ne = refl
 set_other (y ∷ xs) (suc i) zero x ne = refl
-set_other (y ∷ xs) (suc i) (suc j) x ne = set_other xs i j x ne
+set_other (y ∷ xs) (suc i) (suc j) x ne = set_other xs i j x (λ e. ne (ap suc e))
+
+apart : (m n : ℕ) → (m == n) ≡ false → m ≢ n
+apart m n h same = elim (eqb_tells m n) [ inl x ↦ absurd (let e : true ≡ false = sym x.0 ∙ h in cc) | inr x ↦ x.1 same ]
 
 -- one object goes on, and the others are as they were
 pub moves_one : (scenes : List Scene) (at : ℕ) (old new : Scene) (lines : List ℕ) → slice_get scenes at ≡ Some old → Steps old lines new →
@@ -97,12 +98,39 @@ moves_one scenes at old new lines there goes = record {
     one j h k was is true same =
         let at_is : at ≡ j = eqb-true at j same in
         let h_is : old ≡ h = same_Some old h (sym there ∙ ap (slice_get scenes) at_is ∙ was) in
-        let k_is : new ≡ k = set_here scenes at new k (subst (λ n. slice_get (slice_set scenes at new) n ≡ Some k) (sym at_is) is) in
+        let k_is : new ≡ k = set_here scenes at old new k there (subst (λ n. slice_get (slice_set scenes at new) n ≡ Some k) (sym at_is) is) in
         subst (λ b. Steps h ((if b then lines else []) ++ []) k) (sym same)
         (subst (λ l. Steps h l k) (sym (append-nil lines)) (subst (λ x. Steps h lines x) k_is (subst (λ x. Steps x lines new) h_is goes)))
     one j h k was is false other =
-        let same : h ≡ k = same_Some h k (sym was ∙ sym (set_other scenes at j new other) ∙ is) in
+        let same : h ≡ k = same_Some h k (sym was ∙ sym (set_other scenes at j new (apart at j other)) ∙ is) in
         subst (λ b. Steps h ((if b then lines else []) ++ []) k) (sym other) (subst (λ x. Steps h [] x) same rests)
+
+-- no lines are for nobody
+none_to : (at j : ℕ) → to j ((at, []) ∷ []) ≡ []
+none_to at j = by (at == j)
+  where
+    nothing : List ℕ
+    nothing = []
+    by : (b : Bool) → (if b then nothing else nothing) ++ nothing ≡ nothing
+    by true = refl
+    by false = refl
+
+-- one object goes on, and no line tells of it
+pub moves_quiet : (scenes : List Scene) (at : ℕ) (old new : Scene) → slice_get scenes at ≡ Some old → Steps old [] new → Moves scenes [] (slice_set scenes at new)
+moves_quiet scenes at old new there goes =
+    let m = moves_one scenes at old new [] there goes in
+    record { count = m.count; steps = λ j h k was is. subst (λ l. Steps h l k) (none_to at j) (m.steps j h k was is) }
+
+-- there is no object, and no line
+pub moves_nowhere : (scenes : List Scene) (at : ℕ) (line : List ℕ) → line ≡ [] → Moves scenes ((at, line) ∷ []) scenes
+moves_nowhere scenes at line none =
+    let m = moves_none scenes in
+    subst (λ l. Moves scenes ((at, l) ∷ []) scenes) (sym none)
+    (record { count = m.count; steps = λ j h k was is. subst (λ l. Steps h l k) (sym (none_to at j)) (m.steps j h k was is) })
+
+-- the object at a place
+pub at_place : (scenes : List Scene) (at : ℕ) (object : Scene) → at < length scenes → object ≡ slice_index_or scenes at object → slice_get scenes at ≡ Some object
+at_place scenes at object within is = slice_get-get_or scenes at object within ∙ ap Some (sym is)
 
 -- a turn begins
 pub along_first : (scenes : List Scene) (post : Post) → Along scenes post scenes post
@@ -126,3 +154,11 @@ pub adds_on : (scenes : List Scene) (at : ℕ) (old new : Scene) (lines : List �
     Tells a b [] ((at, lines) ∷ []) → GoesOn scenes a (slice_set scenes at new) b
 adds_on scenes at old new lines a b there goes tells =
     goes_by scenes (slice_set scenes at new) a b [] ((at, lines) ∷ []) (moves_one scenes at old new lines there goes) tells
+
+-- a turn goes on, and objects do what no line tells of
+pub keeps : (old new : List Scene) → Moves old [] new → (post : Post) → GoesOn old post new post
+keeps old new moves post = goes_by old new post post [] [] moves (tells_none post)
+
+-- a turn goes on, and lines are added for what objects do
+pub adds_lines : (old new : List Scene) (at : ℕ) (lines : List ℕ) (a b : Post) → Moves old ((at, lines) ∷ []) new → Tells a b [] ((at, lines) ∷ []) → GoesOn old a new b
+adds_lines old new at lines a b moves tells = goes_by old new a b [] ((at, lines) ∷ []) moves tells

@@ -19,6 +19,10 @@ use Rattle.hosted_core.specs.Steps.{Comes, Steps, rests, does, comes, gets_numbe
 stays : (old new : Scene) (after : List ℕ) → new ≡ old → after ≡ [] → Steps old after new
 stays old new after same none = subst (λ s. Steps old after s) (sym same) (subst (λ l. Steps old l old) (sym none) rests)
 
+-- nothing happens
+pub steps_stay : (old new : Scene) → new ≡ old → Steps old [] new
+steps_stay old new same = stays old new [] same refl
+
 -- a client comes
 pub steps_come : (old new : Scene) (name : List ℕ) (now : ℕ) (a : Result Entered EnterFault) (after : List ℕ) → Comes old name now [] a after new → Steps old after new
 steps_come old new name now a after c =

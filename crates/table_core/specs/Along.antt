@@ -15,3 +15,7 @@ pub record Along (first : List Scene) (before : Post) (now : List Scene) (post :
 -- a turn goes on
 abbrev pub GoesOn : List Scene → Post → List Scene → Post → Type 0
 GoesOn old post new after = (first : List Scene) (before : Post) → Along first before old post → Along first before new after
+
+-- a turn goes on, and nothing is told or added
+abbrev pub Keeps : List Scene → List Scene → Type 0
+Keeps old new = (post : Post) → GoesOn old post new post

@@ -7,4 +7,5 @@
 //! done in the same turn, whosever turn it is. `specs/Moves.antt` says what a turn gives.
 #![tactic(auto)]
 
+mod objects;
 pub mod table;

@@ -1,9 +1,9 @@
 //! All objects of a kept server, and all connections.
 
 ghost use Rattle.std.specs.Prelude.{◌≡◌, OnOk, IfOk, Ok, true, false};
-ghost use Rattle.table_core.specs.Along.{GoesOn};
-ghost use Rattle.table_core.specs.Moves.{Begins};
+ghost use Rattle.table_core.specs.Along.{GoesOn, Keeps};
 
+use crate::objects::{Comer, Made, begin_at, call_at, cancel_at, enter_at, leave_at, seat_at};
 use ask_core::answer::{Cancelled, KeyedFault, SubmitFault};
 use client_core::answer::{
     push_accepted, push_cancel, push_ended, push_kept, push_opened, push_repeated, push_withdrawn,
@@ -41,7 +41,7 @@ pub struct Table {
     // the line that is being told or added
     line: Vec<u8>,
     // the second of the last tick
-    now: u64,
+    second: u64,
 }
 
 impl Model for Table {
@@ -99,7 +99,7 @@ impl Table {
             objects,
             clients,
             line,
-            now,
+            second: now,
         })
     }
 
@@ -243,13 +243,13 @@ impl Table {
     ) -> Result<Option<Result<Entered, EnterFault>>, AllocError>
         ensures { OnOk result (GoesOn self.old post.old self.new post.new) }
     {
-        self.line.clear();
-        let Some(object) = self.objects.get_mut(at) else {
-            return Ok(None);
+        let who = Comer {
+            place,
+            second: self.second,
         };
-        let entered = object.enter(client, place, self.now, &mut self.line)?;
+        let entered = enter_at(&mut self.objects, at, client, who, &mut self.line)?;
         post.add(at, &self.line)?;
-        Ok(Some(entered))
+        Ok(entered)
     }
 
     // The one at a place has the session of a name from now on.
@@ -372,18 +372,12 @@ impl Table {
 
     // The session of the one that asks, which gets a number with its first call.
     fn seat(&mut self, asker: Asker) -> Result<u16, SubmitFault>
-        ensures { self.new ≡ self.old }
+        ensures { Keeps self.old self.new }
     {
         if asker.opened.session != 0 {
             return Ok(asker.opened.session);
         }
-        let Some(object) = self.objects.get_mut(asker.opened.object) else {
-            return Err(SubmitFault::Gone);
-        };
-        let Some(session) = object.seat() else {
-            return Err(SubmitFault::Full);
-        };
-        object.own(session, asker.place);
+        let session = seat_at(&mut self.objects, asker.opened.object, asker.place)?;
         let opened = Opened {
             session,
             ..asker.opened
@@ -421,12 +415,12 @@ impl Table {
     ) -> Result<Result<Taken, SubmitFault>, AllocError>
         ensures { OnOk result (GoesOn self.old post.old self.new post.new) }
     {
-        self.line.clear();
-        let is_first = post.lines(at).is_empty();
-        let Some(object) = self.objects.get_mut(at) else {
-            return Ok(Err(SubmitFault::Gone));
+        let made = Made {
+            is_first: post.lines(at).is_empty(),
+            session,
+            operation,
         };
-        let taken = object.call(is_first, session, operation, arguments, &mut self.line)?;
+        let taken = call_at(&mut self.objects, at, made, arguments, &mut self.line)?;
         post.add(at, &self.line)?;
         Ok(taken)
     }
@@ -569,11 +563,7 @@ impl Table {
         let Ok(session) = u16::try_from(session) else {
             return Ok(None);
         };
-        self.line.clear();
-        let Some(object) = self.objects.get_mut(at) else {
-            return Ok(None);
-        };
-        let told = object.cancel(session, &mut self.line)?;
+        let told = cancel_at(&mut self.objects, at, session, &mut self.line)?;
         post.add(at, &self.line)?;
         Ok(told)
     }
@@ -594,7 +584,7 @@ impl Table {
 
     // The session of the one at a place leaves. No call of it waits.
     fn leave_object(&mut self, place: usize)
-        ensures { self.new ≡ self.old }
+        ensures { Keeps self.old self.new }
     {
         let Some(opened) = self.clients.opened(place) else {
             return;
@@ -602,10 +592,12 @@ impl Table {
         if opened.session == 0 {
             return;
         }
-        let now = self.now;
-        if let Some(object) = self.objects.get_mut(opened.object) {
-            let _was_here = object.leave(opened.session, now);
-        }
+        leave_at(
+            &mut self.objects,
+            opened.object,
+            opened.session,
+            self.second,
+        );
     }
 
     // Does what a line asks for.
@@ -820,17 +812,6 @@ fn writes_next(object: &Hosted, front: &mut Vec<u8>) -> bool {
     }
 }
 
-// Begins the next epoch of the object at a place. False: none could begin, and nothing changes.
-fn begin_at(objects: &mut Vec<Hosted>, at: usize) -> Result<bool, AllocError>
-    ensures begun { result ≡ Ok true → Begins objects.old.items at objects.new.items }
-    ensures none { result ≡ Ok false → objects.new.items ≡ objects.old.items }
-{
-    match objects.get_mut(at) {
-        None => Ok(false),
-        Some(object) => object.begin_next(),
-    }
-}
-
 // A line without its CR.
 fn without_cr(line: &[u8]) -> &[u8] {
     match line {
@@ -882,7 +863,7 @@ impl Served for Table {
                 }
             }
             Note::Ticks(time) => {
-                self.now = time;
+                self.second = time;
                 self.clients.wake();
             }
             Note::Ends => return self.end(post),
