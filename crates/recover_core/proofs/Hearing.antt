@@ -1,5 +1,5 @@
 -- An epoch and its clients, line by line.
-use Rattle.std.proofs.Common.{◌≡◌, ◌⊎◌, inl, inr, ℕ, zero, suc, ◌+◌, ◌-◌, ◌≤◌, Bool, true, false, List, [], ◌∷◌, ◌++◌, length, take, refl, sym, ap, ◌∙◌, subst, arith, length-append, cond}
+use Rattle.std.proofs.Common.{◌≡◌, inl, inr, ℕ, suc, ◌+◌, ◌-◌, Bool, true, false, List, [], ◌∷◌, ◌++◌, length, refl, sym, ap, ◌∙◌, subst, arith, length-append, cond}
 use Rattle.std.specs.Prelude.{Option, Some, None, Result, Ok, Err, IfOk, IsTrue}
 use Rattle.std.specs.declared.alloc.AllocError.{AllocError}
 use Rattle.audit_core.specs.declared.told.ToldReply.{ToldReply}
@@ -7,14 +7,13 @@ use Rattle.front_core.specs.declared.front.CarriedCall.{CarriedCall}
 use Rattle.replay_core.specs.declared.replay.Known.{Known}
 use Rattle.decl_core.specs.ObjectForm.{ObjectForm}
 use Rattle.audit_core.specs.View.{told_view}
-use Rattle.audit_core.specs.declared.verdict.Fault.{Fault}
 use Rattle.front_core.specs.Front.{Opening}
 use Rattle.guest_core.specs.Guests.{Guests}
 use Rattle.replay_core.specs.declared.replay.Note.{Note}
 use Rattle.replay_core.specs.declared.replay.Note.TheVariants as notes
 use Rattle.replay_core.specs.Steps.{Step, ran, cancelled, named, Heard, nothing_heard, ended_in}
 use Rattle.replay_core.specs.Tells.{Tells, Tell, start_told, end_told, cancel_told, name_told}
-use Rattle.replay_core.specs.Sound.{IsSound, IsCut, IsPlayed, IsFault, IsFirstFault}
+use Rattle.replay_core.specs.Sound.{IsCut, IsFirstFault}
 use Rattle.replay_core.specs.Stands.{Stands, IsNote, known_call}
 use Rattle.replay_core.proofs.Standing.{stands_sound}
 use Rattle.replay_core.proofs.Exact.{sound_no_fault}
@@ -23,7 +22,7 @@ use Rattle.recover_core.specs.declared.playing.Refused.{Refused}
 use Rattle.recover_core.specs.declared.playing.Refused.TheVariants.{Faulty, Odd}
 use Rattle.recover_core.specs.Lines.{IsLine, AreLines, joined}
 use Rattle.recover_core.specs.Clients.{Makes, MakeAll}
-use Rattle.recover_core.specs.Playing.{begun_by, TakesNote, Counts, IsRest, PlayStands, StepsOn, IsRefusal, PlaysSo, PlayedTo, IsFaultyAt, IsRefusedAt}
+use Rattle.recover_core.specs.Playing.{begun_by, TakesNote, Counts, IsRest, PlayStands, StepsOn, PlaysSo, PlayedTo, IsRefusedAt}
 use Rattle.recover_core.proofs.Cutting.{joined_more, lines_more, take_front}
 
 some_none : {X : Type 0} {x : X} → ◌≡◌ {A = Option X} (Some x) None → ⊥

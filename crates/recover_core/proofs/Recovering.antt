@@ -1,5 +1,5 @@
 -- What an epoch came to, from what was played.
-use Rattle.std.proofs.Common.{◌≡◌, ℕ, ◌+◌, List, refl, sym, ap, ◌∙◌, subst}
+use Rattle.std.proofs.Common.{◌≡◌, ℕ, ◌+◌, List, sym, ap, ◌∙◌, subst}
 use Rattle.std.specs.Prelude.{Result, Ok, Err, IfOk}
 use Rattle.decl_core.specs.ObjectForm.{ObjectForm}
 use Rattle.front_core.specs.Front.{Opening}
@@ -10,7 +10,6 @@ use Rattle.recover_core.specs.declared.playing.Refused.{Refused}
 use Rattle.recover_core.specs.declared.playing.Refused.TheVariants.{Faulty, Odd}
 use Rattle.recover_core.specs.declared.recover.House.{House}
 use Rattle.recover_core.specs.declared.recover.Recovered.{Recovered}
-use Rattle.recover_core.specs.Lines.{joined}
 use Rattle.recover_core.specs.Carried.{AreCounted}
 use Rattle.recover_core.specs.Clients.{OpenAll, MakeAll}
 use Rattle.recover_core.specs.Playing.{PlayStands, PlayedTo, IsRefusedAt}

@@ -1,4 +1,4 @@
-use Rattle.std.proofs.Common.{◌≡◌, ◌+◌, ◌∷◌, length, refl, sym, subst, arith, ap, length-append}
+use Rattle.std.proofs.Common.{◌+◌, ◌∷◌, length, refl, arith, ap, length-append}
 use Rattle.std.specs.Prelude.{Ok, Err}
 use Rattle.decl_core.specs.ObjectMap.{object_of}
 use Rattle.recover_core.specs.Playing.{Plays}

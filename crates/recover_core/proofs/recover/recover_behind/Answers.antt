@@ -1,5 +1,4 @@
-use Rattle.std.proofs.Common.{refl, ap, subst}
-use Rattle.decl_core.specs.ObjectMap.{object_of}
+use Rattle.std.proofs.Common.{refl, subst}
 use Rattle.front_core.specs.Front.{opening_of}
 use Rattle.recover_core.specs.Clients.{OpenAll}
 use Rattle.recover_core.proofs.Recovering.{if_ok}
