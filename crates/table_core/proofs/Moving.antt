@@ -5,12 +5,15 @@ use Rattle.std.proofs.lemmas.Bool.Decides.{eqb_tells}
 use Rattle.std.proofs.lemmas.List.{append-nil, length-set}
 use Rattle.std.proofs.lemmas.Option.{same_Some, slice_get_within, slice_get-get_or}
 use Rattle.hosted_core.specs.Scene.{Scene}
-use Rattle.keep_loop.specs.Posts.{Tells, Does, is_here, owed_to}
-use Rattle.keep_loop.specs.Texts.{text_at, to}
-use Rattle.keep_loop.specs.declared.post.Post.{Post}
+use Rattle.post_core.specs.Posts.{Tells, Does, owed_to}
+use Rattle.post_core.specs.Texts.{text_at, to}
+use Rattle.post_core.specs.declared.post.Post.{Post}
 use Rattle.hosted_core.specs.Steps.{Steps, rests, goes_on}
-use Rattle.table_core.specs.Moves.{Moves}
-use Rattle.table_core.specs.Along.{Along, GoesOn}
+use Rattle.post_core.specs.Turns.Asked.{Heard, Noted}
+use Rattle.post_core.specs.declared.served.LineEnd.{LineEnd}
+use Rattle.post_core.specs.declared.served.Note.{Note}
+use Rattle.table_core.specs.Moves.{Moves, Gives}
+use Rattle.table_core.specs.Along.{Along, GoesOn, Keeps}
 
 -- what is for one in two lists
 to_more : (c : ℕ) (said more : List (ℕ × List ℕ)) → to c (said ++ more) ≡ to c said ++ to c more
@@ -111,6 +114,7 @@ none_to at j = by (at == j)
   where
     nothing : List ℕ
     nothing = []
+
     by : (b : Bool) → (if b then nothing else nothing) ++ nothing ≡ nothing
     by true = refl
     by false = refl
@@ -162,3 +166,30 @@ keeps old new moves post = goes_by old new post post [] [] moves (tells_none pos
 -- a turn goes on, and lines are added for what objects do
 pub adds_lines : (old new : List Scene) (at : ℕ) (lines : List ℕ) (a b : Post) → Moves old ((at, lines) ∷ []) new → Tells a b [] ((at, lines) ∷ []) → GoesOn old a new b
 adds_lines old new at lines a b moves tells = goes_by old new a b [] ((at, lines) ∷ []) moves tells
+
+-- the same, of what was seen before
+pub keeps_by : (was now new : List Scene) → was ≡ now → Moves was [] new → (post : Post) → GoesOn now post new post
+keeps_by was now new same moves = keeps now new (subst (λ (l : List Scene). Moves l [] new) same moves)
+
+pub adds_by : (was now new : List Scene) (at : ℕ) (lines bytes : List ℕ) (a b : Post) → was ≡ now → Moves was ((at, lines) ∷ []) new → bytes ≡ lines →
+    Tells a b [] ((at, bytes) ∷ []) → GoesOn now a new b
+adds_by was now new at lines bytes a b same moves is tells =
+    adds_lines now new at lines a b (subst (λ (l : List Scene). Moves l ((at, lines) ∷ []) new) same moves) (subst (λ (l : List ℕ). Tells a b [] ((at, l) ∷ [])) is tells)
+
+-- what a turn came to
+abbrev turn_of : List Scene → Post → List Scene → Post → Type 0
+turn_of old p new q = Along old p new q
+
+pub heard : (old new : List Scene) (p q : Post) (who : ℕ) (line : List ℕ) (end : LineEnd) → GoesOn old p new q → Does Gives old (Heard who line end) new p q
+heard old new p q who line end goes =
+    let along : turn_of old p new q = goes old p (along_first old p) in
+    record { said = along.said; added = along.added; step = along.moves; tells = along.tells }
+
+pub noted : (old new : List Scene) (p q : Post) (note : Note) → GoesOn old p new q → Does Gives old (Noted note) new p q
+noted old new p q note goes =
+    let along : turn_of old p new q = goes old p (along_first old p) in
+    record { said = along.said; added = along.added; step = along.moves; tells = along.tells }
+
+-- a turn goes on, nothing more is told, and objects do what no line tells of
+pub then_keeps : (old mid new : List Scene) (p q r : Post) → GoesOn old p mid q → Tells q r [] [] → Keeps mid new → GoesOn old p new r
+then_keeps old mid new p q r goes tells keep = λ first before along. keep r first before (tells_on mid q r [] tells first before (goes first before along))

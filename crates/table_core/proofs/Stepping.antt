@@ -1,7 +1,6 @@
 -- What each call of an object is as a step of it.
-use Rattle.std.proofs.Common.{◌≡◌, ◌∙◌, ap, sym, subst, refl, ℕ, List, [], ◌∷◌, ◌++◌, Bool, true, false, Option, Some, None, Result, Ok, Err}
+use Rattle.std.proofs.Common.{◌≡◌, sym, subst, refl, ℕ, List, [], Bool, Option, Some, None, Result, Ok, Err}
 use Rattle.value_core.specs.declared.datum.Datum.{Datum}
-use Rattle.decl_core.specs.ObjectMap.{object_of}
 use Rattle.ask_core.specs.declared.answer.SubmitFault.{SubmitFault}
 use Rattle.guest_core.specs.declared.guests.Entered.{Entered}
 use Rattle.guest_core.specs.declared.guests.EnterFault.{EnterFault}
@@ -10,7 +9,6 @@ use Rattle.guest_core.specs.Entering.{Leaves}
 use Rattle.guest_core.specs.Guests.{with_seat}
 use Rattle.guest_core.specs.Seats.{IsLeastFree}
 use Rattle.live_core.specs.declared.live.Taken.{Taken}
-use Rattle.live_core.specs.Lines.{all_lines}
 use Rattle.hosted_core.specs.Calls.{Calls, CancelsSome}
 use Rattle.hosted_core.specs.Lines.{entered_lines}
 use Rattle.hosted_core.specs.Scene.{Scene, with_guests}

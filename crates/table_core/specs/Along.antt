@@ -1,8 +1,8 @@
 -- A turn that goes on.
 use Rattle.std.specs.Prelude.{ℕ, List}
 use Rattle.hosted_core.specs.Scene.{Scene}
-use Rattle.keep_loop.specs.Posts.{Tells}
-use Rattle.keep_loop.specs.declared.post.Post.{Post}
+use Rattle.post_core.specs.Posts.{Tells}
+use Rattle.post_core.specs.declared.post.Post.{Post}
 use Rattle.table_core.specs.Moves.{Moves}
 
 -- since the turn began, this was told and added, and the objects moved so

@@ -3,9 +3,9 @@ use Rattle.std.specs.Prelude.{◌≡◌, ℕ, List, length, slice_get, slice_set
 use Rattle.past_core.specs.declared.past.PastEvent.{PastEvent}
 use Rattle.hosted_core.specs.Scene.{Scene}
 use Rattle.hosted_core.specs.Steps.{Steps, IsFollowed}
-use Rattle.keep_loop.specs.Texts.{to}
-use Rattle.keep_loop.specs.Turns.{Asked}
-use Rattle.keep_loop.specs.Turns.Asked.{Heard, Noted, Changes}
+use Rattle.post_core.specs.Texts.{to}
+use Rattle.post_core.specs.Turns.{Asked}
+use Rattle.post_core.specs.Turns.Asked.{Heard, Noted, Changes}
 
 -- each object goes by such steps, and the lines that are added to its journal are those of them
 pub record Moves (old : List Scene) (added : List (ℕ × List ℕ)) (new : List Scene) : Type 0 where

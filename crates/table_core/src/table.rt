@@ -1,6 +1,7 @@
 //! All objects of a kept server, and all connections.
 
-ghost use Rattle.std.specs.Prelude.{◌≡◌, OnOk, IfOk, Ok, true, false};
+ghost use Rattle.std.specs.Prelude.{◌≡◌, [], OnOk, IfOk};
+ghost use Rattle.post_core.specs.Posts.{Tells};
 ghost use Rattle.table_core.specs.Along.{GoesOn, Keeps};
 
 use crate::objects::{Comer, Made, begin_at, call_at, cancel_at, enter_at, leave_at, seat_at};
@@ -115,7 +116,10 @@ impl Table {
         ensures { OnOk result (GoesOn self.now post.old self.now post.new) }
     {
         match self.clients.who(place) {
-            Some(who) => post.tell(who, &self.line),
+            Some(who) => {
+                post.tell(who, &self.line)?;
+                Ok(())
+            }
             None => Ok(()),
         }
     }
@@ -573,13 +577,30 @@ impl Table {
         ensures { OnOk result (GoesOn self.old post.old self.new post.new) }
     {
         self.say(place, Line::Bye, post)?;
-        let who = self.clients.who(place);
+        let who = self.who_at(place);
+        hang_up(post, who)?;
+        self.go(place);
+        Ok(())
+    }
+
+    // The connection at a place.
+    fn who_at(&self, place: usize) -> Option<u64> {
+        self.clients.who(place)
+    }
+
+    // The one at a place has gone, and its session leaves.
+    fn go(&mut self, place: usize)
+        ensures { Keeps self.old self.new }
+    {
         self.leave_object(place);
+        self.forget(place);
+    }
+
+    // Nothing is known any more of the one at a place.
+    fn forget(&mut self, place: usize)
+        ensures { self.new ≡ self.old }
+    {
         self.clients.go(place);
-        match who {
-            Some(who) => post.quit(who),
-            None => Ok(()),
-        }
     }
 
     // The session of the one at a place leaves. No call of it waits.
@@ -719,8 +740,7 @@ impl Table {
             }
         }
         self.end_held(place, post)?;
-        self.leave_object(place);
-        self.clients.go(place);
+        self.go(place);
         Ok(())
     }
 
@@ -754,6 +774,120 @@ impl Table {
             }
         }
         Ok(())
+    }
+
+    // Hears a line of a connection.
+    fn hear_of(
+        &mut self,
+        who: u64,
+        line: &[u8],
+        end: LineEnd,
+        post: &mut Post,
+    ) -> Result<(), AllocError>
+        ensures { OnOk result (GoesOn self.old post.old self.new post.new) }
+    {
+        let Some(place) = self.clients.place_of(who) else {
+            return Ok(());
+        };
+        self.hear_at(place, line, end, post)?;
+        self.go_on(post)?;
+        Ok(())
+    }
+
+    // Hears a line of the one at a place.
+    fn hear_at(
+        &mut self,
+        place: usize,
+        line: &[u8],
+        end: LineEnd,
+        post: &mut Post,
+    ) -> Result<(), AllocError>
+        ensures { OnOk result (GoesOn self.old post.old self.new post.new) }
+    {
+        match end {
+            LineEnd::TooLong => self.refuse(place, Refusal::LineTooLong, post),
+            LineEnd::Feed => self.hear_line(place, without_cr(line), true, post),
+            LineEnd::Input => self.hear_last(place, without_cr(line), post),
+        }
+    }
+
+    // Hears the last line of the one at a place, behind which no LF stood.
+    fn hear_last(&mut self, place: usize, line: &[u8], post: &mut Post) -> Result<(), AllocError>
+        ensures { OnOk result (GoesOn self.old post.old self.new post.new) }
+    {
+        if line.is_empty() {
+            return Ok(());
+        }
+        self.hear_line(place, line, false, post)
+    }
+
+    // Does what is to be done for a note.
+    fn heed_note(&mut self, note: Note, post: &mut Post) -> Result<(), AllocError>
+        ensures { OnOk result (GoesOn self.old post.old self.new post.new) }
+    {
+        match note {
+            Note::Joins(who) => self.join(who, post)?,
+            Note::Leaves(who) => self.leave_at(who, post)?,
+            Note::Ticks(time) => self.tick(time),
+            Note::Ends => self.end(post)?,
+        }
+        self.go_on(post)?;
+        Ok(())
+    }
+
+    // A connection comes. One that has its place leaves.
+    fn join(&mut self, who: u64, post: &mut Post) -> Result<(), AllocError>
+        ensures { OnOk result (GoesOn self.old post.old self.new post.new) }
+    {
+        let place = self.clients.taken_by(who);
+        self.leave_if(place, post)?;
+        self.come_here(who);
+        Ok(())
+    }
+
+    fn come_here(&mut self, who: u64)
+        ensures { self.new ≡ self.old }
+    {
+        self.clients.come(who);
+    }
+
+    // A connection leaves.
+    fn leave_at(&mut self, who: u64, post: &mut Post) -> Result<(), AllocError>
+        ensures { OnOk result (GoesOn self.old post.old self.new post.new) }
+    {
+        let place = self.clients.place_of(who);
+        self.leave_if(place, post)
+    }
+
+    // The one at a place leaves, where there is one.
+    fn leave_if(&mut self, place: Option<usize>, post: &mut Post) -> Result<(), AllocError>
+        ensures { OnOk result (GoesOn self.old post.old self.new post.new) }
+    {
+        match place {
+            None => Ok(()),
+            Some(place) => self.leave(place, post),
+        }
+    }
+
+    // It is this second.
+    fn tick(&mut self, second: u64)
+        ensures { self.new ≡ self.old }
+    {
+        self.second = second;
+        self.clients.wake();
+    }
+}
+
+// Hears no more of a connection, where there is one.
+fn hang_up(post: &mut Post, who: Option<u64>) -> Result<(), AllocError>
+    ensures { OnOk result (Tells post.old post.new [] []) }
+{
+    match who {
+        None => Ok(()),
+        Some(who) => {
+            post.quit(who)?;
+            Ok(())
+        }
     }
 }
 
@@ -834,41 +968,13 @@ impl Served for Table {
         end: LineEnd,
         post: &mut Post,
     ) -> Result<(), AllocError> {
-        let Some(place) = self.clients.place_of(who) else {
-            return Ok(());
-        };
-        match end {
-            LineEnd::TooLong => self.refuse(place, Refusal::LineTooLong, post)?,
-            LineEnd::Feed => self.hear_line(place, without_cr(line), true, post)?,
-            LineEnd::Input => {
-                if !line.is_empty() {
-                    self.hear_line(place, without_cr(line), false, post)?;
-                }
-            }
-        }
-        self.go_on(post)
+        self.hear_of(who, line, end, post)?;
+        Ok(())
     }
 
     fn note(&mut self, note: Note, post: &mut Post) -> Result<(), AllocError> {
-        match note {
-            Note::Joins(who) => {
-                if let Some(place) = self.clients.taken_by(who) {
-                    self.leave(place, post)?;
-                }
-                self.clients.come(who);
-            }
-            Note::Leaves(who) => {
-                if let Some(place) = self.clients.place_of(who) {
-                    self.leave(place, post)?;
-                }
-            }
-            Note::Ticks(time) => {
-                self.second = time;
-                self.clients.wake();
-            }
-            Note::Ends => return self.end(post),
-        }
-        self.go_on(post)
+        self.heed_note(note, post)?;
+        Ok(())
     }
 
     fn may_read(&self, who: u64) -> bool {
