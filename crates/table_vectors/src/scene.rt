@@ -3,14 +3,13 @@
 use decl_core::object::Object;
 use decl_read::read::read_objects;
 use guest_core::guests::Guests;
+use hosted_core::hosted::{Begun, Hosted};
 use keep_loop::{LineEnd, Note, Post, Served};
 use live_core::call::Limits;
 use live_core::live::Live;
 use past_core::past::PastEvent;
 use std::alloc::Global;
 use std::process::Abort;
-
-use hosted_core::hosted::{Begun, Hosted};
 use table_core::table::Table;
 use value_core::value::Value;
 
@@ -80,9 +79,7 @@ fn hosted(rt: &impl Abort, alloc: Global, object: Object) -> Hosted {
 pub fn made(rt: &impl Abort, alloc: Global) -> Scene {
     let mut objects = Vec::new(alloc);
     for (_, object) in read_objects(alloc, OBJECTS).expect(rt, "objects") {
-        objects
-            .push(hosted(rt, alloc, object))
-            .expect(rt, "memory");
+        objects.push(hosted(rt, alloc, object)).expect(rt, "memory");
     }
     let table = Table::new(alloc, objects, 8, 1_000).expect(rt, "memory");
     let post = Post::new(alloc, 8, 2).expect(rt, "memory");
