@@ -46,6 +46,8 @@ pub enum Request<'a> {
     Audit(&'a str, &'a str, Explain),
     /// `pathserve serve FILE DIR PLACE --sessions N`.
     Serve(Serving<'a>),
+    /// `pathserve keep FILE DIR PLACE --at-once N --sync WORD`.
+    Keep(Keeping<'a>),
 }
 
 /// Where a server listens.
@@ -68,6 +70,34 @@ pub struct Serving<'a> {
     pub address: Address<'a>,
     /// How many connections are taken.
     pub sessions: usize,
+    /// Whether it stops with the end of standard input.
+    pub stops: bool,
+    /// When a refusal of the source is explained.
+    pub explain: Explain,
+}
+
+/// When what a keeper writes down has to be on the disk.
+#[derive(Clone, Copy, Debug, PartialEq, Eq)]
+pub enum Sync {
+    /// Before an answer that tells of it is written.
+    Always,
+    /// So many milliseconds later at the latest, 1 to 60000.
+    Millis(u32),
+}
+
+/// What a keeper is asked for.
+#[derive(Clone, Copy)]
+pub struct Keeping<'a> {
+    /// The path of the file.
+    pub file: &'a str,
+    /// The path of the folder.
+    pub folder: &'a str,
+    /// Where clients connect.
+    pub address: Address<'a>,
+    /// How many clients are connected at once at most, 1 to 10000.
+    pub at_once: usize,
+    /// When a line of the journal has to be on the disk.
+    pub sync: Sync,
     /// Whether it stops with the end of standard input.
     pub stops: bool,
     /// When a refusal of the source is explained.
