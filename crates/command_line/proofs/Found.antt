@@ -14,7 +14,8 @@ use Rattle.clap.specs.declared.parser.matches.SubCommand.{SubCommand}
 use Rattle.clap.specs.declared.parser.matches.Found.{Found}
 use Rattle.clap.proofs.WalkLemmas.{first_value-rows, one_text-rows}
 use Rattle.command_line.specs.declared.request.Address.{Address}
-use Rattle.command_line.specs.Forms.{Verb, paths, check, run, audit, serve, name_of, Given, Makes, IsAddressOf, IsNumber, number_of}
+use Rattle.command_line.specs.Forms.{Verb, paths, check, run, audit, serve, keep, name_of, Given, Makes, IsAddressOf, IsSyncOf, IsNumber, number_of, sync_of}
+use Rattle.command_line.specs.declared.request.Sync.{Sync}
 use Rattle.command_line.specs.declared.request.Request.{Request}
 use Rattle.command_line.specs.declared.request.Request.TheVariants as requests
 use Rattle.command_line.specs.Commands.{Holds, IsMatched}
@@ -41,6 +42,11 @@ pub address_made : (g : Given) (q : Request) (a b p : Text) → g.words ≡ a �
 address_made g (requests.Serve s) a b p e m = (s.address, subst (λ w. IsAddressOf w s.address) (third_is s.file.now s.folder.now m.0 a b p (sym m.1 ∙ e)) m.2)
 address_made g q a b p e m = absurd m
 
+-- the third word of what `keep` asks for is an address, and what is said of lines on the disk is said by a word
+pub keep_made : (g : Given) (q : Request) (a b p : Text) → g.words ≡ a ∷ b ∷ p ∷ [] → Makes keep g q → ((address : Address) × IsAddressOf p address) × ((sync : Sync) × IsSyncOf (sync_of g.sync) sync)
+keep_made g (requests.Keep k) a b p e m = ((k.address, subst (λ w. IsAddressOf w k.address) (third_is k.file.now k.folder.now m.0 a b p (sym m.1 ∙ e)) m.2), (k.sync, m.4))
+keep_made g q a b p e m = absurd m
+
 -- whether a flag is there
 pub flag_is : (f : Found) (id : Text) (b r : Bool) → one_of id (rows_of f) ≡ Some (bool_text b)
     → (one_text f id ≡ Some (codes "true") → r ≡ true) → (one_text f id ≡ Some (codes "false") → r ≡ false) → b ≡ r
@@ -57,7 +63,8 @@ number_read G k low high t None reads parses small is = absurd (parses t (Err re
 
 verb_in : Text → Option Verb
 verb_in t = cond (bytes_eq t (codes "paths")) (Some paths) (cond (bytes_eq t (codes "check")) (Some check) (cond (bytes_eq t (codes "run")) (Some run)
-    (cond (bytes_eq t (codes "audit")) (Some audit) (cond (bytes_eq t (codes "serve")) (Some serve) None))))
+    (cond (bytes_eq t (codes "audit")) (Some audit) (cond (bytes_eq t (codes "serve")) (Some serve)
+    (cond (bytes_eq t (codes "keep")) (Some keep) None)))))
 
 verb_named : (v : Verb) → verb_in (name_of v) ≡ Some v
 unfolding verb_in
@@ -66,6 +73,7 @@ verb_named check = refl
 verb_named run = refl
 verb_named audit = refl
 verb_named serve = refl
+verb_named keep = refl
 
 pub same_verb : (v u : Verb) → name_of v ≡ name_of u → v ≡ u
 same_verb v u e = some_same v u (sym (verb_named v) ∙ ap verb_in e ∙ verb_named u)

@@ -11,8 +11,8 @@ use Rattle.clap.specs.declared.builder.value_parser.ValueParser.{ValueParser}
 use Rattle.clap.specs.declared.builder.value_parser.ValueParser.TheVariants as parsers
 use Rattle.clap.specs.declared.builder.value_parser.Reading.TheVariants.{AsWritten}
 use Rattle.clap.specs.declared.parser.matches.ValueSource.TheVariants.{CommandLine}
-use Rattle.command_line.specs.Forms.{Verb, paths, check, run, audit, serve, name_of, Takes, IsNumber}
-use Rattle.command_line.specs.Commands.{flag_rule, own_rules, program, sessions_rule}
+use Rattle.command_line.specs.Forms.{Verb, paths, check, run, audit, serve, keep, name_of, Takes, IsNumber}
+use Rattle.command_line.specs.Commands.{at_once_rule, flag_rule, own_rules, program, sessions_rule, sync_rule}
 use Rattle.command_line.proofs.Rows.{seen, row_with, seen_new, seen_other}
 
 abbrev pub rules : Verb → List Rule
@@ -32,7 +32,7 @@ top = record (new_shape (codes "pathserve")) {
 }
 
 abbrev pub leaves : List Shape
-leaves = leaf paths ∷ leaf check ∷ leaf run ∷ leaf audit ∷ leaf serve ∷ built_leaf help_shape ∷ []
+leaves = leaf paths ∷ leaf check ∷ leaf run ∷ leaf audit ∷ leaf serve ∷ leaf keep ∷ built_leaf help_shape ∷ []
 
 abbrev pub whole : App
 whole = record { top = top; subs = leaves }
@@ -68,6 +68,12 @@ flag name = filled (flag_rule name)
 abbrev pub sessions_built : Rule
 sessions_built = filled sessions_rule
 
+abbrev pub at_once_built : Rule
+at_once_built = filled at_once_rule
+
+abbrev pub sync_built : Rule
+sync_built = filled sync_rule
+
 abbrev pub help_built : Rule
 help_built = filled help_rule
 
@@ -88,6 +94,7 @@ place_names check = codes "FILE" ∷ []
 place_names run = codes "FILE" ∷ codes "SCRIPT" ∷ []
 place_names audit = codes "FILE" ∷ codes "TRACE" ∷ []
 place_names serve = codes "FILE" ∷ codes "DIR" ∷ codes "PLACE" ∷ []
+place_names keep = codes "FILE" ∷ codes "DIR" ∷ codes "PLACE" ∷ []
 
 abbrev pub text_row : Text → Text → Row
 text_row name word = row_with CommandLine name AsWritten (word ∷ [])
@@ -125,6 +132,8 @@ pub record Place (v : Verb) (words : List Text) : Type 0 where
   pub no_silence : bytes_eq name (codes "no-explain") ≡ false
   pub no_stop : bytes_eq name (codes "stop-with-input") ≡ false
   pub no_sessions : bytes_eq name (codes "sessions") ≡ false
+  pub no_at_once : bytes_eq name (codes "at-once") ≡ false
+  pub no_sync : bytes_eq name (codes "sync") ≡ false
 
 -- numbers
 pub number_passes : (low high : ℕ) (w : Text) → high < 18446744073709551616 → IsNumber low high w → accepts false (parsers.Unsigned low high) w ≡ true
@@ -160,6 +169,8 @@ place check [] = inl (record {
   no_silence = refl;
   no_stop = refl;
   no_sessions = refl;
+  no_at_once = refl;
+  no_sync = refl;
 })
 place check (a ∷ []) = inr refl
 place check (a ∷ b ∷ []) = inr refl
@@ -179,6 +190,8 @@ place run [] = inl (record {
   no_silence = refl;
   no_stop = refl;
   no_sessions = refl;
+  no_at_once = refl;
+  no_sync = refl;
 })
 place run (a ∷ []) = inl (record {
   name = codes "SCRIPT";
@@ -195,6 +208,8 @@ place run (a ∷ []) = inl (record {
   no_silence = refl;
   no_stop = refl;
   no_sessions = refl;
+  no_at_once = refl;
+  no_sync = refl;
 })
 place run (a ∷ b ∷ []) = inr refl
 place run (a ∷ b ∷ c ∷ more) = inr refl
@@ -213,6 +228,8 @@ place audit [] = inl (record {
   no_silence = refl;
   no_stop = refl;
   no_sessions = refl;
+  no_at_once = refl;
+  no_sync = refl;
 })
 place audit (a ∷ []) = inl (record {
   name = codes "TRACE";
@@ -229,6 +246,8 @@ place audit (a ∷ []) = inl (record {
   no_silence = refl;
   no_stop = refl;
   no_sessions = refl;
+  no_at_once = refl;
+  no_sync = refl;
 })
 place audit (a ∷ b ∷ []) = inr refl
 place audit (a ∷ b ∷ c ∷ more) = inr refl
@@ -247,6 +266,8 @@ place serve [] = inl (record {
   no_silence = refl;
   no_stop = refl;
   no_sessions = refl;
+  no_at_once = refl;
+  no_sync = refl;
 })
 place serve (a ∷ []) = inl (record {
   name = codes "DIR";
@@ -263,6 +284,8 @@ place serve (a ∷ []) = inl (record {
   no_silence = refl;
   no_stop = refl;
   no_sessions = refl;
+  no_at_once = refl;
+  no_sync = refl;
 })
 place serve (a ∷ b ∷ []) = inl (record {
   name = codes "PLACE";
@@ -279,8 +302,65 @@ place serve (a ∷ b ∷ []) = inl (record {
   no_silence = refl;
   no_stop = refl;
   no_sessions = refl;
+  no_at_once = refl;
+  no_sync = refl;
 })
 place serve (a ∷ b ∷ c ∷ more) = inr refl
+place keep [] = inl (record {
+  name = codes "FILE";
+  parser = parsers.String;
+  indexed = refl;
+  by_id = refl;
+  next = λ w. refl;
+  read = refl;
+  takes = λ w t. refl;
+  only = λ w e. tt;
+  unseen = λ rows h. h.0;
+  adds = λ w rows h. (new_row (codes "FILE") w refl rows h.0, (seen_other (codes "DIR") (text_row (codes "FILE") w) rows refl ∙ h.1.0, (seen_other (codes "PLACE") (text_row (codes "FILE") w) rows refl ∙ h.1.1.0, tt)));
+  no_explain = refl;
+  no_silence = refl;
+  no_stop = refl;
+  no_sessions = refl;
+  no_at_once = refl;
+  no_sync = refl;
+})
+place keep (a ∷ []) = inl (record {
+  name = codes "DIR";
+  parser = parsers.String;
+  indexed = refl;
+  by_id = refl;
+  next = λ w. refl;
+  read = refl;
+  takes = λ w t. refl;
+  only = λ w e. tt;
+  unseen = λ rows h. h.1.0;
+  adds = λ w rows h. (seen_other (codes "FILE") (text_row (codes "DIR") w) rows refl ∙ h.0, (new_row (codes "DIR") w refl rows h.1.0, (seen_other (codes "PLACE") (text_row (codes "DIR") w) rows refl ∙ h.1.1.0, tt)));
+  no_explain = refl;
+  no_silence = refl;
+  no_stop = refl;
+  no_sessions = refl;
+  no_at_once = refl;
+  no_sync = refl;
+})
+place keep (a ∷ b ∷ []) = inl (record {
+  name = codes "PLACE";
+  parser = parsers.String;
+  indexed = refl;
+  by_id = refl;
+  next = λ w. refl;
+  read = refl;
+  takes = λ w t. refl;
+  only = λ w e. tt;
+  unseen = λ rows h. h.1.1.0;
+  adds = λ w rows h. (seen_other (codes "FILE") (text_row (codes "PLACE") w) rows refl ∙ h.0, (seen_other (codes "DIR") (text_row (codes "PLACE") w) rows refl ∙ h.1.0, (new_row (codes "PLACE") w refl rows h.1.1.0, tt)));
+  no_explain = refl;
+  no_silence = refl;
+  no_stop = refl;
+  no_sessions = refl;
+  no_at_once = refl;
+  no_sync = refl;
+})
+place keep (a ∷ b ∷ c ∷ more) = inr refl
 
 -- ---- long names
 
@@ -293,13 +373,18 @@ explain_rule explain silence more =
     cond (explain || false) (Some (flag (codes "explain"))) (cond (silence || false) (Some (flag (codes "no-explain"))) more)
 
 -- the argument of a long name, by which name it is
-abbrev pub long_rule : Verb → Bool → Bool → Bool → Bool → Option Rule → Option Rule
-long_rule paths explain silence stop sessions more = more
-long_rule serve explain silence stop sessions more =
-    cond (sessions || false) (Some sessions_built) (cond (stop || false) (Some (flag (codes "stop-with-input"))) (explain_rule explain silence more))
-long_rule check explain silence stop sessions more = explain_rule explain silence more
-long_rule run explain silence stop sessions more = explain_rule explain silence more
-long_rule audit explain silence stop sessions more = explain_rule explain silence more
+abbrev pub stop_rule : Bool → Option Rule → Option Rule
+stop_rule stop more = cond (stop || false) (Some (flag (codes "stop-with-input"))) more
+
+abbrev pub long_rule : Verb → Bool → Bool → Bool → Bool → Bool → Bool → Option Rule → Option Rule
+long_rule paths explain silence stop sessions at_once sync more = more
+long_rule serve explain silence stop sessions at_once sync more =
+    cond (sessions || false) (Some sessions_built) (stop_rule stop (explain_rule explain silence more))
+long_rule keep explain silence stop sessions at_once sync more =
+    cond (at_once || false) (Some at_once_built) (cond (sync || false) (Some sync_built) (stop_rule stop (explain_rule explain silence more)))
+long_rule check explain silence stop sessions at_once sync more = explain_rule explain silence more
+long_rule run explain silence stop sessions at_once sync more = explain_rule explain silence more
+long_rule audit explain silence stop sessions at_once sync more = explain_rule explain silence more
 
 abbrev pub shown_by : Text → Option Rule
 shown_by name = shown_rule (bytes_eq (codes "help") name) (bytes_eq (codes "version") name)
@@ -308,12 +393,14 @@ abbrev pub shown_short : ℕ → Option Rule
 shown_short x = shown_rule (104 == x) (86 == x)
 
 pub long_is : (v : Verb) (name : Text) → arg_by_long (rules v) name
-    ≡ long_rule v (bytes_eq (codes "explain") name) (bytes_eq (codes "no-explain") name) (bytes_eq (codes "stop-with-input") name) (bytes_eq (codes "sessions") name) (shown_by name)
+    ≡ long_rule v (bytes_eq (codes "explain") name) (bytes_eq (codes "no-explain") name) (bytes_eq (codes "stop-with-input") name) (bytes_eq (codes "sessions") name)
+    (bytes_eq (codes "at-once") name) (bytes_eq (codes "sync") name) (shown_by name)
 long_is paths name = refl
 long_is check name = refl
 long_is run name = refl
 long_is audit name = refl
 long_is serve name = refl
+long_is keep name = refl
 
 pub short_is : (v : Verb) (x : ℕ) → arg_by_short (rules v) x ≡ shown_short x
 short_is paths x = refl
@@ -321,3 +408,4 @@ short_is check x = refl
 short_is run x = refl
 short_is audit x = refl
 short_is serve x = refl
+short_is keep x = refl

@@ -2,6 +2,7 @@ mod Rows
 mod Sorts
 mod Turns
 mod Levels
+mod Choices
 mod Steps
 mod Uses
 mod Walks

@@ -1,5 +1,5 @@
 -- Words ask for one thing at most.
-use Rattle.std.proofs.Common.{◌≡◌, ◌∙◌, Bool, true, false, ℕ, List, [], ◌∷◌, Some, refl, sym, ap, ap₂, subst, codes, bytes_eq}
+use Rattle.std.proofs.Common.{◌≡◌, ◌∙◌, arith, Bool, true, false, ℕ, List, [], ◌∷◌, Some, refl, sym, ap, ap₂, subst, codes, bytes_eq}
 use Rattle.std.specs.List.{slice_index_or}
 use Rattle.clap.specs.Walk.{Row, Text, first_of, one_of, rows_after}
 use Rattle.clap.specs.Simple.{subcommand_of}
@@ -8,7 +8,9 @@ use Rattle.command_line.specs.declared.request.Request.{Request}
 use Rattle.command_line.specs.declared.request.Request.TheVariants as requests
 use Rattle.command_line.specs.declared.request.Address.{Address}
 use Rattle.command_line.specs.declared.request.Address.TheVariants as addresses
-use Rattle.command_line.specs.Forms.{Verb, paths, check, run, audit, serve, name_of, Given, number_of, explain_of, has_slash, IsAddressOf, Makes, Asks}
+use Rattle.command_line.specs.declared.request.Sync.{Sync}
+use Rattle.command_line.specs.declared.request.Sync.TheVariants as syncs
+use Rattle.command_line.specs.Forms.{Verb, paths, check, run, audit, serve, keep, name_of, Given, IsNumber, number_of, explain_of, has_slash, IsAddressOf, IsSyncOf, Makes, Asks}
 use Rattle.command_line.specs.Commands.{Holds, HoldsExplain, program}
 use Rattle.command_line.specs.Laws.{IsSame, IsSameAddress, AsksOnce}
 use Rattle.command_line.proofs.Found.{same_verb, some_same}
@@ -48,6 +50,17 @@ same_address u w (addresses.Port n) (addresses.Port k) e one other = one.2 ∙ a
 same_address u w (addresses.Path p) (addresses.Path q) e one other = one.1 ∙ e ∙ sym other.1
 same_address u w (addresses.Port n) (addresses.Path q) e one other = absurd (not_both (sym one.0 ∙ ap has_slash e ∙ other.0))
 same_address u w (addresses.Path p) (addresses.Port k) e one other = absurd (not_both (sym other.0 ∙ sym (ap has_slash e) ∙ one.0))
+
+-- a word that is no number
+no_number : IsNumber 1 60000 (codes "always") → ⊥
+no_number is = omega (arith, is.below)
+
+-- a word says one thing at most of lines on the disk
+same_sync : (u w : Text) (a b : Sync) → u ≡ w → IsSyncOf u a → IsSyncOf w b → a ≡ b
+same_sync u w syncs.Always syncs.Always e one other = refl
+same_sync u w (syncs.Millis n) (syncs.Millis k) e one other = ap syncs.Millis (one.1 ∙ ap number_of e ∙ sym other.1)
+same_sync u w syncs.Always (syncs.Millis k) e one other = absurd (no_number (subst (IsNumber 1 60000) (sym e ∙ one) other.0))
+same_sync u w (syncs.Millis n) syncs.Always e one other = absurd (no_number (subst (IsNumber 1 60000) (e ∙ other) one.0))
 
 same_made : (v : Verb) (g h : Given) (rows : List Row) (p q : Request) → Holds v g rows → Holds v h rows → Makes v g p → Makes v h q → IsSame p q
 same_made paths g h rows requests.Paths requests.Paths a b m n = tt
@@ -92,6 +105,23 @@ same_made serve g h rows (requests.Serve s) (requests.Serve t) a b m n =
     )
 same_made serve g h rows (requests.Serve s) q a b m n = absurd n
 same_made serve g h rows p q a b m n = absurd m
+same_made keep g h rows (requests.Keep s) (requests.Keep t) a b m n =
+    let first = same_first rows (codes "FILE") a.0 b.0 a.6 b.6 in
+    let second = same_first rows (codes "DIR") a.1 b.1 a.7 b.7 in
+    let third = same_first rows (codes "PLACE") a.2 b.2 a.8 b.8 in
+    let mine = same_at 2 (s.file.now ∷ s.folder.now ∷ m.0 ∷ []) (a.0 ∷ a.1 ∷ a.2 ∷ []) (t.file.now ∷ t.folder.now ∷ n.0 ∷ []) (b.0 ∷ b.1 ∷ b.2 ∷ []) (sym m.1 ∙ a.5) (sym n.1 ∙ b.5) third in
+    let counts = same_one rows (codes "at-once") a.3 b.3 a.9 b.9 in
+    let syncs_same = same_first rows (codes "sync") a.4 b.4 a.12 b.12 in (
+      same_at 0 (s.file.now ∷ s.folder.now ∷ m.0 ∷ []) (a.0 ∷ a.1 ∷ a.2 ∷ []) (t.file.now ∷ t.folder.now ∷ n.0 ∷ []) (b.0 ∷ b.1 ∷ b.2 ∷ []) (sym m.1 ∙ a.5) (sym n.1 ∙ b.5) first,
+      same_at 1 (s.file.now ∷ s.folder.now ∷ m.0 ∷ []) (a.0 ∷ a.1 ∷ a.2 ∷ []) (t.file.now ∷ t.folder.now ∷ n.0 ∷ []) (b.0 ∷ b.1 ∷ b.2 ∷ []) (sym m.1 ∙ a.5) (sym n.1 ∙ b.5) second,
+      same_address m.0 n.0 s.address t.address mine m.2 n.2,
+      m.3 ∙ a.11 ∙ ap number_of counts ∙ sym b.11 ∙ sym n.3,
+      same_sync _ _ s.sync t.sync (a.13 ∙ syncs_same ∙ sym b.13) m.4 n.4,
+      sym m.5 ∙ bools g.stops h.stops (same_one rows (codes "stop-with-input") _ _ a.14 b.14) ∙ n.5,
+      m.6 ∙ same_explain g h rows a.15 b.15 ∙ sym n.6,
+    )
+same_made keep g h rows (requests.Keep s) q a b m n = absurd n
+same_made keep g h rows p q a b m n = absurd m
 
 -- what words ask for is what the walk finds in them
 pub record Finds (words : List Text) (q : Request) : Type 0 where

@@ -10,14 +10,15 @@ use Rattle.clap.specs.declared.error.kind.ErrorKind.TheVariants as kinds
 use Rattle.clap.specs.declared.error.kind.ErrorKind.TheVariants.{OutOfMemory}
 use Rattle.clap.specs.Faults.{fault_of, level_fault, turn_fault, walk_fault, built_fault}
 use Rattle.clap.proofs.WalkLemmas.{both}
-use Rattle.command_line.specs.Forms.{Verb, paths, check, run, audit, serve, name_of, Given, nothing, Gives, ends, word, explain, silence, stop, sessions, joined, hyphens as ends_flags, Topic, help, version, word_for, kind_for, has_no_hyphens, Shows, of_program, of_verb}
+use Rattle.command_line.specs.Forms.{Verb, paths, check, run, audit, serve, keep, name_of, Given, nothing, is_bare, Gives, ends, word, explain, silence, stop, sessions, joined, at_once, at_once_joined, sync, sync_joined, hyphens as ends_flags, Topic, help, version, word_for, kind_for, has_no_hyphens, Shows, of_program, of_verb}
 use Rattle.command_line.specs.Commands.{program}
 use Rattle.command_line.proofs.Turns.{long_turn, neither, some_fault}
-use Rattle.command_line.proofs.Levels.{rules, leaf, top, whole, place_after, place, text_row, flag, sessions_built}
+use Rattle.command_line.proofs.Levels.{rules, leaf, top, whole, place_after, place, text_row, flag}
+use Rattle.command_line.proofs.Choices.{Choice, of_sessions, of_at_once, of_sync, id_of, word_of, joined_of, built_of, has_choice, chosen, Allows}
 use Rattle.command_line.proofs.Rows.{seen}
-use Rattle.command_line.proofs.Steps.{held, at, rows_now, settle, flag_seen, Stands, flag_use, sessions_use}
-use Rattle.command_line.proofs.Walks.{word_turn, word_after, word_stands, none_left, explain_turn, explain_after, explain_stands, silence_turn, silence_after, silence_stands, stop_turns, stop_goes, stop_stands}
-use Rattle.command_line.proofs.Walks.{waits, spaced_turns, spaced_goes, given_turns, given_goes, given_then, joined_turns, joined_goes, joined_then}
+use Rattle.command_line.proofs.Steps.{held, at, rows_now, settle, flag_seen, Stands, flag_use, choice_use}
+use Rattle.command_line.proofs.Walks.{word_turn, word_after, word_stands, none_left, explain_turn, explain_after, explain_stands, silence_turn, silence_after, silence_stands, stop_turn, stop_after, stop_stands}
+use Rattle.command_line.proofs.Walks.{waits, spaced_turn, spaced_after, given_turn, given_after, given_stands, joined_turn, joined_after, joined_stands, no_choice_row}
 use Rattle.command_line.proofs.Whole.{nothing_stands, start, names, verb_walks, whole_is}
 
 clash : false ≡ true → ⊥
@@ -36,6 +37,7 @@ module _ (k : ℕ) (rows : List Row) (q : Option (Text × List Text)) where
   help_turn run valid = long_turn (leaf run) [] k (held rows q) idle (codes "--help") refl refl (codes "help", None) refl ∙ first_shown (settle run rows q) kinds.DisplayHelp _ valid
   help_turn audit valid = long_turn (leaf audit) [] k (held rows q) idle (codes "--help") refl refl (codes "help", None) refl ∙ first_shown (settle audit rows q) kinds.DisplayHelp _ valid
   help_turn serve valid = long_turn (leaf serve) [] k (held rows q) idle (codes "--help") refl refl (codes "help", None) refl ∙ first_shown (settle serve rows q) kinds.DisplayHelp _ valid
+  help_turn keep valid = long_turn (leaf keep) [] k (held rows q) idle (codes "--help") refl refl (codes "help", None) refl ∙ first_shown (settle keep rows q) kinds.DisplayHelp _ valid
 
   version_turn : (v : Verb) → settle v rows q ≡ [] → turn_fault (leaf v) [] (at true k (held rows q)) (codes "--version") ≡ kinds.DisplayVersion ∷ []
   version_turn paths valid = long_turn (leaf paths) [] k (held rows q) idle (codes "--version") refl refl (codes "version", None) refl ∙ first_shown (settle paths rows q) kinds.DisplayVersion _ valid
@@ -43,6 +45,7 @@ module _ (k : ℕ) (rows : List Row) (q : Option (Text × List Text)) where
   version_turn run valid = long_turn (leaf run) [] k (held rows q) idle (codes "--version") refl refl (codes "version", None) refl ∙ first_shown (settle run rows q) kinds.DisplayVersion _ valid
   version_turn audit valid = long_turn (leaf audit) [] k (held rows q) idle (codes "--version") refl refl (codes "version", None) refl ∙ first_shown (settle audit rows q) kinds.DisplayVersion _ valid
   version_turn serve valid = long_turn (leaf serve) [] k (held rows q) idle (codes "--version") refl refl (codes "version", None) refl ∙ first_shown (settle serve rows q) kinds.DisplayVersion _ valid
+  version_turn keep valid = long_turn (leaf keep) [] k (held rows q) idle (codes "--version") refl refl (codes "version", None) refl ∙ first_shown (settle keep rows q) kinds.DisplayVersion _ valid
 
   shown_turn : (v : Verb) (t : Topic) → settle v rows q ≡ [] → turn_fault (leaf v) [] (at true k (held rows q)) (word_for t) ≡ kind_for t ∷ []
   shown_turn v help valid = help_turn v valid
@@ -58,6 +61,28 @@ module _ (v : Verb) (W : Walk) (w : Text) (ws : List Text) where
   goes_on : (W2 : Walk) (ks : Faults) → turn_fault (leaf v) [] W w ≡ [] → walked (rules v) [] W w ≡ W2 → walk_fault (leaf v) [] W2 ws ≡ ks → walk_fault (leaf v) [] W (w ∷ ws) ≡ ks
   unfolding walk_fault
   goes_on W2 ks e goes rest = ap (λ x. or_else x (walk_fault (leaf v) [] (walked (rules v) [] W w) ws)) e ∙ ap (λ x. walk_fault (leaf v) [] x ws) goes ∙ rest
+
+-- an option with its value in the next word, or in the same word
+module _ (o : Choice) (v : Verb) (g : Given) (w n : Text) (ws : List Text) (has : has_choice o v ≡ true) (rows : List Row) (q : Option (Text × List Text)) (st : Stands v g rows q) (ks : Faults) where
+  abbrev k : ℕ
+  k = place_after g.words
+
+  spaced_goes_on : w ≡ word_of o → is_bare n ≡ true → walk_fault (leaf v) [] (at true k (held (rows_now v rows q) (Some (id_of o, n ∷ [])))) ws ≡ ks
+      → walk_fault (leaf v) [] (at true k (held rows q)) (w ∷ n ∷ ws) ≡ ks
+  spaced_goes_on is plain rest =
+      goes_on v (at true k (held rows q)) w (n ∷ ws) (waits k rows q o v) ks
+      (ap (λ x. turn_fault (leaf v) [] (at true k (held rows q)) x) is ∙ spaced_turn k rows q o v has ∙ neither _ _ st.valid refl)
+      (ap (λ x. walked (rules v) [] (at true k (held rows q)) x) is ∙ spaced_after k rows q o v has)
+      (goes_on v (waits k rows q o v) n ws (at true k (held (rows_now v rows q) (Some (id_of o, n ∷ [])))) ks (given_turn k rows q o v has n plain) (given_after k rows q o v has n plain) rest)
+
+  joined_goes_on : w ≡ joined_of o n → chosen o g ≡ None → Allows o n → walk_fault (leaf v) [] (at true k (held (used (built_of o) (n ∷ []) (rows_now v rows q)) None)) ws ≡ ks
+      → walk_fault (leaf v) [] (at true k (held rows q)) (w ∷ ws) ≡ ks
+  joined_goes_on is off allowed rest =
+      goes_on v (at true k (held rows q)) w ws (at true k (held (used (built_of o) (n ∷ []) (rows_now v rows q)) None)) ks
+      (ap (λ x. turn_fault (leaf v) [] (at true k (held rows q)) x) is ∙ joined_turn k rows q o v has n
+      ∙ neither _ _ (neither _ _ st.valid (choice_use o n (rows_now v rows q) (no_choice_row o v has g rows q n st off allowed) allowed)) refl)
+      (ap (λ x. walked (rules v) [] (at true k (held rows q)) x) is ∙ joined_after k rows q o v has n)
+      rest
 
 later : (w : Text) (front : List Text) → has_no_hyphens (w ∷ front) ≡ true → has_no_hyphens front ≡ true
 later w front clean = (both (not (bytes_eq w (codes "--"))) (has_no_hyphens front) clean).1
@@ -99,25 +124,28 @@ module _ (t : Topic) (more : List Text) where
       let none : seen (codes "stop-with-input") (rows_now v rows q) ≡ None = st.holds.stops ∙ ap (flag_seen (codes "stop-with-input")) off in
       goes_on v (at true (place_after g.words) (held rows q)) w (ws ++ word_for t ∷ more)
       (at true (place_after g.words) (held (used (flag (codes "stop-with-input")) [] (rows_now v rows q)) None)) (kind_for t ∷ [])
-      (ap (λ x. turn_fault (leaf v) [] (at true (place_after g.words) (held rows q)) x) is ∙ stop_turns v has g rows q
+      (ap (λ x. turn_fault (leaf v) [] (at true (place_after g.words) (held rows q)) x) is ∙ stop_turn (place_after g.words) rows q v has
       ∙ neither _ _ (neither _ _ st.valid (flag_use (codes "stop-with-input") (rows_now v rows q) none)) refl)
-      (ap (λ x. walked (rules v) [] (at true (place_after g.words) (held rows q)) x) is ∙ stop_goes v has g rows q)
+      (ap (λ x. walked (rules v) [] (at true (place_after g.words) (held rows q)) x) is ∙ stop_after (place_after g.words) rows q v has)
       (shown_walk v true (record g { stops = true }) ws after rest refl (later w ws clean) (used (flag (codes "stop-with-input")) [] (rows_now v rows q)) None (stop_stands v g rows q st off))
   shown_walk v free g front after (sessions x y w n ws is plain has off number rest) opened clean rows q st =
-      goes_on v (at true (place_after g.words) (held rows q)) w (n ∷ (ws ++ word_for t ∷ more)) (waits (place_after g.words) rows q v) (kind_for t ∷ [])
-      (ap (λ x. turn_fault (leaf v) [] (at true (place_after g.words) (held rows q)) x) is ∙ spaced_turns v has g rows q ∙ neither _ _ st.valid refl)
-      (ap (λ x. walked (rules v) [] (at true (place_after g.words) (held rows q)) x) is ∙ spaced_goes v has g rows q)
-      (goes_on v (waits (place_after g.words) rows q v) n (ws ++ word_for t ∷ more) (at true (place_after g.words) (held (rows_now v rows q) (Some (codes "sessions", n ∷ [])))) (kind_for t ∷ [])
-      (given_turns v has g rows q n plain) (given_goes v has g rows q n plain)
-      (shown_walk v true (record g { sessions = Some n }) ws after rest refl (later n ws (later w (n ∷ ws) clean)) (rows_now v rows q) (Some (codes "sessions", n ∷ [])) (given_then v has g rows q n st off number)))
+      spaced_goes_on of_sessions v g w n (ws ++ word_for t ∷ more) has rows q st (kind_for t ∷ []) is plain
+      (shown_walk v true (record g { sessions = Some n }) ws after rest refl (later n ws (later w (n ∷ ws) clean)) (rows_now v rows q) (Some (id_of of_sessions, n ∷ [])) (given_stands of_sessions v has g rows q n st off number))
   shown_walk v free g front after (joined x y w n ws is has off number rest) opened clean rows q st =
-      let none : seen (codes "sessions") (rows_now v rows q) ≡ None = st.holds.sessions ∙ ap (option_map (text_row (codes "sessions"))) off in
-      goes_on v (at true (place_after g.words) (held rows q)) w (ws ++ word_for t ∷ more)
-      (at true (place_after g.words) (held (used sessions_built (n ∷ []) (rows_now v rows q)) None)) (kind_for t ∷ [])
-      (ap (λ x. turn_fault (leaf v) [] (at true (place_after g.words) (held rows q)) x) is ∙ joined_turns v has g rows q n
-      ∙ neither _ _ (neither _ _ st.valid (sessions_use n (rows_now v rows q) none number)) refl)
-      (ap (λ x. walked (rules v) [] (at true (place_after g.words) (held rows q)) x) is ∙ joined_goes v has g rows q n)
-      (shown_walk v true (record g { sessions = Some n }) ws after rest refl (later w ws clean) (used sessions_built (n ∷ []) (rows_now v rows q)) None (joined_then v has g rows q n st off number))
+      joined_goes_on of_sessions v g w n (ws ++ word_for t ∷ more) has rows q st (kind_for t ∷ []) is off number
+      (shown_walk v true (record g { sessions = Some n }) ws after rest refl (later w ws clean) (used (built_of of_sessions) (n ∷ []) (rows_now v rows q)) None (joined_stands of_sessions v has g rows q n st off number))
+  shown_walk v free g front after (at_once x y w n ws is plain has off number rest) opened clean rows q st =
+      spaced_goes_on of_at_once v g w n (ws ++ word_for t ∷ more) has rows q st (kind_for t ∷ []) is plain
+      (shown_walk v true (record g { at_once = Some n }) ws after rest refl (later n ws (later w (n ∷ ws) clean)) (rows_now v rows q) (Some (id_of of_at_once, n ∷ [])) (given_stands of_at_once v has g rows q n st off number))
+  shown_walk v free g front after (at_once_joined x y w n ws is has off number rest) opened clean rows q st =
+      joined_goes_on of_at_once v g w n (ws ++ word_for t ∷ more) has rows q st (kind_for t ∷ []) is off number
+      (shown_walk v true (record g { at_once = Some n }) ws after rest refl (later w ws clean) (used (built_of of_at_once) (n ∷ []) (rows_now v rows q)) None (joined_stands of_at_once v has g rows q n st off number))
+  shown_walk v free g front after (sync x y w n ws is plain has off rest) opened clean rows q st =
+      spaced_goes_on of_sync v g w n (ws ++ word_for t ∷ more) has rows q st (kind_for t ∷ []) is plain
+      (shown_walk v true (record g { sync = Some n }) ws after rest refl (later n ws (later w (n ∷ ws) clean)) (rows_now v rows q) (Some (id_of of_sync, n ∷ [])) (given_stands of_sync v has g rows q n st off tt))
+  shown_walk v free g front after (sync_joined x y w n ws is has off rest) opened clean rows q st =
+      joined_goes_on of_sync v g w n (ws ++ word_for t ∷ more) has rows q st (kind_for t ∷ []) is off tt
+      (shown_walk v true (record g { sync = Some n }) ws after rest refl (later w ws clean) (used (built_of of_sync) (n ∷ []) (rows_now v rows q)) None (joined_stands of_sync v has g rows q n st off tt))
   shown_walk v free g front after (ends_flags x y w ws is rest) opened clean rows q st = absurd (no_dashes w ws is clean)
 
 -- ---- the whole line

@@ -165,3 +165,9 @@ no_cut n none = go (find_cut n)
 
 pub sessions_lacks : Lacks 61 (codes "sessions")
 sessions_lacks = no_cut (codes "sessions") refl
+
+pub at_once_lacks : Lacks 61 (codes "at-once")
+at_once_lacks = no_cut (codes "at-once") refl
+
+pub sync_lacks : Lacks 61 (codes "sync")
+sync_lacks = no_cut (codes "sync") refl

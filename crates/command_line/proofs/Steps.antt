@@ -1,5 +1,5 @@
 -- What words give a subcommand is what the walk over them finds.
-use Rattle.std.proofs.Common.{◌≡◌, ◌∙◌, ◌++◌, ◌&&◌, ◌||◌, cond, not, Bool, true, false, ℕ, List, [], ◌∷◌, Option, Some, None, is_some, refl, sym, ap, subst, codes, arith, option_map}
+use Rattle.std.proofs.Common.{◌≡◌, ◌∙◌, ◌++◌, ◌&&◌, ◌||◌, cond, not, Bool, true, false, ℕ, List, [], ◌∷◌, Option, Some, None, is_some, refl, sym, ap, subst, codes, arith, option_map, bytes_eq}
 use Rattle.std.specs.Prelude.{unwrap_or}
 use Rattle.clap.specs.Walk.{Held, Row, Text, Walk, idle, has_row, settled_rows}
 use Rattle.clap.specs.Kinds.{Kinds as Faults, or_else}
@@ -11,10 +11,11 @@ use Rattle.clap.specs.declared.builder.value_parser.ValueParser.{ValueParser}
 use Rattle.clap.specs.declared.builder.value_parser.ValueParser.TheVariants as parsers
 use Rattle.clap.specs.declared.builder.value_parser.Reading.TheVariants.{AsWritten}
 use Rattle.clap.specs.declared.parser.matches.ValueSource.TheVariants.{CommandLine}
-use Rattle.command_line.specs.Forms.{Verb, paths, check, run, audit, serve, Given, Takes, IsNumber}
+use Rattle.command_line.specs.Forms.{Verb, paths, check, run, audit, serve, keep, Given, Takes, IsNumber}
 use Rattle.command_line.proofs.Rows.{seen, row_with, seen_new, seen_other, no_row, any_found}
 use Rattle.command_line.proofs.Turns.{some_fault, first_of, then_of, neither}
-use Rattle.command_line.proofs.Levels.{rules, place_rule, place_names, text_row, Places, AreOthers, places_kept, Place, number_passes, passes_number, flag, sessions_built}
+use Rattle.command_line.proofs.Levels.{rules, place_rule, place_names, text_row, Places, AreOthers, places_kept, Place, number_passes, passes_number, flag}
+use Rattle.command_line.proofs.Choices.{Choice, of_sessions, of_at_once, of_sync, id_of, built_of, chosen, choose, Allows}
 
 -- what is held between two words
 abbrev pub held : List Row → Option (Text × List Text) → Held
@@ -43,7 +44,10 @@ pub record Holding (v : Verb) (g : Given) (rows : List Row) : Type 0 where
   pub silent : seen (codes "no-explain") rows ≡ flag_seen (codes "no-explain") g.silent
   pub stops : seen (codes "stop-with-input") rows ≡ flag_seen (codes "stop-with-input") g.stops
   pub sessions : seen (codes "sessions") rows ≡ option_map (text_row (codes "sessions")) g.sessions
+  pub at_once : seen (codes "at-once") rows ≡ option_map (text_row (codes "at-once")) g.at_once
+  pub sync : seen (codes "sync") rows ≡ option_map (text_row (codes "sync")) g.sync
   pub number : (n : Text) → g.sessions ≡ Some n → IsNumber 1 64 n
+  pub most : (n : Text) → g.at_once ≡ Some n → IsNumber 1 10000 n
 
 pub record Stands (v : Verb) (g : Given) (rows : List Row) (p : Option (Text × List Text)) : Type 0 where
   pub valid : settle v rows p ≡ []
@@ -73,36 +77,57 @@ word_accepted i name parser w rows e = go (accepts false parser w) (first_of _ [
     go true e = refl
     go false e = absurd (some_fault _ _ e)
 
-pub sessions_use : (n : Text) (rows : List Row) → seen (codes "sessions") rows ≡ None → IsNumber 1 64 n → use_fault false sessions_built (n ∷ []) rows ≡ []
-sessions_use n rows none is =
+pub choice_use : (o : Choice) (n : Text) (rows : List Row) → seen (id_of o) rows ≡ None → Allows o n → use_fault false (built_of o) (n ∷ []) rows ≡ []
+choice_use of_sessions n rows none is =
     neither _ _ (ap (λ b. cond (b && true) (kinds.ArgumentConflict ∷ []) []) (no_row (codes "sessions") rows none))
     (ap (λ b. or_else (cond b [] (kinds.ValueValidation ∷ [])) []) (number_passes 1 64 n (omega arith) is))
+choice_use of_at_once n rows none is =
+    neither _ _ (ap (λ b. cond (b && true) (kinds.ArgumentConflict ∷ []) []) (no_row (codes "at-once") rows none))
+    (ap (λ b. or_else (cond b [] (kinds.ValueValidation ∷ [])) []) (number_passes 1 10000 n (omega arith) is))
+choice_use of_sync n rows none is =
+    neither _ _ (ap (λ b. cond (b && true) (kinds.ArgumentConflict ∷ []) []) (no_row (codes "sync") rows none)) refl
 
-pub sessions_used : (n : Text) (rows : List Row) → use_fault false sessions_built (n ∷ []) rows ≡ [] → (has_row (codes "sessions") rows ≡ false) × IsNumber 1 64 n
-sessions_used n rows e = (
-  unseen (has_row (codes "sessions") rows) (first_of (cond (has_row (codes "sessions") rows && true) (kinds.ArgumentConflict ∷ []) []) _ e),
+no_conflict : (b : Bool) → cond (b && true) (kinds.ArgumentConflict ∷ []) [] ≡ [] → b ≡ false
+no_conflict true e = absurd (some_fault _ _ e)
+no_conflict false e = refl
+
+passed : (b : Bool) → cond b [] (kinds.ValueValidation ∷ []) ≡ [] → b ≡ true
+passed true e = refl
+passed false e = absurd (some_fault _ _ e)
+
+pub choice_used : (o : Choice) (n : Text) (rows : List Row) → use_fault false (built_of o) (n ∷ []) rows ≡ [] → (has_row (id_of o) rows ≡ false) × Allows o n
+choice_used of_sessions n rows e = (
+  no_conflict (has_row (codes "sessions") rows) (first_of (cond (has_row (codes "sessions") rows && true) (kinds.ArgumentConflict ∷ []) []) _ e),
   passes_number 1 64 n (passed (accepts false (parsers.Unsigned 1 64) n) (first_of _ [] (then_of (cond (has_row (codes "sessions") rows && true) (kinds.ArgumentConflict ∷ []) []) _ e))),
 )
-  where
-    unseen : (b : Bool) → cond (b && true) (kinds.ArgumentConflict ∷ []) [] ≡ [] → b ≡ false
-    unseen true e = absurd (some_fault _ _ e)
-    unseen false e = refl
-
-    passed : (b : Bool) → cond b [] (kinds.ValueValidation ∷ []) ≡ [] → b ≡ true
-    passed true e = refl
-    passed false e = absurd (some_fault _ _ e)
+choice_used of_at_once n rows e = (
+  no_conflict (has_row (codes "at-once") rows) (first_of (cond (has_row (codes "at-once") rows && true) (kinds.ArgumentConflict ∷ []) []) _ e),
+  passes_number 1 10000 n (passed (accepts false (parsers.Unsigned 1 10000) n) (first_of _ [] (then_of (cond (has_row (codes "at-once") rows && true) (kinds.ArgumentConflict ∷ []) []) _ e))),
+)
+choice_used of_sync n rows e = (no_conflict (has_row (codes "sync") rows) (first_of (cond (has_row (codes "sync") rows && true) (kinds.ArgumentConflict ∷ []) []) _ e), tt)
 
 pub flag_use : (name : Text) (rows : List Row) → seen name rows ≡ None → use_fault false (flag name) [] rows ≡ []
 flag_use name rows none = neither _ _ (ap (λ b. cond (b && true) (kinds.ArgumentConflict ∷ []) []) (no_row name rows none)) refl
 
 pub flag_used : (name : Text) (rows : List Row) → use_fault false (flag name) [] rows ≡ [] → has_row name rows ≡ false
-flag_used name rows e = unseen (has_row name rows) (first_of (cond (has_row name rows && true) (kinds.ArgumentConflict ∷ []) []) _ e)
-  where
-    unseen : (b : Bool) → cond (b && true) (kinds.ArgumentConflict ∷ []) [] ≡ [] → b ≡ false
-    unseen true e = absurd (some_fault _ _ e)
-    unseen false e = refl
+flag_used name rows e = no_conflict (has_row name rows) (first_of (cond (has_row name rows && true) (kinds.ArgumentConflict ∷ []) []) _ e)
 
 -- ---- what is held after one more use
+
+-- no word of a subcommand has this name
+others : (x : Text) → bytes_eq x (codes "FILE") ≡ false → bytes_eq x (codes "SCRIPT") ≡ false → bytes_eq x (codes "TRACE") ≡ false → bytes_eq x (codes "DIR") ≡ false
+    → bytes_eq x (codes "PLACE") ≡ false → (v : Verb) → AreOthers x (place_names v)
+others x a b c d e paths = tt
+others x a b c d e check = (a, tt)
+others x a b c d e run = (a, (b, tt))
+others x a b c d e audit = (a, (c, tt))
+others x a b c d e serve = (a, (d, (e, tt)))
+others x a b c d e keep = (a, (d, (e, tt)))
+
+others_choice : (o : Choice) (v : Verb) → AreOthers (id_of o) (place_names v)
+others_choice of_sessions v = others (codes "sessions") refl refl refl refl refl v
+others_choice of_at_once v = others (codes "at-once") refl refl refl refl refl v
+others_choice of_sync v = others (codes "sync") refl refl refl refl refl v
 
 module _ (v : Verb) (g : Given) (rows : List Row) (h : Holding v g rows) where
   -- a flag or option was not given before where it has no row
@@ -113,95 +138,95 @@ module _ (v : Verb) (g : Given) (rows : List Row) (h : Holding v g rows) where
       clash : false ≡ true → ⊥
       clash x = cc
 
-  pub no_number : (o : Option Text) → seen (codes "sessions") rows ≡ option_map (text_row (codes "sessions")) o → has_row (codes "sessions") rows ≡ false → o ≡ None
-  no_number None e none = refl
-  no_number (Some n) e none = absurd (clash (sym none ∙ (any_found (codes "sessions") rows ∙ ap is_some e)))
+  pub no_choice : (id : Text) (o : Option Text) → seen id rows ≡ option_map (text_row id) o → has_row id rows ≡ false → o ≡ None
+  no_choice id None e none = refl
+  no_choice id (Some n) e none = absurd (clash (sym none ∙ (any_found id rows ∙ ap is_some e)))
     where
       clash : false ≡ true → ⊥
       clash x = cc
 
-  others_explain : AreOthers (codes "explain") (place_names v)
-  others_explain = go v
-    where
-      go : (v : Verb) → AreOthers (codes "explain") (place_names v)
-      go paths = tt
-      go check = (refl, tt)
-      go run = (refl, (refl, tt))
-      go audit = (refl, (refl, tt))
-      go serve = (refl, (refl, (refl, tt)))
-
-  others_silence : AreOthers (codes "no-explain") (place_names v)
-  others_silence = go v
-    where
-      go : (v : Verb) → AreOthers (codes "no-explain") (place_names v)
-      go paths = tt
-      go check = (refl, tt)
-      go run = (refl, (refl, tt))
-      go audit = (refl, (refl, tt))
-      go serve = (refl, (refl, (refl, tt)))
-
-  others_stop : AreOthers (codes "stop-with-input") (place_names v)
-  others_stop = go v
-    where
-      go : (v : Verb) → AreOthers (codes "stop-with-input") (place_names v)
-      go paths = tt
-      go check = (refl, tt)
-      go run = (refl, (refl, tt))
-      go audit = (refl, (refl, tt))
-      go serve = (refl, (refl, (refl, tt)))
-
-  others_sessions : AreOthers (codes "sessions") (place_names v)
-  others_sessions = go v
-    where
-      go : (v : Verb) → AreOthers (codes "sessions") (place_names v)
-      go paths = tt
-      go check = (refl, tt)
-      go run = (refl, (refl, tt))
-      go audit = (refl, (refl, tt))
-      go serve = (refl, (refl, (refl, tt)))
+  -- the row of each option
+  pub chosen_row : (o : Choice) → seen (id_of o) rows ≡ option_map (text_row (id_of o)) (chosen o g)
+  chosen_row of_sessions = h.sessions
+  chosen_row of_at_once = h.at_once
+  chosen_row of_sync = h.sync
 
   pub holds_explain : g.explains ≡ false → Holding v (record g { explains = true }) (rows ++ flag_row (codes "explain") ∷ [])
   holds_explain off = record {
-    places = places_kept (place_names v) g.words rows (flag_row (codes "explain")) others_explain h.places;
+    places = places_kept (place_names v) g.words rows (flag_row (codes "explain")) (others (codes "explain") refl refl refl refl refl v) h.places;
     explains = seen_new (codes "explain") (flag_row (codes "explain")) rows refl (h.explains ∙ ap (flag_seen (codes "explain")) off);
     silent = seen_other (codes "no-explain") (flag_row (codes "explain")) rows refl ∙ h.silent;
     stops = seen_other (codes "stop-with-input") (flag_row (codes "explain")) rows refl ∙ h.stops;
     sessions = seen_other (codes "sessions") (flag_row (codes "explain")) rows refl ∙ h.sessions;
+    at_once = seen_other (codes "at-once") (flag_row (codes "explain")) rows refl ∙ h.at_once;
+    sync = seen_other (codes "sync") (flag_row (codes "explain")) rows refl ∙ h.sync;
     number = h.number;
+    most = h.most;
   }
 
   pub holds_silence : g.silent ≡ false → Holding v (record g { silent = true }) (rows ++ flag_row (codes "no-explain") ∷ [])
   holds_silence off = record {
-    places = places_kept (place_names v) g.words rows (flag_row (codes "no-explain")) others_silence h.places;
+    places = places_kept (place_names v) g.words rows (flag_row (codes "no-explain")) (others (codes "no-explain") refl refl refl refl refl v) h.places;
     explains = seen_other (codes "explain") (flag_row (codes "no-explain")) rows refl ∙ h.explains;
     silent = seen_new (codes "no-explain") (flag_row (codes "no-explain")) rows refl (h.silent ∙ ap (flag_seen (codes "no-explain")) off);
     stops = seen_other (codes "stop-with-input") (flag_row (codes "no-explain")) rows refl ∙ h.stops;
     sessions = seen_other (codes "sessions") (flag_row (codes "no-explain")) rows refl ∙ h.sessions;
+    at_once = seen_other (codes "at-once") (flag_row (codes "no-explain")) rows refl ∙ h.at_once;
+    sync = seen_other (codes "sync") (flag_row (codes "no-explain")) rows refl ∙ h.sync;
     number = h.number;
+    most = h.most;
   }
 
   pub holds_stop : g.stops ≡ false → Holding v (record g { stops = true }) (rows ++ flag_row (codes "stop-with-input") ∷ [])
   holds_stop off = record {
-    places = places_kept (place_names v) g.words rows (flag_row (codes "stop-with-input")) others_stop h.places;
+    places = places_kept (place_names v) g.words rows (flag_row (codes "stop-with-input")) (others (codes "stop-with-input") refl refl refl refl refl v) h.places;
     explains = seen_other (codes "explain") (flag_row (codes "stop-with-input")) rows refl ∙ h.explains;
     silent = seen_other (codes "no-explain") (flag_row (codes "stop-with-input")) rows refl ∙ h.silent;
     stops = seen_new (codes "stop-with-input") (flag_row (codes "stop-with-input")) rows refl (h.stops ∙ ap (flag_seen (codes "stop-with-input")) off);
     sessions = seen_other (codes "sessions") (flag_row (codes "stop-with-input")) rows refl ∙ h.sessions;
+    at_once = seen_other (codes "at-once") (flag_row (codes "stop-with-input")) rows refl ∙ h.at_once;
+    sync = seen_other (codes "sync") (flag_row (codes "stop-with-input")) rows refl ∙ h.sync;
     number = h.number;
+    most = h.most;
   }
 
-  pub holds_sessions : (n : Text) → g.sessions ≡ None → IsNumber 1 64 n → Holding v (record g { sessions = Some n }) (rows ++ text_row (codes "sessions") n ∷ [])
-  holds_sessions n off is = record {
-    places = places_kept (place_names v) g.words rows (text_row (codes "sessions") n) others_sessions h.places;
+  some_same : (n m : Text) → Some n ≡ Some m → n ≡ m
+  some_same n m e = ap (λ (o : Option Text). unwrap_or o n) e
+
+  pub holds_choice : (o : Choice) (n : Text) → chosen o g ≡ None → Allows o n → Holding v (choose o n g) (rows ++ text_row (id_of o) n ∷ [])
+  holds_choice of_sessions n off is = record {
+    places = places_kept (place_names v) g.words rows (text_row (codes "sessions") n) (others_choice of_sessions v) h.places;
     explains = seen_other (codes "explain") (text_row (codes "sessions") n) rows refl ∙ h.explains;
     silent = seen_other (codes "no-explain") (text_row (codes "sessions") n) rows refl ∙ h.silent;
     stops = seen_other (codes "stop-with-input") (text_row (codes "sessions") n) rows refl ∙ h.stops;
     sessions = seen_new (codes "sessions") (text_row (codes "sessions") n) rows refl (h.sessions ∙ ap (option_map (text_row (codes "sessions"))) off);
+    at_once = seen_other (codes "at-once") (text_row (codes "sessions") n) rows refl ∙ h.at_once;
+    sync = seen_other (codes "sync") (text_row (codes "sessions") n) rows refl ∙ h.sync;
     number = λ m e. subst (IsNumber 1 64) (some_same n m e) is;
+    most = h.most;
   }
-    where
-      some_same : (n m : Text) → Some n ≡ Some m → n ≡ m
-      some_same n m e = ap (λ (o : Option Text). unwrap_or o n) e
+  holds_choice of_at_once n off is = record {
+    places = places_kept (place_names v) g.words rows (text_row (codes "at-once") n) (others_choice of_at_once v) h.places;
+    explains = seen_other (codes "explain") (text_row (codes "at-once") n) rows refl ∙ h.explains;
+    silent = seen_other (codes "no-explain") (text_row (codes "at-once") n) rows refl ∙ h.silent;
+    stops = seen_other (codes "stop-with-input") (text_row (codes "at-once") n) rows refl ∙ h.stops;
+    sessions = seen_other (codes "sessions") (text_row (codes "at-once") n) rows refl ∙ h.sessions;
+    at_once = seen_new (codes "at-once") (text_row (codes "at-once") n) rows refl (h.at_once ∙ ap (option_map (text_row (codes "at-once"))) off);
+    sync = seen_other (codes "sync") (text_row (codes "at-once") n) rows refl ∙ h.sync;
+    number = h.number;
+    most = λ m e. subst (IsNumber 1 10000) (some_same n m e) is;
+  }
+  holds_choice of_sync n off is = record {
+    places = places_kept (place_names v) g.words rows (text_row (codes "sync") n) (others_choice of_sync v) h.places;
+    explains = seen_other (codes "explain") (text_row (codes "sync") n) rows refl ∙ h.explains;
+    silent = seen_other (codes "no-explain") (text_row (codes "sync") n) rows refl ∙ h.silent;
+    stops = seen_other (codes "stop-with-input") (text_row (codes "sync") n) rows refl ∙ h.stops;
+    sessions = seen_other (codes "sessions") (text_row (codes "sync") n) rows refl ∙ h.sessions;
+    at_once = seen_other (codes "at-once") (text_row (codes "sync") n) rows refl ∙ h.at_once;
+    sync = seen_new (codes "sync") (text_row (codes "sync") n) rows refl (h.sync ∙ ap (option_map (text_row (codes "sync"))) off);
+    number = h.number;
+    most = h.most;
+  }
 
   pub holds_word : (p : Place v g.words) (w : Text) → Takes v g.words w → Holding v (record g { words = g.words ++ w ∷ [] }) (rows ++ text_row p.name w ∷ [])
   holds_word p w t = record {
@@ -210,5 +235,8 @@ module _ (v : Verb) (g : Given) (rows : List Row) (h : Holding v g rows) where
     silent = seen_other (codes "no-explain") (text_row p.name w) rows p.no_silence ∙ h.silent;
     stops = seen_other (codes "stop-with-input") (text_row p.name w) rows p.no_stop ∙ h.stops;
     sessions = seen_other (codes "sessions") (text_row p.name w) rows p.no_sessions ∙ h.sessions;
+    at_once = seen_other (codes "at-once") (text_row p.name w) rows p.no_at_once ∙ h.at_once;
+    sync = seen_other (codes "sync") (text_row p.name w) rows p.no_sync ∙ h.sync;
     number = h.number;
+    most = h.most;
   }

@@ -4,9 +4,10 @@ use Rattle.std.proofs.lemmas.Slice.Eq.{bytes_eq-Decides}
 use Rattle.clap.specs.Walk.{Held, Rule, Text, arg_by_long, settled}
 use Rattle.clap.specs.Kinds.{Kinds as Faults}
 use Rattle.clap.specs.Faults.{long_fault, settle_fault, short_fault, react_fault, use_fault}
-use Rattle.command_line.specs.Forms.{Verb, paths, check, run, audit, serve, has_explain, has_sessions}
+use Rattle.command_line.specs.Forms.{Verb, paths, check, run, audit, serve, keep, has_explain, has_stop}
 use Rattle.command_line.proofs.Turns.{some_fault, first_of, then_of}
-use Rattle.command_line.proofs.Levels.{rules, flag, sessions_built, help_built, version_built, explain_rule, shown_rule, shown_by, long_rule, long_is}
+use Rattle.command_line.proofs.Levels.{rules, flag, sessions_built, at_once_built, sync_built, help_built, version_built, explain_rule, stop_rule, shown_rule, shown_by, long_rule, long_is}
+use Rattle.command_line.proofs.Choices.{Choice, of_sessions, of_at_once, of_sync, id_of, built_of, has_choice}
 
 module _ (c : List Rule) (h : Held) where
   pub flag_case : (name : Text) (o : Option Text) → long_fault c false (Some (flag name)) o h ≡ []
@@ -29,9 +30,10 @@ module _ (c : List Rule) (h : Held) where
   pub data Passes (v : Verb) (name : Text) (o : Option Text) : Type 0 where
     is_explain : has_explain v ≡ true → name ≡ codes "explain" → o ≡ None → settle_fault c false h ≡ [] → use_fault false (flag (codes "explain")) [] (settled c h).rows ≡ [] → Passes v name o
     is_silence : has_explain v ≡ true → name ≡ codes "no-explain" → o ≡ None → settle_fault c false h ≡ [] → use_fault false (flag (codes "no-explain")) [] (settled c h).rows ≡ [] → Passes v name o
-    is_stop : has_sessions v ≡ true → name ≡ codes "stop-with-input" → o ≡ None → settle_fault c false h ≡ [] → use_fault false (flag (codes "stop-with-input")) [] (settled c h).rows ≡ [] → Passes v name o
-    is_joined : (n : Text) → has_sessions v ≡ true → name ≡ codes "sessions" → o ≡ Some n → settle_fault c false h ≡ [] → use_fault false sessions_built (n ∷ []) (settled c h).rows ≡ [] → Passes v name o
-    is_spaced : has_sessions v ≡ true → name ≡ codes "sessions" → o ≡ None → settle_fault c false h ≡ [] → Passes v name o
+    is_stop : has_stop v ≡ true → name ≡ codes "stop-with-input" → o ≡ None → settle_fault c false h ≡ [] → use_fault false (flag (codes "stop-with-input")) [] (settled c h).rows ≡ [] → Passes v name o
+    is_joined : (x : Choice) (n : Text) → has_choice x v ≡ true → name ≡ id_of x → o ≡ Some n → settle_fault c false h ≡ [] → use_fault false (built_of x) (n ∷ []) (settled c h).rows ≡ []
+        → Passes v name o
+    is_spaced : (x : Choice) → has_choice x v ≡ true → name ≡ id_of x → o ≡ None → settle_fault c false h ≡ [] → Passes v name o
 
   named : (name other : Text) → bytes_eq other name ≡ true → name ≡ other
   named name other e = sym ((bytes_eq-Decides other name).0 e)
@@ -41,6 +43,15 @@ module _ (c : List Rule) (h : Held) where
     by_shown true version e = help_case o e
     by_shown false true e = version_case o e
     by_shown false false e = none_case o e
+
+    -- an option, with its value or before it
+    spaced_or_joined : (x : Choice) → has_choice x v ≡ true → name ≡ id_of x → (p : Option Text) → o ≡ p → long_fault c false (Some (built_of x)) p h ≡ [] → Passes v name o
+    spaced_or_joined of_sessions most is None none e = is_spaced of_sessions most is none e
+    spaced_or_joined of_sessions most is (Some n) some e = is_joined of_sessions n most is some (first_of (settle_fault c false h) _ e) (then_of (settle_fault c false h) _ e)
+    spaced_or_joined of_at_once most is None none e = is_spaced of_at_once most is none e
+    spaced_or_joined of_at_once most is (Some n) some e = is_joined of_at_once n most is some (first_of (settle_fault c false h) _ e) (then_of (settle_fault c false h) _ e)
+    spaced_or_joined of_sync most is None none e = is_spaced of_sync most is none e
+    spaced_or_joined of_sync most is (Some n) some e = is_joined of_sync n most is some (first_of (settle_fault c false h) _ e) (then_of (settle_fault c false h) _ e)
 
     -- what is found behind the other names fails
     module _ (more : Option Rule) (fails : long_fault c false more o h ≡ [] → ⊥) where
@@ -54,25 +65,35 @@ module _ (c : List Rule) (h : Held) where
           let got = flag_case (codes "explain") o e in
           is_explain has (named name (codes "explain") is) got.0 got.1 got.2
 
-      by_stop : has_explain v ≡ true → has_sessions v ≡ true → (s x y : Bool) → bytes_eq (codes "stop-with-input") name ≡ s → bytes_eq (codes "explain") name ≡ x → bytes_eq (codes "no-explain") name ≡ y
-          → long_fault c false (cond (s || false) (Some (flag (codes "stop-with-input"))) (explain_rule x y more)) o h ≡ []
+      by_stop : has_explain v ≡ true → has_stop v ≡ true → (s x y : Bool) → bytes_eq (codes "stop-with-input") name ≡ s → bytes_eq (codes "explain") name ≡ x → bytes_eq (codes "no-explain") name ≡ y
+          → long_fault c false (stop_rule s (explain_rule x y more)) o h ≡ []
           → Passes v name o
       by_stop has most false x y is also third e = by_explain has x y also third e
       by_stop has most true x y is also third e =
           let got = flag_case (codes "stop-with-input") o e in
           is_stop most (named name (codes "stop-with-input") is) got.0 got.1 got.2
 
-  by_sessions : (v : Verb) (name : Text) (o : Option Text) → has_sessions v ≡ true → bytes_eq (codes "sessions") name ≡ true
-      → long_fault c false (Some sessions_built) o h ≡ [] → Passes v name o
-  by_sessions v name None more is e = is_spaced more (named name (codes "sessions") is) refl e
-  by_sessions v name (Some n) more is e = is_joined n more (named name (codes "sessions") is) refl (first_of (settle_fault c false h) _ e) (then_of (settle_fault c false h) _ e)
+      by_serve : has_explain v ≡ true → has_stop v ≡ true → has_choice of_sessions v ≡ true
+          → (n s x y : Bool) → bytes_eq (codes "sessions") name ≡ n → bytes_eq (codes "stop-with-input") name ≡ s → bytes_eq (codes "explain") name ≡ x → bytes_eq (codes "no-explain") name ≡ y
+          → long_fault c false (cond (n || false) (Some sessions_built) (stop_rule s (explain_rule x y more))) o h ≡ []
+          → Passes v name o
+      by_serve has stops most false s x y is also third fourth e = by_stop has stops s x y also third fourth e
+      by_serve has stops most true s x y is also third fourth e = spaced_or_joined of_sessions most (named name (codes "sessions") is) o refl e
 
-  by_serve : (v : Verb) (name : Text) (o : Option Text) (more : Option Rule) → (long_fault c false more o h ≡ [] → ⊥) → has_explain v ≡ true → has_sessions v ≡ true
-      → (n s x y : Bool) → bytes_eq (codes "sessions") name ≡ n → bytes_eq (codes "stop-with-input") name ≡ s → bytes_eq (codes "explain") name ≡ x → bytes_eq (codes "no-explain") name ≡ y
-      → long_fault c false (cond (n || false) (Some sessions_built) (cond (s || false) (Some (flag (codes "stop-with-input"))) (explain_rule x y more))) o h ≡ []
-      → Passes v name o
-  by_serve v name o more fails has most false s x y is also third fourth e = by_stop v name o more fails has most s x y also third fourth e
-  by_serve v name o more fails has most true s x y is also third fourth e = by_sessions v name o most is e
+      by_sync : has_explain v ≡ true → has_stop v ≡ true → has_choice of_sync v ≡ true
+          → (n s x y : Bool) → bytes_eq (codes "sync") name ≡ n → bytes_eq (codes "stop-with-input") name ≡ s → bytes_eq (codes "explain") name ≡ x → bytes_eq (codes "no-explain") name ≡ y
+          → long_fault c false (cond (n || false) (Some sync_built) (stop_rule s (explain_rule x y more))) o h ≡ []
+          → Passes v name o
+      by_sync has stops most false s x y is also third fourth e = by_stop has stops s x y also third fourth e
+      by_sync has stops most true s x y is also third fourth e = spaced_or_joined of_sync most (named name (codes "sync") is) o refl e
+
+      by_keep : has_explain v ≡ true → has_stop v ≡ true → has_choice of_at_once v ≡ true → has_choice of_sync v ≡ true
+          → (m n s x y : Bool) → bytes_eq (codes "at-once") name ≡ m → bytes_eq (codes "sync") name ≡ n → bytes_eq (codes "stop-with-input") name ≡ s → bytes_eq (codes "explain") name ≡ x
+          → bytes_eq (codes "no-explain") name ≡ y
+          → long_fault c false (cond (m || false) (Some at_once_built) (cond (n || false) (Some sync_built) (stop_rule s (explain_rule x y more)))) o h ≡ []
+          → Passes v name o
+      by_keep has stops most syncs false n s x y is also third fourth fifth e = by_sync has stops syncs n s x y also third fourth fifth e
+      by_keep has stops most syncs true n s x y is also third fourth fifth e = spaced_or_joined of_at_once most (named name (codes "at-once") is) o refl e
 
 pub passes : (v : Verb) (h : Held) (name : Text) (o : Option Text) → long_fault (rules v) false (arg_by_long (rules v) name) o h ≡ [] → Passes (rules v) h v name o
 passes v h name o e = go v (sym (ap (λ r. long_fault (rules v) false r o h) (long_is v name)) ∙ e)
@@ -80,14 +101,17 @@ passes v h name o e = go v (sym (ap (λ r. long_fault (rules v) false r o h) (lo
     fails : (v : Verb) → long_fault (rules v) false (shown_by name) o h ≡ [] → ⊥
     fails v e = by_shown (rules v) h v name o (bytes_eq (codes "help") name) (bytes_eq (codes "version") name) e
 
-    go : (v : Verb) → long_fault (rules v) false (long_rule v (bytes_eq (codes "explain") name) (bytes_eq (codes "no-explain") name) (bytes_eq (codes "stop-with-input") name) (bytes_eq (codes "sessions") name) (shown_by name)) o h ≡ []
+    go : (v : Verb) → long_fault (rules v) false (long_rule v (bytes_eq (codes "explain") name) (bytes_eq (codes "no-explain") name) (bytes_eq (codes "stop-with-input") name) (bytes_eq (codes "sessions") name) (bytes_eq (codes "at-once") name)
+        (bytes_eq (codes "sync") name) (shown_by name)) o h ≡ []
         → Passes (rules v) h v name o
     go paths e = absurd (fails paths e)
     go check e = by_explain (rules check) h check name o (shown_by name) (fails check) refl (bytes_eq (codes "explain") name) (bytes_eq (codes "no-explain") name) refl refl e
     go run e = by_explain (rules run) h run name o (shown_by name) (fails run) refl (bytes_eq (codes "explain") name) (bytes_eq (codes "no-explain") name) refl refl e
     go audit e = by_explain (rules audit) h audit name o (shown_by name) (fails audit) refl (bytes_eq (codes "explain") name) (bytes_eq (codes "no-explain") name) refl refl e
-    go serve e = by_serve (rules serve) h serve name o (shown_by name) (fails serve) refl refl (bytes_eq (codes "sessions") name) (bytes_eq (codes "stop-with-input") name) (bytes_eq (codes "explain") name)
+    go serve e = by_serve (rules serve) h serve name o (shown_by name) (fails serve) refl refl refl (bytes_eq (codes "sessions") name) (bytes_eq (codes "stop-with-input") name) (bytes_eq (codes "explain") name)
         (bytes_eq (codes "no-explain") name) refl refl refl refl e
+    go keep e = by_keep (rules keep) h keep name o (shown_by name) (fails keep) refl refl refl refl (bytes_eq (codes "at-once") name) (bytes_eq (codes "sync") name) (bytes_eq (codes "stop-with-input") name)
+        (bytes_eq (codes "explain") name) (bytes_eq (codes "no-explain") name) refl refl refl refl refl e
 
 -- a short flag always fails
 pub short_fails : (c : List Rule) (h : Held) (help version : Bool) (rest : Text) (next : Held → Faults) → short_fault c false (shown_rule help version) rest h next ≡ [] → ⊥

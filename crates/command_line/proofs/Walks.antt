@@ -11,12 +11,13 @@ use Rattle.clap.specs.Faults.{positional_fault, settle_fault, short_fault, step_
 use Rattle.clap.specs.declared.builder.value_parser.Reading.TheVariants.{AsWritten}
 use Rattle.clap.specs.declared.parser.matches.ValueSource.TheVariants.{CommandLine}
 use Rattle.clap.proofs.LexerLemmas.{name_and_value-at}
-use Rattle.command_line.specs.Forms.{Verb, paths, check, run, audit, serve, has_explain, has_sessions, is_bare, Given, Takes, IsNumber, Gives, ends, word, explain, silence, stop, sessions, joined, hyphens as ends_flags}
+use Rattle.command_line.specs.Forms.{Verb, paths, check, run, audit, serve, keep, has_explain, has_stop, is_bare, Given, Takes, Gives, ends, word, explain, silence, stop, sessions, joined, at_once, at_once_joined, sync, sync_joined, hyphens as ends_flags}
+use Rattle.command_line.proofs.Choices.{Choice, of_sessions, of_at_once, of_sync, id_of, word_of, joined_of, built_of, has_choice, chosen, choose, Allows, by_choice, by_stop}
 use Rattle.command_line.proofs.Rows.{seen, row_with, used_new}
-use Rattle.command_line.proofs.Sorts.{bare, hyphens, long, short, kind, bare_word, dashes, Cut, whole, parts, cut, sessions_lacks}
+use Rattle.command_line.proofs.Sorts.{bare, hyphens, long, short, kind, bare_word, dashes, Cut, whole, parts, cut, sessions_lacks, at_once_lacks, sync_lacks}
 use Rattle.command_line.proofs.Turns.{some_fault, first_of, then_of, neither, stands, bare_fault, bare_after, long_first, long_turn, long_after, short_first, bundle_first, value_fault, value_after}
-use Rattle.command_line.proofs.Levels.{rules, leaf, place_rule, place_after, text_row, Place, place, flag, sessions_built, short_is}
-use Rattle.command_line.proofs.Steps.{held, at, rows_now, settle, flag_seen, Holding, Stands, and_false, or_false, word_use, word_accepted, sessions_use, sessions_used, flag_use, flag_used, not_given, no_number, holds_explain, holds_silence, holds_stop, holds_sessions, holds_word}
+use Rattle.command_line.proofs.Levels.{rules, leaf, place_rule, place_after, text_row, Place, place, flag, short_is}
+use Rattle.command_line.proofs.Steps.{held, at, rows_now, settle, flag_seen, Holding, Stands, and_false, or_false, word_use, word_accepted, choice_use, choice_used, flag_use, flag_used, not_given, no_choice, chosen_row, holds_explain, holds_silence, holds_stop, holds_choice, holds_word}
 use Rattle.command_line.proofs.Uses.{Passes, is_explain, is_silence, is_stop, is_joined, is_spaced, passes, short_fails}
 
 abbrev pub end_of : Verb → Walk → List Text → Held
@@ -109,6 +110,22 @@ hyphens_after v k h = refl
 
 -- ---- flags
 
+dashed_id : (o : Choice) → 45 ∷ 45 ∷ id_of o ≡ word_of o
+dashed_id of_sessions = refl
+dashed_id of_at_once = refl
+dashed_id of_sync = refl
+
+dashed_value : (o : Choice) (n : Text) → 45 ∷ 45 ∷ (id_of o ++ 61 ∷ n) ≡ joined_of o n
+dashed_value of_sessions n = refl
+dashed_value of_at_once n = refl
+dashed_value of_sync n = refl
+
+-- a long word with a value in it
+joined_long : (o : Choice) (n : Text) → long_of (joined_of o n) ≡ Some (id_of o, Some n)
+joined_long of_sessions n = ap (λ x. Some x) (name_and_value-at (codes "sessions") n sessions_lacks)
+joined_long of_at_once n = ap (λ x. Some x) (name_and_value-at (codes "at-once") n at_once_lacks)
+joined_long of_sync n = ap (λ x. Some x) (name_and_value-at (codes "sync") n sync_lacks)
+
 module _ (k : ℕ) (rows : List Row) (q : Option (Text × List Text)) where
   pub explain_turn : (v : Verb) → has_explain v ≡ true → turn_fault (leaf v) [] (at true k (held rows q)) (codes "--explain")
       ≡ or_else (or_else (settle v rows q) (use_fault false (flag (codes "explain")) [] (rows_now v rows q))) []
@@ -120,6 +137,7 @@ module _ (k : ℕ) (rows : List Row) (q : Option (Text × List Text)) where
   explain_turn run has = long_turn (leaf run) [] k (held rows q) idle (codes "--explain") refl refl (codes "explain", None) refl
   explain_turn audit has = long_turn (leaf audit) [] k (held rows q) idle (codes "--explain") refl refl (codes "explain", None) refl
   explain_turn serve has = long_turn (leaf serve) [] k (held rows q) idle (codes "--explain") refl refl (codes "explain", None) refl
+  explain_turn keep has = long_turn (leaf keep) [] k (held rows q) idle (codes "--explain") refl refl (codes "explain", None) refl
 
   pub explain_after : (v : Verb) → has_explain v ≡ true → walked (rules v) [] (at true k (held rows q)) (codes "--explain")
       ≡ at true k (held (used (flag (codes "explain")) [] (rows_now v rows q)) None)
@@ -131,6 +149,7 @@ module _ (k : ℕ) (rows : List Row) (q : Option (Text × List Text)) where
   explain_after run has = long_after (leaf run) [] k (held rows q) idle (codes "--explain") refl refl (codes "explain", None) refl
   explain_after audit has = long_after (leaf audit) [] k (held rows q) idle (codes "--explain") refl refl (codes "explain", None) refl
   explain_after serve has = long_after (leaf serve) [] k (held rows q) idle (codes "--explain") refl refl (codes "explain", None) refl
+  explain_after keep has = long_after (leaf keep) [] k (held rows q) idle (codes "--explain") refl refl (codes "explain", None) refl
 
   pub silence_turn : (v : Verb) → has_explain v ≡ true → turn_fault (leaf v) [] (at true k (held rows q)) (codes "--no-explain")
       ≡ or_else (or_else (settle v rows q) (use_fault false (flag (codes "no-explain")) [] (rows_now v rows q))) []
@@ -142,6 +161,7 @@ module _ (k : ℕ) (rows : List Row) (q : Option (Text × List Text)) where
   silence_turn run has = long_turn (leaf run) [] k (held rows q) idle (codes "--no-explain") refl refl (codes "no-explain", None) refl
   silence_turn audit has = long_turn (leaf audit) [] k (held rows q) idle (codes "--no-explain") refl refl (codes "no-explain", None) refl
   silence_turn serve has = long_turn (leaf serve) [] k (held rows q) idle (codes "--no-explain") refl refl (codes "no-explain", None) refl
+  silence_turn keep has = long_turn (leaf keep) [] k (held rows q) idle (codes "--no-explain") refl refl (codes "no-explain", None) refl
 
   pub silence_after : (v : Verb) → has_explain v ≡ true → walked (rules v) [] (at true k (held rows q)) (codes "--no-explain")
       ≡ at true k (held (used (flag (codes "no-explain")) [] (rows_now v rows q)) None)
@@ -153,41 +173,83 @@ module _ (k : ℕ) (rows : List Row) (q : Option (Text × List Text)) where
   silence_after run has = long_after (leaf run) [] k (held rows q) idle (codes "--no-explain") refl refl (codes "no-explain", None) refl
   silence_after audit has = long_after (leaf audit) [] k (held rows q) idle (codes "--no-explain") refl refl (codes "no-explain", None) refl
   silence_after serve has = long_after (leaf serve) [] k (held rows q) idle (codes "--no-explain") refl refl (codes "no-explain", None) refl
+  silence_after keep has = long_after (leaf keep) [] k (held rows q) idle (codes "--no-explain") refl refl (codes "no-explain", None) refl
 
-  stop_turn : turn_fault (leaf serve) [] (at true k (held rows q)) (codes "--stop-with-input")
-      ≡ or_else (or_else (settle serve rows q) (use_fault false (flag (codes "stop-with-input")) [] (rows_now serve rows q))) []
-  stop_turn = long_turn (leaf serve) [] k (held rows q) idle (codes "--stop-with-input") refl refl (codes "stop-with-input", None) refl
+  module _ (v : Verb) (has : has_stop v ≡ true) where
+    pub stop_turn : turn_fault (leaf v) [] (at true k (held rows q)) (codes "--stop-with-input")
+        ≡ or_else (or_else (settle v rows q) (use_fault false (flag (codes "stop-with-input")) [] (rows_now v rows q))) []
+    stop_turn = by_stop (λ v. turn_fault (leaf v) [] (at true k (held rows q)) (codes "--stop-with-input")
+        ≡ or_else (or_else (settle v rows q) (use_fault false (flag (codes "stop-with-input")) [] (rows_now v rows q))) [])
+        (long_turn (leaf serve) [] k (held rows q) idle (codes "--stop-with-input") refl refl (codes "stop-with-input", None) refl)
+        (long_turn (leaf keep) [] k (held rows q) idle (codes "--stop-with-input") refl refl (codes "stop-with-input", None) refl) v has
 
-  stop_after : walked (rules serve) [] (at true k (held rows q)) (codes "--stop-with-input")
-      ≡ at true k (held (used (flag (codes "stop-with-input")) [] (rows_now serve rows q)) None)
-  stop_after = long_after (leaf serve) [] k (held rows q) idle (codes "--stop-with-input") refl refl (codes "stop-with-input", None) refl
-
-  joined_long : (n : Text) → long_of (codes "--sessions=" ++ n) ≡ Some (codes "sessions", Some n)
-  joined_long n = ap (λ x. Some x) (name_and_value-at (codes "sessions") n sessions_lacks)
-
-  joined_turn : (n : Text) → turn_fault (leaf serve) [] (at true k (held rows q)) (codes "--sessions=" ++ n)
-      ≡ or_else (or_else (settle serve rows q) (use_fault false sessions_built (n ∷ []) (rows_now serve rows q))) []
-  joined_turn n = long_turn (leaf serve) [] k (held rows q) idle (codes "--sessions=" ++ n) refl refl (codes "sessions", Some n) (joined_long n)
-
-  joined_after : (n : Text) → walked (rules serve) [] (at true k (held rows q)) (codes "--sessions=" ++ n)
-      ≡ at true k (held (used sessions_built (n ∷ []) (rows_now serve rows q)) None)
-  joined_after n = long_after (leaf serve) [] k (held rows q) idle (codes "--sessions=" ++ n) refl refl (codes "sessions", Some n) (joined_long n)
+    pub stop_after : walked (rules v) [] (at true k (held rows q)) (codes "--stop-with-input") ≡ at true k (held (used (flag (codes "stop-with-input")) [] (rows_now v rows q)) None)
+    stop_after = by_stop (λ v. walked (rules v) [] (at true k (held rows q)) (codes "--stop-with-input") ≡ at true k (held (used (flag (codes "stop-with-input")) [] (rows_now v rows q)) None))
+        (long_after (leaf serve) [] k (held rows q) idle (codes "--stop-with-input") refl refl (codes "stop-with-input", None) refl)
+        (long_after (leaf keep) [] k (held rows q) idle (codes "--stop-with-input") refl refl (codes "stop-with-input", None) refl) v has
 
   -- the option that waits for its value
-  abbrev pub waits : Verb → Walk
-  waits v = record { held = held (rows_now v rows q) (Some (codes "sessions", [])); waiting = option (codes "sessions"); position = k; is_trailing = false; stopped = None }
+  abbrev pub waits : Choice → Verb → Walk
+  waits o v = record { held = held (rows_now v rows q) (Some (id_of o, [])); waiting = option (id_of o); position = k; is_trailing = false; stopped = None }
 
-  spaced_turn : turn_fault (leaf serve) [] (at true k (held rows q)) (codes "--sessions") ≡ or_else (settle serve rows q) []
-  spaced_turn = long_turn (leaf serve) [] k (held rows q) idle (codes "--sessions") refl refl (codes "sessions", None) refl
+  module _ (o : Choice) (v : Verb) (has : has_choice o v ≡ true) where
+    pub joined_turn : (n : Text) → turn_fault (leaf v) [] (at true k (held rows q)) (joined_of o n)
+        ≡ or_else (or_else (settle v rows q) (use_fault false (built_of o) (n ∷ []) (rows_now v rows q))) []
+    joined_turn n = by_choice (λ o v. turn_fault (leaf v) [] (at true k (held rows q)) (joined_of o n)
+        ≡ or_else (or_else (settle v rows q) (use_fault false (built_of o) (n ∷ []) (rows_now v rows q))) [])
+        (long_turn (leaf serve) [] k (held rows q) idle (codes "--sessions=" ++ n) refl refl (codes "sessions", Some n) (joined_long of_sessions n))
+        (long_turn (leaf keep) [] k (held rows q) idle (codes "--at-once=" ++ n) refl refl (codes "at-once", Some n) (joined_long of_at_once n))
+        (long_turn (leaf keep) [] k (held rows q) idle (codes "--sync=" ++ n) refl refl (codes "sync", Some n) (joined_long of_sync n)) o v has
 
-  spaced_after : walked (rules serve) [] (at true k (held rows q)) (codes "--sessions") ≡ waits serve
-  spaced_after = long_after (leaf serve) [] k (held rows q) idle (codes "--sessions") refl refl (codes "sessions", None) refl
+    pub joined_after : (n : Text) → walked (rules v) [] (at true k (held rows q)) (joined_of o n) ≡ at true k (held (used (built_of o) (n ∷ []) (rows_now v rows q)) None)
+    joined_after n = by_choice (λ o v. walked (rules v) [] (at true k (held rows q)) (joined_of o n) ≡ at true k (held (used (built_of o) (n ∷ []) (rows_now v rows q)) None))
+        (long_after (leaf serve) [] k (held rows q) idle (codes "--sessions=" ++ n) refl refl (codes "sessions", Some n) (joined_long of_sessions n))
+        (long_after (leaf keep) [] k (held rows q) idle (codes "--at-once=" ++ n) refl refl (codes "at-once", Some n) (joined_long of_at_once n))
+        (long_after (leaf keep) [] k (held rows q) idle (codes "--sync=" ++ n) refl refl (codes "sync", Some n) (joined_long of_sync n)) o v has
 
-  given_turn : (n : Text) → is_bare n ≡ true → turn_fault (leaf serve) [] (waits serve) n ≡ []
-  given_turn n is = value_fault (leaf serve) [] k (held (rows_now serve rows q) (Some (codes "sessions", []))) (codes "sessions") n (bare_word n is) refl
+    pub spaced_turn : turn_fault (leaf v) [] (at true k (held rows q)) (word_of o) ≡ or_else (settle v rows q) []
+    spaced_turn = by_choice (λ o v. turn_fault (leaf v) [] (at true k (held rows q)) (word_of o) ≡ or_else (settle v rows q) [])
+        (long_turn (leaf serve) [] k (held rows q) idle (codes "--sessions") refl refl (codes "sessions", None) refl)
+        (long_turn (leaf keep) [] k (held rows q) idle (codes "--at-once") refl refl (codes "at-once", None) refl)
+        (long_turn (leaf keep) [] k (held rows q) idle (codes "--sync") refl refl (codes "sync", None) refl) o v has
 
-  given_after : (n : Text) → is_bare n ≡ true → walked (rules serve) [] (waits serve) n ≡ at true k (held (rows_now serve rows q) (Some (codes "sessions", n ∷ [])))
-  given_after n is = value_after (leaf serve) [] k (held (rows_now serve rows q) (Some (codes "sessions", []))) (codes "sessions") n (bare_word n is) refl
+    pub spaced_after : walked (rules v) [] (at true k (held rows q)) (word_of o) ≡ waits o v
+    spaced_after = by_choice (λ o v. walked (rules v) [] (at true k (held rows q)) (word_of o) ≡ waits o v)
+        (long_after (leaf serve) [] k (held rows q) idle (codes "--sessions") refl refl (codes "sessions", None) refl)
+        (long_after (leaf keep) [] k (held rows q) idle (codes "--at-once") refl refl (codes "at-once", None) refl)
+        (long_after (leaf keep) [] k (held rows q) idle (codes "--sync") refl refl (codes "sync", None) refl) o v has
+
+    pub given_turn : (n : Text) → is_bare n ≡ true → turn_fault (leaf v) [] (waits o v) n ≡ []
+    given_turn n is = by_choice (λ o v. turn_fault (leaf v) [] (waits o v) n ≡ [])
+        (value_fault (leaf serve) [] k (held (rows_now serve rows q) (Some (codes "sessions", []))) (codes "sessions") n (bare_word n is) refl)
+        (value_fault (leaf keep) [] k (held (rows_now keep rows q) (Some (codes "at-once", []))) (codes "at-once") n (bare_word n is) refl)
+        (value_fault (leaf keep) [] k (held (rows_now keep rows q) (Some (codes "sync", []))) (codes "sync") n (bare_word n is) refl) o v has
+
+    pub given_after : (n : Text) → is_bare n ≡ true → walked (rules v) [] (waits o v) n ≡ at true k (held (rows_now v rows q) (Some (id_of o, n ∷ [])))
+    given_after n is = by_choice (λ o v. walked (rules v) [] (waits o v) n ≡ at true k (held (rows_now v rows q) (Some (id_of o, n ∷ []))))
+        (value_after (leaf serve) [] k (held (rows_now serve rows q) (Some (codes "sessions", []))) (codes "sessions") n (bare_word n is) refl)
+        (value_after (leaf keep) [] k (held (rows_now keep rows q) (Some (codes "at-once", []))) (codes "at-once") n (bare_word n is) refl)
+        (value_after (leaf keep) [] k (held (rows_now keep rows q) (Some (codes "sync", []))) (codes "sync") n (bare_word n is) refl) o v has
+
+    -- the option does not do without a value
+    pub no_value : settle v (rows_now v rows q) (Some (id_of o, [])) ≡ [] → ⊥
+    no_value = by_choice (λ o v. settle v (rows_now v rows q) (Some (id_of o, [])) ≡ [] → ⊥) (λ e. some_fault _ _ e) (λ e. some_fault _ _ e) (λ e. some_fault _ _ e) o v has
+
+    pub value_is : (n : Text) → settle v (rows_now v rows q) (Some (id_of o, n ∷ [])) ≡ use_fault false (built_of o) (n ∷ []) (rows_now v rows q)
+    value_is n = by_choice (λ o v. settle v (rows_now v rows q) (Some (id_of o, n ∷ [])) ≡ use_fault false (built_of o) (n ∷ []) (rows_now v rows q)) refl refl refl o v has
+
+    -- the rows once its value is used
+    pub joined_rows : (n : Text) → seen (id_of o) (rows_now v rows q) ≡ None → used (built_of o) (n ∷ []) (rows_now v rows q) ≡ rows_now v rows q ++ text_row (id_of o) n ∷ []
+    joined_rows n none = by_choice (λ o v. seen (id_of o) (rows_now v rows q) ≡ None → used (built_of o) (n ∷ []) (rows_now v rows q) ≡ rows_now v rows q ++ text_row (id_of o) n ∷ [])
+        (λ none. used_new (codes "sessions") AsWritten (n ∷ []) (rows_now serve rows q) none)
+        (λ none. used_new (codes "at-once") AsWritten (n ∷ []) (rows_now keep rows q) none)
+        (λ none. used_new (codes "sync") AsWritten (n ∷ []) (rows_now keep rows q) none) o v has none
+
+    pub given_rows : (n : Text) → seen (id_of o) (rows_now v rows q) ≡ None → rows_now v (rows_now v rows q) (Some (id_of o, n ∷ [])) ≡ rows_now v rows q ++ text_row (id_of o) n ∷ []
+    given_rows n none = by_choice (λ o v. seen (id_of o) (rows_now v rows q) ≡ None → rows_now v (rows_now v rows q) (Some (id_of o, n ∷ [])) ≡ rows_now v rows q ++ text_row (id_of o) n ∷ [])
+        (λ none. used_new (codes "sessions") AsWritten (n ∷ []) (rows_now serve rows q) none)
+        (λ none. used_new (codes "at-once") AsWritten (n ∷ []) (rows_now keep rows q) none)
+        (λ none. used_new (codes "sync") AsWritten (n ∷ []) (rows_now keep rows q) none) o v has none
 
 -- ---- what stands after a flag
 
@@ -218,22 +280,20 @@ stop_stands v g rows q st off =
           (holds_stop v g (rows_now v rows q) st.holds off);
     }
 
-module _ (g : Given) (rows : List Row) (q : Option (Text × List Text)) (st : Stands serve g rows q) (n : Text) (off : g.sessions ≡ None) (is : IsNumber 1 64 n) where
-  unseen : seen (codes "sessions") (rows_now serve rows q) ≡ None
-  unseen = st.holds.sessions ∙ ap (option_map (text_row (codes "sessions"))) off
+module _ (o : Choice) (v : Verb) (has : has_choice o v ≡ true) (g : Given) (rows : List Row) (q : Option (Text × List Text)) (n : Text) (st : Stands v g rows q) (off : chosen o g ≡ None) (is : Allows o n) where
+  pub no_choice_row : seen (id_of o) (rows_now v rows q) ≡ None
+  no_choice_row = chosen_row v g (rows_now v rows q) st.holds o ∙ ap (option_map (text_row (id_of o))) off
 
-  joined_stands : Stands serve (record g { sessions = Some n }) (used sessions_built (n ∷ []) (rows_now serve rows q)) None
+  pub joined_stands : Stands v (choose o n g) (used (built_of o) (n ∷ []) (rows_now v rows q)) None
   joined_stands = record {
     valid = refl;
-    holds = subst (Holding serve (record g { sessions = Some n })) (sym (used_new (codes "sessions") AsWritten (n ∷ []) (rows_now serve rows q) unseen))
-        (holds_sessions serve g (rows_now serve rows q) st.holds n off is);
+    holds = subst (Holding v (choose o n g)) (sym (joined_rows (place_after g.words) rows q o v has n no_choice_row)) (holds_choice v g (rows_now v rows q) st.holds o n off is);
   }
 
-  given_stands : Stands serve (record g { sessions = Some n }) (rows_now serve rows q) (Some (codes "sessions", n ∷ []))
+  pub given_stands : Stands v (choose o n g) (rows_now v rows q) (Some (id_of o, n ∷ []))
   given_stands = record {
-    valid = sessions_use n (rows_now serve rows q) unseen is;
-    holds = subst (Holding serve (record g { sessions = Some n })) (sym (used_new (codes "sessions") AsWritten (n ∷ []) (rows_now serve rows q) unseen))
-        (holds_sessions serve g (rows_now serve rows q) st.holds n off is);
+    valid = value_is (place_after g.words) rows q o v has n ∙ choice_use o n (rows_now v rows q) no_choice_row is;
+    holds = subst (Holding v (choose o n g)) (sym (given_rows (place_after g.words) rows q o v has n no_choice_row)) (holds_choice v g (rows_now v rows q) st.holds o n off is);
   }
 
 -- ---- words that give something do not fail
@@ -262,78 +322,42 @@ none_left serve w [] t e = cc
 none_left serve w (a ∷ []) t e = cc
 none_left serve w (a ∷ b ∷ []) t e = cc
 none_left serve w (a ∷ b ∷ c ∷ more) t e = t
+none_left keep w [] t e = cc
+none_left keep w (a ∷ []) t e = cc
+none_left keep w (a ∷ b ∷ []) t e = cc
+none_left keep w (a ∷ b ∷ c ∷ more) t e = t
 
 clash : false ≡ true → ⊥
 clash x = cc
-
-only_serve : (v : Verb) → has_sessions v ≡ true → serve ≡ v
-only_serve serve has = refl
-only_serve paths has = absurd (clash has)
-only_serve check has = absurd (clash has)
-only_serve run has = absurd (clash has)
-only_serve audit has = absurd (clash has)
-
--- what holds of `serve` holds of the one that has sessions
-of_serve : (P : Verb → Type 0) (v : Verb) → has_sessions v ≡ true → P serve → P v
-of_serve P v has x = subst P (only_serve v has) x
 
 empty_tail : (v : Verb) (W : Walk) → tail_fault v W [] ≡ settle_fault (rules v) false W.held
 unfolding walk_fault
 empty_tail v W = refl
 
--- the flags that only one has, by which one it is
-module _ (v : Verb) (has : has_sessions v ≡ true) (g : Given) (rows : List Row) (q : Option (Text × List Text)) where
+-- an option with its value in the next word, or in the same word, before words that do not fail
+module _ (o : Choice) (v : Verb) (g : Given) (w n : Text) (more : List Text) (after : Given) (has : has_choice o v ≡ true) (off : chosen o g ≡ None) (allowed : Allows o n)
+    (rows : List Row) (q : Option (Text × List Text)) (st : Stands v g rows q) where
   abbrev k : ℕ
   k = place_after g.words
 
-  pub stop_turns : turn_fault (leaf v) [] (at true k (held rows q)) (codes "--stop-with-input")
-      ≡ or_else (or_else (settle v rows q) (use_fault false (flag (codes "stop-with-input")) [] (rows_now v rows q))) []
-  stop_turns = of_serve (λ v. turn_fault (leaf v) [] (at true k (held rows q)) (codes "--stop-with-input")
-      ≡ or_else (or_else (settle v rows q) (use_fault false (flag (codes "stop-with-input")) [] (rows_now v rows q))) []) v has (stop_turn k rows q)
+  spaced_more : w ≡ word_of o → is_bare n ≡ true
+      → (tail_fault v (at true k (held (rows_now v rows q) (Some (id_of o, n ∷ [])))) more ≡ []) × Ended v after (end_of v (at true k (held (rows_now v rows q) (Some (id_of o, n ∷ [])))) more)
+      → Completes v true g (w ∷ n ∷ more) after rows q
+  spaced_more is plain rest =
+      one_more v (at true k (held rows q)) (waits k rows q o v) w (n ∷ more) after
+      (ap (λ x. turn_fault (leaf v) [] (at true k (held rows q)) x) is ∙ spaced_turn k rows q o v has ∙ neither _ _ st.valid refl)
+      (ap (λ x. walked (rules v) [] (at true k (held rows q)) x) is ∙ spaced_after k rows q o v has)
+      (one_more v (waits k rows q o v) (at true k (held (rows_now v rows q) (Some (id_of o, n ∷ [])))) n more after (given_turn k rows q o v has n plain) (given_after k rows q o v has n plain) rest)
 
-  pub stop_goes : walked (rules v) [] (at true k (held rows q)) (codes "--stop-with-input") ≡ at true k (held (used (flag (codes "stop-with-input")) [] (rows_now v rows q)) None)
-  stop_goes = of_serve (λ v. walked (rules v) [] (at true k (held rows q)) (codes "--stop-with-input") ≡ at true k (held (used (flag (codes "stop-with-input")) [] (rows_now v rows q)) None))
-      v has (stop_after k rows q)
-
-  pub joined_turns : (n : Text) → turn_fault (leaf v) [] (at true k (held rows q)) (codes "--sessions=" ++ n)
-      ≡ or_else (or_else (settle v rows q) (use_fault false sessions_built (n ∷ []) (rows_now v rows q))) []
-  joined_turns n = of_serve (λ v. turn_fault (leaf v) [] (at true k (held rows q)) (codes "--sessions=" ++ n)
-      ≡ or_else (or_else (settle v rows q) (use_fault false sessions_built (n ∷ []) (rows_now v rows q))) []) v has (joined_turn k rows q n)
-
-  pub joined_goes : (n : Text) → walked (rules v) [] (at true k (held rows q)) (codes "--sessions=" ++ n) ≡ at true k (held (used sessions_built (n ∷ []) (rows_now v rows q)) None)
-  joined_goes n = of_serve (λ v. walked (rules v) [] (at true k (held rows q)) (codes "--sessions=" ++ n) ≡ at true k (held (used sessions_built (n ∷ []) (rows_now v rows q)) None))
-      v has (joined_after k rows q n)
-
-  pub spaced_turns : turn_fault (leaf v) [] (at true k (held rows q)) (codes "--sessions") ≡ or_else (settle v rows q) []
-  spaced_turns = of_serve (λ v. turn_fault (leaf v) [] (at true k (held rows q)) (codes "--sessions") ≡ or_else (settle v rows q) []) v has (spaced_turn k rows q)
-
-  pub spaced_goes : walked (rules v) [] (at true k (held rows q)) (codes "--sessions") ≡ waits k rows q v
-  spaced_goes = of_serve (λ v. walked (rules v) [] (at true k (held rows q)) (codes "--sessions") ≡ waits k rows q v) v has (spaced_after k rows q)
-
-  pub given_turns : (n : Text) → is_bare n ≡ true → turn_fault (leaf v) [] (waits k rows q v) n ≡ []
-  given_turns n is = of_serve (λ v. turn_fault (leaf v) [] (waits k rows q v) n ≡ []) v has (given_turn k rows q n is)
-
-  pub given_goes : (n : Text) → is_bare n ≡ true → walked (rules v) [] (waits k rows q v) n ≡ at true k (held (rows_now v rows q) (Some (codes "sessions", n ∷ [])))
-  given_goes n is = of_serve (λ v. walked (rules v) [] (waits k rows q v) n ≡ at true k (held (rows_now v rows q) (Some (codes "sessions", n ∷ [])))) v has (given_after k rows q n is)
-
-  -- the option does not do without a value
-  no_value : settle v (rows_now v rows q) (Some (codes "sessions", [])) ≡ [] → ⊥
-  no_value = of_serve (λ v. settle v (rows_now v rows q) (Some (codes "sessions", [])) ≡ [] → ⊥) v has (λ e. some_fault _ _ e)
-
-  value_is : (n : Text) → settle v (rows_now v rows q) (Some (codes "sessions", n ∷ [])) ≡ use_fault false sessions_built (n ∷ []) (rows_now v rows q)
-  value_is n = of_serve (λ v. settle v (rows_now v rows q) (Some (codes "sessions", n ∷ [])) ≡ use_fault false sessions_built (n ∷ []) (rows_now v rows q)) v has refl
-
-  module _ (n : Text) (st : Stands v g rows q) (off : g.sessions ≡ None) (is : IsNumber 1 64 n) where
-    no_sessions_row : seen (codes "sessions") (rows_now v rows q) ≡ None
-    no_sessions_row = st.holds.sessions ∙ ap (option_map (text_row (codes "sessions"))) off
-
-    pub joined_then : Stands v (record g { sessions = Some n }) (used sessions_built (n ∷ []) (rows_now v rows q)) None
-    joined_then = of_serve (λ v. Stands v g rows q → Stands v (record g { sessions = Some n }) (used sessions_built (n ∷ []) (rows_now v rows q)) None) v has
-        (λ st. joined_stands g rows q st n off is) st
-
-    pub given_then : Stands v (record g { sessions = Some n }) (rows_now v rows q) (Some (codes "sessions", n ∷ []))
-    given_then = of_serve (λ v. Stands v g rows q → Stands v (record g { sessions = Some n }) (rows_now v rows q) (Some (codes "sessions", n ∷ []))) v has
-        (λ st. given_stands g rows q st n off is) st
+  joined_more : w ≡ joined_of o n
+      → (tail_fault v (at true k (held (used (built_of o) (n ∷ []) (rows_now v rows q)) None)) more ≡ []) × Ended v after (end_of v (at true k (held (used (built_of o) (n ∷ []) (rows_now v rows q)) None)) more)
+      → Completes v true g (w ∷ more) after rows q
+  joined_more is rest =
+      one_more v (at true k (held rows q)) (at true k (held (used (built_of o) (n ∷ []) (rows_now v rows q)) None)) w more after
+      (ap (λ x. turn_fault (leaf v) [] (at true k (held rows q)) x) is ∙ joined_turn k rows q o v has n
+      ∙ neither _ _ (neither _ _ st.valid (choice_use o n (rows_now v rows q) (no_choice_row o v has g rows q n st off allowed) allowed)) refl)
+      (ap (λ x. walked (rules v) [] (at true k (held rows q)) x) is ∙ joined_after k rows q o v has n)
+      rest
 
 pub completes : (v : Verb) (free : Bool) (g : Given) (ws : List Text) (after : Given) → Gives v free g ws after
     → (rows : List Row) (q : Option (Text × List Text)) → Stands v g rows q → Completes v free g ws after rows q
@@ -362,24 +386,28 @@ completes v free g ws after (silence x y w more is has off rest) rows q st =
 completes v free g ws after (stop x y w more is has off rest) rows q st =
     let none : seen (codes "stop-with-input") (rows_now v rows q) ≡ None = st.holds.stops ∙ ap (flag_seen (codes "stop-with-input")) off in
     one_more v (at true (place_after g.words) (held rows q)) (at true (place_after g.words) (held (used (flag (codes "stop-with-input")) [] (rows_now v rows q)) None)) w more after
-    (ap (λ x. turn_fault (leaf v) [] (at true (place_after g.words) (held rows q)) x) is ∙ stop_turns v has g rows q
+    (ap (λ x. turn_fault (leaf v) [] (at true (place_after g.words) (held rows q)) x) is ∙ stop_turn (place_after g.words) rows q v has
     ∙ neither _ _ (neither _ _ st.valid (flag_use (codes "stop-with-input") (rows_now v rows q) none)) refl)
-    (ap (λ x. walked (rules v) [] (at true (place_after g.words) (held rows q)) x) is ∙ stop_goes v has g rows q)
+    (ap (λ x. walked (rules v) [] (at true (place_after g.words) (held rows q)) x) is ∙ stop_after (place_after g.words) rows q v has)
     (completes v true (record g { stops = true }) more after rest (used (flag (codes "stop-with-input")) [] (rows_now v rows q)) None (stop_stands v g rows q st off))
 completes v free g ws after (sessions x y w n more is plain has off number rest) rows q st =
-    one_more v (at true (place_after g.words) (held rows q)) (waits (place_after g.words) rows q v) w (n ∷ more) after
-    (ap (λ x. turn_fault (leaf v) [] (at true (place_after g.words) (held rows q)) x) is ∙ spaced_turns v has g rows q ∙ neither _ _ st.valid refl)
-    (ap (λ x. walked (rules v) [] (at true (place_after g.words) (held rows q)) x) is ∙ spaced_goes v has g rows q)
-    (one_more v (waits (place_after g.words) rows q v) (at true (place_after g.words) (held (rows_now v rows q) (Some (codes "sessions", n ∷ [])))) n more after
-    (given_turns v has g rows q n plain) (given_goes v has g rows q n plain)
-    (completes v true (record g { sessions = Some n }) more after rest (rows_now v rows q) (Some (codes "sessions", n ∷ [])) (given_then v has g rows q n st off number)))
+    spaced_more of_sessions v g w n more after has off number rows q st is plain
+    (completes v true (record g { sessions = Some n }) more after rest (rows_now v rows q) (Some (id_of of_sessions, n ∷ [])) (given_stands of_sessions v has g rows q n st off number))
 completes v free g ws after (joined x y w n more is has off number rest) rows q st =
-    let none : seen (codes "sessions") (rows_now v rows q) ≡ None = st.holds.sessions ∙ ap (option_map (text_row (codes "sessions"))) off in
-    one_more v (at true (place_after g.words) (held rows q)) (at true (place_after g.words) (held (used sessions_built (n ∷ []) (rows_now v rows q)) None)) w more after
-    (ap (λ x. turn_fault (leaf v) [] (at true (place_after g.words) (held rows q)) x) is ∙ joined_turns v has g rows q n
-    ∙ neither _ _ (neither _ _ st.valid (sessions_use n (rows_now v rows q) none number)) refl)
-    (ap (λ x. walked (rules v) [] (at true (place_after g.words) (held rows q)) x) is ∙ joined_goes v has g rows q n)
-    (completes v true (record g { sessions = Some n }) more after rest (used sessions_built (n ∷ []) (rows_now v rows q)) None (joined_then v has g rows q n st off number))
+    joined_more of_sessions v g w n more after has off number rows q st is
+    (completes v true (record g { sessions = Some n }) more after rest (used (built_of of_sessions) (n ∷ []) (rows_now v rows q)) None (joined_stands of_sessions v has g rows q n st off number))
+completes v free g ws after (at_once x y w n more is plain has off number rest) rows q st =
+    spaced_more of_at_once v g w n more after has off number rows q st is plain
+    (completes v true (record g { at_once = Some n }) more after rest (rows_now v rows q) (Some (id_of of_at_once, n ∷ [])) (given_stands of_at_once v has g rows q n st off number))
+completes v free g ws after (at_once_joined x y w n more is has off number rest) rows q st =
+    joined_more of_at_once v g w n more after has off number rows q st is
+    (completes v true (record g { at_once = Some n }) more after rest (used (built_of of_at_once) (n ∷ []) (rows_now v rows q)) None (joined_stands of_at_once v has g rows q n st off number))
+completes v free g ws after (sync x y w n more is plain has off rest) rows q st =
+    spaced_more of_sync v g w n more after has off tt rows q st is plain
+    (completes v true (record g { sync = Some n }) more after rest (rows_now v rows q) (Some (id_of of_sync, n ∷ [])) (given_stands of_sync v has g rows q n st off tt))
+completes v free g ws after (sync_joined x y w n more is has off rest) rows q st =
+    joined_more of_sync v g w n more after has off tt rows q st is
+    (completes v true (record g { sync = Some n }) more after rest (used (built_of of_sync) (n ∷ []) (rows_now v rows q)) None (joined_stands of_sync v has g rows q n st off tt))
 completes v free g ws after (ends_flags x y w more is rest) rows q st =
     one_more v (at true (place_after g.words) (held rows q)) (at false (place_after g.words) (held rows q)) w more after
     (ap (λ x. turn_fault (leaf v) [] (at true (place_after g.words) (held rows q)) x) is ∙ hyphens_turn v (place_after g.words) (held rows q))
@@ -414,12 +442,12 @@ pub settle_of : (v : Verb) (rows : List Row) (q : Option (Text × List Text)) (n
 settle_of v rows q name o (is_explain has is none ok works) = ok
 settle_of v rows q name o (is_silence has is none ok works) = ok
 settle_of v rows q name o (is_stop has is none ok works) = ok
-settle_of v rows q name o (is_joined n has is none ok works) = ok
-settle_of v rows q name o (is_spaced has is none ok) = ok
+settle_of v rows q name o (is_joined x n has is none ok works) = ok
+settle_of v rows q name o (is_spaced x has is none ok) = ok
 
-hyphens_wait : (v : Verb) (k : ℕ) (h : Held) → walked (rules v) [] (stands (leaf v) [] k h false (option (codes "sessions"))) dashes ≡ stands (leaf v) [] k h true (option (codes "sessions"))
+hyphens_wait : (v : Verb) (id : Text) (k : ℕ) (h : Held) → walked (rules v) [] (stands (leaf v) [] k h false (option id)) dashes ≡ stands (leaf v) [] k h true (option id)
 unfolding walked
-hyphens_wait v k h = refl
+hyphens_wait v id k h = refl
 
 -- what is pending does not fail where the words behind it do not
 settles : (v : Verb) (free : Bool) (words : List Text) (rows : List Row) (q : Option (Text × List Text)) (ws : List Text)
@@ -500,69 +528,96 @@ module _ (v : Verb) (g : Given) (rows : List Row) (q : Option (Text × List Text
       let found = rest true (record g { silent = true }) (used (flag (codes "no-explain")) [] (rows_now v rows q)) None (silence_stands v g rows q st off) later in
       (found.0, silence g found.0 w ws is has off found.1, ended_back (here true) _ w ws found.0 goes found.2)
 
-  sound_stop : (w : Text) (ws : List Text) → w ≡ codes "--stop-with-input" → has_sessions v ≡ true → use_fault false (flag (codes "stop-with-input")) [] (rows_now v rows q) ≡ []
+  sound_stop : (w : Text) (ws : List Text) → w ≡ codes "--stop-with-input" → has_stop v ≡ true → use_fault false (flag (codes "stop-with-input")) [] (rows_now v rows q) ≡ []
       → tail_fault v (here true) (w ∷ ws) ≡ [] → Rest v ws → Sound v true g (w ∷ ws) rows q
   sound_stop w ws is has works e rest =
       let off = not_given v g (rows_now v rows q) st.holds (codes "stop-with-input") g.stops st.holds.stops (flag_used (codes "stop-with-input") (rows_now v rows q) works) in
-      let goes = ap (λ x. walked (rules v) [] (here true) x) is ∙ stop_goes v has g rows q in
+      let goes = ap (λ x. walked (rules v) [] (here true) x) is ∙ stop_after (place_after g.words) rows q v has in
       let later = follows true (at true (place_after g.words) (held (used (flag (codes "stop-with-input")) [] (rows_now v rows q)) None)) w ws goes e in
       let found = rest true (record g { stops = true }) (used (flag (codes "stop-with-input")) [] (rows_now v rows q)) None (stop_stands v g rows q st off) later in
       (found.0, stop g found.0 w ws is has off found.1, ended_back (here true) _ w ws found.0 goes found.2)
 
-  sound_joined : (w n : Text) (ws : List Text) → w ≡ codes "--sessions=" ++ n → has_sessions v ≡ true → use_fault false sessions_built (n ∷ []) (rows_now v rows q) ≡ []
+  -- words that give an option, with its value, give what they say
+  gives_joined : (o : Choice) (w n : Text) (ws : List Text) (after : Given) → w ≡ joined_of o n → has_choice o v ≡ true → chosen o g ≡ None → Allows o n → Gives v true (choose o n g) ws after
+      → Gives v true g (w ∷ ws) after
+  gives_joined of_sessions w n ws after is has off allowed rest = joined g after w n ws is has off allowed rest
+  gives_joined of_at_once w n ws after is has off allowed rest = at_once_joined g after w n ws is has off allowed rest
+  gives_joined of_sync w n ws after is has off allowed rest = sync_joined g after w n ws is has off rest
+
+  gives_spaced : (o : Choice) (w n : Text) (ws : List Text) (after : Given) → w ≡ word_of o → is_bare n ≡ true → has_choice o v ≡ true → chosen o g ≡ None → Allows o n
+      → Gives v true (choose o n g) ws after → Gives v true g (w ∷ n ∷ ws) after
+  gives_spaced of_sessions w n ws after is plain has off allowed rest = sessions g after w n ws is plain has off allowed rest
+  gives_spaced of_at_once w n ws after is plain has off allowed rest = at_once g after w n ws is plain has off allowed rest
+  gives_spaced of_sync w n ws after is plain has off allowed rest = sync g after w n ws is plain has off rest
+
+  -- the words stay as they were
+  same_words : (o : Choice) (n : Text) → (choose o n g).words ≡ g.words
+  same_words of_sessions n = refl
+  same_words of_at_once n = refl
+  same_words of_sync n = refl
+
+  -- what follows an option
+  rest_of : (o : Choice) (n : Text) (ws : List Text) (rows2 : List Row) (q2 : Option (Text × List Text)) → Rest v ws → Stands v (choose o n g) rows2 q2
+      → tail_fault v (at true (place_after g.words) (held rows2 q2)) ws ≡ []
+      → (after : Given) × Gives v true (choose o n g) ws after × Ended v after (end_of v (at true (place_after g.words) (held rows2 q2)) ws)
+  rest_of of_sessions n ws rows2 q2 rest st2 e = rest true (choose of_sessions n g) rows2 q2 st2 e
+  rest_of of_at_once n ws rows2 q2 rest st2 e = rest true (choose of_at_once n g) rows2 q2 st2 e
+  rest_of of_sync n ws rows2 q2 rest st2 e = rest true (choose of_sync n g) rows2 q2 st2 e
+
+  sound_joined : (o : Choice) (w n : Text) (ws : List Text) → w ≡ joined_of o n → has_choice o v ≡ true → use_fault false (built_of o) (n ∷ []) (rows_now v rows q) ≡ []
       → tail_fault v (here true) (w ∷ ws) ≡ [] → Rest v ws → Sound v true g (w ∷ ws) rows q
-  sound_joined w n ws is has works e rest =
-      let got = sessions_used n (rows_now v rows q) works in
-      let off = no_number v g (rows_now v rows q) st.holds g.sessions st.holds.sessions got.0 in
-      let goes = ap (λ x. walked (rules v) [] (here true) x) is ∙ joined_goes v has g rows q n in
-      let later = follows true (at true (place_after g.words) (held (used sessions_built (n ∷ []) (rows_now v rows q)) None)) w ws goes e in
-      let found = rest true (record g { sessions = Some n }) (used sessions_built (n ∷ []) (rows_now v rows q)) None (joined_then v has g rows q n st off got.1) later in
-      (found.0, joined g found.0 w n ws is has off got.1 found.1, ended_back (here true) _ w ws found.0 goes found.2)
+  sound_joined o w n ws is has works e rest =
+      let got = choice_used o n (rows_now v rows q) works in
+      let off = no_choice v g (rows_now v rows q) st.holds (id_of o) (chosen o g) (chosen_row v g (rows_now v rows q) st.holds o) got.0 in
+      let goes = ap (λ x. walked (rules v) [] (here true) x) is ∙ joined_after (place_after g.words) rows q o v has n in
+      let later = follows true (at true (place_after g.words) (held (used (built_of o) (n ∷ []) (rows_now v rows q)) None)) w ws goes e in
+      let found = rest_of o n ws (used (built_of o) (n ∷ []) (rows_now v rows q)) None rest (joined_stands o v has g rows q n st off got.1) later in
+      (found.0, gives_joined o w n ws found.0 is has off got.1 found.1, ended_back (here true) _ w ws found.0 goes found.2)
 
-  abbrev waiting : Walk
-  waiting = waits (place_after g.words) rows q v
+  abbrev waiting : Choice → Walk
+  waiting o = waits (place_after g.words) rows q o v
 
-  sound_spaced : (w : Text) (ws : List Text) → w ≡ codes "--sessions" → has_sessions v ≡ true → tail_fault v (here true) (w ∷ ws) ≡ [] → RestTail v ws
+  sound_spaced : (o : Choice) (w : Text) (ws : List Text) → w ≡ word_of o → has_choice o v ≡ true → tail_fault v (here true) (w ∷ ws) ≡ [] → RestTail v ws
       → Sound v true g (w ∷ ws) rows q
-  sound_spaced w ws is has e rest = go ws rest later
+  sound_spaced o w ws is has e rest = go ws rest later
     where
-      goes : walked (rules v) [] (here true) w ≡ waiting
-      goes = ap (λ x. walked (rules v) [] (here true) x) is ∙ spaced_goes v has g rows q
+      goes : walked (rules v) [] (here true) w ≡ (waiting o)
+      goes = ap (λ x. walked (rules v) [] (here true) x) is ∙ spaced_after (place_after g.words) rows q o v has
 
-      later : tail_fault v waiting ws ≡ []
-      later = follows true waiting w ws goes e
+      later : tail_fault v (waiting o) ws ≡ []
+      later = follows true (waiting o) w ws goes e
 
-      fails : settle v (rows_now v rows q) (Some (codes "sessions", [])) ≡ [] → ⊥
-      fails = no_value v has g rows q
+      fails : settle v (rows_now v rows q) (Some (id_of o, [])) ≡ [] → ⊥
+      fails = no_value (place_after g.words) rows q o v has
 
-      trailing_after : (n : Text) → n ≡ dashes → walked (rules v) [] waiting n ≡ stands (leaf v) [] (place_after g.words) (held (rows_now v rows q) (Some (codes "sessions", []))) true (option (codes "sessions"))
-      trailing_after n at_end = ap (λ x. walked (rules v) [] waiting x) at_end ∙ hyphens_wait v (place_after g.words) (held (rows_now v rows q) (Some (codes "sessions", [])))
+      trailing_after : (n : Text) → n ≡ dashes → walked (rules v) [] (waiting o) n ≡ stands (leaf v) [] (place_after g.words) (held (rows_now v rows q) (Some (id_of o, []))) true (option (id_of o))
+      trailing_after n at_end = ap (λ x. walked (rules v) [] (waiting o) x) at_end ∙ hyphens_wait v (id_of o) (place_after g.words) (held (rows_now v rows q) (Some (id_of o, [])))
 
-      given : (n : Text) (more : List Text) → is_bare n ≡ true → tail_fault v waiting (n ∷ more) ≡ [] → Rest v more → Sound v true g (w ∷ n ∷ more) rows q
+      given : (n : Text) (more : List Text) → is_bare n ≡ true → tail_fault v (waiting o) (n ∷ more) ≡ [] → Rest v more → Sound v true g (w ∷ n ∷ more) rows q
       given n more plain e rest =
-          let goes_on = given_goes v has g rows q n plain in
-          let last = ap (λ x. tail_fault v x more) (sym goes_on) ∙ (next_tail v waiting n more e).1 in
-          let pending = settles v true g.words (rows_now v rows q) (Some (codes "sessions", n ∷ [])) more last in
-          let got = sessions_used n (rows_now v rows q) (sym (value_is v has g rows q n) ∙ pending) in
-          let off = no_number v g (rows_now v rows q) st.holds g.sessions st.holds.sessions got.0 in
-          let found = rest true (record g { sessions = Some n }) (rows_now v rows q) (Some (codes "sessions", n ∷ [])) (given_then v has g rows q n st off got.1) last in (
+          let goes_on = given_after (place_after g.words) rows q o v has n plain in
+          let last = ap (λ x. tail_fault v x more) (sym goes_on) ∙ (next_tail v (waiting o) n more e).1 in
+          let pending = settles v true g.words (rows_now v rows q) (Some (id_of o, n ∷ [])) more last in
+          let got = choice_used o n (rows_now v rows q) (sym (value_is (place_after g.words) rows q o v has n) ∙ pending) in
+          let off = no_choice v g (rows_now v rows q) st.holds (id_of o) (chosen o g) (chosen_row v g (rows_now v rows q) st.holds o) got.0 in
+          let found = rest_of o n more (rows_now v rows q) (Some (id_of o, n ∷ [])) rest (given_stands o v has g rows q n st off got.1) last in (
             found.0,
-            sessions g found.0 w n more is plain has off got.1 found.1,
-            ended_back (here true) waiting w (n ∷ more) found.0 goes (ended_back waiting _ n more found.0 goes_on found.2),
+            gives_spaced o w n more found.0 is plain has off got.1 found.1,
+            ended_back (here true) (waiting o) w (n ∷ more) found.0 goes (ended_back (waiting o) _ n more found.0 goes_on found.2),
           )
 
-      go : (ws : List Text) → RestTail v ws → tail_fault v waiting ws ≡ [] → Sound v true g (w ∷ ws) rows q
-      go [] rest e = absurd (fails (sym (empty_tail v waiting) ∙ e))
+      go : (ws : List Text) → RestTail v ws → tail_fault v (waiting o) ws ≡ [] → Sound v true g (w ∷ ws) rows q
+      go [] rest e = absurd (fails (sym (empty_tail v (waiting o)) ∙ e))
       go (n ∷ more) rest e =
-          let next = next_tail v waiting n more e in
+          let next = next_tail v (waiting o) n more e in
           elim (kind n) [
             | bare plain word_is ↦ given n more plain e rest
-            | hyphens at_end ↦ absurd (fails (closed_settles v g.words (rows_now v rows q) (Some (codes "sessions", [])) (option (codes "sessions")) more
+            | hyphens at_end ↦ absurd (fails (closed_settles v g.words (rows_now v rows q) (Some (id_of o, [])) (option (id_of o)) more
                 (ap (λ x. tail_fault v x more) (sym (trailing_after n at_end)) ∙ next.1)))
-            | long t at_front two has_long ↦ absurd (fails (settle_of v (rows_now v rows q) (Some (codes "sessions", [])) (name_and_value t).0 (name_and_value t).1
-                (passes v (held (rows_now v rows q) (Some (codes "sessions", []))) (name_and_value t).0 (name_and_value t).1
-                (long_first (leaf v) [] (place_after g.words) (held (rows_now v rows q) (Some (codes "sessions", []))) (option (codes "sessions")) n refl two (name_and_value t) has_long next.0))))
-            | short x xs ch at_front two no_long has_short char ↦ absurd (short_absurd v (place_after g.words) (rows_now v rows q) (Some (codes "sessions", [])) (option (codes "sessions")) n x xs ch refl char two no_long has_short next.0)
+            | long t at_front two has_long ↦ absurd (fails (settle_of v (rows_now v rows q) (Some (id_of o, [])) (name_and_value t).0 (name_and_value t).1
+                (passes v (held (rows_now v rows q) (Some (id_of o, []))) (name_and_value t).0 (name_and_value t).1
+                (long_first (leaf v) [] (place_after g.words) (held (rows_now v rows q) (Some (id_of o, []))) (option (id_of o)) n refl two (name_and_value t) has_long next.0))))
+            | short x xs ch at_front two no_long has_short char ↦ absurd (short_absurd v (place_after g.words) (rows_now v rows q) (Some (id_of o, [])) (option (id_of o)) n x xs ch refl char two no_long has_short next.0)
           ]
 
   -- a long flag
@@ -578,11 +633,11 @@ module _ (v : Verb) (g : Given) (rows : List Row) (q : Option (Text × List Text
       alone name o is_name is_none (is_explain has_it named none ok works) = sound_explain w ws (is ∙ ap (λ (x : Text). 45 ∷ 45 ∷ x) (is_name ∙ named)) has_it works e rest
       alone name o is_name is_none (is_silence has_it named none ok works) = sound_silence w ws (is ∙ ap (λ (x : Text). 45 ∷ 45 ∷ x) (is_name ∙ named)) has_it works e rest
       alone name o is_name is_none (is_stop has_it named none ok works) = sound_stop w ws (is ∙ ap (λ (x : Text). 45 ∷ 45 ∷ x) (is_name ∙ named)) has_it works e rest
-      alone name o is_name is_none (is_joined n has_it named some ok works) = absurd (nothing (is_none ∙ some))
+      alone name o is_name is_none (is_joined x n has_it named some ok works) = absurd (nothing (is_none ∙ some))
         where
           nothing : None ≡ Some n → ⊥
           nothing x = cc
-      alone name o is_name is_none (is_spaced has_it named none ok) = sound_spaced w ws (is ∙ ap (λ (x : Text). 45 ∷ 45 ∷ x) (is_name ∙ named)) has_it e rest_tail
+      alone name o is_name is_none (is_spaced x has_it named none ok) = sound_spaced x w ws (is ∙ ap (λ (x : Text). 45 ∷ 45 ∷ x) (is_name ∙ named) ∙ dashed_id x) has_it e rest_tail
 
       paired : (name sign_text : Text) (o : Option Text) → t ≡ name ++ 61 ∷ sign_text → Some sign_text ≡ o → Passes (rules v) (held rows q) v name o → Sound v true g (w ∷ ws) rows q
       paired name sign_text o is_cut is_value (is_explain has_it named none ok works) = absurd (nothing (is_value ∙ none))
@@ -597,10 +652,10 @@ module _ (v : Verb) (g : Given) (rows : List Row) (q : Option (Text × List Text
         where
           nothing : Some sign_text ≡ None → ⊥
           nothing x = cc
-      paired name sign_text o is_cut is_value (is_joined n has_it named some ok works) =
+      paired name sign_text o is_cut is_value (is_joined x n has_it named some ok works) =
           let same_value : sign_text ≡ n = ap (λ (o : Option Text). unwrap_or o sign_text) (is_value ∙ some) in
-          sound_joined w n ws (is ∙ ap (λ (x : Text). 45 ∷ 45 ∷ x) (is_cut ∙ ap₂ (λ (x y : Text). x ++ 61 ∷ y) named same_value)) has_it works e rest
-      paired name sign_text o is_cut is_value (is_spaced has_it named none ok) = absurd (nothing (is_value ∙ none))
+          sound_joined x w n ws (is ∙ ap (λ (x : Text). 45 ∷ 45 ∷ x) (is_cut ∙ ap₂ (λ (x y : Text). x ++ 61 ∷ y) named same_value) ∙ dashed_value x n) has_it works e rest
+      paired name sign_text o is_cut is_value (is_spaced x has_it named none ok) = absurd (nothing (is_value ∙ none))
         where
           nothing : Some sign_text ≡ None → ⊥
           nothing x = cc

@@ -17,7 +17,7 @@ use Rattle.clap.specs.declared.builder.value_parser.Reading.TheVariants.{AsWritt
 use Rattle.clap.specs.declared.parser.matches.ValueSource.TheVariants.{DefaultValue}
 use Rattle.clap.proofs.WalkLemmas.{both, walk_stopped}
 use Rattle.clap.proofs.FaultLemmas.{stopped_fault}
-use Rattle.command_line.specs.Forms.{Verb, paths, check, run, audit, serve, name_of, Given, nothing, Gives, IsNumber, number_of, sessions_of, Makes, Asks}
+use Rattle.command_line.specs.Forms.{Verb, paths, check, run, audit, serve, keep, name_of, Given, nothing, Gives, IsNumber, number_of, sessions_of, at_once_of, sync_of, Makes, Asks}
 use Rattle.command_line.specs.Commands.{Holds, program}
 use Rattle.command_line.specs.declared.request.Request.{Request}
 use Rattle.command_line.specs.declared.request.Request.TheVariants as requests
@@ -66,6 +66,7 @@ defaults_ok check = refl
 defaults_ok run = refl
 defaults_ok audit = refl
 defaults_ok serve = refl
+defaults_ok keep = refl
 
 -- ---- the end of the words of a subcommand
 
@@ -76,6 +77,7 @@ IsFull check (a ∷ []) = ⊤
 IsFull run (a ∷ b ∷ []) = ⊤
 IsFull audit (a ∷ b ∷ []) = ⊤
 IsFull serve (a ∷ b ∷ c ∷ []) = ⊤
+IsFull keep (a ∷ b ∷ c ∷ []) = ⊤
 IsFull v ws = ⊥
 
 abbrev lacks : Verb → List Row → Bool
@@ -144,6 +146,29 @@ sessions_last g R h = go g.sessions refl
       ap sessions_of e,
     )
 
+at_once_last : (g : Given) (R : List Row) → Holding keep g R → (t : Text) × (one_of (codes "at-once") (last keep R) ≡ Some t) × IsNumber 1 10000 t × (at_once_of g.at_once ≡ number_of t)
+at_once_last g R h = go g.at_once refl
+  where
+    go : (o : Option Text) → g.at_once ≡ o → (t : Text) × (one_of (codes "at-once") (last keep R) ≡ Some t) × IsNumber 1 10000 t × (at_once_of g.at_once ≡ number_of t)
+    go (Some n) e = (n, one_last keep R (codes "at-once") n (h.at_once ∙ ap (option_map (text_row (codes "at-once"))) e), h.most n e, ap at_once_of e)
+    go None e = (
+      codes "1000",
+      ap (option_and_then row_text) (seen_at_end (codes "at-once") (rules keep) R ∙ ap (λ o. option_or o (default_seen (codes "at-once") (rules keep))) (h.at_once ∙ ap (option_map (text_row (codes "at-once"))) e)),
+      passes_number 1 10000 (codes "1000") refl,
+      ap at_once_of e,
+    )
+
+sync_last : (g : Given) (R : List Row) → Holding keep g R → (t : Text) × (first_in (codes "sync") (last keep R) ≡ Some t) × (sync_of g.sync ≡ t)
+sync_last g R h = go g.sync refl
+  where
+    go : (o : Option Text) → g.sync ≡ o → (t : Text) × (first_in (codes "sync") (last keep R) ≡ Some t) × (sync_of g.sync ≡ t)
+    go (Some w) e = (w, word_last keep R (codes "sync") w (h.sync ∙ ap (option_map (text_row (codes "sync"))) e), ap sync_of e)
+    go None e = (
+      codes "always",
+      ap (option_and_then (λ (r : Row). slice_get r.values 0)) (seen_at_end (codes "sync") (rules keep) R ∙ ap (λ o. option_or o (default_seen (codes "sync") (rules keep))) (h.sync ∙ ap (option_map (text_row (codes "sync"))) e)),
+      ap sync_of e,
+    )
+
 -- what lacks nothing holds what was given
 holds_all : (v : Verb) (g : Given) (ws : List Text) (R : List Row) → g.words ≡ ws → Places (place_names v) ws R → Holding v g R → lacks v (last v R) ≡ false
     → IsFull v ws × Holds v g (last v R)
@@ -186,6 +211,33 @@ holds_all serve g (a ∷ b ∷ c ∷ []) R e places h none =
       ),
     )
 holds_all serve g (a ∷ b ∷ c ∷ d ∷ more) R e places h none = absurd places.1.1.1
+holds_all keep g [] R e places h none = absurd (lacks_this _ _ (missing_last keep R FILE refl places.0) none)
+holds_all keep g (a ∷ []) R e places h none = absurd (lacks_this _ _ (missing_last keep R (codes "DIR") refl places.1.0) (lacks_later _ _ none))
+holds_all keep g (a ∷ b ∷ []) R e places h none = absurd (lacks_this _ _ (missing_last keep R (codes "PLACE") refl places.1.1.0) (lacks_later _ _ (lacks_later _ _ none)))
+holds_all keep g (a ∷ b ∷ c ∷ []) R e places h none =
+    let s = at_once_last g R h in
+    let y = sync_last g R h in (
+      tt,
+      (
+        a,
+        b,
+        c,
+        s.0,
+        y.0,
+        e,
+        word_last keep R FILE a places.0,
+        word_last keep R (codes "DIR") b places.1.0,
+        word_last keep R (codes "PLACE") c places.1.1.0,
+        s.1,
+        s.2,
+        s.3,
+        y.1,
+        y.2,
+        flag_last keep R (codes "stop-with-input") g.stops refl h.stops,
+        (flag_last keep R (codes "explain") g.explains refl h.explains, flag_last keep R (codes "no-explain") g.silent refl h.silent),
+      ),
+    )
+holds_all keep g (a ∷ b ∷ c ∷ d ∷ more) R e places h none = absurd places.1.1.1
 
 full_lacks_none : (v : Verb) (ws : List Text) (R : List Row) → Places (place_names v) ws R → IsFull v ws → lacks v (last v R) ≡ false
 full_lacks_none paths ws R places full = refl
@@ -208,13 +260,19 @@ full_lacks_none serve (a ∷ b ∷ []) R places full = absurd full
 full_lacks_none serve (a ∷ b ∷ c ∷ []) R places full =
     lacks_one _ _ (given_last serve R FILE a places.0) ∙ lacks_one _ _ (given_last serve R (codes "DIR") b places.1.0) ∙ lacks_one _ _ (given_last serve R (codes "PLACE") c places.1.1.0)
 full_lacks_none serve (a ∷ b ∷ c ∷ d ∷ more) R places full = absurd full
+full_lacks_none keep [] R places full = absurd full
+full_lacks_none keep (a ∷ []) R places full = absurd full
+full_lacks_none keep (a ∷ b ∷ []) R places full = absurd full
+full_lacks_none keep (a ∷ b ∷ c ∷ []) R places full =
+    lacks_one _ _ (given_last keep R FILE a places.0) ∙ lacks_one _ _ (given_last keep R (codes "DIR") b places.1.0) ∙ lacks_one _ _ (given_last keep R (codes "PLACE") c places.1.1.0)
+full_lacks_none keep (a ∷ b ∷ c ∷ d ∷ more) R places full = absurd full
 
 -- ---- one subcommand
 
 pub nothing_stands : (v : Verb) → Stands v nothing [] None
 nothing_stands v = record {
   valid = refl;
-  holds = record { places = none_placed v; explains = refl; silent = refl; stops = refl; sessions = refl; number = λ n e. absurd (none_some n e) };
+  holds = record { places = none_placed v; explains = refl; silent = refl; stops = refl; sessions = refl; at_once = refl; sync = refl; number = λ n e. absurd (none_some n e); most = λ n e. absurd (none_some n e) };
 }
   where
     none_some : (n : Text) → None ≡ Some n → ⊥
@@ -226,6 +284,7 @@ nothing_stands v = record {
     none_placed run = (refl, (refl, tt))
     none_placed audit = (refl, (refl, tt))
     none_placed serve = (refl, (refl, (refl, tt)))
+    none_placed keep = (refl, (refl, (refl, tt)))
 
 abbrev pub start : Walk
 start = walk_from nothing_held
@@ -284,6 +343,7 @@ verb_turn check = refl
 verb_turn run = refl
 verb_turn audit = refl
 verb_turn serve = refl
+verb_turn keep = refl
 
 verb_after : (v : Verb) → walked top.rules names start (name_of v) ≡ record start { stopped = Some (name_of v, []) }
 unfolding walked
@@ -292,6 +352,7 @@ verb_after check = refl
 verb_after run = refl
 verb_after audit = refl
 verb_after serve = refl
+verb_after keep = refl
 
 verb_walk : (v : Verb) (ws : List Text) → walk top.rules names nothing_held (name_of v ∷ ws) ≡ record start { stopped = Some (name_of v, ws) }
 verb_walk v ws = ap (λ w. fold (walked top.rules names) w ws) (verb_after v) ∙ sym (walk_stopped top.rules names start (name_of v) [] ws)
@@ -309,6 +370,7 @@ entered_is check ws = refl
 entered_is run ws = refl
 entered_is audit ws = refl
 entered_is serve ws = refl
+entered_is keep ws = refl
 
 below_is : (v : Verb) (ws : List Text) → entered_fault whole (Some (name_of v, ws)) ≡ level_fault (leaf v) [] nothing_held ws false []
 below_is paths ws = refl
@@ -316,6 +378,7 @@ below_is check ws = refl
 below_is run ws = refl
 below_is audit ws = refl
 below_is serve ws = refl
+below_is keep ws = refl
 
 module _ (v : Verb) (ws : List Text) where
   abbrev line : List Text
@@ -350,26 +413,27 @@ data First (w : Text) : Type 0 where
   help : w ≡ codes "help" → First w
   other : subcommand_met names idle w ≡ None → First w
 
-abbrev pick : Bool → Bool → Bool → Bool → Bool → Bool → Option Text
-pick a b c d e f = option_map (λ (s : Text × List Text). s.0) (cond (a || false) (Some (codes "paths", [])) (cond (b || false) (Some (codes "check", [])) (cond (c || false) (Some (codes "run", []))
-    (cond (d || false) (Some (codes "audit", [])) (cond (e || false) (Some (codes "serve", [])) (cond (f || false) (Some (codes "help", [])) None))))))
+abbrev pick : Bool → Bool → Bool → Bool → Bool → Bool → Bool → Option Text
+pick a b c d e k f = option_map (λ (s : Text × List Text). s.0) (cond (a || false) (Some (codes "paths", [])) (cond (b || false) (Some (codes "check", [])) (cond (c || false) (Some (codes "run", []))
+    (cond (d || false) (Some (codes "audit", [])) (cond (e || false) (Some (codes "serve", [])) (cond (k || false) (Some (codes "keep", [])) (cond (f || false) (Some (codes "help", [])) None)))))))
 
 first : (w : Text) → First w
-first w = go (bytes_eq (codes "paths") w) (bytes_eq (codes "check") w) (bytes_eq (codes "run") w) (bytes_eq (codes "audit") w) (bytes_eq (codes "serve") w) (bytes_eq (codes "help") w)
-    refl refl refl refl refl refl refl
+first w = go (bytes_eq (codes "paths") w) (bytes_eq (codes "check") w) (bytes_eq (codes "run") w) (bytes_eq (codes "audit") w) (bytes_eq (codes "serve") w) (bytes_eq (codes "keep") w)
+    (bytes_eq (codes "help") w) refl refl refl refl refl refl refl refl
   where
     is : (n : Text) → bytes_eq n w ≡ true → w ≡ n
     is n e = sym ((bytes_eq-Decides n w).0 e)
 
-    go : (a b c d e f : Bool) → bytes_eq (codes "paths") w ≡ a → bytes_eq (codes "check") w ≡ b → bytes_eq (codes "run") w ≡ c → bytes_eq (codes "audit") w ≡ d → bytes_eq (codes "serve") w ≡ e
-        → bytes_eq (codes "help") w ≡ f → subcommand_met names idle w ≡ pick a b c d e f → First w
-    go true b c d e f p q r s t u m = verb paths (is (codes "paths") p)
-    go false true c d e f p q r s t u m = verb check (is (codes "check") q)
-    go false false true d e f p q r s t u m = verb run (is (codes "run") r)
-    go false false false true e f p q r s t u m = verb audit (is (codes "audit") s)
-    go false false false false true f p q r s t u m = verb serve (is (codes "serve") t)
-    go false false false false false true p q r s t u m = help (is (codes "help") u)
-    go false false false false false false p q r s t u m = other m
+    go : (a b c d e k f : Bool) → bytes_eq (codes "paths") w ≡ a → bytes_eq (codes "check") w ≡ b → bytes_eq (codes "run") w ≡ c → bytes_eq (codes "audit") w ≡ d → bytes_eq (codes "serve") w ≡ e
+        → bytes_eq (codes "keep") w ≡ k → bytes_eq (codes "help") w ≡ f → subcommand_met names idle w ≡ pick a b c d e k f → First w
+    go true b c d e k f p q r s t v u m = verb paths (is (codes "paths") p)
+    go false true c d e k f p q r s t v u m = verb check (is (codes "check") q)
+    go false false true d e k f p q r s t v u m = verb run (is (codes "run") r)
+    go false false false true e k f p q r s t v u m = verb audit (is (codes "audit") s)
+    go false false false false true k f p q r s t v u m = verb serve (is (codes "serve") t)
+    go false false false false false true f p q r s t v u m = verb keep (is (codes "keep") v)
+    go false false false false false false true p q r s t v u m = help (is (codes "help") u)
+    go false false false false false false false p q r s t v u m = other m
 
 top_shown : (name : Text) → arg_by_long top.rules name ≡ shown_by name
 top_shown name = refl
@@ -489,6 +553,8 @@ full_from audit g (requests.Audit file trace when) m = subst (IsFull audit) (sym
 full_from audit g q m = absurd m
 full_from serve g (requests.Serve s) m = subst (IsFull serve) (sym m.1) tt
 full_from serve g q m = absurd m
+full_from keep g (requests.Keep k) m = subst (IsFull keep) (sym m.1) tt
+full_from keep g q m = absurd m
 
 pub line_completes : (words : List Text) (q : Request) → Asks words q → fault_of program words ≡ []
 line_completes words q a = ap (fault_of program) a.are

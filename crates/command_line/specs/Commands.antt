@@ -9,8 +9,8 @@ use Rattle.clap.specs.declared.builder.action.ArgAction.TheVariants.{SetTrue}
 use Rattle.clap.specs.declared.builder.value_parser.ValueParser.TheVariants as parsers
 use Rattle.clap.specs.declared.error.kind.ErrorKind.TheVariants as kinds
 use Rattle.clap.specs.declared.parser.matches.ArgMatches.{ArgMatches}
-use Rattle.command_line.specs.Forms.{Text, Verb, paths, check, run, audit, serve, name_of, Given, IsNumber, number_of}
-use Rattle.command_line.specs.Forms.{sessions_of}
+use Rattle.command_line.specs.Forms.{Text, Verb, paths, check, run, audit, serve, keep, name_of, Given, IsNumber}
+use Rattle.command_line.specs.Forms.{number_of, sessions_of, at_once_of, sync_of}
 
 -- a word that has to be there
 abbrev pub required_rule : Text → Rule
@@ -27,6 +27,22 @@ sessions_rule = record (new_rule (codes "sessions")) {
   parser = Some (parsers.Unsigned 1 64);
 }
 
+abbrev pub at_once_rule : Rule
+at_once_rule = record (new_rule (codes "at-once")) {
+  long = Some (codes "at-once");
+  value_names = 1;
+  defaults = codes "1000" ∷ [];
+  parser = Some (parsers.Unsigned 1 10000);
+}
+
+-- a word that the program itself looks at, as PLACE
+abbrev pub sync_rule : Rule
+sync_rule = record (new_rule (codes "sync")) {
+  long = Some (codes "sync");
+  value_names = 1;
+  defaults = codes "always" ∷ [];
+}
+
 -- whether a refusal is explained
 abbrev pub explain_rules : List Rule
 explain_rules = flag_rule (codes "explain") ∷ flag_rule (codes "no-explain") ∷ []
@@ -40,6 +56,9 @@ own_rules audit = required_rule (codes "FILE") ∷ required_rule (codes "TRACE")
 own_rules serve =
     required_rule (codes "FILE") ∷ required_rule (codes "DIR") ∷ required_rule (codes "PLACE") ∷ sessions_rule
     ∷ flag_rule (codes "stop-with-input") ∷ explain_rules
+own_rules keep =
+    required_rule (codes "FILE") ∷ required_rule (codes "DIR") ∷ required_rule (codes "PLACE") ∷ at_once_rule
+    ∷ sync_rule ∷ flag_rule (codes "stop-with-input") ∷ explain_rules
 
 abbrev pub with_rules : App → List Rule → App
 with_rules a [] = a
@@ -49,10 +68,11 @@ abbrev pub app_for : Verb → App
 app_for v = with_rules (new_app (name_of v)) (own_rules v)
 
 abbrev pub program : App
-program = with_subcommand (with_subcommand (with_subcommand (with_subcommand (with_subcommand
+program = with_subcommand (with_subcommand (with_subcommand (with_subcommand (with_subcommand (with_subcommand
     (on_top (λ s. record s { subcommand_required = true; has_version = true; propagate_version = true })
     (new_app (codes "pathserve")))
-    (app_for paths).top) (app_for check).top) (app_for run).top) (app_for audit).top) (app_for serve).top
+    (app_for paths).top) (app_for check).top) (app_for run).top) (app_for audit).top) (app_for serve).top)
+    (app_for keep).top
 
 -- the flags about explanations, as what is found has them
 abbrev pub HoldsExplain : Given → List Row → Type 0
@@ -76,11 +96,20 @@ Holds serve g rows =
     × (one_of (codes "sessions") rows ≡ Some sessions) × IsNumber 1 64 sessions
     × (sessions_of g.sessions ≡ number_of sessions)
     × (one_of (codes "stop-with-input") rows ≡ Some (bool_text g.stops)) × HoldsExplain g rows
+Holds keep g rows =
+    (file folder place at_once sync : Text) × (g.words ≡ file ∷ folder ∷ place ∷ [])
+    × (first_of (codes "FILE") rows ≡ Some file)
+    × (first_of (codes "DIR") rows ≡ Some folder) × (first_of (codes "PLACE") rows ≡ Some place)
+    × (one_of (codes "at-once") rows ≡ Some at_once) × IsNumber 1 10000 at_once
+    × (at_once_of g.at_once ≡ number_of at_once)
+    × (first_of (codes "sync") rows ≡ Some sync) × (sync_of g.sync ≡ sync)
+    × (one_of (codes "stop-with-input") rows ≡ Some (bool_text g.stops)) × HoldsExplain g rows
 
 -- the matches are those of a subcommand that was given this
 abbrev pub IsMatched : Verb → Given → ArgMatches → Type 0
 IsMatched v g m = (rows : List Row) × (subcommand_rows_of m ≡ Some (name_of v, rows)) × Holds v g rows
 
--- the kinds of error that words may give: those of the parser, and where it takes them that of a PLACE that is none
+-- the kinds of error that words may give: those of the parser, and where it takes them that of a PLACE, or of a word
+-- behind `--sync`, that is none
 abbrev pub faults : List Text → Kinds
 faults words = or_else (fault_of program words) (kinds.ValueValidation ∷ [])

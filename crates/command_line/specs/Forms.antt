@@ -10,6 +10,8 @@ use Rattle.command_line.specs.declared.request.Explain.{Explain}
 use Rattle.command_line.specs.declared.request.Explain.TheVariants as explain_cases
 use Rattle.command_line.specs.declared.request.Address.{Address}
 use Rattle.command_line.specs.declared.request.Address.TheVariants as addresses
+use Rattle.command_line.specs.declared.request.Sync.{Sync}
+use Rattle.command_line.specs.declared.request.Sync.TheVariants as syncs
 use Rattle.command_line.specs.declared.request.Request.{Request}
 use Rattle.command_line.specs.declared.request.Request.TheVariants as requests
 
@@ -23,6 +25,7 @@ pub data Verb : Type 0 where
   run : Verb
   audit : Verb
   serve : Verb
+  keep : Verb
 
 abbrev pub name_of : Verb → Text
 name_of paths = codes "paths"
@@ -30,16 +33,28 @@ name_of check = codes "check"
 name_of run = codes "run"
 name_of audit = codes "audit"
 name_of serve = codes "serve"
+name_of keep = codes "keep"
 
 -- which have the flags `--explain` and `--no-explain`
 abbrev pub has_explain : Verb → Bool
 has_explain paths = false
 has_explain v = true
 
--- which have the flag `--stop-with-input` and the option `--sessions`
+-- which have the flag `--stop-with-input`
+abbrev pub has_stop : Verb → Bool
+has_stop serve = true
+has_stop keep = true
+has_stop v = false
+
+-- which have the option `--sessions`
 abbrev pub has_sessions : Verb → Bool
 has_sessions serve = true
 has_sessions v = false
+
+-- which have the options `--at-once` and `--sync`
+abbrev pub has_keeping : Verb → Bool
+has_keeping keep = true
+has_keeping v = false
 
 -- the number that a text writes: digits, which a plus may stand before
 abbrev pub number_of : Text → ℕ
@@ -52,7 +67,7 @@ pub record IsNumber (low high : ℕ) (text : Text) : Type 0 where
   pub below : number_of text ≤ high
 
 -- behind these words a subcommand takes one more: FILE of `check`, FILE SCRIPT of `run`, FILE TRACE of `audit`,
--- FILE DIR PLACE of `serve`
+-- FILE DIR PLACE of `serve` and of `keep`
 abbrev pub Takes : Verb → List Text → Text → Type 0
 Takes check [] w = ⊤
 Takes run [] w = ⊤
@@ -62,6 +77,9 @@ Takes audit (file ∷ []) w = ⊤
 Takes serve [] w = ⊤
 Takes serve (file ∷ []) w = ⊤
 Takes serve (file ∷ folder ∷ []) w = ⊤
+Takes keep [] w = ⊤
+Takes keep (file ∷ []) w = ⊤
+Takes keep (file ∷ folder ∷ []) w = ⊤
 Takes v words w = ⊥
 
 -- a word that is no flag: it does not begin with a hyphen (45), or no character stands behind the hyphen
@@ -76,9 +94,19 @@ pub record Given : Type 0 where
   pub silent : Bool
   pub stops : Bool
   pub sessions : Option Text
+  pub at_once : Option Text
+  pub sync : Option Text
 
 abbrev pub nothing : Given
-nothing = record { words = []; explains = false; silent = false; stops = false; sessions = None }
+nothing = record {
+  words = [];
+  explains = false;
+  silent = false;
+  stops = false;
+  sessions = None;
+  at_once = None;
+  sync = None;
+}
 
 -- the words behind the name of a subcommand, each with what it adds to what was given before; no flag is given twice,
 -- and `--` ends the flags: `free` is whether they may come
@@ -93,7 +121,7 @@ pub data Gives (v : Verb) : Bool → Given → List Text → Given → Type 0 wh
   silence : (g after : Given) (w : Text) (ws : List Text) → w ≡ codes "--no-explain" → has_explain v ≡ true →
       g.silent ≡ false
       → Gives v true (record g { silent = true }) ws after → Gives v true g (w ∷ ws) after
-  stop : (g after : Given) (w : Text) (ws : List Text) → w ≡ codes "--stop-with-input" → has_sessions v ≡ true →
+  stop : (g after : Given) (w : Text) (ws : List Text) → w ≡ codes "--stop-with-input" → has_stop v ≡ true →
       g.stops ≡ false
       → Gives v true (record g { stops = true }) ws after → Gives v true g (w ∷ ws) after
   sessions : (g after : Given) (w n : Text) (ws : List Text) → w ≡ codes "--sessions" → is_bare n ≡ true →
@@ -102,6 +130,18 @@ pub data Gives (v : Verb) : Bool → Given → List Text → Given → Type 0 wh
   joined : (g after : Given) (w n : Text) (ws : List Text) → w ≡ codes "--sessions=" ++ n → has_sessions v ≡ true →
       g.sessions ≡ None → IsNumber 1 64 n
       → Gives v true (record g { sessions = Some n }) ws after → Gives v true g (w ∷ ws) after
+  at_once : (g after : Given) (w n : Text) (ws : List Text) → w ≡ codes "--at-once" → is_bare n ≡ true →
+      has_keeping v ≡ true → g.at_once ≡ None → IsNumber 1 10000 n
+      → Gives v true (record g { at_once = Some n }) ws after → Gives v true g (w ∷ n ∷ ws) after
+  at_once_joined : (g after : Given) (w n : Text) (ws : List Text) → w ≡ codes "--at-once=" ++ n →
+      has_keeping v ≡ true → g.at_once ≡ None → IsNumber 1 10000 n
+      → Gives v true (record g { at_once = Some n }) ws after → Gives v true g (w ∷ ws) after
+  sync : (g after : Given) (w s : Text) (ws : List Text) → w ≡ codes "--sync" → is_bare s ≡ true →
+      has_keeping v ≡ true → g.sync ≡ None
+      → Gives v true (record g { sync = Some s }) ws after → Gives v true g (w ∷ s ∷ ws) after
+  sync_joined : (g after : Given) (w s : Text) (ws : List Text) → w ≡ codes "--sync=" ++ s → has_keeping v ≡ true →
+      g.sync ≡ None
+      → Gives v true (record g { sync = Some s }) ws after → Gives v true g (w ∷ ws) after
   hyphens : (g after : Given) (w : Text) (ws : List Text) → w ≡ codes "--" → Gives v false g ws after →
       Gives v true g (w ∷ ws) after
 
@@ -109,6 +149,21 @@ pub data Gives (v : Verb) : Bool → Given → List Text → Given → Type 0 wh
 abbrev pub sessions_of : Option Text → ℕ
 sessions_of None = 16
 sessions_of (Some n) = number_of n
+
+-- how many clients are connected at once at most: 1000 where no number is given
+abbrev pub at_once_of : Option Text → ℕ
+at_once_of None = 1000
+at_once_of (Some n) = number_of n
+
+-- the word that says when a line has to be on the disk: `always` where none is given
+abbrev pub sync_of : Option Text → Text
+sync_of None = codes "always"
+sync_of (Some w) = w
+
+-- what this word says: before an answer, or a number of milliseconds
+abbrev pub IsSyncOf : Text → Sync → Type 0
+IsSyncOf w syncs.Always = w ≡ codes "always"
+IsSyncOf w (syncs.Millis n) = IsNumber 1 60000 w × (n ≡ number_of w)
 
 -- when a refusal is explained: never with `--no-explain`, else always with `--explain`, and else at a terminal
 abbrev pub explain_of : Bool → Bool → Explain
@@ -137,6 +192,10 @@ Makes serve g (requests.Serve s) =
     (place : Text) × (g.words ≡ s.file.now ∷ s.folder.now ∷ place ∷ []) × IsAddressOf place s.address
     × (s.sessions ≡ sessions_of g.sessions) × (g.stops ≡ s.stops)
     × (s.explain ≡ explain_of g.explains g.silent)
+Makes keep g (requests.Keep k) =
+    (place : Text) × (g.words ≡ k.file.now ∷ k.folder.now ∷ place ∷ []) × IsAddressOf place k.address
+    × (k.at_once ≡ at_once_of g.at_once) × IsSyncOf (sync_of g.sync) k.sync × (g.stops ≡ k.stops)
+    × (k.explain ≡ explain_of g.explains g.silent)
 Makes v g q = ⊥
 
 -- these words, the first of which names the program, ask for this

@@ -24,6 +24,10 @@ IsSame (requests.Serve s) (requests.Serve t) =
     (s.file.now ≡ t.file.now) × (s.folder.now ≡ t.folder.now) × IsSameAddress s.address t.address
     × (s.sessions ≡ t.sessions)
     × (s.stops ≡ t.stops) × (s.explain ≡ t.explain)
+IsSame (requests.Keep k) (requests.Keep l) =
+    (k.file.now ≡ l.file.now) × (k.folder.now ≡ l.folder.now) × IsSameAddress k.address l.address
+    × (k.at_once ≡ l.at_once) × (k.sync ≡ l.sync)
+    × (k.stops ≡ l.stops) × (k.explain ≡ l.explain)
 IsSame p q = ⊥
 
 -- words ask for one thing at most

@@ -19,8 +19,9 @@ happened is kept in a trace, which can be audited.
 
 Try `pathserve paths` to play with paths by hand, `pathserve check FILE` on a
 file of objects, `pathserve run FILE SCRIPT` to call one of them,
-`pathserve serve FILE DIR PLACE` to let many clients call, and
-`pathserve audit FILE TRACE` on what a run or a server left.
+`pathserve serve FILE DIR PLACE` to let many clients call,
+`pathserve keep FILE DIR PLACE` to have the objects live on over starts and
+crashes, and `pathserve audit FILE TRACE` on what a run or a server left.
 `pathserve SUBCOMMAND --help` says what a subcommand reads and writes, with an
 example.
 
@@ -58,7 +59,7 @@ pub const CHECK: &str = "Checks objects: do their paths keep apart what must not
 /// What the argument of `check` is.
 pub const CHECK_FILE: &str = "The file with the objects, one after the other, at most 65536 bytes";
 
-/// What the flag `--explain` of `check` and `serve` does.
+/// What the flag `--explain` of `check`, `serve` and `keep` does.
 pub const EXPLAIN: &str = "Explains on standard error why something is refused";
 
 /// What the flag `--no-explain` does.
@@ -235,7 +236,7 @@ pub const PLACE_IS: &str = "PLACE is the third word: a port, 1 to 65535, or a pa
 /// How `serve` is called.
 pub const SERVE_USAGE: &str = "pathserve serve [OPTIONS] <FILE> <DIR> <PLACE>";
 
-/// What the flag `--stop-with-input` of `serve` does.
+/// What the flag `--stop-with-input` of `serve` and `keep` does.
 pub const SERVE_STOP: &str = "Ends in order when standard input ends";
 
 /// What `serve` reads and writes.
@@ -280,3 +281,52 @@ Example: in another terminal, while this one waits.
 
 Exit status: 0 all was served and saved, 1 something was refused or is damaged,
 3 a read or write fault, 4 out of memory.";
+
+/// What `keep` does.
+pub const KEEP: &str = "Keeps the objects of a file alive, over starts and crashes";
+
+/// What the second argument of `keep` is.
+pub const KEEP_DIR: &str =
+    "The folder of the journals: read at the start, written with each answer";
+
+/// What the options of `keep` are.
+pub const KEEP_AT_ONCE: &str = "Clients connected at the same time, 1 to 10000";
+
+pub const KEEP_SYNC: &str =
+    "When an answer is safe: `always`, or so many milliseconds later, 1 to 60000";
+
+/// What is said of a word that should say when an answer is safe.
+pub const SYNC_IS: &str = "WORD is `always`, or a number of milliseconds, 1 to 60000";
+
+/// How `keep` is called.
+pub const KEEP_USAGE: &str = "pathserve keep [OPTIONS] <FILE> <DIR> <PLACE>";
+
+/// What `keep` reads and writes.
+pub const KEEP_MORE: &str = "Takes up the objects as the journals in DIR have them, writes
+`listening PLACE`, and serves all clients in one loop, until it is stopped. What
+happens to an object is written down in DIR/NAME.journal. So the object lives
+on: the next start finds it as it was, after a crash too. Where an object is
+refused, or its journal is damaged, a line says so, and nothing is served. One
+server at a time has DIR.
+
+With --sync always an answer is written when its lines are on the disk: what a
+client has read is never lost. With --sync MS an answer is written at once, and
+its lines are on the disk at most MS milliseconds later: what was answered in
+that time may be lost in a crash. That is faster.
+
+With --stop-with-input it ends in order when standard input ends: what runs is
+completed, what waits is cancelled, and the journals are closed.
+
+With --explain, and where standard error is a terminal, standard error gets why
+FILE, or an object of it, is refused, where, and what would help. Nothing else
+changes. Why a start failed is always told.
+
+PLACE, and what a client says, are as for `pathserve serve`.
+
+Example: a second start finds what the first one left.
+
+  $ pathserve keep examples/objects/cell.pp /tmp/cell 7000
+  listening 7000
+
+Exit status: 0 all was served and closed, 1 something was refused or is damaged,
+3 a read or write fault, or a journal failed, 4 out of memory.";

@@ -9,10 +9,11 @@ ghost use Rattle.clap.specs.Walk.{rows_of, rule_of};
 ghost use Rattle.clap.specs.Kinds.{HasKind};
 ghost use Rattle.clap.specs.Values.{bool_text, kind_of};
 ghost use Rattle.command_line.specs.Forms.{Asks, Given, IsNumber, Makes, number_of, Verb, paths, check as check_verb};
-ghost use Rattle.command_line.specs.Forms.{run as run_verb, audit as audit_verb, serve as serve_verb, explain_of};
-ghost use Rattle.command_line.specs.Forms.{IsAddressOf, Shows, Text, Topic, kind_for};
+ghost use Rattle.command_line.specs.Forms.{run as run_verb, audit as audit_verb, serve as serve_verb};
+ghost use Rattle.command_line.specs.Forms.{keep as keep_verb, explain_of, sync_of};
+ghost use Rattle.command_line.specs.Forms.{IsAddressOf, IsSyncOf, Shows, Text, Topic, kind_for};
 ghost use Rattle.command_line.specs.Commands.{Holds, HoldsExplain, IsMatched, app_for, faults, flag_rule, program};
-ghost use Rattle.command_line.specs.Commands.{required_rule, sessions_rule};
+ghost use Rattle.command_line.specs.Commands.{at_once_rule, required_rule, sessions_rule, sync_rule};
 
 use crate::help;
 use clap::builder::ValueParser;
@@ -46,6 +47,8 @@ pub enum Request<'a> {
     Audit(&'a str, &'a str, Explain),
     /// `pathserve serve FILE DIR PLACE --sessions N`.
     Serve(Serving<'a>),
+    /// `pathserve keep FILE DIR PLACE --at-once N --sync WORD`.
+    Keep(Keeping<'a>),
 }
 
 /// Where a server listens.
@@ -74,10 +77,59 @@ pub struct Serving<'a> {
     pub explain: Explain,
 }
 
+/// When what a keeper writes down has to be on the disk.
+#[derive(Clone, Copy, Debug, PartialEq, Eq)]
+pub enum Sync {
+    /// Before an answer that tells of it is written.
+    Always,
+    /// So many milliseconds later at the latest, 1 to 60000.
+    Millis(u32),
+}
+
+/// What a keeper is asked for.
+#[derive(Clone, Copy)]
+pub struct Keeping<'a> {
+    /// The path of the file.
+    pub file: &'a str,
+    /// The path of the folder.
+    pub folder: &'a str,
+    /// Where clients connect.
+    pub address: Address<'a>,
+    /// How many clients are connected at once at most, 1 to 10000.
+    pub at_once: usize,
+    /// When a line of the journal has to be on the disk.
+    pub sync: Sync,
+    /// Whether it stops with the end of standard input.
+    pub stops: bool,
+    /// When a refusal of the source is explained.
+    pub explain: Explain,
+}
+
 // The number of connections that are taken where the command line names none, and the most.
 const SESSIONS: &str = "16";
 
 const MOST_SESSIONS: u64 = 64;
+
+// The number of clients that are connected at once where the command line names none, and the most.
+const AT_ONCE: &str = "1000";
+
+const MOST_AT_ONCE: u64 = 10000;
+
+// When a line has to be on the disk where the command line does not say it, and the most milliseconds later.
+const SYNC: &str = "always";
+
+const MOST_MILLIS: u32 = 60000;
+
+// A word that is not what it should be.
+#[derive(Clone, Copy)]
+enum Odd<'a> {
+    // PLACE of `serve`.
+    ServePlace(&'a str),
+    // PLACE of `keep`.
+    KeepPlace(&'a str),
+    // The word behind `--sync`.
+    Sync(&'a str),
+}
 
 // An argument that has to be there.
 fn required<'a>(alloc: Global, name: &'a str, help: &'a str) -> Arg<'a>
@@ -197,6 +249,49 @@ fn serve_command<'a>(alloc: Global) -> Result<Command<'a>, AllocError>
         .arg(silence_flag(alloc))
 }
 
+// The option `--at-once`.
+fn at_once_option<'a>(alloc: Global) -> Arg<'a>
+    ensures rule { rule_of result ≡ at_once_rule }
+    ensures local { result.global ≡ false }
+{
+    Arg::new(alloc, "at-once")
+        .long("at-once")
+        .value_name("N")
+        .default_value(AT_ONCE)
+        .value_parser(ValueParser::unsigned(1, MOST_AT_ONCE))
+        .help(help::KEEP_AT_ONCE)
+}
+
+// The option `--sync`.
+fn sync_option<'a>(alloc: Global) -> Arg<'a>
+    ensures rule { rule_of result ≡ sync_rule }
+    ensures local { result.global ≡ false }
+{
+    Arg::new(alloc, "sync")
+        .long("sync")
+        .value_name("WORD")
+        .default_value(SYNC)
+        .help(help::KEEP_SYNC)
+}
+
+// `pathserve keep`.
+fn keep_command<'a>(alloc: Global) -> Result<Command<'a>, AllocError>
+    ensures { IfOk result (λ c. (app_of c ≡ app_for keep_verb) × ((out-Command c).has_globals ≡ false)) }
+{
+    Command::new(alloc, "keep")
+        .about(help::KEEP)
+        .after_help(help::KEEP_MORE)
+        .override_usage(help::KEEP_USAGE)
+        .arg(required(alloc, "FILE", help::SERVE_FILE))?
+        .arg(required(alloc, "DIR", help::KEEP_DIR))?
+        .arg(required(alloc, "PLACE", help::SERVE_PLACE))?
+        .arg(at_once_option(alloc))?
+        .arg(sync_option(alloc))?
+        .arg(stop_flag(alloc))?
+        .arg(explain_flag(alloc, help::EXPLAIN))?
+        .arg(silence_flag(alloc))
+}
+
 // A subcommand, which has the name of the program where it tells its version.
 fn named<'a>(command: Command<'a>) -> Result<Command<'a>, AllocError>
     ensures { IfOk result (λ c. (app_of c ≡ app_of command.entry)
@@ -219,7 +314,8 @@ fn command<'a>(alloc: Global) -> Result<Command<'a>, AllocError>
         .subcommand(named(check_command(alloc)?)?)?
         .subcommand(named(run_command(alloc)?)?)?
         .subcommand(named(audit_command(alloc)?)?)?
-        .subcommand(named(serve_command(alloc)?)?)
+        .subcommand(named(serve_command(alloc)?)?)?
+        .subcommand(named(keep_command(alloc)?)?)
 }
 
 // The word under this name.
@@ -340,7 +436,7 @@ fn served<'a>(serve: &ArgMatches<'a>, address: Address<'a>) -> Request<'a>
 }
 
 // What the words of `serve` ask for, or the word that should be an address.
-fn serve_request<'a>(serve: &ArgMatches<'a>) -> Result<Request<'a>, &'a str>
+fn serve_request<'a>(serve: &ArgMatches<'a>) -> Result<Request<'a>, Odd<'a>>
     requires { (g : Given) × Holds serve_verb g (rows_of (found_of serve.now)) }
     ensures asked { IfOk result (λ q. (g : Given) → Holds serve_verb g (rows_of (found_of serve.now)) →
         Makes serve_verb g q) }
@@ -350,12 +446,85 @@ fn serve_request<'a>(serve: &ArgMatches<'a>) -> Result<Request<'a>, &'a str>
     let word = word_of(serve, "PLACE");
     match address_in(word) {
         Some(address) => Ok(served(serve, address)),
-        None => Err(word),
+        None => Err(Odd::ServePlace(word)),
     }
 }
 
-// What the words ask for in which this was found, or the word that should be an address.
-fn matched_request<'a>(matches: &ArgMatches<'a>) -> Result<Request<'a>, &'a str>
+// The number of milliseconds that a word is, if it is one.
+fn millis_in(word: &str) -> Option<u32>
+    ensures some { IfSome result (λ n. IsNumber 1 60000 word.now × (n ≡ number_of word.now)) }
+    ensures none { result ≡ None → IsNumber 1 60000 word.now → ⊥ }
+{
+    match word.parse::<u32>() {
+        Ok(millis) if millis > 0 && millis <= MOST_MILLIS => Some(millis),
+        _ => None,
+    }
+}
+
+// When a word has a line be on the disk, if it says that.
+fn sync_in(word: &str) -> Option<Sync>
+    ensures some { IfSome result (λ sync. IsSyncOf word.now sync) }
+    ensures none { result ≡ None → (sync : Sync) → IsSyncOf word.now sync → ⊥ }
+{
+    if word == SYNC {
+        return Some(Sync::Always);
+    }
+    match millis_in(word) {
+        Some(millis) => Some(Sync::Millis(millis)),
+        None => None,
+    }
+}
+
+// The number of clients that are connected at once.
+fn at_once_in(keep: &ArgMatches<'_>) -> u16
+    requires { (g : Given) × Holds keep_verb g (rows_of (found_of keep.now)) }
+    ensures { (text : _) → one_text (found_of keep.now) (codes "at-once") ≡ Some text → result ≡ number_of text }
+{
+    match keep.get_one("at-once") {
+        Some(at_once) => at_once,
+        None => unreachable!(),
+    }
+}
+
+// What the words of `keep` ask for, of which one is this address, and one says this of lines on the disk.
+fn kept<'a>(keep: &ArgMatches<'a>, address: Address<'a>, sync: Sync) -> Request<'a>
+    requires { (g : Given) × Holds keep_verb g (rows_of (found_of keep.now)) }
+    ensures { (g : Given) → Holds keep_verb g (rows_of (found_of keep.now)) → (word : Text) →
+        first_value (found_of keep.now) (codes "PLACE") ≡ Some word → IsAddressOf word address.entry →
+        IsSyncOf (sync_of g.sync) sync.entry → Makes keep_verb g result }
+{
+    Request::Keep(Keeping {
+        file: word_of(keep, "FILE"),
+        folder: word_of(keep, "DIR"),
+        address,
+        at_once: usize::from(at_once_in(keep)),
+        sync,
+        stops: keep.get_flag("stop-with-input"),
+        explain: explain_in(keep),
+    })
+}
+
+// What the words of `keep` ask for, or the first word of them that is not what it should be.
+fn keep_request<'a>(keep: &ArgMatches<'a>) -> Result<Request<'a>, Odd<'a>>
+    requires { (g : Given) × Holds keep_verb g (rows_of (found_of keep.now)) }
+    ensures asked { IfOk result (λ q. (g : Given) → Holds keep_verb g (rows_of (found_of keep.now)) →
+        Makes keep_verb g q) }
+    ensures other { IfErr result (λ _. (g : Given) → Holds keep_verb g (rows_of (found_of keep.now)) → (q : _) →
+        Makes keep_verb g q → ⊥) }
+{
+    let place = word_of(keep, "PLACE");
+    let Some(address) = address_in(place) else {
+        return Err(Odd::KeepPlace(place));
+    };
+    let word = word_of(keep, "sync");
+    match sync_in(word) {
+        Some(sync) => Ok(kept(keep, address, sync)),
+        None => Err(Odd::Sync(word)),
+    }
+}
+
+// What the words ask for in which this was found, or a word that is not what it should be.
+fn matched_request<'a>(matches: &ArgMatches<'a>) -> Result<Request<'a>, Odd<'a>>
     requires { (v : Verb) × (g : Given) × IsMatched v g matches.now }
     ensures asked { IfOk result (λ q. (v : Verb) (g : Given) → IsMatched v g matches.now → Makes v g q) }
     ensures other { IfErr result (λ _. (v : Verb) (g : Given) → IsMatched v g matches.now → (q : _) →
@@ -373,22 +542,61 @@ fn matched_request<'a>(matches: &ArgMatches<'a>) -> Result<Request<'a>, &'a str>
     if let Some(serve) = matches.subcommand_matches("serve") {
         return serve_request(serve);
     }
+    if let Some(keep) = matches.subcommand_matches("keep") {
+        return keep_request(keep);
+    }
     Ok(Request::Paths)
 }
 
-// The error of a word that should be an address.
-fn no_address(alloc: Global, word: &str) -> Result<Error, AllocError>
+// The error of a word that is no value of this argument of a subcommand, which should be so.
+fn no_value(
+    alloc: Global,
+    mut command: Command<'_>,
+    word: &str,
+    name: &str,
+    form: &str,
+) -> Result<Error, AllocError>
     ensures { IfOk result (λ e. kind_of e ≡ ErrorKind.ValueValidation) }
 {
-    let text = format!(in alloc; "invalid value '{word}' for '<PLACE>': {}", help::PLACE_IS)?;
-    serve_command(alloc)?.error(ErrorKind::ValueValidation, text.as_str())
+    let text = format!(in alloc; "invalid value '{word}' for '{name}': {form}")?;
+    command.error(ErrorKind::ValueValidation, text.as_str())
+}
+
+// The error of a word that is not what it should be.
+fn odd_error(alloc: Global, odd: Odd<'_>) -> Result<Error, AllocError>
+    ensures { IfOk result (λ e. kind_of e ≡ ErrorKind.ValueValidation) }
+{
+    match odd {
+        Odd::ServePlace(word) => no_value(
+            alloc,
+            serve_command(alloc)?,
+            word,
+            "<PLACE>",
+            help::PLACE_IS,
+        ),
+        Odd::KeepPlace(word) => no_value(
+            alloc,
+            keep_command(alloc)?,
+            word,
+            "<PLACE>",
+            help::PLACE_IS,
+        ),
+        Odd::Sync(word) => no_value(
+            alloc,
+            keep_command(alloc)?,
+            word,
+            "--sync <WORD>",
+            help::SYNC_IS,
+        ),
+    }
 }
 
 /// What these words, the first of which names the program, ask for.
 ///
 /// An error is a mistake in them or a request for help or the version, with the text to print, or a want of memory. Its
 /// kind is one that the parser gives such words, and where the parser takes them `ValueValidation`: PLACE is no number
-/// from 1 to 65535, and has no slash. Words that ask for help or the version before any mistake give that.
+/// from 1 to 65535, and has no slash, or the word behind `--sync` is neither `always` nor a number from 1 to 60000.
+/// Words that ask for help or the version before any mistake give that.
 pub fn request_of<'a>(alloc: Global, words: &'a [&'a str]) -> Result<Request<'a>, Error>
     ensures asked { IfOk result (λ q. Asks (map (λ w. w.now) words.now) q) }
     ensures refused { IfErr result (λ e. (q : Request) → Asks (map (λ w. w.now) words.now) q →
@@ -400,6 +608,6 @@ pub fn request_of<'a>(alloc: Global, words: &'a [&'a str]) -> Result<Request<'a>
     let matches = command(alloc)?.try_get_matches_from(words)?;
     match matched_request(&matches) {
         Ok(request) => Ok(request),
-        Err(word) => Err(no_address(alloc, word)?),
+        Err(odd) => Err(odd_error(alloc, odd)?),
     }
 }

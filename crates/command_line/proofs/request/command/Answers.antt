@@ -16,4 +16,5 @@ returns c =
     let two = with_sub _ _ c.in_ok-subcommand-2.field-0 _ _ c.in_ok-subcommand-2.ensures (named_made _ c.in_ok-named-2.field-0 _ c.in_ok-named-2.ensures c.in_ok-check_command.ensures) one in
     let three = with_sub _ _ c.in_ok-subcommand-3.field-0 _ _ c.in_ok-subcommand-3.ensures (named_made _ c.in_ok-named-3.field-0 _ c.in_ok-named-3.ensures c.in_ok-run_command.ensures) two in
     let four = with_sub _ _ c.in_ok-subcommand-4.field-0 _ _ c.in_ok-subcommand-4.ensures (named_made _ c.in_ok-named-4.field-0 _ c.in_ok-named-4.ensures c.in_ok-audit_command.ensures) three in
-    IfOk-weaker c.subcommand-5.result _ _ (λ r h. with_sub _ _ r _ _ h (named_made _ c.in_ok-named-5.field-0 _ c.in_ok-named-5.ensures c.in_ok-serve_command.ensures) four) c.subcommand-5.ensures
+    let five = with_sub _ _ c.in_ok-subcommand-5.field-0 _ _ c.in_ok-subcommand-5.ensures (named_made _ c.in_ok-named-5.field-0 _ c.in_ok-named-5.ensures c.in_ok-serve_command.ensures) four in
+    IfOk-weaker c.subcommand-6.result _ _ (λ r h. with_sub _ _ r _ _ h (named_made _ c.in_ok-named-6.field-0 _ c.in_ok-named-6.ensures c.in_ok-keep_command.ensures) five) c.subcommand-6.ensures

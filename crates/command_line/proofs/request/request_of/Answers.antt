@@ -55,8 +55,8 @@ returns-clause-refused c =
 pub returns-clause-kinds : goal.returns-clause-kinds
 returns-clause-kinds c =
     let words : List Text = map (λ w. w.now) c.args.words.now in
-    other_kinds (fault_of program words) (ValueValidation ∷ []) c.in_ok-no_address-in-Err.field-0 (none_here words c.in_ok-command.field-0 c.in_ok-command.ensures c.in_ok-matches.ensures.kinds)
-    (only_kind ValueValidation c.in_ok-no_address-in-Err.field-0 c.in_ok-no_address-in-Err.ensures)
+    other_kinds (fault_of program words) (ValueValidation ∷ []) c.in_ok-odd_error-in-Err.field-0 (none_here words c.in_ok-command.field-0 c.in_ok-command.ensures c.in_ok-matches.ensures.kinds)
+    (only_kind ValueValidation c.in_ok-odd_error-in-Err.field-0 c.in_ok-odd_error-in-Err.ensures)
 
 pub returns-clause-shown : goal.returns-clause-shown
 returns-clause-shown c =
