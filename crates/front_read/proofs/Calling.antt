@@ -1,6 +1,6 @@
 -- Calls are read from the words that tell them.
-use Rattle.std.proofs.Common.{◌≡◌, ℕ, List, [], ◌∷◌, refl, sym, ap, ◌∙◌, subst}
-use Rattle.std.specs.Prelude.{All, Option, Some, None, MatchOption, option_map, map}
+use Rattle.std.proofs.Common.{◌≡◌, ℕ, List, [], ◌∷◌, sym, ap, ◌∙◌, subst}
+use Rattle.std.specs.Prelude.{All, Option, Some, None, MatchOption, map}
 use Rattle.std.specs.Global.{Vec}
 use Rattle.std.proofs.lemmas.List.Elements.{All-cons, All-nil}
 use Rattle.value_core.specs.declared.datum.Datum.{Datum}
@@ -39,14 +39,18 @@ not_asked o ws rest name first none x is same = absurd (not_some x.1 (none ∙ (
 -- the call of a name
 pub asked_by : (o : ObjectForm) (ws rest : List Word) (name : List ℕ) (arguments : List Datum) (found : Option (ℕ × Vec Datum)) → ◌≡◌ {A = Option (List ℕ × List Word)} (Some (name, rest)) (bare_of ws) → Some arguments ≡ data_of rest
     → MatchOption found ((op : ℕ) → IsCall o op arguments → operation_in o name ≡ Some op → ⊥) (λ r. IsCall o r.0 r.1.items × (operation_in o name ≡ Some r.0) × (r.1.items ≡ arguments)) → Finds (IsAsked o) (asked_words o) asked_of ws found
-asked_by o ws rest name arguments None first args none =
-    ((λ x is same.
+asked_by o ws rest name arguments None first args none = (
+  (λ x is same.
       let read = asked_read o ws rest name first x is same in
       let these : arguments ≡ x.1 = some_same (args ∙ read.1) in
-      absurd (none x.0 (subst (IsCall o x.0) (sym these) is) (ap (operation_in o) read.0 ∙ is.operation.first))), tt)
-asked_by o ws rest name arguments (Some r) first args is =
-    ((λ x its same.
+      absurd (none x.0 (subst (IsCall o x.0) (sym these) is) (ap (operation_in o) read.0 ∙ is.operation.first))),
+  tt,
+)
+asked_by o ws rest name arguments (Some r) first args is = (
+  (λ x its same.
       let read = asked_read o ws rest name first x its same in
       let these : r.1.items ≡ x.1 = is.2 ∙ some_same (args ∙ read.1) in
       let op : r.0 ≡ x.0 = some_same (sym is.1 ∙ ap (operation_in o) read.0 ∙ its.operation.first) in
-      λ i. Some (op i, these i)), is.0)
+      λ i. Some (op i, these i)),
+  is.0,
+)

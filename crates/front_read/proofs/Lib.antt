@@ -1,4 +1,13 @@
+mod Answering
 mod Calling
+mod Clear
 mod Forms
+mod Levels
 mod Numerals
+mod Parting
+mod Rowing
+mod Standing
+mod Telling
 mod Texts
+mod Unique
+mod Whole

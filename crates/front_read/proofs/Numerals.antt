@@ -1,12 +1,13 @@
 -- Decimal numbers of 64 bits.
-use Rattle.std.proofs.Common.{◌≡◌, inl, inr, ℕ, ◌<◌, ◌≤◌, ◌^◌, true, false, List, length, refl, sym, ap, arith}
-use Rattle.std.specs.Prelude.{Option, Some, None, MatchOption, IfSome, decimal, nat_lt}
+use Rattle.std.proofs.Common.{◌≡◌, inl, inr, ℕ, ◌<◌, ◌≤◌, ◌^◌, true, false, Bool, cond, List, length, refl, sym, arith}
+use Rattle.std.specs.Prelude.{Option, Some, None, MatchOption, IfSome, decimal, nat_lt, ◌&&◌}
 use Rattle.std.specs.Str.{all_ascii_digits}
 use Rattle.std.specs.Str.Parse.{digits_value}
-use Rattle.std.proofs.lemmas.Bool.{cases_lt}
+use Rattle.std.proofs.lemmas.Bool.{cases_lt, and_parts}
 use Rattle.std.proofs.lemmas.Bool.Decides.{nat_tests}
 use Rattle.std.proofs.lemmas.Fmt.{digits_decimal, digits_value-decimal, decimal_nonempty}
 use Rattle.word_core.proofs.Numerals.{digits}
+use Rattle.word_core.specs.Data.{integer_of}
 use Rattle.front_read.specs.Words.{long_of}
 
 pub long_of-decimal : (n : ℕ) → n < 2 ^ 64 → long_of (decimal n) ≡ Some n
@@ -42,6 +43,34 @@ pub read_as : (ds : List ℕ) (found : Option ℕ) → 0 < length ds → all_asc
 read_as ds None some are fits great = sym (large ds some are great)
 read_as ds (Some n) some are fits value = sym (small_enough ds n some are value fits)
 
+pub guard : {X : Type 0} (b : Bool) (v n : X) → cond b (Some v) None ≡ Some n → (b ≡ true) × (v ≡ n)
+guard true v n is = (refl, cc)
+guard false v n is = absurd cc
+
+pub unless : {X : Type 0} (b : Bool) (v n : X) → cond b None (Some v) ≡ Some n → (b ≡ false) × (v ≡ n)
+unless true v n is = absurd cc
+unless false v n is = (refl, cc)
+
 -- what is read has 64 bits
 pub long_fits : (ds : List ℕ) (n : ℕ) → long_of ds ≡ Some n → n < 2 ^ 64
-long_fits ds n is = ?
+long_fits ds n is =
+    let value = digits_value 10 ds in
+    let few = nat_lt value 18446744073709551616 in
+    let found = guard (nat_lt 0 (length ds) && (all_ascii_digits ds && few)) value n is in
+    let inner = and_parts (nat_lt 0 (length ds)) (all_ascii_digits ds && few) found.0 in
+    let small : few ≡ true = (and_parts (all_ascii_digits ds) few inner.1).1 in
+    let same = found.1 in
+    let less : value < 18446744073709551616 = grind (arith, nat_tests) in
+    omega (arith, same, less)
+
+-- and an integer has 32
+pub integer_fits : (ds : List ℕ) (n : ℕ) → integer_of ds ≡ Some n → n < 2 ^ 32
+integer_fits ds n is =
+    let value = digits_value 10 ds in
+    let few = nat_lt value 4294967296 in
+    let found = guard (nat_lt 0 (length ds) && (all_ascii_digits ds && few)) value n is in
+    let inner = and_parts (nat_lt 0 (length ds)) (all_ascii_digits ds && few) found.0 in
+    let small : few ≡ true = (and_parts (all_ascii_digits ds) few inner.1).1 in
+    let same = found.1 in
+    let less : value < 4294967296 = grind (arith, nat_tests) in
+    omega (arith, same, less)

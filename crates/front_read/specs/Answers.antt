@@ -1,9 +1,6 @@
 -- How a remembered call ended, as words tell it.
-use Rattle.std.specs.Prelude.{◌≡◌, ℕ, Bool, true, false, List, [], ◌∷◌, ◌++◌, Option, Some, None, IfSome, option_map}
-use Rattle.std.specs.Borrow.{Bor}
+use Rattle.std.specs.Prelude.{◌≡◌, ℕ, Bool, true, false, List, [], ◌∷◌, ◌++◌, Option, Some, None, IfSome, option_map, drop}
 use Rattle.apply_core.specs.declared.reply.Reply.{Reply}
-use Rattle.word_core.specs.declared.word.Word as declared
-use Rattle.word_core.specs.View.{words_of}
 use Rattle.word_core.specs.Words.{Word}
 use Rattle.word_core.specs.Data.{datum_of}
 use Rattle.front_core.specs.Front.{IsAnswer}
@@ -26,21 +23,21 @@ abbrev pub tells_datum : List Word → Bool
 tells_datum [] = false
 tells_datum (word ∷ words) = is_some (datum_of word)
 
--- how a call ended, and the words behind it
-abbrev pub answered : Ended × Bor (List declared.Word) → Answer × List Word
-answered x = (answer_of_end x.0, words_of x.1.now)
+-- how a call ended, as so many of these words tell it, and the words behind them
+abbrev pub answered : List Word → Ended × ℕ → Answer × List Word
+answered words x = (answer_of_end x.0, drop x.1 words)
 
 -- how a call ended that these words begin with was found; the words behind it do not begin with an integer or a text
-abbrev pub FindsAnswer : List Word → Option (Ended × Bor (List declared.Word)) → Type 0
+abbrev pub FindsAnswer : List Word → Option (Ended × ℕ) → Type 0
 FindsAnswer words found =
     ((answer : Answer) (rest : List Word) → IsAnswer answer → tells_datum rest ≡ false →
-    words ≡ answer_words answer ++ rest → option_map answered found ≡ Some (answer, rest))
+    words ≡ answer_words answer ++ rest → option_map (answered words) found ≡ Some (answer, rest))
     × IfSome found (λ x. IsAnswer (answer_of_end x.0))
 
 -- the same, for a reply that two words tell
-abbrev pub FindsInTwo : List Word → Option (Ended × Bor (List declared.Word)) → Type 0
+abbrev pub FindsInTwo : List Word → Option (Ended × ℕ) → Type 0
 FindsInTwo words found =
     ((reply : Reply) (a b : Word) (rest : List Word) → IsAnswer (Replied reply) →
     answer_words (Replied reply) ≡ a ∷ b ∷ [] → words ≡ a ∷ b ∷ rest →
-    option_map answered found ≡ Some (Replied reply, rest))
+    option_map (answered words) found ≡ Some (Replied reply, rest))
     × IfSome found (λ x. IsAnswer (answer_of_end x.0))

@@ -1,5 +1,5 @@
 -- The front at the beginning of a text.
-use Rattle.std.specs.Prelude.{◌≡◌, ℕ, suc, true, false, List, [], ◌∷◌, ◌++◌, codes, Result, MatchResult}
+use Rattle.std.specs.Prelude.{◌≡◌, ℕ, suc, false, List, ◌++◌, codes, Result, MatchResult}
 use Rattle.std.specs.Borrow.{Bor}
 use Rattle.value_core.specs.Contents.{Contents}
 use Rattle.decl_core.specs.ObjectForm.{ObjectForm}

@@ -1,27 +1,27 @@
 -- What the words of a row tell.
 use Rattle.std.specs.Prelude.{◌≡◌, ℕ, nat_lt, ◌==◌, List, [], ◌∷◌, ◌++◌, Option, Some, None, IfSome, MatchOption, codes}
-use Rattle.std.specs.Prelude.{if◌then◌else◌, option_map}
+use Rattle.std.specs.Prelude.{if◌then◌else◌}
 use Rattle.std.specs.Str.{bytes_eq}
 use Rattle.std.specs.Borrow.{Bor}
 use Rattle.path_tree.specs.Identifier.{IsName}
 use Rattle.value_core.specs.declared.datum.Datum.{Datum}
 use Rattle.decl_core.specs.ObjectForm.{ObjectForm}
 use Rattle.word_core.specs.Words.{Word, bare, line_of}
-use Rattle.word_core.specs.Data.{◌>>=◌, bare_of, only_bare, integer_of, session_word}
+use Rattle.word_core.specs.Data.{◌>>=◌, bare_of, only_bare, integer_of}
 use Rattle.front_core.specs.declared.past.PastRun.{PastRun}
-use Rattle.front_core.specs.declared.past.PastRun.TheVariants.{Calls, Begins, Ends}
+use Rattle.front_core.specs.declared.past.PastRun.TheVariants.{Begins, Ends}
 use Rattle.front_core.specs.declared.front.CarriedCall.{CarriedCall}
 use Rattle.front_core.specs.declared.front.Client.{Client}
 use Rattle.front_core.specs.declared.front.KeptCall.{KeptCall}
 use Rattle.front_core.specs.declared.front.Answer.{Answer}
 use Rattle.front_core.specs.Front.{IsRun, IsCall}
 use Rattle.front_core.specs.Text.{run_words, client_words, call_words}
-use Rattle.front_read.specs.declared.rows.CarriedRow.{CarriedRow}
-use Rattle.front_read.specs.declared.rows.ClientRow.{ClientRow}
-use Rattle.front_read.specs.declared.rows.KeptHead.{KeptHead}
-use Rattle.front_read.specs.declared.rows.KeptRow.{KeptRow}
+use Rattle.front_read.specs.declared.carried.CarriedRow.{CarriedRow}
+use Rattle.front_read.specs.declared.client.ClientRow.{ClientRow}
+use Rattle.front_read.specs.declared.kept.KeptHead.{KeptHead}
+use Rattle.front_read.specs.declared.kept.KeptRow.{KeptRow}
 use Rattle.front_read.specs.Words.{behind_verb, session_first, long_first}
-use Rattle.front_read.specs.Rows.{row_words, IsRow}
+use Rattle.front_read.specs.Rows.{row_words}
 use Rattle.front_read.specs.Answers.{answer_of_end}
 
 -- the two words behind `past`

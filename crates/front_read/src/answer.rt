@@ -1,13 +1,15 @@
 //! How a remembered call ended.
 
-ghost use Rattle.std.specs.Prelude.{◌≡◌, ℕ, List, IfSome, MatchOption, Some, option_map};
+ghost use Rattle.std.specs.Prelude.{◌≡◌, ℕ, List, IfSome, MatchOption, Some, option_map, ◌&&◌, not, codes, drop};
+ghost use Rattle.std.specs.Str.{bytes_eq};
 ghost use Rattle.decl_core.specs.RefusalWord.{IsRefusalWord};
 ghost use Rattle.apply_core.specs.declared.reply.Reply.{Reply as AReply};
 ghost use Rattle.apply_core.specs.declared.reply.Failure.{Failure as AFailure};
 ghost use Rattle.apply_core.specs.declared.reply.Reply.TheVariants.{Done as done_reply, Refused as refused_reply, Failed as failed_reply};
 ghost use Rattle.trace_core.specs.Laws.{IsReply};
-ghost use Rattle.trace_core.specs.Text.{failure_word, reply_ending};
+ghost use Rattle.trace_core.specs.Text.{failure_word, reply_ending, reply_words};
 ghost use Rattle.word_core.specs.View.{words_of as words_in, ending_view};
+ghost use Rattle.word_core.specs.Data.{bare_of as bare_in};
 ghost use Rattle.front_read.specs.Answers.{tells_datum, FindsAnswer, FindsInTwo};
 
 use apply_core::reply::{Failure, Reply};
@@ -29,18 +31,47 @@ pub(crate) enum Ended {
     Cancelled,
 }
 
-// How a call ended, as the first words say it, and the words behind these.
-pub(crate) fn answer_first<'a, 'b>(words: &'b [Word<'a>]) -> Option<(Ended, &'b [Word<'a>])>
+// How a call ended, as the first words say it, and how many these are.
+pub(crate) fn answer_first(words: &[Word]) -> Option<(Ended, usize)>
     ensures { FindsAnswer (words_in words.now) result }
 {
-    let (verb, rest) = bare_of(words)?;
-    if is_same_word(verb, b"cancelled") {
-        return Some((Ended::Cancelled, rest));
+    match bare_of(words) {
+        Some((verb, rest)) => answer_by(words, verb, rest),
+        None => None,
     }
-    if is_same_word(verb, b"done") && !tells_datum(rest) {
-        return Some((Ended::Replied(Reply::Done(None)), rest));
+}
+
+// How a call ended, as words say it whose first one stands bare.
+fn answer_by(words: &[Word], verb: &[u8], rest: &[Word]) -> Option<(Ended, usize)>
+    requires { bare_in (words_in words.now) ≡ Some (verb.now, words_in rest.now) }
+    ensures { FindsAnswer (words_in words.now) result }
+{
+    if is_same_word(verb, b"cancelled") {
+        return Some((Ended::Cancelled, 1));
+    }
+    if is_nothing(verb, rest) {
+        return Some((Ended::Replied(Reply::Done(None)), 1));
     }
     reply_in_two(words)
+}
+
+// The words behind the first ones, so many.
+pub(crate) fn behind_first<'a, 'b>(words: &'b [Word<'a>], count: usize) -> &'b [Word<'a>]
+    ensures { words_in result.now ≡ drop count (words_in words.now) }
+{
+    if words.len() < count {
+        let (_, none) = words.split_at(words.len());
+        return none;
+    }
+    let (_, rest) = words.split_at(count);
+    rest
+}
+
+// Whether a word and those behind it say that a call was done and replied nothing.
+fn is_nothing(verb: &[u8], rest: &[Word]) -> bool
+    ensures { result ≡ (bytes_eq verb.now (codes "done") && not (tells_datum (words_in rest.now))) }
+{
+    is_same_word(verb, b"done") && !tells_datum(rest)
 }
 
 // Whether the first word is an integer or a text.
@@ -53,26 +84,38 @@ fn tells_datum(words: &[Word]) -> bool
     }
 }
 
-// The reply that the first two words tell, and the words behind them.
-fn reply_in_two<'a, 'b>(words: &'b [Word<'a>]) -> Option<(Ended, &'b [Word<'a>])>
+// The reply that the first two words tell.
+fn reply_in_two(words: &[Word]) -> Option<(Ended, usize)>
     ensures { FindsInTwo (words_in words.now) result }
 {
     if words.len() < 2 {
         return None;
     }
-    let (two, rest) = words.split_at(2);
-    let ending = ending_of(two)?;
-    let reply = reply_of(ending)?;
-    Some((Ended::Replied(reply), rest))
+    let (two, _) = words.split_at(2);
+    match reply_of_two(two) {
+        Some(reply) => Some((Ended::Replied(reply), 2)),
+        None => None,
+    }
+}
+
+// The reply that these words tell.
+fn reply_of_two(words: &[Word]) -> Option<Reply>
+    ensures found { (reply : AReply) → IsReply reply → words_in words.now ≡ reply_words reply → result ≡ Some reply }
+    ensures is { IfSome result (λ reply. IsReply reply) }
+{
+    match ending_of(words) {
+        Some(ending) => reply_of(&ending),
+        None => None,
+    }
 }
 
 // The reply of a call that ended so.
-fn reply_of(ending: Ending) -> Option<Reply>
-    ensures found { (reply : AReply) → IsReply reply → ending_view ending ≡ reply_ending reply → result ≡ Some reply }
+fn reply_of(ending: &Ending) -> Option<Reply>
+    ensures found { (reply : AReply) → IsReply reply → ending_view ending.now ≡ reply_ending reply → result ≡ Some reply }
     ensures is { IfSome result (λ reply. IsReply reply) }
 {
     match ending {
-        Ending::Done(result) => done_with(result),
+        Ending::Done(result) => done_with(*result),
         Ending::Refused(word) => refused_by(word),
         Ending::Failed(word) => failed_by(word),
     }

@@ -87,7 +87,8 @@ fn bytes_of(alloc: Global, word: &[u8]) -> Result<Option<Vec<u8>>, AllocError>
 
 // The number of eight bytes, the highest first.
 fn number_in(bytes: &[u8]) -> Option<u64>
-    ensures { (n : ℕ) → n < 2 ^ 64 → bytes.now ≡ to_be_bytes w64 n → result ≡ Some n }
+    ensures found { (n : ℕ) → n < 2 ^ 64 → bytes.now ≡ to_be_bytes w64 n → result ≡ Some n }
+    ensures fits { IfSome result (λ n. n < 2 ^ 64) }
 {
     match bytes {
         [a, b, c, d, e, f, g, h] => Some(u64::from_be_bytes([*a, *b, *c, *d, *e, *f, *g, *h])),
@@ -234,7 +235,10 @@ pub(crate) fn take_part<'a>(
     let name = part.name.as_bytes();
     match words_of(alloc, first_line(text))? {
         Some(words) => match part_of(alloc, part.kind, &words)? {
-            Some(value) => take_this_part(alloc, name, out, text, value),
+            Some(value) => {
+                let found = take_this_part(alloc, name, out, text, value)?;
+                Ok(found)
+            }
             None => Ok(None),
         },
         None => Ok(None),

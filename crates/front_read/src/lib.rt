@@ -2,17 +2,17 @@
 //!
 //! `read::read_front` takes the front at the beginning of a text, and tells how many bytes it has. Nothing but what
 //! `front_core` writes is read: each row is written again and compared. A row is read in three steps: `text` cuts its
-//! line, `word_core` makes words of it, and `rows` takes these for what they stand for; `answer` and `call` have how a
-//! call ended and which call it was.
+//! line, `word_core` makes words of it, and the module of the row takes these for what they stand for.
 #![tactic(auto)]
 
 mod answer;
 mod call;
+mod carried;
+mod client;
 mod head;
+mod kept;
 mod names;
 mod number;
 pub mod read;
-mod rows;
-#[cfg(test)]
-mod tests;
+mod run;
 mod text;

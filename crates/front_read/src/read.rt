@@ -1,7 +1,8 @@
 //! A front, from its text.
 
-ghost use Rattle.std.specs.Prelude.{◌≡◌, ◌++◌, ◌≤◌, ℕ, suc, List, [], IfOk, IfErr, MatchResult, codes, length, take, false};
+ghost use Rattle.std.specs.Prelude.{◌≡◌, ◌++◌, ◌≤◌, ℕ, suc, List, [], IfOk, IfErr, MatchResult, codes, length, take, true, false};
 ghost use Rattle.decl_core.specs.ObjectMap.{object_of, parts_of};
+ghost use Rattle.trace_core.specs.Laws.{HasNames};
 ghost use Rattle.front_core.specs.Front.{IsRun, IsCarried, IsClient, IsKept, HasRows, Opening, opening_of};
 ghost use Rattle.front_core.specs.Text.{run_words, carried_words, client_words, kept_words, front_text};
 ghost use Rattle.front_read.specs.Text.{goes_on as goes_on_in};
@@ -10,8 +11,12 @@ ghost use Rattle.front_read.specs.Parts.{TakesParts, IsCut};
 ghost use Rattle.front_read.specs.Read.{IsLineAt, IsLine};
 ghost use Rattle.front_read.specs.Read.{TakesClients, TakesCalls, TakesBase, TakesPast, FrontWith, FrontOf, FrontIn, FrontAt};
 
+use crate::carried::take_carried;
+use crate::client::take_client;
 use crate::head::{take_base, take_object, take_part, take_source};
-use crate::rows::{take_carried, take_client, take_kept, take_run};
+use crate::kept::take_kept;
+use crate::names::object_has_names;
+use crate::run::take_run;
 use crate::text::{begins_with, feeds_in, goes_on};
 use decl_core::object::{Object, Part};
 use front_core::front::{CarriedCall, Client, Front, KeptCall};
@@ -29,12 +34,18 @@ fn take_parts<'a>(
 ) -> Result<Result<&'a [u8], &'a [u8]>, AllocError>
     ensures { IfOk result (λ found. TakesParts (parts_of parts.now) text.now out.old.items found out.new.items) }
 {
-    match parts {
-        [] => Ok(Ok(text)),
-        [part, parts @ ..] => match take_part(alloc, part, out, text)? {
-            Some(rest) => take_parts(alloc, parts, out, rest),
-            None => Ok(Err(text)),
-        },
+    match parts.split_first() {
+        None => Ok(Ok(text)),
+        Some((part, parts)) => {
+            part.name.as_bytes();
+            match take_part(alloc, part, out, text)? {
+                Some(rest) => {
+                    let found = take_parts(alloc, parts, out, rest)?;
+                    Ok(found)
+                }
+                None => Ok(Err(text)),
+            }
+        }
     }
 }
 
@@ -144,6 +155,7 @@ fn take_clients<'a>(
     kept: &mut Vec<KeptCall>,
     text: &'a [u8],
 ) -> Result<Result<&'a [u8], &'a [u8]>, AllocError>
+    requires named { HasNames (object_of object.now) }
     requires clients { clients.old.items ≡ [] }
     requires kept { kept.old.items ≡ [] }
     ensures { IfOk result (λ found. TakesClients (object_of object.now) text.now found clients.new.items
@@ -167,6 +179,7 @@ fn take_calls<'a>(
     kept: &mut Vec<KeptCall>,
     text: &'a [u8],
 ) -> Result<Result<&'a [u8], &'a [u8]>, AllocError>
+    requires named { HasNames (object_of object.now) }
     requires carried { carried.old.items ≡ [] }
     requires clients { clients.old.items ≡ [] }
     requires kept { kept.old.items ≡ [] }
@@ -174,7 +187,10 @@ fn take_calls<'a>(
         clients.new.items kept.new.items) }
 {
     match take_all_carried(alloc, object, carried, text)? {
-        Ok(rest) => take_clients(alloc, object, clients, kept, rest),
+        Ok(rest) => {
+            let found = take_clients(alloc, object, clients, kept, rest)?;
+            Ok(found)
+        }
         Err(rest) => Ok(Err(rest)),
     }
 }
@@ -188,6 +204,7 @@ fn take_from_base<'a>(
     kept: &mut Vec<KeptCall>,
     text: &'a [u8],
 ) -> Result<Result<(u64, &'a [u8]), &'a [u8]>, AllocError>
+    requires named { HasNames (object_of object.now) }
     requires carried { carried.old.items ≡ [] }
     requires clients { clients.old.items ≡ [] }
     requires kept { kept.old.items ≡ [] }
@@ -213,6 +230,7 @@ fn take_from_past<'a>(
     kept: &mut Vec<KeptCall>,
     text: &'a [u8],
 ) -> Result<Result<(u64, &'a [u8]), &'a [u8]>, AllocError>
+    requires named { HasNames (object_of object.now) }
     requires past { past.old.items ≡ [] }
     requires carried { carried.old.items ≡ [] }
     requires clients { clients.old.items ≡ [] }
@@ -221,7 +239,10 @@ fn take_from_past<'a>(
         clients.new.items kept.new.items) }
 {
     match take_past(alloc, object, past, text)? {
-        Ok(rest) => take_from_base(alloc, object, carried, clients, kept, rest),
+        Ok(rest) => {
+            let found = take_from_base(alloc, object, carried, clients, kept, rest)?;
+            Ok(found)
+        }
         Err(rest) => Ok(Err(rest)),
     }
 }
@@ -235,6 +256,7 @@ fn front_with<'a>(
     parts: Vec<Value>,
     text: &'a [u8],
 ) -> Result<Result<(Front, &'a [u8]), &'a [u8]>, AllocError>
+    requires { HasNames (object_of object.now) }
     ensures { IfOk result (λ found. FrontWith (object_of object.now) epoch source parts.items text.now found) }
 {
     let mut past = Vec::new(alloc);
@@ -275,6 +297,7 @@ fn front_of<'a>(
     source: u64,
     text: &'a [u8],
 ) -> Result<Result<(Front, &'a [u8]), &'a [u8]>, AllocError>
+    requires { HasNames (object_of object.now) }
     ensures { IfOk result (λ found. FrontOf (object_of object.now) epoch source text.now found) }
 {
     let mut parts = Vec::new(alloc);
@@ -291,6 +314,7 @@ fn front_in<'a>(
     epoch: u64,
     text: &'a [u8],
 ) -> Result<Result<(Front, &'a [u8]), &'a [u8]>, AllocError>
+    requires { HasNames (object_of object.now) }
     ensures { IfOk result (λ found. FrontIn (object_of object.now) epoch text.now found) }
 {
     match take_source(alloc, text)? {
@@ -306,6 +330,7 @@ fn front_at<'a>(
     object: &Object,
     text: &'a [u8],
 ) -> Result<Result<(Front, &'a [u8]), &'a [u8]>, AllocError>
+    requires { HasNames (object_of object.now) }
     ensures { IfOk result (λ found. FrontAt (object_of object.now) text.now found) }
 {
     match take_object(alloc, object, text)? {
@@ -340,6 +365,7 @@ pub fn read_front(
     // The line of a fault is one of the text, or behind its last.
     ensures line { IfOk result (λ found. IfErr found (λ line. IsLine text.now line)) }
 {
+    object_has_names(object);
     match front_at(alloc, object, text)? {
         Ok((front, rest)) => {
             let length = text.len() - rest.len();

@@ -1,6 +1,6 @@
 //! Pieces of a text.
 
-ghost use Rattle.std.specs.Prelude.{◌≡◌, [], ◌+◌, ◌++◌, ◌∷◌, ◌<◌, ◌^◌, ℕ, List, MatchOption, IsTrue, ◌↔◌};
+ghost use Rattle.std.specs.Prelude.{◌≡◌, ◌≤◌, length, [], ◌+◌, ◌++◌, ◌∷◌, ◌<◌, ◌^◌, ℕ, List, MatchOption, IsTrue, ◌↔◌};
 ghost use Rattle.line_core.specs.Runs.{NoLineFeed};
 ghost use Rattle.front_read.specs.Text.{begins, goes_on, goes_on_behind_parts, goes_on_with_calls, feeds_in};
 
@@ -80,7 +80,8 @@ pub(crate) fn first_line(text: &[u8]) -> &[u8]
 
 // How many line feeds there are.
 pub(crate) fn feeds_in(bytes: &[u8]) -> u64
-    ensures { result ≡ feeds_in bytes.now }
+    ensures count { result ≡ feeds_in bytes.now }
+    ensures few { result ≤ length bytes.now }
 {
     let mut count = 0;
     let mut rest = bytes;

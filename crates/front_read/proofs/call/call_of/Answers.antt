@@ -1,4 +1,3 @@
-use Rattle.std.proofs.Common.{sym, ◌∙◌, subst}
 use Rattle.decl_core.specs.ObjectMap.{object_of}
 use Rattle.word_core.specs.View.{words_of}
 use Rattle.front_read.proofs.Calling.{asked_by, not_asked}

@@ -1,1 +1,0 @@
-//! What no clause says: that a front is read at all.
