@@ -4,7 +4,8 @@
 //! `pathserve check FILE` says of each object of a file whether its paths keep operations that conflict
 //! apart, and by which nodes.
 //! `pathserve run FILE SCRIPT` runs a script of calls, device steps and finishes on an object of a file.
-//! `pathserve audit FILE TRACE` says whether a trace of an object of a file is legal, or which line of it is not.
+//! `pathserve audit FILE TRACE` says whether a trace of an object of a file is legal, or which line of it is not;
+//! `pathserve audit FILE DIR` whether the epochs of each object of a file can have happened, one after another.
 //! `pathserve serve FILE DIR PLACE` serves the objects of a file to clients on this machine.
 //! With `--explain`, and where standard error is a terminal, standard error gets why a source, an object of it, a line
 //! of a script or a trace is refused; `--no-explain` leaves that out. Nothing else changes by it.
@@ -20,20 +21,25 @@ mod serve;
 mod socket;
 
 use ahead_core::ahead::AheadHand;
-use answer_core::answer::{answer_lines, check_source};
+use answer_core::answer::{ACCEPTED, REFUSED, answer_lines, check_source};
 use answer_core::audit::audit_trace;
-use answer_core::explanation::{Telling, explained_audit, explained_run};
+use answer_core::explanation::{Telling, explained, explained_audit, explained_run};
 use answer_core::failure::{Failure, exit_status, words_end};
 use answer_core::script::answer_script;
 use answer_core::source::read_source;
 use command_line::request::{Address, Explain, Request, Serving, request_of};
+use exclude_core::analyse::Accepted;
 use explain_line::files::Files;
 use explain_line::kept::Kept;
+use folder_audit::audit::audit_folder;
+use folder_audit::files::FolderFault;
 use lack::{Lack, Lacking, Need, tell_lack};
+use line_core::write_whole;
 use serve::{Source, place_of, serve_objects};
 use serve_core::gate::{Gate, Listener};
 use serve_core::serve::Place;
 use socket::{Socket, socket_at};
+use source_core::judge::{Judged, judge};
 use std::alloc::AllocError;
 use std::fs::{File, TryLockError};
 use std::io::{ErrorKind, IsTerminal, Read};
@@ -411,8 +417,62 @@ fn run_script(rt: &HostRuntime, files: Files<'_>, when: Explain) -> Result<u8, F
     )
 }
 
+// Whether there is a folder at a path.
+fn is_folder(rt: &HostRuntime, path: &str) -> bool {
+    open_folder(rt, path).is_ok()
+}
+
+// Writes these lines, and hands on the exit status.
+fn written(rt: &HostRuntime, lines: &[u8], status: u8) -> Result<u8, Failure> {
+    match write_whole(&mut io::writer(rt), lines) {
+        Ok(()) => Ok(status),
+        Err(_) => Err(Failure::WriteFault),
+    }
+}
+
+// Tells what objects are in a folder.
+fn tell_folder(rt: &HostRuntime, objects: &[Accepted], folder: &str) -> Result<u8, Failure> {
+    match audit_folder(rt, objects, folder) {
+        Ok(said) => {
+            let _ = write_whole(&mut rt.stderr(), &said.notes);
+            let status = if said.is_whole { ACCEPTED } else { REFUSED };
+            written(rt, &said.lines, status)
+        }
+        Err(FolderFault::Memory) => Err(Failure::Memory),
+        Err(FolderFault::Unread(path, cause)) => {
+            Err(told(rt, Lacking::at(Need::File, cause), path.as_str()))
+        }
+    }
+}
+
+// `pathserve audit` of a folder.
+fn run_folder(rt: &HostRuntime, files: Files<'_>, when: Explain) -> Result<u8, Failure> {
+    let source = match source_at(rt, files.source) {
+        Ok(source) => source,
+        Err(lacking) => return Err(told(rt, lacking, files.source)),
+    };
+    match judge(rt.alloc(), &source)? {
+        Judged::Ready(objects) => tell_folder(rt, &objects, files.text),
+        Judged::Told(lines) => {
+            let ended = written(rt, &lines, REFUSED);
+            explained(
+                rt.alloc(),
+                ended,
+                telling_of(rt, when),
+                files.source,
+                &source,
+                None,
+                &mut rt.stderr(),
+            )
+        }
+    }
+}
+
 // `pathserve audit`.
 fn run_audit(rt: &HostRuntime, files: Files<'_>, when: Explain) -> Result<u8, Failure> {
+    if is_folder(rt, files.text) {
+        return run_folder(rt, files, when);
+    }
     let telling = telling_of(rt, when);
     let Inputs { source, mut kept } = inputs_of(rt, files, telling)?;
     let ended = audit_trace(rt.alloc(), &source, &mut kept, &mut io::writer(rt));

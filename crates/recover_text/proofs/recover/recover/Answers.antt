@@ -1,4 +1,4 @@
-use Rattle.std.proofs.Common.{◌≡◌, subst}
+use Rattle.std.proofs.Common.{subst}
 use Rattle.std.specs.Prelude.{IfOk, MatchResult}
 use Rattle.decl_core.specs.ObjectMap.{object_of}
 use Rattle.front_core.specs.Front.{opening_of}
