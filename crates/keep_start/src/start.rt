@@ -30,10 +30,10 @@ pub enum NotBegun {
     Refused(RecoverFault),
     /// Behind its journal no past was found that leaves what its paths have counted.
     NoPast,
-    /// The bytes of the part at this place spell no value of its kind.
-    Damaged(usize),
     /// It has parts of before, and its paths have a `;`: what they have counted is not known.
     Uncounted,
+    /// The bytes of the part at this place spell no value of its kind.
+    Damaged(usize),
     /// The folder failed.
     Device,
     /// Memory was refused.
@@ -108,12 +108,31 @@ fn has_part<S: Shelf>(alloc: Global, object: &Object, shelf: &mut S) -> Result<b
     Ok(false)
 }
 
-// An object with these values in its parts, which nobody has called.
-fn begin_with(
+/// The values with which an object begins of which there is no journal: what the shelf has under the names of its parts, or
+/// those of their kinds where nothing is there. The errors are those of [`NotBegun`] from `Uncounted` on.
+pub fn opening_of<S: Shelf>(
+    alloc: Global,
+    object: &Object,
+    shelf: &mut S,
+) -> Result<Vec<Value>, NotBegun>
+    ensures { IfOk result (λ values. (papers : Papers) → S.holds shelf.new papers →
+        AreLoaded papers object.now.name object.now.parts.items values.items) }
+{
+    if counts(&object.paths) && has_part(alloc, object, shelf)? {
+        return Err(NotBegun::Uncounted);
+    }
+    let mut hand = MemHand::new(alloc);
+    let (_pins, values) = open_parts(alloc, object, shelf, &mut hand)?;
+    Ok(values)
+}
+
+/// An object that nobody has called, with these values in its parts, and so many names before a new one takes the place of
+/// another. The errors are `NoPast`, where a value is not of its part's kind, and `Memory`.
+pub fn begin_first(
     alloc: Global,
     object: Object,
     values: Vec<Value>,
-    guests: Guests,
+    names: u16,
     limits: Limits,
 ) -> Result<Hosted, NotBegun>
     ensures { IfOk result (λ h. h.hall.contents ≡ values.items) }
@@ -125,7 +144,7 @@ fn begin_with(
     };
     let begun = Begun {
         live,
-        guests,
+        guests: Guests::new(alloc, limits.sessions, names)?,
         long: Vec::new(alloc),
         epoch: 1,
         source,
@@ -134,27 +153,6 @@ fn begin_with(
         waiting: limits.waiting,
     };
     Ok(Hosted::new(alloc, begun)?)
-}
-
-/// An object of which there is no journal: its values are what the shelf has under the names of its parts, or those of
-/// their kinds where nothing is there. The errors are those of [`NotBegun`] from `Damaged` on.
-pub fn begin_first<S: Shelf>(
-    alloc: Global,
-    object: Object,
-    shelf: &mut S,
-    names: u16,
-    limits: Limits,
-) -> Result<Hosted, NotBegun>
-    ensures { IfOk result (λ h. (papers : Papers) → S.holds shelf.new papers →
-        AreLoaded papers object.name object.parts.items h.hall.contents) }
-{
-    let mut hand = MemHand::new(alloc);
-    let (_pins, values) = open_parts(alloc, &object, shelf, &mut hand)?;
-    if counts(&object.paths) && has_part(alloc, &object, shelf)? {
-        return Err(NotBegun::Uncounted);
-    }
-    let guests = Guests::new(alloc, limits.sessions, names)?;
-    begin_with(alloc, object, values, guests, limits)
 }
 
 /// An object that goes on behind the text of its journal, in the next epoch: with its values, what its paths have

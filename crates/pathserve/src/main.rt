@@ -16,6 +16,7 @@
 //! where it has no answer. What stands here hands them the command line and the streams.
 #![tactic(auto)]
 
+mod keep;
 mod lack;
 mod serve;
 mod socket;
@@ -27,14 +28,17 @@ use answer_core::explanation::{Telling, explained, explained_audit, explained_ru
 use answer_core::failure::{Failure, exit_status, words_end};
 use answer_core::script::answer_script;
 use answer_core::source::read_source;
-use command_line::request::{Address, Explain, Request, Serving, request_of};
+use command_line::request::{Address, Explain, Keeping, Request, Serving, request_of};
 use exclude_core::analyse::Accepted;
 use explain_line::files::Files;
 use explain_line::kept::Kept;
 use folder_audit::audit::audit_folder;
 use folder_audit::files::FolderFault;
+use keep::keep_objects;
 use lack::{Lack, Lacking, Need, tell_lack};
 use line_core::write_whole;
+use mio::net::{TcpListener as PortListener, UnixListener as PathListener};
+use mio_core::stream::Listener as Ears;
 use serve::{Source, place_of, serve_objects};
 use serve_core::gate::{Gate, Listener};
 use serve_core::serve::Place;
@@ -468,6 +472,79 @@ fn run_folder(rt: &HostRuntime, files: Files<'_>, when: Explain) -> Result<u8, F
     }
 }
 
+// Where a server that keeps objects listens, and its socket, where that has a path.
+fn ears_at(rt: &HostRuntime, address: Address<'_>) -> Result<(Ears, Option<Socket>), Lacking> {
+    match address {
+        Address::Port(port) => match port_at(rt, port) {
+            Ok(listener) => Ok((Ears::Port(listener), None)),
+            Err(error) => Err(Lacking::of(Need::Port(port), error)),
+        },
+        Address::Path(path) => match path_at(rt, path) {
+            Ok((listener, socket)) => Ok((Ears::Path(listener), Some(socket))),
+            Err(error) => Err(Lacking::of(Need::Socket, error)),
+        },
+    }
+}
+
+fn port_at(rt: &HostRuntime, port: u16) -> io::Result<PortListener> {
+    let listener = TcpListener::bind(rt, (Ipv4Addr::LOCALHOST, port))?;
+    listener.set_nonblocking(true)?;
+    Ok(PortListener::from_std(listener))
+}
+
+fn path_at(rt: &HostRuntime, path: &str) -> io::Result<(PathListener, Socket)> {
+    let (listener, socket) = socket_at(rt, path)?;
+    listener.set_nonblocking(true)?;
+    Ok((PathListener::from_std(listener), socket))
+}
+
+// Keeps the objects of a source, where each is accepted.
+fn keep_source(
+    rt: &HostRuntime,
+    source: &[u8],
+    asked: Keeping<'_>,
+    ears: Ears,
+) -> Result<u8, Failure> {
+    match judge(rt.alloc(), source)? {
+        Judged::Ready(objects) => keep_objects(rt, objects, asked, ears, &mut io::writer(rt)),
+        Judged::Told(lines) => {
+            let ended = written(rt, &lines, REFUSED);
+            explained(
+                rt.alloc(),
+                ended,
+                telling_of(rt, asked.explain),
+                asked.file,
+                source,
+                None,
+                &mut rt.stderr(),
+            )
+        }
+    }
+}
+
+// `pathserve keep`.
+fn run_keep(rt: &HostRuntime, asked: Keeping<'_>) -> Result<u8, Failure> {
+    let source = match source_at(rt, asked.file) {
+        Ok(source) => source,
+        Err(lacking) => return Err(told(rt, lacking, asked.file)),
+    };
+    let lock = match lock_folder(rt, asked.folder) {
+        Ok(lock) => lock,
+        Err(lacking) => return Err(told(rt, lacking, asked.folder)),
+    };
+    let (ears, socket) = match ears_at(rt, asked.address) {
+        Ok(found) => found,
+        Err(lacking) => return Err(told(rt, lacking, path_of(asked.address))),
+    };
+    let ended = keep_source(rt, &source, asked, ears);
+    if let Some(socket) = socket {
+        socket.remove(rt);
+    }
+    // Until now nobody else may serve from the folder.
+    drop(lock);
+    ended
+}
+
 // `pathserve audit`.
 fn run_audit(rt: &HostRuntime, files: Files<'_>, when: Explain) -> Result<u8, Failure> {
     if is_folder(rt, files.text) {
@@ -496,6 +573,7 @@ fn run(rt: &HostRuntime, request: Request<'_>) -> Result<u8, Failure> {
         Request::Check(path, when) => run_check(rt, path, when),
         Request::Run(source, text, when) => run_script(rt, Files { source, text }, when),
         Request::Audit(source, text, when) => run_audit(rt, Files { source, text }, when),
+        Request::Keep(asked) => run_keep(rt, asked),
         // `prepare` has it.
         Request::Serve(_) => Ok(0),
     }
