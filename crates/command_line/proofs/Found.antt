@@ -43,8 +43,9 @@ address_made g (requests.Serve s) a b p e m = (s.address, subst (λ w. IsAddress
 address_made g q a b p e m = absurd m
 
 -- the third word of what `keep` asks for is an address, and what is said of lines on the disk is said by a word
-pub keep_made : (g : Given) (q : Request) (a b p : Text) → g.words ≡ a ∷ b ∷ p ∷ [] → Makes keep g q → ((address : Address) × IsAddressOf p address) × ((sync : Sync) × IsSyncOf (sync_of g.sync) sync)
-keep_made g (requests.Keep k) a b p e m = ((k.address, subst (λ w. IsAddressOf w k.address) (third_is k.file.now k.folder.now m.0 a b p (sym m.1 ∙ e)) m.2), (k.sync, m.4))
+pub keep_made : (g : Given) (q : Request) (a b p : Text) → g.words ≡ a ∷ b ∷ p ∷ [] → Makes keep g q
+    → (address : Address) × IsAddressOf p address × (sync : Sync) × IsSyncOf (sync_of g.sync) sync
+keep_made g (requests.Keep k) a b p e m = (k.address, subst (λ w. IsAddressOf w k.address) (third_is k.file.now k.folder.now m.0 a b p (sym m.1 ∙ e)) m.2, k.sync, m.4)
 keep_made g q a b p e m = absurd m
 
 -- whether a flag is there

@@ -290,10 +290,9 @@ pub const KEEP_DIR: &str =
     "The folder of the journals: read at the start, written with each answer";
 
 /// What the options of `keep` are.
-pub const KEEP_AT_ONCE: &str = "Clients connected at the same time, 1 to 10000";
+pub const KEEP_AT_ONCE: &str = "Clients connected at once, 1 to 10000";
 
-pub const KEEP_SYNC: &str =
-    "When an answer is safe: `always`, or so many milliseconds later, 1 to 60000";
+pub const KEEP_SYNC: &str = "Answers are safe `always`, or 1 to 60000 ms later";
 
 /// What is said of a word that should say when an answer is safe.
 pub const SYNC_IS: &str = "WORD is `always`, or a number of milliseconds, 1 to 60000";
@@ -323,7 +322,7 @@ changes. Why a start failed is always told.
 
 PLACE, and what a client says, are as for `pathserve serve`.
 
-Example: a second start finds what the first one left.
+Example: kill it, and start it again: the cell holds what it held.
 
   $ pathserve keep examples/objects/cell.pp /tmp/cell 7000
   listening 7000

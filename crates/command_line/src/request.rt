@@ -491,7 +491,7 @@ fn kept<'a>(keep: &ArgMatches<'a>, address: Address<'a>, sync: Sync) -> Request<
     requires { (g : Given) × Holds keep_verb g (rows_of (found_of keep.now)) }
     ensures { (g : Given) → Holds keep_verb g (rows_of (found_of keep.now)) → (word : Text) →
         first_value (found_of keep.now) (codes "PLACE") ≡ Some word → IsAddressOf word address.entry →
-        IsSyncOf (sync_of g.sync) sync.entry → Makes keep_verb g result }
+        IsSyncOf (sync_of g.sync) sync → Makes keep_verb g result }
 {
     Request::Keep(Keeping {
         file: word_of(keep, "FILE"),
