@@ -4,6 +4,8 @@
 #[cfg(test)]
 mod chains;
 #[cfg(test)]
+mod clients;
+#[cfg(test)]
 mod journals;
 #[cfg(test)]
 mod recovered;
