@@ -23,7 +23,8 @@ use recover_core::recover::{House, RecoverFault};
 use recover_text::epochs::EpochFault;
 use recover_text::said::push_fault;
 use std::alloc::{AllocError, Global};
-use std::io::Write;
+use std::fs;
+use std::io::{self, Write};
 use table_core::table::Table;
 
 /// So many names an object knows before a new one takes the place of another.
@@ -277,6 +278,24 @@ fn tell_entries<W: Write>(alloc: Global, table: &Table, writer: &mut W) -> Resul
         say(writer, &line)?;
     }
     Ok(ACCEPTED)
+}
+
+/// Whether a folder has a journal of an object that is kept: a file `NAME.journal` that is not empty. The error is that of
+/// the system, or a want of memory.
+pub fn is_kept(rt: &HostRuntime, folder: &str) -> io::Result<bool> {
+    for entry in fs::read_dir(rt, folder)? {
+        let entry = entry?;
+        if entry.file_name().ends_with(".journal") && is_begun(rt, folder, entry.file_name())? {
+            return Ok(true);
+        }
+    }
+    Ok(false)
+}
+
+// Whether a file of a folder is not empty.
+fn is_begun(rt: &HostRuntime, folder: &str, name: &str) -> io::Result<bool> {
+    let path = format!(in rt.alloc(); "{folder}/{name}")?;
+    Ok(fs::metadata(rt, path.as_str())?.len() > 0)
 }
 
 /// `pathserve keep`: serves these objects, which nobody else serves from the folder, to who connects at the listener, until

@@ -34,7 +34,7 @@ use explain_line::files::Files;
 use explain_line::kept::Kept;
 use folder_audit::audit::audit_folder;
 use folder_audit::files::FolderFault;
-use keep::keep_objects;
+use keep::{is_kept, keep_objects};
 use lack::{Lack, Lacking, Need, tell_lack};
 use line_core::write_whole;
 use mio::net::{TcpListener as PortListener, UnixListener as PathListener};
@@ -311,7 +311,16 @@ fn path_of(address: Address<'_>) -> &str {
 // Prepares a server. Where it lacks something that is told.
 fn prepare_server(rt: &HostRuntime, asked: Serving<'_>) -> Result<Prepared, Failure> {
     match take_needs(rt, asked) {
-        Ok(started) => Ok(Prepared::Serves(started, asked.stops)),
+        Ok(started) => {
+            if is_kept(rt, asked.folder)? {
+                let line = format!(in rt.alloc();
+                    "{} is kept: use pathserve keep\n",
+                    asked.folder
+                )?;
+                return Ok(Prepared::Ended(written(rt, line.as_bytes(), REFUSED)?));
+            }
+            Ok(Prepared::Serves(started, asked.stops))
+        }
         Err(lacking) => {
             let name = match &lacking.lack {
                 Some(
