@@ -310,17 +310,12 @@ fn path_of(address: Address<'_>) -> &str {
 
 // Prepares a server. Where it lacks something that is told.
 fn prepare_server(rt: &HostRuntime, asked: Serving<'_>) -> Result<Prepared, Failure> {
+    if is_kept(rt, asked.folder) {
+        let line = format!(in rt.alloc(); "{} is kept: use pathserve keep\n", asked.folder)?;
+        return Ok(Prepared::Ended(written(rt, line.as_bytes(), REFUSED)?));
+    }
     match take_needs(rt, asked) {
-        Ok(started) => {
-            if is_kept(rt, asked.folder)? {
-                let line = format!(in rt.alloc();
-                    "{} is kept: use pathserve keep\n",
-                    asked.folder
-                )?;
-                return Ok(Prepared::Ended(written(rt, line.as_bytes(), REFUSED)?));
-            }
-            Ok(Prepared::Serves(started, asked.stops))
-        }
+        Ok(started) => Ok(Prepared::Serves(started, asked.stops)),
         Err(lacking) => {
             let name = match &lacking.lack {
                 Some(
