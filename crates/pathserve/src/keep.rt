@@ -2,6 +2,7 @@
 
 use answer_core::answer::{ACCEPTED, REFUSED};
 use answer_core::failure::Failure;
+use audit_core::verdict::Fault as TraceFault;
 use command_line::request::{Address, Keeping, Sync};
 use decl_core::object::Object;
 use device_core::dir_shelf::DirShelf;
@@ -20,8 +21,6 @@ use mio_core::journals::Journals;
 use mio_core::stream::Listener;
 use mio_core::wires::{Serving, Wires};
 use recover_core::recover::{House, RecoverFault};
-use recover_text::epochs::EpochFault;
-use recover_text::said::push_fault;
 use std::alloc::{AllocError, Global};
 use std::fs;
 use std::io::{self, Write};
@@ -64,20 +63,32 @@ fn object_line(alloc: Global, name: &str, said: &[u8]) -> Result<Vec<u8>, AllocE
     Ok(line)
 }
 
+// What is said of a fault of a line.
+fn fault_text(alloc: Global, fault: TraceFault) -> Result<String, AllocError> {
+    match fault {
+        TraceFault::Bad => format!(in alloc; "bad"),
+        TraceFault::Breaks(path) => format!(in alloc; "breaks path {path}"),
+        TraceFault::Wrong => format!(in alloc; "wrong reply"),
+        TraceFault::Stranger => format!(in alloc; "not running"),
+    }
+}
+
 // The line of a journal that is refused.
 fn refused_line(alloc: Global, name: &str, fault: RecoverFault) -> Result<Vec<u8>, AllocError> {
-    match fault {
+    let line = match fault {
         RecoverFault::Changed => {
-            object_line(alloc, name, b" was changed: start the old FILE once\n")
+            format!(in alloc; "object {name} was changed: start the old FILE once\n")?
         }
-        RecoverFault::Past => object_line(alloc, name, b" past does not fit\n"),
-        fault => {
-            let file = format!(in alloc; "{name}.journal")?;
-            let mut line = name.as_bytes().to_vec(alloc)?;
-            push_fault(&mut line, file.as_bytes(), EpochFault::Epoch(0, fault))?;
-            Ok(line)
+        RecoverFault::Past => format!(in alloc; "object {name} past does not fit\n")?,
+        RecoverFault::Front(line) | RecoverFault::Contradicts(line) => {
+            format!(in alloc; "{name}.journal line {line} bad\n")?
         }
-    }
+        RecoverFault::Line(line, fault) => {
+            let said = fault_text(alloc, fault)?;
+            format!(in alloc; "{name}.journal line {line} {said}\n")?
+        }
+    };
+    line.as_bytes().to_vec(alloc)
 }
 
 // The line that says why an object is not begun with.
