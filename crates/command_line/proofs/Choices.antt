@@ -1,5 +1,5 @@
 -- The options that take a value: which subcommand has which, and what they may say.
-use Rattle.std.proofs.Common.{◌≡◌, ◌∙◌, ◌++◌, Bool, true, false, List, [], ◌∷◌, Option, Some, refl, codes}
+use Rattle.std.proofs.Common.{◌≡◌, ◌++◌, Bool, true, false, Option, Some, codes}
 use Rattle.std.specs.Prelude.{⊤}
 use Rattle.clap.specs.Walk.{Rule, Text}
 use Rattle.command_line.specs.Forms.{Verb, paths, check, run, audit, serve, keep, Given, IsNumber, has_sessions, has_stop, has_keeping}

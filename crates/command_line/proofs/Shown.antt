@@ -1,5 +1,5 @@
 -- Words that ask for help, or for the version, before any mistake are answered by it.
-use Rattle.std.proofs.Common.{◌≡◌, ◌∙◌, ◌++◌, not, Bool, true, false, ℕ, List, [], ◌∷◌, Option, Some, None, refl, sym, ap, subst, bytes_eq, codes, inl, inr, ◌⊎◌, option_map}
+use Rattle.std.proofs.Common.{◌≡◌, ◌∙◌, ◌++◌, not, Bool, true, false, ℕ, List, [], ◌∷◌, Option, Some, None, refl, sym, ap, subst, bytes_eq, codes, inl, inr, ◌⊎◌}
 use Rattle.clap.specs.Walk.{Row, Text, Walk, idle, nothing_held, used, walked}
 use Rattle.clap.specs.Kinds.{Kinds as Faults, or_else}
 use Rattle.clap.specs.Kinds.{HasKind}
@@ -13,7 +13,7 @@ use Rattle.clap.proofs.WalkLemmas.{both}
 use Rattle.command_line.specs.Forms.{Verb, paths, check, run, audit, serve, keep, name_of, Given, nothing, is_bare, Gives, ends, word, explain, silence, stop, sessions, joined, at_once, at_once_joined, sync, sync_joined, hyphens as ends_flags, Topic, help, version, word_for, kind_for, has_no_hyphens, Shows, of_program, of_verb}
 use Rattle.command_line.specs.Commands.{program}
 use Rattle.command_line.proofs.Turns.{long_turn, neither, some_fault}
-use Rattle.command_line.proofs.Levels.{rules, leaf, top, whole, place_after, place, text_row, flag}
+use Rattle.command_line.proofs.Levels.{rules, leaf, top, whole, place_after, place, flag}
 use Rattle.command_line.proofs.Choices.{Choice, of_sessions, of_at_once, of_sync, id_of, word_of, joined_of, built_of, has_choice, chosen, Allows}
 use Rattle.command_line.proofs.Rows.{seen}
 use Rattle.command_line.proofs.Steps.{held, at, rows_now, settle, flag_seen, Stands, flag_use, choice_use}
