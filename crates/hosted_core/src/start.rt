@@ -1,5 +1,8 @@
 //! How an object that was served before is begun again.
 
+ghost use Rattle.std.specs.Prelude.{IfOk, IfSome};
+ghost use Rattle.hosted_core.specs.Again.{BeginsAgain};
+
 use crate::hosted::{Begun, Hosted};
 use decl_core::object::Object;
 use guest_core::guests::Guests;
@@ -45,7 +48,9 @@ pub fn begin_again(
     ended: Ended,
     source: u64,
     limits: Limits,
-) -> Result<Option<Hosted>, AllocError> {
+) -> Result<Option<Hosted>, AllocError>
+    ensures { IfOk result (λ found. IfSome found (λ s. BeginsAgain object ended limits s)) }
+{
     let Ended {
         epoch,
         base,
