@@ -18,8 +18,9 @@ use Rattle.front_core.specs.Front.{Every, IsKey, IsLong, IsRun, IsCarried, IsCli
 use Rattle.front_core.specs.Text.{rows, object_words, source_words, base_words, run_words, carried_words, client_words, kept_words}
 use Rattle.front_read.specs.Text.{begins, goes_on, goes_on_with_calls, goes_on_behind_parts}
 use Rattle.front_read.specs.Rows.{IsRow, NoRow, AreRows, Breaks, row_words, has_verb}
-use Rattle.front_read.specs.Parts.{IsValueOf, AreParts, NoParts, IsCut}
-use Rattle.front_read.specs.Read.{OnClients, OnCalls, OnBase, OnPast, BehindParts, BehindSource, BehindObject, OnFront, NoClients, NoCalls, NoBase, NoPast, NoneBehindSource, NoneBehindObject, NoFront}
+use Rattle.front_read.specs.Parts.{IsValueOf, AreParts}
+use Rattle.front_read.specs.Read.{OnClients, OnCalls, OnBase, OnPast, BehindParts, BehindSource, BehindObject, OnFront}
+use Rattle.front_read.proofs.None.{NoClients, NoCalls, NoBase, NoPast, NoneBehindSource, NoneBehindObject, NoFront, NoParts, IsCut}
 use Rattle.front_read.proofs.Clear.{object_clear, source_clear, base_clear, part_clear, run_clear, carried_clear, client_clear, kept_clear}
 use Rattle.front_read.proofs.Standing.{AreClear}
 use Rattle.front_read.proofs.Unique.{line_cut, row_cut, IsOnce, epoch_once, base_once, source_once, part_once, run_once, carried_once, client_once, kept_once}

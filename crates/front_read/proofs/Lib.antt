@@ -3,6 +3,8 @@ mod Calling
 mod Clear
 mod Forms
 mod Levels
+mod Moving
+mod None
 mod Numerals
 mod Parting
 mod Rowing

@@ -1,5 +1,5 @@
 -- What is read of a front, from its parts.
-use Rattle.std.proofs.Common.{◌≡◌, ℕ, ◌-◌, ◌≤◌, true, false, List, [], ◌∷◌, ◌++◌, length, take, refl, sym, ap, ◌∙◌, subst, append_assoc, arith, map}
+use Rattle.std.proofs.Common.{◌≡◌, ℕ, ◌-◌, ◌≤◌, true, false, List, [], ◌∷◌, ◌++◌, length, take, inr, refl, sym, ap, ◌∙◌, subst, append_assoc, arith, map}
 use Rattle.std.specs.Prelude.{Result, Ok, Err, IfOk, MatchResult, codes}
 use Rattle.std.specs.Borrow.{Bor}
 use Rattle.std.proofs.lemmas.List.{length-append}
@@ -17,26 +17,25 @@ use Rattle.front_core.specs.declared.front.CarriedCall.{CarriedCall}
 use Rattle.front_core.specs.declared.front.Client.{Client}
 use Rattle.front_core.specs.declared.front.KeptCall.{KeptCall}
 use Rattle.front_read.specs.Text.{goes_on}
-use Rattle.front_read.specs.Rows.{IsRow, NoRow, AreRows, has_verb}
-use Rattle.front_read.specs.Parts.{IsValueOf, AreParts, NoParts, IsCut, TakesParts}
-use Rattle.front_read.specs.Read.{OnFront, NoFront, AFront, FrontWith, FrontOf, FrontIn, FrontAt, OnClients, NoClients, TakesClients, TakesCalls, TakesBase, TakesPast}
-use Rattle.front_read.proofs.Levels.{no_part, no_parts, behind_none, source_none, front_none, front_same, goes_break, no_calls, none_past}
+use Rattle.front_read.specs.Rows.{IsRow, AreRows, has_verb}
+use Rattle.front_read.specs.Parts.{IsValueOf, AreParts}
+use Rattle.front_read.specs.Read.{OnFront, AFront, FrontWith, FrontOf, FrontIn, FrontAt, OnClients, TakesClients, TakesCalls, TakesBase, TakesPast}
+use Rattle.front_read.proofs.None.{NoFront}
+use Rattle.front_read.specs.Fault.{StuckClients, row_again, clients_stuck, base_stuck, past_stuck, source_stuck, object_stuck, TakesParts}
+use Rattle.front_read.proofs.Levels.{front_same}
 
 -- the parts, one more
 pub parts_more : (part : List ℕ × Kind) (parts : List (List ℕ × Kind)) (text mid : List ℕ) (v : Contents) (old now new : List Contents) (found : Result (Bor (List ℕ)) (Bor (List ℕ))) → IsName part.0 → IsRow (IsValueOf part.1) (part_words part.0) text v mid
     → now ≡ old ++ v ∷ [] → TakesParts parts mid now found new → TakesParts (part ∷ parts) text old found new
 parts_more part parts text mid v old now new (Ok rest) name row one takes =
     (v ∷ takes.0, takes.1 ∙ ap (λ xs. xs ++ takes.0) one ∙ append_assoc old (v ∷ []) takes.0, (mid, row, takes.2))
-parts_more part parts text mid v old now new (Err rest) name row one takes = no_parts part parts text mid rest.now v name row takes
-
-pub parts_end : (part : List ℕ × Kind) (parts : List (List ℕ × Kind)) (text : List ℕ) → NoRow (IsValueOf part.1) (part_words part.0) text → NoParts (part ∷ parts) text × IsCut text text
-parts_end part parts text none = (no_part part parts text none, record { before = []; cut = refl })
+parts_more part parts text mid v old now new (Err rest) name row one takes = inr (v, mid, row, takes)
 
 -- the front, one level more
 front_more : (o : ObjectForm) (epoch source : ℕ) (text mid : List ℕ) (vs : List Contents) (found : AFront) → HasNames o → AreParts o.parts text vs mid → FrontWith o epoch source vs mid found → FrontOf o epoch source text found
 front_more o epoch source text mid vs (Ok r) named are with =
     (record { mid = mid; parts_are = subst (λ xs. AreParts o.parts text xs mid) (sym with.3) are; past_on = with.0 }, with.1, with.2)
-front_more o epoch source text mid vs (Err rest) named are with = behind_none o text mid rest.now vs named are with
+front_more o epoch source text mid vs (Err rest) named are with = past_stuck mid vs are with
 
 pub front_more_ok : {E : Type 0} (o : ObjectForm) (epoch source : ℕ) (text mid : List ℕ) (vs : List Contents) (found : Result AFront E) → HasNames o → AreParts o.parts text vs mid → IfOk found (FrontWith o epoch source vs mid) → IfOk found (FrontOf o epoch source text)
 front_more_ok o epoch source text mid vs (Ok found) named are with = front_more o epoch source text mid vs found named are with
@@ -45,7 +44,7 @@ front_more_ok o epoch source text mid vs (Err e) named are with = tt
 source_more : (o : ObjectForm) (epoch source : ℕ) (text mid : List ℕ) (found : AFront) → IsRow IsLong source_words text source mid → FrontOf o epoch source mid found → FrontIn o epoch text found
 source_more o epoch source text mid (Ok r) row of =
     (record { mid = mid; source_is = subst (λ n. IsRow IsLong source_words text n mid) (sym of.2) row; parts_on = of.0 }, of.1)
-source_more o epoch source text mid (Err rest) row of = source_none o text mid rest.now source row of
+source_more o epoch source text mid (Err rest) row of = source_stuck mid source row of
 
 pub source_more_ok : {E : Type 0} (o : ObjectForm) (epoch source : ℕ) (text mid : List ℕ) (found : Result AFront E) → IsRow IsLong source_words text source mid → IfOk found (FrontOf o epoch source mid) → IfOk found (FrontIn o epoch text)
 source_more_ok o epoch source text mid (Ok found) row of = source_more o epoch source text mid found row of
@@ -53,14 +52,14 @@ source_more_ok o epoch source text mid (Err e) row of = tt
 
 object_more : (o : ObjectForm) (epoch : ℕ) (text mid : List ℕ) (found : AFront) → HasNames o → IsRow IsKey (object_words o.name) text epoch mid → FrontIn o epoch mid found → FrontAt o text found
 object_more o epoch text mid (Ok r) named row of = record { mid = mid; epoch_is = subst (λ n. IsRow IsKey (object_words o.name) text n mid) (sym of.1) row; source_on = of.0 }
-object_more o epoch text mid (Err rest) named row of = front_none o text mid rest.now epoch named row of
+object_more o epoch text mid (Err rest) named row of = object_stuck mid epoch row of
 
 pub object_more_ok : {E : Type 0} (o : ObjectForm) (epoch : ℕ) (text mid : List ℕ) (found : Result AFront E) → HasNames o → IsRow IsKey (object_words o.name) text epoch mid → IfOk found (FrontIn o epoch mid) → IfOk found (FrontAt o text)
 object_more_ok o epoch text mid (Ok found) named row of = object_more o epoch text mid found named row of
 object_more_ok o epoch text mid (Err e) named row of = tt
 
 -- what was found stands there
-parts_stand : (parts : List (List ℕ × Kind)) (text mid : List ℕ) (vs : List Contents) → AreParts parts text vs mid → (text ≡ lines_of (parts_words parts vs) ++ mid) × (map kind_of vs ≡ map (λ p. p.1) parts) × Every IsContents vs
+pub parts_stand : (parts : List (List ℕ × Kind)) (text mid : List ℕ) (vs : List Contents) → AreParts parts text vs mid → (text ≡ lines_of (parts_words parts vs) ++ mid) × (map kind_of vs ≡ map (λ p. p.1) parts) × Every IsContents vs
 parts_stand [] text mid [] are = (are, refl, tt)
 parts_stand [] text mid (v ∷ vs) are = absurd are
 parts_stand (part ∷ parts) text mid [] are = absurd are
@@ -103,7 +102,7 @@ front_stands o text rest f on =
     )
 
 -- what stands there is a front
-parts_there : (parts : List (List ℕ × Kind)) (mid : List ℕ) (vs : List Contents) → map kind_of vs ≡ map (λ p. p.1) parts → Every IsContents vs → AreParts parts (lines_of (parts_words parts vs) ++ mid) vs mid
+pub parts_there : (parts : List (List ℕ × Kind)) (mid : List ℕ) (vs : List Contents) → map kind_of vs ≡ map (λ p. p.1) parts → Every IsContents vs → AreParts parts (lines_of (parts_words parts vs) ++ mid) vs mid
 parts_there [] mid [] kinds each = refl
 parts_there [] mid (v ∷ vs) kinds each = absurd cc
 parts_there (part ∷ parts) mid [] kinds each = absurd cc
@@ -160,7 +159,7 @@ rest_short text front rest is = let l = length-append front rest in let e = ap l
 pub front_long : (text front rest : List ℕ) → text ≡ front ++ rest → length text - length rest ≡ length front
 front_long text front rest is = let l = length-append front rest in let e = ap length is in omega (arith, l, e)
 
-take_append : (front rest : List ℕ) → take (length front) (front ++ rest) ≡ front
+pub take_append : (front rest : List ℕ) → take (length front) (front ++ rest) ≡ front
 take_append [] rest = refl
 take_append (b ∷ front) rest = ap (λ t. b ∷ t) (take_append front rest)
 
@@ -190,14 +189,14 @@ pub end_takes : (o : ObjectForm) (text mid rest : List ℕ) (cs : List Client) (
 end_takes o text mid rest cs ks (Ok r) named p q ends =
     subst (λ t. OnClients o text cs ks t) (sym ends.0) (record { mid = mid; clients_are = p.0; kept_are = q.0; ends = ends.1 })
 end_takes o text mid rest cs ks (Err r) named p q ends =
-    subst (λ t. NoClients o text × IsCut text t) (sym ends.0) (goes_break o text mid rest cs ks named p.0 p.1 q.0 q.1 ends.1)
+    subst (StuckClients o text) (sym ends.0) (row_again mid cs ks p.0 p.1 q.0 q.1 ends.1)
 
 pub calls_take : (o : ObjectForm) (text mid : List ℕ) (xs : List CarriedCall) (cs : List Client) (ks : List KeptCall) (found : Result (Bor (List ℕ)) (Bor (List ℕ))) → HasNames o
     → AreRows (IsCarried o) (codes "carried") (carried_words o) text xs mid × (has_verb (codes "carried") mid ≡ false) → TakesClients o mid found cs ks → TakesCalls o text found xs cs ks
 calls_take o text mid xs cs ks (Ok r) named p takes = record { mid = mid; carried_are = p.0; clients_on = takes }
-calls_take o text mid xs cs ks (Err r) named p takes = no_calls o text mid r.now xs named p.0 p.1 takes
+calls_take o text mid xs cs ks (Err r) named p takes = clients_stuck mid xs p.0 p.1 takes
 
 pub past_takes : (o : ObjectForm) (text mid : List ℕ) (runs : List PastRun) (xs : List CarriedCall) (cs : List Client) (ks : List KeptCall) (found : Result (ℕ × Bor (List ℕ)) (Bor (List ℕ))) → HasNames o
     → AreRows (IsRun o) (codes "past") (run_words o) text runs mid × (has_verb (codes "past") mid ≡ false) → TakesBase o mid found xs cs ks → TakesPast o text found runs xs cs ks
 past_takes o text mid runs xs cs ks (Ok r) named p takes = record { mid = mid; past_is = p.0; base_on = takes }
-past_takes o text mid runs xs cs ks (Err r) named p takes = none_past o text mid r.now runs named p.0 p.1 takes
+past_takes o text mid runs xs cs ks (Err r) named p takes = base_stuck mid runs p.0 p.1 takes

@@ -5,4 +5,5 @@ pub mod Calls
 pub mod Answers
 pub mod Parts
 pub mod Row
+pub mod Fault
 pub mod Read

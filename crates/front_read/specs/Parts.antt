@@ -1,6 +1,5 @@
 -- The values of parts, as words tell them.
-use Rattle.std.specs.Prelude.{◌≡◌, ℕ, List, [], ◌∷◌, ◌++◌, Option, Some, IfSome, Result, MatchResult}
-use Rattle.std.specs.Borrow.{Bor}
+use Rattle.std.specs.Prelude.{◌≡◌, ℕ, List, [], ◌∷◌, Option, Some, IfSome}
 use Rattle.hex.specs.Hex.{encode_lower}
 use Rattle.value_core.specs.declared.kind.Kind.{Kind}
 use Rattle.value_core.specs.Contents.{Contents, IsContents, kind_of}
@@ -17,11 +16,6 @@ IsHexOf kind word found =
     ((value : Contents) → IsValueOf kind value → word ≡ encode_lower (spelling value) → found ≡ Some value)
     × IfSome found (IsValueOf kind)
 
--- a text ends with this rest
-pub record IsCut (text rest : List ℕ) : Type 0 where
-  pub before : List ℕ
-  pub cut : text ≡ before ++ rest
-
 -- the rows of these parts, one for each, with these values
 abbrev pub AreParts : List (List ℕ × Kind) → List ℕ → List Contents → List ℕ → Type 0
 AreParts [] text [] rest = text ≡ rest
@@ -29,14 +23,3 @@ AreParts [] text (value ∷ values) rest = ⊥
 AreParts (part ∷ parts) text [] rest = ⊥
 AreParts (part ∷ parts) text (value ∷ values) rest =
     (mid : List ℕ) × IsRow (IsValueOf part.1) (part_words part.0) text value mid × AreParts parts mid values rest
-
--- no rows of these parts stand here
-abbrev pub NoParts : List (List ℕ × Kind) → List ℕ → Type 0
-NoParts parts text = (values : List Contents) (rest : List ℕ) → AreParts parts text values rest → ⊥
-
--- the rows of these parts were taken, or none stand there: it is seen at a rest of the text
-abbrev pub TakesParts : List (List ℕ × Kind) → List ℕ → List Contents → Result (Bor (List ℕ)) (Bor (List ℕ)) →
-    List Contents → Type 0
-TakesParts parts text old found new = MatchResult found
-    (λ rest. (values : List Contents) × (new ≡ old ++ values) × AreParts parts text values rest.now)
-    (λ rest. NoParts parts text × IsCut text rest.now)

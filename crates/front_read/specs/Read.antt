@@ -1,5 +1,5 @@
 -- The front at the beginning of a text.
-use Rattle.std.specs.Prelude.{◌≡◌, ℕ, suc, false, List, ◌++◌, codes, Result, MatchResult}
+use Rattle.std.specs.Prelude.{◌≡◌, ℕ, false, List, codes, Result, MatchResult}
 use Rattle.std.specs.Borrow.{Bor}
 use Rattle.value_core.specs.Contents.{Contents}
 use Rattle.decl_core.specs.ObjectForm.{ObjectForm}
@@ -11,9 +11,10 @@ use Rattle.front_core.specs.declared.front.KeptCall.{KeptCall}
 use Rattle.front_core.specs.Front.{IsRun, IsCarried, IsClient, IsKept, IsKey, IsLong, Opening, opening_of}
 use Rattle.front_core.specs.Text.{run_words, carried_words, client_words, kept_words, object_words, source_words}
 use Rattle.front_core.specs.Text.{base_words}
-use Rattle.front_read.specs.Text.{goes_on, feeds_in}
+use Rattle.front_read.specs.Text.{goes_on}
 use Rattle.front_read.specs.Rows.{IsRow, AreRows}
-use Rattle.front_read.specs.Parts.{AreParts, IsCut}
+use Rattle.front_read.specs.Parts.{AreParts}
+use Rattle.front_read.specs.Fault.{StuckClients, StuckCalls, StuckBase, StuckPast, StuckSource, StuckObject, StuckFront}
 
 -- from the rows of the clients on; behind them no row of a front stands
 pub record OnClients (o : ObjectForm) (text : List ℕ) (clients : List Client) (kept : List KeptCall)
@@ -66,63 +67,28 @@ pub record OnFront (o : ObjectForm) (text : List ℕ) (f : Opening) (rest : List
   pub epoch_is : IsRow IsKey (object_words o.name) text f.epoch mid
   pub source_on : BehindObject o mid f rest
 
--- no rows from those of the clients on stand here, and so on
-abbrev pub NoClients : ObjectForm → List ℕ → Type 0
-NoClients o text =
-    (clients : List Client) (kept : List KeptCall) (rest : List ℕ) → OnClients o text clients kept rest → ⊥
-
-abbrev pub NoCalls : ObjectForm → List ℕ → Type 0
-NoCalls o text = (carried : List CarriedCall) (clients : List Client) (kept : List KeptCall) (rest : List ℕ) →
-    OnCalls o text carried clients kept rest → ⊥
-
-abbrev pub NoBase : ObjectForm → List ℕ → Type 0
-NoBase o text =
-    (base : ℕ) (carried : List CarriedCall) (clients : List Client) (kept : List KeptCall) (rest : List ℕ) →
-    OnBase o text base carried clients kept rest → ⊥
-
-abbrev pub NoPast : ObjectForm → List ℕ → Type 0
-NoPast o text = (past : List PastRun) (base : ℕ) (carried : List CarriedCall) (clients : List Client)
-    (kept : List KeptCall) (rest : List ℕ) → OnPast o text past base carried clients kept rest → ⊥
-
-abbrev pub NoneBehindSource : ObjectForm → List ℕ → Type 0
-NoneBehindSource o text = (f : Opening) (rest : List ℕ) → BehindSource o text f rest → ⊥
-
-abbrev pub NoneBehindObject : ObjectForm → List ℕ → Type 0
-NoneBehindObject o text = (f : Opening) (rest : List ℕ) → BehindObject o text f rest → ⊥
-
-abbrev pub NoFront : ObjectForm → List ℕ → Type 0
-NoFront o text = (f : Opening) (rest : List ℕ) → OnFront o text f rest → ⊥
-
--- this is the number, from 1, of the line with which a rest of a text begins
-abbrev pub IsLineAt : List ℕ → List ℕ → ℕ → Type 0
-IsLineAt text rest line = (before : List ℕ) × (text ≡ before ++ rest) × (line ≡ suc (feeds_in before))
-
--- this is the number of a line of a text, or of the one behind its last
-abbrev pub IsLine : List ℕ → ℕ → Type 0
-IsLine text line = (rest : List ℕ) × IsLineAt text rest line
-
--- these rows were taken, or none of the kind stand there: it is seen at a rest of the text
+-- these rows were taken, or at a rest of the text nothing goes on
 abbrev pub TakesClients : ObjectForm → List ℕ → Result (Bor (List ℕ)) (Bor (List ℕ)) → List Client → List KeptCall →
     Type 0
 TakesClients o text found clients kept =
-    MatchResult found (λ rest. OnClients o text clients kept rest.now) (λ rest. NoClients o text × IsCut text rest.now)
+    MatchResult found (λ rest. OnClients o text clients kept rest.now) (λ rest. StuckClients o text rest.now)
 
 abbrev pub TakesCalls : ObjectForm → List ℕ → Result (Bor (List ℕ)) (Bor (List ℕ)) → List CarriedCall → List Client →
     List KeptCall → Type 0
 TakesCalls o text found carried clients kept = MatchResult found (λ rest. OnCalls o text carried clients kept rest.now)
-    (λ rest. NoCalls o text × IsCut text rest.now)
+    (λ rest. StuckCalls o text rest.now)
 
 abbrev pub TakesBase : ObjectForm → List ℕ → Result (ℕ × Bor (List ℕ)) (Bor (List ℕ)) → List CarriedCall →
     List Client → List KeptCall → Type 0
 TakesBase o text found carried clients kept =
     MatchResult found (λ r. OnBase o text r.0 carried clients kept r.1.now)
-    (λ rest. NoBase o text × IsCut text rest.now)
+    (λ rest. StuckBase o text rest.now)
 
 abbrev pub TakesPast : ObjectForm → List ℕ → Result (ℕ × Bor (List ℕ)) (Bor (List ℕ)) → List PastRun →
     List CarriedCall → List Client → List KeptCall → Type 0
 TakesPast o text found past carried clients kept =
     MatchResult found (λ r. OnPast o text past r.0 carried clients kept r.1.now)
-    (λ rest. NoPast o text × IsCut text rest.now)
+    (λ rest. StuckPast o text rest.now)
 
 -- a front and what stands behind it, or what stands from the row on at which none goes on
 abbrev pub AFront : Type 0
@@ -133,21 +99,21 @@ abbrev pub FrontWith : ObjectForm → ℕ → ℕ → List Contents → List ℕ
 FrontWith o epoch source parts text found = MatchResult found
     (λ r. BehindParts o text (opening_of r.0) r.1.now × (r.0.epoch ≡ epoch) × (r.0.source ≡ source)
     × (r.0.parts.items ≡ parts))
-    (λ rest. NoPast o text × IsCut text rest.now)
+    (λ rest. StuckPast o text rest.now)
 
 -- from those of the parts on
 abbrev pub FrontOf : ObjectForm → ℕ → ℕ → List ℕ → AFront → Type 0
 FrontOf o epoch source text found = MatchResult found
     (λ r. BehindSource o text (opening_of r.0) r.1.now × (r.0.epoch ≡ epoch) × (r.0.source ≡ source))
-    (λ rest. NoneBehindSource o text × IsCut text rest.now)
+    (λ rest. StuckSource o text rest.now)
 
 -- from that of the source on
 abbrev pub FrontIn : ObjectForm → ℕ → List ℕ → AFront → Type 0
 FrontIn o epoch text found = MatchResult found
     (λ r. BehindObject o text (opening_of r.0) r.1.now × (r.0.epoch ≡ epoch))
-    (λ rest. NoneBehindObject o text × IsCut text rest.now)
+    (λ rest. StuckObject o text rest.now)
 
 -- all of it
 abbrev pub FrontAt : ObjectForm → List ℕ → AFront → Type 0
 FrontAt o text found =
-    MatchResult found (λ r. OnFront o text (opening_of r.0) r.1.now) (λ rest. NoFront o text × IsCut text rest.now)
+    MatchResult found (λ r. OnFront o text (opening_of r.0) r.1.now) (λ rest. StuckFront o text rest.now)

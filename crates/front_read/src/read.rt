@@ -5,10 +5,9 @@ ghost use Rattle.decl_core.specs.ObjectMap.{object_of, parts_of};
 ghost use Rattle.trace_core.specs.Laws.{HasNames};
 ghost use Rattle.front_core.specs.Front.{IsRun, IsCarried, IsClient, IsKept, HasRows, Opening, opening_of};
 ghost use Rattle.front_core.specs.Text.{run_words, carried_words, client_words, kept_words, front_text};
-ghost use Rattle.front_read.specs.Text.{goes_on as goes_on_in};
+ghost use Rattle.front_read.specs.Text.{goes_on as goes_on_in, feeds_in as feeds};
 ghost use Rattle.front_read.specs.Rows.{TakesAll};
-ghost use Rattle.front_read.specs.Parts.{TakesParts, IsCut};
-ghost use Rattle.front_read.specs.Read.{IsLineAt, IsLine};
+ghost use Rattle.front_read.specs.Fault.{IsFirstFault, TakesParts};
 ghost use Rattle.front_read.specs.Read.{TakesClients, TakesCalls, TakesBase, TakesPast, FrontWith, FrontOf, FrontIn, FrontAt};
 
 use crate::carried::take_carried;
@@ -340,7 +339,7 @@ fn front_at<'a>(
 }
 
 /// The front of an epoch of this object at the beginning of a text, and how many bytes it has; or the number of the
-/// line, from 1, at which no front goes on.
+/// first line, from 1, at which no front goes on.
 ///
 /// Each line is spelled as `front_core::write` spells it, and no other spelling is read. The front ends before the first
 /// line that does not begin with `object`, `source`, `part`, `past`, `base`, `carried`, `client` or `kept` and a space:
@@ -362,8 +361,8 @@ pub fn read_front(
         text.now ≡ front_text (object_of object.now) f ++ rest →
         IfOk result (λ found. MatchResult found
         (λ r. (opening_of r.0 ≡ f) × (r.1 ≡ length (front_text (object_of object.now) f))) (λ _. ⊥)) }
-    // The line of a fault is one of the text, or behind its last.
-    ensures line { IfOk result (λ found. IfErr found (λ line. IsLine text.now line)) }
+    // A fault is told of the first line at which no front goes on.
+    ensures fault { IfOk result (λ found. IfErr found (λ line. IsFirstFault (object_of object.now) text.now line)) }
 {
     object_has_names(object);
     match front_at(alloc, object, text)? {
@@ -377,8 +376,8 @@ pub fn read_front(
 
 // The number of the line, from 1, with which a rest of a text begins.
 fn line_before(text: &[u8], rest: &[u8]) -> u64
-    requires { IsCut text.now rest.now }
-    ensures { IsLineAt text.now rest.now result }
+    requires { length rest.now ≤ length text.now }
+    ensures { (before : List ℕ) → text.now ≡ before ++ rest.now → result ≡ suc (feeds before) }
 {
     let (before, _) = text.split_at(text.len() - rest.len());
     feeds_in(before) + 1

@@ -1,7 +1,7 @@
-use Rattle.std.proofs.Common.{subst, sym}
+use Rattle.std.proofs.Common.{subst, sym, inl, refl}
 use Rattle.decl_core.specs.ObjectMap.{parts_of}
-use Rattle.front_read.specs.Parts.{TakesParts, NoParts, IsCut}
-use Rattle.front_read.proofs.Whole.{parts_more, parts_end}
+use Rattle.front_read.specs.Fault.{TakesParts, StuckParts}
+use Rattle.front_read.proofs.Whole.{parts_more}
 use Rattle.front_read.proofs.read.+take_parts.Goals as goal
 
 pub returns-in_ok-found-in-Some-2 : goal.returns-in_ok-found-in-Some-2
@@ -12,5 +12,5 @@ returns-in_ok-found-in-Some-2 k c =
 
 pub returns-in-None-2 : goal.returns-in-None-2
 returns-in-None-2 k c =
-    subst (λ ps. NoParts (parts_of ps) c.args.text.now × IsCut c.args.text.now c.args.text.now) (sym c.in-Some.ensures.cases.0)
-    (parts_end (c.in-Some.part.now.name, c.in-Some.part.now.kind) (parts_of c.in-Some.parts.now) c.args.text.now (rw c.in-None-2.is at c.in_ok-rest-in-Some.ensures))
+    subst (λ ps. StuckParts (parts_of ps) c.args.text.now c.args.text.now) (sym c.in-Some.ensures.cases.0)
+    (inl (rw c.in-None-2.is at c.in_ok-rest-in-Some.ensures, refl))

@@ -1,5 +1,5 @@
 use Rattle.decl_core.specs.ObjectMap.{object_of}
-use Rattle.front_read.proofs.Levels.{past_break}
+use Rattle.front_read.specs.Fault.{past_breaks}
 use Rattle.front_read.proofs.Whole.{past_takes}
 use Rattle.front_read.proofs.read.take_from_past.Goals as goal
 
@@ -8,4 +8,4 @@ returns-in_ok-found-in-Ok c =
     past_takes (object_of c.args.object.now) c.args.text.now c.in-Ok.rest.now c.take_past.new.out.items c.take_from_base.new.carried.items c.take_from_base.new.clients.items c.take_from_base.new.kept.items c.in_ok-found-in-Ok.found c.requires.named (rw c.in-Ok.is at c.in_ok-rest.ensures) c.in_ok-found-in-Ok.ensures
 
 pub returns-in-Err : goal.returns-in-Err
-returns-in-Err c = past_break (object_of c.args.object.now) c.args.text.now c.in-Err.rest.now c.requires.named (rw c.in-Err.is at c.in_ok-rest.ensures)
+returns-in-Err c = past_breaks (rw c.in-Err.is at c.in_ok-rest.ensures)
