@@ -230,7 +230,7 @@ fn try_drawn<W: Write>(
     writer: &mut W,
 ) -> Result<(), Fault> {
     for crash in 0..asked.crashes {
-        let calls = 1 + drawn(asked.seed, crash, file.happened().len());
+        let calls = drawn(asked.seed, crash, file.happened().len()).saturating_add(1);
         let how = How::Drawn(mixed(asked.seed, crash as usize, usize::MAX));
         try_crash(alloc, asked, object, file, calls, &how, tried, writer)?;
     }
