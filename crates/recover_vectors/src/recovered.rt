@@ -63,9 +63,12 @@ fn is_whole(found: &Recovered, length: usize) -> bool {
 }
 
 // Whether the value is this integer.
-fn holds(found: &Recovered, number: u32) -> bool {
+fn holds(rt: &impl Abort, alloc: Global, found: &Recovered, number: u32) -> bool {
     match found.played.contents.as_slice() {
-        [value] => value.element(0) == Ok(Datum::Integer(number)),
+        [value] => {
+            let all = value.elements(alloc).expect(rt, "memory");
+            all.as_slice() == [Datum::Integer(number)].as_slice()
+        }
         _ => false,
     }
 }
@@ -83,8 +86,8 @@ fn an_epoch_is_played_to_the_last_line_at_which_no_call_runs(rt: HostRuntime) {
         source_of(&object),
         &both(&rt, alloc, FRONT, LINES),
     );
-    assert!(rt; is_whole(&found, text.len() - b"start 4 s3 get\n".len()));
-    assert!(rt; holds(&found, 1));
+    assert!(rt; is_whole(&found, text.len().saturating_sub(b"start 4 s3 get\n".len())));
+    assert!(rt; holds(&rt, alloc, &found, 1));
     assert!(rt;
         keeps(&found.guests, 1, 4, 13, None),
         "a call that was cancelled"
@@ -217,8 +220,8 @@ fn what_is_no_whole_line_is_cut(rt: HostRuntime) {
         b"base 10\nstart 1 s1 put 3\nend 1 done\n\0\0end 7 done\n\0",
     );
     let found = found.ok().expect(&rt, "an epoch");
-    assert!(rt; found.ended == 1 && holds(&found, 103));
+    assert!(rt; found.ended == 1 && holds(&rt, alloc, &found, 103));
     let found = recovered(&rt, alloc, b"base 10\nstart 1 s1 put 3\nend 1 done");
     let found = found.ok().expect(&rt, "an epoch");
-    assert!(rt; found.ended == 0 && holds(&found, 100));
+    assert!(rt; found.ended == 0 && holds(&rt, alloc, &found, 100));
 }
