@@ -173,7 +173,7 @@ pub const AUDIT: &str = "Audits a trace: was each start allowed, and is each rep
 pub const AUDIT_FILE: &str = "The file with the objects, one after the other, at most 65536 bytes";
 
 /// What the second argument of `audit` is.
-pub const AUDIT_TRACE: &str = "The file with the trace; /dev/stdin to send it by a pipe";
+pub const AUDIT_TRACE: &str = "The file with the trace, /dev/stdin, or a folder of kept objects";
 
 /// What `audit` reads and writes.
 pub const AUDIT_MORE: &str =
@@ -207,6 +207,17 @@ Example: a `put` that starts while another one runs.
 Where line 1 names no object the answer is `line 1 bad`, where FILE lacks it
 `no object NAME`; a fault of FILE, or a refusal of the object, is told as by
 `check`.
+
+Where TRACE is a folder, it is one of kept objects: of each object of FILE, in
+order, NAME.journal is read, and before it the epochs that have ended,
+NAME.000001.trace and so on. Each gets a line:
+
+  NAME epochs E entries K whole   in E epochs K calls have ended; each epoch
+                                  begins as the one before it ended
+  NAME epoch E ..                 why epoch E is refused: its line, as above, or
+                                  what of it is not as the one before it left it
+  NAME FILE line N bad            the front of that file is not one
+  NAME no journal                 there is none
 
 With `--explain`, and where standard error is a terminal, standard error gets
 why FILE, or the object, is refused, as from `check`, and of the first line with
