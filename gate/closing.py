@@ -100,6 +100,7 @@ class Call:
     def __init__(self, cell, *arguments, moment=0, held=None, **options):
         self.cell, self.arguments, self.options = cell, arguments, options
         self.moment, self.held, self.lines, self.place, self.came = moment, held, 0, "", None
+        self.begun = time.monotonic()
         self.thread = threading.Thread(target=self.run, daemon=True)
         self.thread.start()
 
@@ -131,7 +132,8 @@ class Call:
         try:
             said = pathlib.Path(f"/proc/self/task/{self.thread.native_id}/syscall").read_text(encoding="ascii")
         except OSError:
-            return False
+            # A system that does not say: it does after a while.
+            return time.monotonic() > self.begun + 5 * HELD
         return said.split()[0] in kinds
 
     def is_lost(self, place, *others):

@@ -57,11 +57,11 @@ def needed(folder, *names):
             raise Stop(f"the Rattle kit in {folder} lacks {name}")
 
 
-def stands_on(lines):
-    """The crates of the program, each after those that it stands on."""
-    if PROGRAM not in lines:
-        raise Stop(f"crates.txt has no line for {PROGRAM}")
-    return [*repository.below(lines, PROGRAM), PROGRAM]
+def stands_on(lines, program=PROGRAM):
+    """The crates of a program, each after those that it stands on."""
+    if program not in lines:
+        raise Stop(f"crates.txt has no line for {program}")
+    return [*repository.below(lines, program), program]
 
 
 def digest(top, of_kit):
@@ -83,19 +83,19 @@ def digest(top, of_kit):
     return summed.hexdigest()
 
 
-def copy_sources(to):
-    """Copies what the program is built from: the lines and the folders of its crates, but no wrong bodies, and not what
-    was built of them."""
+def copy_sources(to, program=PROGRAM):
+    """Copies what a program is built from: the lines and the folders of its crates, but no wrong bodies, and not what was
+    built of them."""
     to.mkdir(parents=True)
     lines = repository.crates()
-    for crate in stands_on(lines):
+    for crate in stands_on(lines, program):
         for file in repository.files(TOP / "crates" / crate):
             part = file.relative_to(TOP / "crates" / crate).parts[0]
             if part != "out" and part != "must-fail" and not part.startswith("wrong-"):
                 copy = to / file.relative_to(TOP)
                 copy.parent.mkdir(parents=True, exist_ok=True)
                 shutil.copyfile(file, copy)
-    (to / "crates.txt").write_text("".join(f"{lines[it]}\n" for it in stands_on(lines)), encoding="utf-8")
+    (to / "crates.txt").write_text("".join(f"{lines[it]}\n" for it in stands_on(lines, program)), encoding="utf-8")
     shutil.copyfile(TOP / "HANDLES", to / "HANDLES")
 
 

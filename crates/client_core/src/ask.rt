@@ -1,5 +1,13 @@
 //! What a line of a client asks for.
 
+ghost use Rattle.std.specs.Prelude.{◌≡◌, true, IfOk, IfSome};
+ghost use Rattle.line_read.specs.Reads.{Reads};
+ghost use Rattle.session_text.specs.declared.line.Refusal.TheVariants as refusals;
+ghost use Rattle.session_text.specs.declared.session.Action.TheVariants as actions;
+ghost use Rattle.client_core.specs.Asks.{TableDoes, asked_by, IsKeyed, IsWide, Asks};
+ghost use Rattle.client_core.specs.Numbers.{only_long, cancel_in};
+
+use crate::number::number_of;
 use line_core::words::is_same_word;
 use line_read::arguments::data_of;
 use line_read::front::{next_bare, only_bare};
@@ -24,29 +32,28 @@ pub enum Ask {
     Answer(Refusal),
 }
 
-// The integer of these bytes: decimal digits, of a value below 2 ^ 64.
-fn number_of(bytes: &[u8]) -> Option<u64> {
-    if bytes.is_empty() {
+// The number that is the one word of a line.
+fn only_number(line: &[u8]) -> Option<u64>
+    ensures { Reads only_long (λ n. n) line.now result }
+{
+    let Some(word) = only_bare(line) else {
         return None;
-    }
-    let mut value: u64 = 0;
-    for byte in bytes {
-        if !byte.is_ascii_digit() {
-            return None;
-        }
-        value = value.checked_mul(10)?.checked_add(u64::from(*byte - b'0'))?;
-    }
-    Some(value)
+    };
+    number_of(word)
 }
 
 // The number behind `cancel`, where this is such a line.
-fn cancelled_by(line: &[u8]) -> Option<u64> {
-    let (verb, rest) = next_bare(line)?;
+fn cancelled_by(line: &[u8]) -> Option<u64>
+    ensures { Reads cancel_in (λ n. n) line.now result }
+{
+    let Some(front) = next_bare(line) else {
+        return None;
+    };
+    let (verb, rest) = front;
     if !is_same_word(verb, b"cancel") {
         return None;
     }
-    let word = only_bare(rest)?;
-    number_of(word)
+    only_number(rest)
 }
 
 // The key behind `call #`, and what stands behind it.
@@ -66,7 +73,9 @@ fn key_of(line: &[u8]) -> Option<(u64, &[u8])> {
 }
 
 // A call under a key, by the words behind it.
-fn call_under(alloc: Global, key: u64, line: &[u8]) -> Result<Option<Ask>, AllocError> {
+fn call_under(alloc: Global, key: u64, line: &[u8]) -> Result<Option<Ask>, AllocError>
+    ensures { IfOk result (λ found. IfSome found IsKeyed) }
+{
     let Some((word, rest)) = next_bare(line) else {
         return Ok(None);
     };
@@ -80,14 +89,18 @@ fn call_under(alloc: Global, key: u64, line: &[u8]) -> Result<Option<Ask>, Alloc
 }
 
 // A call under a key that may have more than 32 bits.
-fn keyed_call(alloc: Global, line: &[u8]) -> Result<Option<Ask>, AllocError> {
+fn keyed_call(alloc: Global, line: &[u8]) -> Result<Option<Ask>, AllocError>
+    ensures { IfOk result (λ found. IfSome found IsKeyed) }
+{
     match key_of(line) {
         Some((key, rest)) => call_under(alloc, key, rest),
         None => Ok(None),
     }
 }
 
-fn asked_by(action: Action) -> Ask {
+fn asked_by(action: Action) -> Ask
+    ensures { result ≡ asked_by action }
+{
     match action {
         Action::Open(name, client) => Ask::Open(name, client),
         Action::Call(None, name, arguments) => Ask::Call(None, name, arguments),
@@ -101,7 +114,9 @@ fn asked_by(action: Action) -> Ask {
 }
 
 // What the table of sessions does for a line.
-fn fed(alloc: Global, is_open: bool, is_whole: bool, line: &[u8]) -> Result<Action, AllocError> {
+fn fed(alloc: Global, is_open: bool, is_whole: bool, line: &[u8]) -> Result<Action, AllocError>
+    ensures { IfOk result (TableDoes is_open is_whole line.now) }
+{
     let mut session = Session::new();
     session.opened(is_open);
     if is_whole {
@@ -111,7 +126,9 @@ fn fed(alloc: Global, is_open: bool, is_whole: bool, line: &[u8]) -> Result<Acti
 }
 
 // What a line asks for whose number or key has more than 32 bits, and nothing where it is bad.
-fn wide(alloc: Global, is_open: bool, is_whole: bool, line: &[u8]) -> Result<Ask, AllocError> {
+fn wide(alloc: Global, is_open: bool, is_whole: bool, line: &[u8]) -> Result<Ask, AllocError>
+    ensures { IfOk result (IsWide is_open is_whole) }
+{
     if let Some(number) = cancelled_by(line) {
         return Ok(wide_cancel(is_open, is_whole, number));
     }
@@ -121,7 +138,9 @@ fn wide(alloc: Global, is_open: bool, is_whole: bool, line: &[u8]) -> Result<Ask
     }
 }
 
-fn wide_cancel(is_open: bool, is_whole: bool, number: u64) -> Ask {
+fn wide_cancel(is_open: bool, is_whole: bool, number: u64) -> Ask
+    ensures { IsWide is_open is_whole result }
+{
     if !is_open {
         return Ask::Answer(Refusal::NotOpen);
     }
@@ -131,7 +150,10 @@ fn wide_cancel(is_open: bool, is_whole: bool, number: u64) -> Ask {
     Ask::Cancel(number)
 }
 
-fn wide_call(is_open: bool, is_whole: bool, call: Ask) -> Ask {
+fn wide_call(is_open: bool, is_whole: bool, call: Ask) -> Ask
+    requires { IsKeyed call }
+    ensures { IsWide is_open is_whole result }
+{
     if !is_open {
         return Ask::Answer(Refusal::NotOpen);
     }
@@ -141,24 +163,34 @@ fn wide_call(is_open: bool, is_whole: bool, call: Ask) -> Ask {
     call
 }
 
+// Whether the table takes a line for a bad one.
+fn is_bad(action: &Action) -> bool
+    ensures { result ≡ true → action.now ≡ actions.Answer refusals.BadLine }
+{
+    match action {
+        Action::Answer(Refusal::BadLine) => true,
+        _ => false,
+    }
+}
+
 /// What a line asks for, of a connection that has opened an object or none, by the table of sessions; numbers and keys
 /// may have 64 bits. `is_whole`: an LF stood behind it; else it may be the front of a longer line.
 ///
 /// The error is that memory was refused.
-pub fn ask_of(
-    alloc: Global,
-    is_open: bool,
-    is_whole: bool,
-    line: &[u8],
-) -> Result<Ask, AllocError> {
-    match asked_by(fed(alloc, is_open, is_whole, line)?) {
-        Ask::Answer(Refusal::BadLine) => wide(alloc, is_open, is_whole, line),
-        ask => Ok(ask),
+pub fn ask_of(alloc: Global, is_open: bool, is_whole: bool, line: &[u8]) -> Result<Ask, AllocError>
+    ensures { IfOk result (Asks is_open is_whole line.now) }
+{
+    let action = fed(alloc, is_open, is_whole, line)?;
+    if is_bad(&action) {
+        return wide(alloc, is_open, is_whole, line);
     }
+    Ok(asked_by(action))
 }
 
 /// The number of the call that a line asks to cancel, where it does, of a connection that has opened an object. It takes
 /// no memory.
-pub fn cancel_of(line: &[u8]) -> Option<u64> {
+pub fn cancel_of(line: &[u8]) -> Option<u64>
+    ensures { Reads cancel_in (λ n. n) line.now result }
+{
     cancelled_by(line)
 }

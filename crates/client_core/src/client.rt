@@ -1,5 +1,8 @@
 //! What is known of a connection.
 
+ghost use Rattle.std.specs.Prelude.{◌≡◌, ◌↔◌, [], true, false, Some, None, IsTrue};
+ghost use Rattle.client_core.specs.Places.{has_in};
+
 use std::alloc::{AllocError, Global};
 
 /// What a connection has opened.
@@ -48,7 +51,11 @@ fn split_line(bytes: &[u8]) -> Option<(&[u8], &[u8])> {
 
 impl Client {
     /// A place that nobody has.
-    pub(crate) fn nobody(alloc: Global) -> Client {
+    pub(crate) fn nobody(alloc: Global) -> Client
+        ensures away { result.is_here ≡ false }
+        ensures opened { result.opened ≡ None }
+        ensures held { result.held.items ≡ [] }
+    {
         Client {
             who: 0,
             is_here: false,
@@ -63,7 +70,12 @@ impl Client {
     }
 
     /// A connection comes.
-    pub(crate) fn come(&mut self, alloc: Global, who: u64) {
+    pub(crate) fn come(&mut self, alloc: Global, who: u64)
+        ensures who { self.new.who ≡ who }
+        ensures here { self.new.is_here ≡ true }
+        ensures opened { self.new.opened ≡ None }
+        ensures held { self.new.held.items ≡ [] }
+    {
         self.who = who;
         self.is_here = true;
         self.opened = None;
@@ -71,18 +83,37 @@ impl Client {
     }
 
     /// Nothing more is heard of it.
-    pub(crate) fn go(&mut self, alloc: Global) {
+    pub(crate) fn go(&mut self, alloc: Global)
+        ensures away { self.new.is_here ≡ false }
+        ensures opened { self.new.opened ≡ None }
+        ensures held { self.new.held.items ≡ [] }
+    {
         self.is_here = false;
         self.opened = None;
         self.let_go(alloc);
     }
 
     // Lets all held lines go.
-    fn let_go(&mut self, alloc: Global) {
+    fn let_go(&mut self, alloc: Global)
+        ensures who { self.new.who ≡ self.old.who }
+        ensures here { self.new.is_here ≡ self.old.is_here }
+        ensures opened { self.new.opened ≡ self.old.opened }
+        ensures held { self.new.held.items ≡ [] }
+    {
         self.held = Vec::new(alloc);
         self.done = 0;
         self.is_cut = false;
         self.is_stalled = false;
+    }
+
+    /// Whether the connection of this number has it.
+    pub(crate) fn is(&self, who: u64) -> bool
+        ensures { result ≡ has_in who (Some self.now) }
+    {
+        if !self.is_here {
+            return false;
+        }
+        self.who == who
     }
 
     /// Whether a call of it waits.

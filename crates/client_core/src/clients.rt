@@ -1,5 +1,8 @@
 //! All connections.
 
+ghost use Rattle.std.specs.Prelude.{◌≡◌, ◌<◌, ◌==◌, ◌%◌, [], ℕ, true, false, Some, None, IfOk, IfSome, IfNone, length, slice_get};
+ghost use Rattle.client_core.specs.Places.{has_in, is_here_in, opened_in, held_in, place_for, place_at, Elsewhere};
+
 use crate::ask::{Ask, ask_of};
 use crate::client::{Client, Opened};
 use std::alloc::{AllocError, Global};
@@ -17,13 +20,60 @@ pub struct Clients {
     last: Option<usize>,
 }
 
+// So many places, which nobody has.
+fn no_rows(alloc: Global, count: usize) -> Result<Vec<Client>, AllocError>
+    ensures count { IfOk result (λ rows. length rows.items ≡ count) }
+    ensures nobody { IfOk result (λ rows. (k : ℕ) → is_here_in (slice_get rows.items k) ≡ false) }
+{
+    let mut rows = Vec::with_capacity(alloc, count)?;
+    for _row in 0..count {
+        rows.push(Client::nobody(alloc))?;
+    }
+    Ok(rows)
+}
+
+// The one at a place comes, under this number.
+fn come(rows: &mut Vec<Client>, at: usize, alloc: Global, who: u64)
+    requires { at < length rows.old.items }
+    ensures count { length rows.new.items ≡ length rows.old.items }
+    ensures here { has_in who (slice_get rows.new.items at) ≡ true }
+    ensures opened { opened_in (slice_get rows.new.items at) ≡ None }
+    ensures held { held_in (slice_get rows.new.items at) ≡ [] }
+    ensures others { (k : ℕ) → (at == k) ≡ false → slice_get rows.new.items k ≡ slice_get rows.old.items k }
+{
+    rows[at].come(alloc, who);
+}
+
+// The one at a place goes.
+fn go(rows: &mut Vec<Client>, at: usize, alloc: Global)
+    requires { at < length rows.old.items }
+    ensures count { length rows.new.items ≡ length rows.old.items }
+    ensures away { is_here_in (slice_get rows.new.items at) ≡ false }
+    ensures opened { opened_in (slice_get rows.new.items at) ≡ None }
+    ensures held { held_in (slice_get rows.new.items at) ≡ [] }
+    ensures others { (k : ℕ) → (at == k) ≡ false → slice_get rows.new.items k ≡ slice_get rows.old.items k }
+{
+    rows[at].go(alloc);
+}
+
+// The one at a place has opened this.
+fn set_opened(rows: &mut Vec<Client>, at: usize, opened: Opened)
+    requires { at < length rows.old.items }
+    ensures count { length rows.new.items ≡ length rows.old.items }
+    ensures opened { opened_in (slice_get rows.new.items at) ≡ Some opened }
+    ensures here { (who : ℕ) → has_in who (slice_get rows.new.items at) ≡ has_in who (slice_get rows.old.items at) }
+    ensures others { (k : ℕ) → (at == k) ≡ false → slice_get rows.new.items k ≡ slice_get rows.old.items k }
+{
+    rows[at].opened = Some(opened);
+}
+
 impl Clients {
     /// So many places, which nobody has. The error is that memory was refused.
-    pub fn new(alloc: Global, count: usize) -> Result<Clients, AllocError> {
-        let mut rows = Vec::with_capacity(alloc, count)?;
-        for _ in 0..count {
-            rows.push(Client::nobody(alloc))?;
-        }
+    pub fn new(alloc: Global, count: usize) -> Result<Clients, AllocError>
+        ensures count { IfOk result (λ clients. length clients.rows.items ≡ count) }
+        ensures nobody { IfOk result (λ clients. (k : ℕ) → is_here_in (place_at clients k) ≡ false) }
+    {
+        let rows = no_rows(alloc, count)?;
         Ok(Clients {
             alloc,
             rows,
@@ -33,7 +83,11 @@ impl Clients {
     }
 
     // The place that a connection of this number has, if it is there.
-    fn place_for(&self, who: u64) -> Option<usize> {
+    fn place_for(&self, who: u64) -> Option<usize>
+        ensures place { IfSome result (λ place. place ≡ place_for self.now who) }
+        ensures within { IfSome result (λ place. place < length self.now.rows.items) }
+        ensures none { IfNone result (self.now.rows.items ≡ []) }
+    {
         let count = self.rows.len();
         if count == 0 {
             return None;
@@ -42,68 +96,95 @@ impl Clients {
     }
 
     /// How many places there are.
-    pub fn count(&self) -> usize {
+    pub fn count(&self) -> usize
+        ensures { result ≡ length self.now.rows.items }
+    {
         self.rows.len()
     }
 
     /// The place of a connection that is here.
-    pub fn place_of(&self, who: u64) -> Option<usize> {
+    pub fn place_of(&self, who: u64) -> Option<usize>
+        ensures place { IfSome result (λ place. place ≡ place_for self.now who) }
+        ensures some { IfSome result (λ place. has_in who (place_at self.now place) ≡ true) }
+        ensures none { IfNone result (has_in who (place_at self.now (place_for self.now who)) ≡ false) }
+    {
         let place = self.place_for(who)?;
-        let client = self.rows.get(place)?;
-        if client.is_here && client.who == who {
-            return Some(place);
+        if !self.rows[place].is(who) {
+            return None;
         }
-        None
+        Some(place)
     }
 
     /// The place that a connection that comes will have, where another one has it.
-    pub fn taken_by(&self, who: u64) -> Option<usize> {
+    pub fn taken_by(&self, who: u64) -> Option<usize>
+        ensures place { IfSome result (λ place. place ≡ place_for self.now who) }
+        ensures some { IfSome result (λ place. is_here_in (place_at self.now place) ≡ true) }
+        ensures none { IfNone result (is_here_in (place_at self.now (place_for self.now who)) ≡ false) }
+    {
         let place = self.place_for(who)?;
-        let client = self.rows.get(place)?;
-        if client.is_here {
-            return Some(place);
+        if !self.rows[place].is_here {
+            return None;
         }
-        None
+        Some(place)
     }
 
-    /// A connection comes.
-    pub fn come(&mut self, who: u64) {
+    /// A connection comes, and has its place: the one that had it has it no more, and nothing of it is left.
+    pub fn come(&mut self, who: u64)
+        ensures here { 0 < length self.old.rows.items → has_in who (place_at self.new (place_for self.old who)) ≡ true }
+        ensures opened { opened_in (place_at self.new (place_for self.old who)) ≡ None }
+        ensures held { held_in (place_at self.new (place_for self.old who)) ≡ [] }
+        ensures others { Elsewhere self.old self.new (place_for self.old who) }
+    {
         let Some(place) = self.place_for(who) else {
             return;
         };
         let alloc = self.alloc;
-        if let Some(client) = self.rows.get_mut(place) {
-            client.come(alloc, who);
-        }
+        come(&mut self.rows, place, alloc, who);
     }
 
-    /// The one at a place has gone.
-    pub fn go(&mut self, place: usize) {
-        let alloc = self.alloc;
-        if let Some(client) = self.rows.get_mut(place) {
-            client.go(alloc);
+    /// The one at a place has gone, and nothing of it is left.
+    pub fn go(&mut self, place: usize)
+        ensures away { is_here_in (place_at self.new place) ≡ false }
+        ensures opened { opened_in (place_at self.new place) ≡ None }
+        ensures held { held_in (place_at self.new place) ≡ [] }
+        ensures others { Elsewhere self.old self.new place }
+    {
+        if place >= self.rows.len() {
+            return;
         }
+        let alloc = self.alloc;
+        go(&mut self.rows, place, alloc);
     }
 
     /// The number of the connection at a place, where it is here.
-    pub fn who(&self, place: usize) -> Option<u64> {
-        let client = self.rows.get(place)?;
-        if client.is_here {
-            return Some(client.who);
+    pub fn who(&self, place: usize) -> Option<u64>
+        ensures some { IfSome result (λ who. has_in who (place_at self.now place) ≡ true) }
+        ensures none { IfNone result (is_here_in (place_at self.now place) ≡ false) }
+    {
+        if place >= self.rows.len() || !self.rows[place].is_here {
+            return None;
         }
-        None
+        Some(self.rows[place].who)
     }
 
     /// What the one at a place has opened.
-    pub fn opened(&self, place: usize) -> Option<Opened> {
-        let client = self.rows.get(place)?;
-        client.opened
+    pub fn opened(&self, place: usize) -> Option<Opened>
+        ensures { result ≡ opened_in (place_at self.now place) }
+    {
+        if place >= self.rows.len() {
+            return None;
+        }
+        self.rows[place].opened
     }
 
     /// The one at a place has opened this.
-    pub fn set_opened(&mut self, place: usize, opened: Opened) {
-        if let Some(client) = self.rows.get_mut(place) {
-            client.opened = Some(opened);
+    pub fn set_opened(&mut self, place: usize, opened: Opened)
+        ensures opened { place < length self.old.rows.items → opened_in (place_at self.new place) ≡ Some opened }
+        ensures here { (who : ℕ) → has_in who (place_at self.new place) ≡ has_in who (place_at self.old place) }
+        ensures others { Elsewhere self.old self.new place }
+    {
+        if place < self.rows.len() {
+            set_opened(&mut self.rows, place, opened);
         }
     }
 

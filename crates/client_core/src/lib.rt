@@ -9,3 +9,4 @@ pub mod answer;
 pub mod ask;
 pub mod client;
 pub mod clients;
+mod number;

@@ -111,6 +111,16 @@ impl<O: Served + Drop> Keep<O> {
     }
 }
 
+impl<O: Served + Drop> Keep<O> {
+    /// The object.
+    pub fn into_object(self) -> O
+        ensures { result ≡ self.object }
+    {
+        let Keep { object, .. } = self;
+        object
+    }
+}
+
 impl<O: Served> Keep<O> {
     /// Whether there is nothing to do before something comes.
     pub fn is_idle(&self) -> bool {

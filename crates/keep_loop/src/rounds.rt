@@ -495,7 +495,7 @@ fn serve<O: Served, W: Outside>(
     Ok(())
 }
 
-/// Serves an object for so many rounds, or until the server is to end.
+/// Serves an object for so many rounds, or until the server is to end, and hands it back.
 ///
 /// `Err`: memory was refused, or a journal failed. Nothing was written then that waits for lines that are not stored.
 pub fn run<O: Served + Drop, W: Outside>(
@@ -504,12 +504,13 @@ pub fn run<O: Served + Drop, W: Outside>(
     limits: Limits,
     outside: &mut W,
     rounds: u64,
-) -> Result<(), Fault>
+) -> Result<O, Fault>
     requires { IfSome (W.seen outside.old) (λ seen. seen ≡ []) }
     // However it ends, and at each moment of it.
     ensures honest { IfSome (W.seen outside.new) (λ seen. Always (IsHonest O.gives object limits) seen) }
 {
     let mut keep = Keep::new(alloc, object, limits)?;
     let mut piece = Vec::new(alloc);
-    serve(&mut keep, outside, &mut piece, rounds)
+    serve(&mut keep, outside, &mut piece, rounds)?;
+    Ok(keep.into_object())
 }

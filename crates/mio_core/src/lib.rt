@@ -7,4 +7,5 @@
 pub mod clock;
 pub mod journals;
 mod places;
+pub mod stream;
 pub mod wires;

@@ -2,10 +2,9 @@
 
 ghost use Rattle.std.specs.Prelude.{◌≤◌, IfSome, length};
 
-use mio::net::TcpStream;
+use crate::stream::Stream;
 use std::alloc::{AllocError, Global};
-use std::io::{ErrorKind, Read, Write};
-use std::net::Shutdown;
+use std::io::ErrorKind;
 
 // So many reads are made of what nobody hears, before a connection is closed.
 const LAST_READS: u32 = 16;
@@ -16,7 +15,7 @@ const MOST_TRIES: u32 = 8;
 #[derive(Drop)]
 struct Wire {
     who: u64,
-    stream: TcpStream,
+    stream: Stream,
     // Whether its client sends no more. What it sent before may be there still.
     is_ending: bool,
 }
@@ -92,7 +91,7 @@ impl Places {
     }
 
     /// The socket of a connection that comes.
-    pub fn put(&mut self, who: u64, stream: TcpStream) {
+    pub fn put(&mut self, who: u64, stream: Stream) {
         let place = self.place_of(who);
         if let Some(wire) = self.wires.get_mut(place) {
             *wire = Some(Wire {
@@ -158,7 +157,7 @@ impl Places {
             *found = Some(wire);
             return;
         }
-        let _ = wire.stream.shutdown(Shutdown::Write);
+        wire.stream.shut();
         for _read in 0..LAST_READS {
             match wire.stream.read(self.piece.as_mut_slice()) {
                 Ok(n) => {

@@ -3,8 +3,8 @@
 use crate::clock::{Pace, Watch};
 use crate::journals::Journals;
 use crate::places::{Got, Places};
+use crate::stream::Listener;
 use keep_loop::{Fault, Outside, Read};
-use mio::net::TcpListener;
 use mio::unix::SourceFd;
 use mio::{Events, Interest, Poll, Token};
 use std::alloc::AllocError;
@@ -29,7 +29,7 @@ pub struct Wires<R: Files + AllocGlobal + Input> {
     rt: R,
     poll: Poll,
     events: Events,
-    listener: TcpListener,
+    listener: Listener,
     // Whether somebody may wait to be taken.
     may_take: bool,
     places: Places,
@@ -58,14 +58,13 @@ impl<R: Files + AllocGlobal + Input + Clock + Drop> Wires<R> {
     pub fn open(
         net: &impl Net,
         rt: R,
-        mut listener: TcpListener,
+        mut listener: Listener,
         journals: Journals<R>,
         serving: Serving,
     ) -> io::Result<Wires<R>> {
         let alloc = rt.alloc();
         let poll = Poll::new(net)?;
-        poll.registry()
-            .register(&mut listener, LISTENER, Interest::READABLE)?;
+        listener.register(poll.registry(), LISTENER)?;
         let watch = Watch::begin(&rt, serving.pace)?;
         let places = Places::new(alloc, serving.places, PIECE)?;
         let events = Events::with_capacity(alloc, MOST_EVENTS)?;
@@ -148,13 +147,8 @@ impl<R: Files + AllocGlobal + Input + Clock + Drop> Wires<R> {
 
     // Takes a connection that waits, under this number.
     fn take(&mut self, who: u64) -> io::Result<()> {
-        let (mut stream, _) = self.listener.accept()?;
-        let _ = stream.set_nodelay(true);
-        self.poll.registry().register(
-            &mut stream,
-            Token(who as usize),
-            Interest::READABLE | Interest::WRITABLE,
-        )?;
+        let mut stream = self.listener.accept()?;
+        stream.register(self.poll.registry(), Token(who as usize))?;
         self.places.put(who, stream);
         Ok(())
     }

@@ -4,7 +4,8 @@
 //! `pathserve check FILE` says of each object of a file whether its paths keep operations that conflict
 //! apart, and by which nodes.
 //! `pathserve run FILE SCRIPT` runs a script of calls, device steps and finishes on an object of a file.
-//! `pathserve audit FILE TRACE` says whether a trace of an object of a file is legal, or which line of it is not.
+//! `pathserve audit FILE TRACE` says whether a trace of an object of a file is legal, or which line of it is not;
+//! `pathserve audit FILE DIR` whether the epochs of each object of a file can have happened, one after another.
 //! `pathserve serve FILE DIR PLACE` serves the objects of a file to clients on this machine.
 //! With `--explain`, and where standard error is a terminal, standard error gets why a source, an object of it, a line
 //! of a script or a trace is refused; `--no-explain` leaves that out. Nothing else changes by it.
@@ -15,25 +16,34 @@
 //! where it has no answer. What stands here hands them the command line and the streams.
 #![tactic(auto)]
 
+mod keep;
 mod lack;
 mod serve;
 mod socket;
 
 use ahead_core::ahead::AheadHand;
-use answer_core::answer::{answer_lines, check_source};
+use answer_core::answer::{ACCEPTED, REFUSED, answer_lines, check_source};
 use answer_core::audit::audit_trace;
-use answer_core::explanation::{Telling, explained_audit, explained_run};
+use answer_core::explanation::{Telling, explained, explained_audit, explained_run};
 use answer_core::failure::{Failure, exit_status, words_end};
 use answer_core::script::answer_script;
 use answer_core::source::read_source;
-use command_line::request::{Address, Explain, Request, Serving, request_of};
+use command_line::request::{Address, Explain, Keeping, Request, Serving, request_of};
+use exclude_core::analyse::Accepted;
 use explain_line::files::Files;
 use explain_line::kept::Kept;
+use folder_audit::audit::audit_folder;
+use folder_audit::files::FolderFault;
+use keep::{is_kept, keep_objects};
 use lack::{Lack, Lacking, Need, tell_lack};
+use line_core::write_whole;
+use mio::net::{TcpListener as PortListener, UnixListener as PathListener};
+use mio_core::stream::Listener as Ears;
 use serve::{Source, place_of, serve_objects};
 use serve_core::gate::{Gate, Listener};
 use serve_core::serve::Place;
 use socket::{Socket, socket_at};
+use source_core::judge::{Judged, judge};
 use std::alloc::AllocError;
 use std::fs::{File, TryLockError};
 use std::io::{ErrorKind, IsTerminal, Read};
@@ -300,6 +310,10 @@ fn path_of(address: Address<'_>) -> &str {
 
 // Prepares a server. Where it lacks something that is told.
 fn prepare_server(rt: &HostRuntime, asked: Serving<'_>) -> Result<Prepared, Failure> {
+    if is_kept(rt, asked.folder) {
+        let line = format!(in rt.alloc(); "{} is kept: use pathserve keep\n", asked.folder)?;
+        return Ok(Prepared::Ended(written(rt, line.as_bytes(), REFUSED)?));
+    }
     match take_needs(rt, asked) {
         Ok(started) => Ok(Prepared::Serves(started, asked.stops)),
         Err(lacking) => {
@@ -411,8 +425,135 @@ fn run_script(rt: &HostRuntime, files: Files<'_>, when: Explain) -> Result<u8, F
     )
 }
 
+// Whether there is a folder at a path.
+fn is_folder(rt: &HostRuntime, path: &str) -> bool {
+    open_folder(rt, path).is_ok()
+}
+
+// Writes these lines, and hands on the exit status.
+fn written(rt: &HostRuntime, lines: &[u8], status: u8) -> Result<u8, Failure> {
+    match write_whole(&mut io::writer(rt), lines) {
+        Ok(()) => Ok(status),
+        Err(_) => Err(Failure::WriteFault),
+    }
+}
+
+// Tells what objects are in a folder.
+fn tell_folder(rt: &HostRuntime, objects: &[Accepted], folder: &str) -> Result<u8, Failure> {
+    match audit_folder(rt, objects, folder) {
+        Ok(said) => {
+            let _ = write_whole(&mut rt.stderr(), &said.notes);
+            let status = if said.is_whole { ACCEPTED } else { REFUSED };
+            written(rt, &said.lines, status)
+        }
+        Err(FolderFault::Memory) => Err(Failure::Memory),
+        Err(FolderFault::Unread(path, cause)) => {
+            Err(told(rt, Lacking::at(Need::File, cause), path.as_str()))
+        }
+    }
+}
+
+// `pathserve audit` of a folder.
+fn run_folder(rt: &HostRuntime, files: Files<'_>, when: Explain) -> Result<u8, Failure> {
+    let source = match source_at(rt, files.source) {
+        Ok(source) => source,
+        Err(lacking) => return Err(told(rt, lacking, files.source)),
+    };
+    match judge(rt.alloc(), &source)? {
+        Judged::Ready(objects) => tell_folder(rt, &objects, files.text),
+        Judged::Told(lines) => {
+            let ended = written(rt, &lines, REFUSED);
+            explained(
+                rt.alloc(),
+                ended,
+                telling_of(rt, when),
+                files.source,
+                &source,
+                None,
+                &mut rt.stderr(),
+            )
+        }
+    }
+}
+
+// Where a server that keeps objects listens, and its socket, where that has a path.
+fn ears_at(rt: &HostRuntime, address: Address<'_>) -> Result<(Ears, Option<Socket>), Lacking> {
+    match address {
+        Address::Port(port) => match port_at(rt, port) {
+            Ok(listener) => Ok((Ears::Port(listener), None)),
+            Err(error) => Err(Lacking::of(Need::Port(port), error)),
+        },
+        Address::Path(path) => match path_at(rt, path) {
+            Ok((listener, socket)) => Ok((Ears::Path(listener), Some(socket))),
+            Err(error) => Err(Lacking::of(Need::Socket, error)),
+        },
+    }
+}
+
+fn port_at(rt: &HostRuntime, port: u16) -> io::Result<PortListener> {
+    let listener = TcpListener::bind(rt, (Ipv4Addr::LOCALHOST, port))?;
+    listener.set_nonblocking(true)?;
+    Ok(PortListener::from_std(listener))
+}
+
+fn path_at(rt: &HostRuntime, path: &str) -> io::Result<(PathListener, Socket)> {
+    let (listener, socket) = socket_at(rt, path)?;
+    listener.set_nonblocking(true)?;
+    Ok((PathListener::from_std(listener), socket))
+}
+
+// Keeps the objects of a source, where each is accepted.
+fn keep_source(
+    rt: &HostRuntime,
+    source: &[u8],
+    asked: Keeping<'_>,
+    ears: Ears,
+) -> Result<u8, Failure> {
+    match judge(rt.alloc(), source)? {
+        Judged::Ready(objects) => keep_objects(rt, objects, asked, ears, &mut io::writer(rt)),
+        Judged::Told(lines) => {
+            let ended = written(rt, &lines, REFUSED);
+            explained(
+                rt.alloc(),
+                ended,
+                telling_of(rt, asked.explain),
+                asked.file,
+                source,
+                None,
+                &mut rt.stderr(),
+            )
+        }
+    }
+}
+
+// `pathserve keep`.
+fn run_keep(rt: &HostRuntime, asked: Keeping<'_>) -> Result<u8, Failure> {
+    let source = match source_at(rt, asked.file) {
+        Ok(source) => source,
+        Err(lacking) => return Err(told(rt, lacking, asked.file)),
+    };
+    let lock = match lock_folder(rt, asked.folder) {
+        Ok(lock) => lock,
+        Err(lacking) => return Err(told(rt, lacking, asked.folder)),
+    };
+    let (ears, socket) = match ears_at(rt, asked.address) {
+        Ok(found) => found,
+        Err(lacking) => return Err(told(rt, lacking, path_of(asked.address))),
+    };
+    let ended = keep_source(rt, &source, asked, ears);
+    if let Some(socket) = socket {
+        socket.remove(rt);
+    }
+    // Until now nobody else may serve from the folder.
+    drop(lock);
+    ended
+}
+
 // `pathserve audit`.
 fn run_audit(rt: &HostRuntime, files: Files<'_>, when: Explain) -> Result<u8, Failure> {
+    if is_folder(rt, files.text) {
+        return run_folder(rt, files, when);
+    }
     let telling = telling_of(rt, when);
     let Inputs { source, mut kept } = inputs_of(rt, files, telling)?;
     let ended = audit_trace(rt.alloc(), &source, &mut kept, &mut io::writer(rt));
@@ -436,6 +577,7 @@ fn run(rt: &HostRuntime, request: Request<'_>) -> Result<u8, Failure> {
         Request::Check(path, when) => run_check(rt, path, when),
         Request::Run(source, text, when) => run_script(rt, Files { source, text }, when),
         Request::Audit(source, text, when) => run_audit(rt, Files { source, text }, when),
+        Request::Keep(asked) => run_keep(rt, asked),
         // `prepare` has it.
         Request::Serve(_) => Ok(0),
     }

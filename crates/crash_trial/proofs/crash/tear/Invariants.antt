@@ -1,0 +1,6 @@
+use Rattle.std.proofs.Common.{◌≡◌}
+use Rattle.journal_core.specs.Device.{IsTorn}
+use Rattle.crash_trial.proofs.crash.tear.Given as goal
+
+abbrev pub invariant-loop-place : goal.invariant-loop-place
+invariant-loop-place l = IsTorn l.was l.fn.file l.file

@@ -1,0 +1,391 @@
+//! Plays the lines of a scenario on a kept object over a journal.
+
+ghost use Rattle.journal_core.specs.Journal.{AreLines};
+ghost use Rattle.journal_core.specs.Order.{IsInOrder};
+ghost use Rattle.std.specs.Prelude.{◌≡◌, ◌≢◌, ◌<◌, ◌+◌, ◌^◌, [], length, true, IfOk, IfSome, OnOk};
+
+use decl_core::object::Object;
+use front_core::source::source_of;
+use guest_core::guests::Guests;
+use hosted_core::hosted::{Begun, Hosted};
+use journal_core::device::Device;
+use journal_core::journal::{Journal, recovered_are_lines, recovered_len};
+use line_read::arguments::data_of;
+use line_read::front::next_bare;
+use live_core::call::Limits;
+use live_core::live::Live;
+use path_tree::name::Name;
+use std::alloc::{AllocError, AllocFailed, Global};
+use value_core::datum::Datum;
+use value_core::value::Value;
+use word_core::number::session_of;
+
+/// Sessions of a scenario have the numbers from 1 to this one, and so many calls wait at most.
+pub const LIMITS: Limits = Limits {
+    sessions: 64,
+    waiting: 32,
+};
+
+/// Behind a front there is room for so many bytes.
+pub const ROOM: usize = 65_536;
+
+/// Why a scenario does not go on.
+#[derive(Drop)]
+pub enum Stop {
+    /// A line of it says nothing that can be done.
+    BadLine,
+    /// The journal failed, or a front could not be written.
+    Journal,
+    /// Memory was refused.
+    Memory,
+}
+
+impl<T: Drop> From<AllocFailed<T>> for Stop {
+    fn from(_: AllocFailed<T>) -> Self {
+        Stop::Memory
+    }
+}
+
+impl From<AllocError> for Stop {
+    fn from(_: AllocError) -> Self {
+        Stop::Memory
+    }
+}
+
+/// What a journal was asked for.
+#[derive(Clone, Copy, Debug, PartialEq, Eq)]
+pub enum Asked {
+    /// To begin with a front.
+    Front,
+    /// To add lines.
+    Lines,
+    /// To store all.
+    Sync,
+}
+
+// Whether these bytes are whole lines, none of which has a byte 0.
+fn are_lines(bytes: &[u8]) -> bool
+    ensures { result ≡ true → AreLines bytes.now }
+{
+    recovered_are_lines();
+    recovered_len(bytes) == bytes.len()
+}
+
+// Adds lines to a journal.
+fn append<D: Device>(journal: &mut Journal<D>, lines: &[u8]) -> Result<(), Stop>
+    requires { IsInOrder D.seen D.may_leave journal.old }
+    ensures { OnOk result (IsInOrder D.seen D.may_leave journal.new) }
+{
+    if !are_lines(lines) {
+        return Err(Stop::Journal);
+    }
+    match journal.append(lines) {
+        Ok(()) => Ok(()),
+        Err(_) => Err(Stop::Journal),
+    }
+}
+
+// Stores all lines of a journal.
+fn store<D: Device>(journal: &mut Journal<D>) -> Result<(), Stop>
+    requires { IsInOrder D.seen D.may_leave journal.old }
+    ensures { OnOk result (IsInOrder D.seen D.may_leave journal.new) }
+{
+    match journal.sync() {
+        Ok(()) => Ok(()),
+        Err(_) => Err(Stop::Journal),
+    }
+}
+
+// Whether a journal can begin with this front.
+fn is_front(front: &[u8]) -> bool
+    ensures { result ≡ true → AreLines front.now × (length front.now + 65536 < 2 ^ 62) }
+{
+    are_lines(front) && front.len() <= 1 << 40
+}
+
+// Begins a journal anew.
+fn renew<D: Device>(alloc: Global, journal: &mut Journal<D>, front: &[u8]) -> Result<(), Stop>
+    requires { IsInOrder D.seen D.may_leave journal.old }
+    ensures { OnOk result (IsInOrder D.seen D.may_leave journal.new) }
+{
+    if !is_front(front) {
+        return Err(Stop::Journal);
+    }
+    match journal.change(alloc, front, ROOM) {
+        Ok(()) => Ok(()),
+        Err(_) => Err(Stop::Journal),
+    }
+}
+
+/// A kept object, and the clients of a scenario.
+#[derive(Drop)]
+pub struct Drive {
+    alloc: Global,
+    hosted: Hosted,
+    // Of each place of a client its session.
+    sessions: Vec<Option<u16>>,
+    // What the journal was asked for.
+    asked: Vec<Asked>,
+}
+
+// The values of the parts at first.
+fn opening(alloc: Global, object: &Object) -> Result<Vec<Value>, AllocError> {
+    let mut values = Vec::with_capacity(alloc, object.parts.len())?;
+    for part in &object.parts {
+        values.push(Value::opening(alloc, part.kind)?)?;
+    }
+    Ok(values)
+}
+
+// An object that nobody has used.
+fn hosted_of(alloc: Global, object: Object) -> Result<Option<Hosted>, AllocError> {
+    let source = source_of(&object);
+    let values = opening(alloc, &object)?;
+    let found = Live::behind(alloc, object, &[], values, Vec::new(alloc), LIMITS)?;
+    let Some(live) = found else {
+        return Ok(None);
+    };
+    let begun = Begun {
+        live,
+        guests: Guests::new(alloc, LIMITS.sessions, 64)?,
+        long: Vec::new(alloc),
+        epoch: 1,
+        source,
+        base: 0,
+        sessions: LIMITS.sessions,
+        waiting: LIMITS.waiting,
+    };
+    Ok(Some(Hosted::new(alloc, begun)?))
+}
+
+/// A text up to its first line end, and what stands behind that.
+pub fn cut_line(text: &[u8]) -> (&[u8], &[u8])
+    ensures { text.now ≢ [] → length result.1.now < length text.now }
+{
+    for place in 0..text.len() {
+        if text[place] == b'\n' {
+            return (&text[..place], &text[place + 1..]);
+        }
+    }
+    (text, &[])
+}
+
+impl Drive {
+    /// An object that nobody has used. `None`: it cannot be begun. The error is that memory was refused.
+    pub fn new(alloc: Global, object: Object) -> Result<Option<Drive>, AllocError> {
+        let Some(hosted) = hosted_of(alloc, object)? else {
+            return Ok(None);
+        };
+        let mut sessions = Vec::new(alloc);
+        for _ in 0..65 {
+            sessions.push(None)?;
+        }
+        Ok(Some(Drive {
+            alloc,
+            hosted,
+            sessions,
+            asked: Vec::new(alloc),
+        }))
+    }
+
+    /// What the journal was asked for.
+    pub fn asked(&self) -> &[Asked] {
+        &self.asked
+    }
+
+    /// A journal over this file that begins with the front of the object. `None`: it cannot.
+    pub fn begin<D: Device + Drop>(&mut self, file: D) -> Result<Option<Journal<D>>, AllocError>
+        ensures { IfOk result (λ found. IfSome found (λ journal. IsInOrder D.seen D.may_leave journal)) }
+    {
+        let mut front = Vec::new(self.alloc);
+        self.hosted.push_first(&mut front)?;
+        self.asked.push(Asked::Front)?;
+        if !is_front(&front) {
+            return Ok(None);
+        }
+        match Journal::begin(self.alloc, file, &front, ROOM) {
+            Ok(journal) => Ok(Some(journal)),
+            Err(_) => Ok(None),
+        }
+    }
+
+    fn with_lines<D: Device>(&mut self, journal: &mut Journal<D>, lines: &[u8]) -> Result<(), Stop>
+        requires { IsInOrder D.seen D.may_leave journal.old }
+        ensures { OnOk result (IsInOrder D.seen D.may_leave journal.new) }
+    {
+        if lines.is_empty() {
+            return Ok(());
+        }
+        self.asked.push(Asked::Lines)?;
+        append(journal, lines)
+    }
+
+    fn sync<D: Device>(&mut self, journal: &mut Journal<D>) -> Result<(), Stop>
+        requires { IsInOrder D.seen D.may_leave journal.old }
+        ensures { OnOk result (IsInOrder D.seen D.may_leave journal.new) }
+    {
+        self.asked.push(Asked::Sync)?;
+        store(journal)
+    }
+
+    // Begins the next epoch.
+    fn change<D: Device>(&mut self, journal: &mut Journal<D>) -> Result<(), Stop>
+        requires { IsInOrder D.seen D.may_leave journal.old }
+        ensures { OnOk result (IsInOrder D.seen D.may_leave journal.new) }
+    {
+        let mut front = Vec::new(self.alloc);
+        if !self.hosted.write_next(&mut front)? || !self.hosted.begin_next()? {
+            return Err(Stop::Journal);
+        }
+        self.asked.push(Asked::Front)?;
+        renew(self.alloc, journal, &front)
+    }
+
+    // The session at a place, which gets one where it has none.
+    fn session_at(&mut self, place: usize) -> Option<u16> {
+        match self.sessions.get(place) {
+            Some(Some(session)) => Some(*session),
+            Some(None) => {
+                let session = self.hosted.seat()?;
+                self.hosted.own(session, place);
+                if let Some(row) = self.sessions.get_mut(place) {
+                    *row = Some(session);
+                }
+                Some(session)
+            }
+            None => None,
+        }
+    }
+
+    // Makes a call of the client at a place, and adds its lines.
+    fn call(
+        &mut self,
+        place: usize,
+        name: &Name,
+        arguments: Vec<Datum>,
+        lines: &mut Vec<u8>,
+    ) -> Result<(), Stop> {
+        let Some(session) = self.session_at(place) else {
+            return Ok(());
+        };
+        let Some(operation) = self.hosted.operation(name) else {
+            return Err(Stop::BadLine);
+        };
+        self.hosted.reserve()?;
+        let _made = self
+            .hosted
+            .call(false, session, operation, arguments, lines)?;
+        Ok(())
+    }
+
+    // The client at a place comes by a name.
+    fn enter(&mut self, place: usize, name: &Name, lines: &mut Vec<u8>) -> Result<(), Stop> {
+        if let Some(Some(_)) = self.sessions.get(place) {
+            return Ok(());
+        }
+        if let Ok(entered) = self.hosted.enter(name, place, 0, lines)? {
+            if let Some(row) = self.sessions.get_mut(place) {
+                *row = Some(entered.session);
+            }
+        }
+        Ok(())
+    }
+
+    // The waiting call of the client at a place is cancelled.
+    fn cancel(&mut self, place: usize, lines: &mut Vec<u8>) -> Result<(), Stop> {
+        if let Some(Some(session)) = self.sessions.get(place) {
+            let _told = self.hosted.cancel(*session, lines)?;
+        }
+        Ok(())
+    }
+
+    // The client at a place leaves.
+    fn leave(&mut self, place: usize, lines: &mut Vec<u8>) -> Result<(), Stop> {
+        self.cancel(place, lines)?;
+        if let Some(row) = self.sessions.get_mut(place) {
+            if let Some(session) = row.take() {
+                let _left = self.hosted.leave(session, 0);
+            }
+        }
+        Ok(())
+    }
+
+    // Does what a line says of the client at a place: a call, or that it comes by a name.
+    fn play_named(
+        &mut self,
+        verb: &[u8],
+        place: usize,
+        line: &[u8],
+        lines: &mut Vec<u8>,
+    ) -> Result<(), Stop> {
+        let Some((name, rest)) = next_bare(line) else {
+            return Err(Stop::BadLine);
+        };
+        let Some(name) = Name::read(self.alloc, name)? else {
+            return Err(Stop::BadLine);
+        };
+        match verb {
+            b"name" => self.enter(place, &name, lines),
+            b"call" => match data_of(self.alloc, rest)? {
+                Some(arguments) => self.call(place, &name, arguments, lines),
+                None => Err(Stop::BadLine),
+            },
+            _ => Err(Stop::BadLine),
+        }
+    }
+
+    // Does what a line says of a client, and adds the lines that tell of it.
+    fn play_of(&mut self, verb: &[u8], line: &[u8], lines: &mut Vec<u8>) -> Result<(), Stop> {
+        let Some((place, rest)) = next_bare(line) else {
+            return Err(Stop::BadLine);
+        };
+        let Some(place) = session_of(place) else {
+            return Err(Stop::BadLine);
+        };
+        let place = place as usize;
+        match verb {
+            b"cancel" => self.cancel(place, lines),
+            b"leave" => self.leave(place, lines),
+            _ => self.play_named(verb, place, rest, lines),
+        }
+    }
+
+    /// Plays a line of a scenario: `call sP OP ARG ..` of the client at the place P, 1 to 64; `cancel sP` and `leave sP`;
+    /// `name sP NAME`, by which it comes; `sync`; `epoch`. Calls that are refused change nothing.
+    pub fn play<D: Device>(&mut self, journal: &mut Journal<D>, line: &[u8]) -> Result<(), Stop>
+        requires { IsInOrder D.seen D.may_leave journal.old }
+        ensures { OnOk result (IsInOrder D.seen D.may_leave journal.new) }
+    {
+        let Some((verb, rest)) = next_bare(line) else {
+            return Err(Stop::BadLine);
+        };
+        match verb {
+            b"sync" => self.sync(journal),
+            b"epoch" => self.change(journal),
+            _ => {
+                let mut lines = Vec::new(self.alloc);
+                self.play_of(verb, rest, &mut lines)?;
+                self.with_lines(journal, &lines)
+            }
+        }
+    }
+
+    /// Plays the lines of a scenario. `Err`: why it does not go on, and the number of the line.
+    pub fn play_all<D: Device>(
+        &mut self,
+        journal: &mut Journal<D>,
+        scenario: &[u8],
+        number: u64,
+    ) -> Result<(), (Stop, u64)>
+        requires { IsInOrder D.seen D.may_leave journal.old }
+    {
+        if scenario.is_empty() {
+            return Ok(());
+        }
+        let (line, rest) = cut_line(scenario);
+        match self.play(journal, line) {
+            Ok(()) => self.play_all(journal, rest, number.saturating_add(1)),
+            Err(stop) => Err((stop, number)),
+        }
+    }
+}

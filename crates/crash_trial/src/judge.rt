@@ -1,0 +1,108 @@
+//! Whether what is recovered behind a crash is what a crash may leave.
+
+use crate::crash::{How, crash};
+use crate::device::Happened;
+use decl_core::object::Object;
+use journal_core::journal::recovered_len;
+use recover_core::recover::{House, Recovered};
+use recover_text::recover::recover;
+use std::alloc::{AllocError, Global};
+
+/// What stands in a journal behind some calls.
+#[derive(Drop)]
+pub struct Standing {
+    /// How many times the file was begun anew.
+    pub epochs: u64,
+    /// All lines: the front, and what was added since.
+    pub text: Vec<u8>,
+    /// So many bytes of them are on the disk for certain.
+    pub stored: usize,
+}
+
+/// What a crash came to.
+#[derive(Drop)]
+pub enum Outcome {
+    /// It left a part of the lines with all that was stored, and this was recovered.
+    Right(Recovered),
+    /// It did not; this is wrong.
+    Wrong(&'static str),
+}
+
+// One call more.
+pub(crate) fn follow(
+    alloc: Global,
+    standing: &mut Standing,
+    call: &Happened,
+) -> Result<(), AllocError> {
+    match call {
+        Happened::Wrote(_, bytes) => standing.text.extend_from_slice(bytes),
+        Happened::Stored => {
+            standing.stored = standing.text.len();
+            Ok(())
+        }
+        Happened::Replaced(bytes) => {
+            standing.text = bytes[..recovered_len(bytes)].to_vec(alloc)?;
+            standing.stored = standing.text.len();
+            standing.epochs = standing.epochs.saturating_add(1);
+            Ok(())
+        }
+    }
+}
+
+/// What stands in a journal behind these calls, the oldest first. The error is that memory was refused.
+pub fn standing_behind(alloc: Global, happened: &[Happened]) -> Result<Standing, AllocError> {
+    let mut standing = Standing {
+        epochs: 0,
+        text: Vec::new(alloc),
+        stored: 0,
+    };
+    for call in happened {
+        follow(alloc, &mut standing, call)?;
+    }
+    Ok(standing)
+}
+
+// What is recovered of lines that a crash left.
+fn judge_lines(
+    alloc: Global,
+    object: &Object,
+    house: House,
+    standing: &Standing,
+    lines: &[u8],
+) -> Result<Outcome, AllocError> {
+    if !standing.text.starts_with(lines) {
+        return Ok(Outcome::Wrong("a line that was not written"));
+    }
+    match recover(alloc, object, house, lines)? {
+        Err(_) => Ok(Outcome::Wrong("it is refused")),
+        Ok(recovered) => {
+            if recovered.length < standing.stored {
+                return Ok(Outcome::Wrong("a stored line is gone"));
+            }
+            Ok(Outcome::Right(recovered))
+        }
+    }
+}
+
+/// Draws a crash behind these calls, the oldest first, recovers, and says what came of it. The error is that memory was
+/// refused.
+pub fn judge(
+    alloc: Global,
+    object: &Object,
+    house: House,
+    file: &[u8],
+    happened: &[Happened],
+    how: &How,
+) -> Result<Outcome, AllocError> {
+    let standing = standing_behind(alloc, happened)?;
+    match crash(alloc, file, happened, how)? {
+        None => Ok(Outcome::Wrong("a write past the end of the file")),
+        Some(left) => judge_lines(
+            alloc,
+            object,
+            house,
+            &standing,
+            &left[..recovered_len(&left)],
+        ),
+    }
+}

@@ -1,0 +1,50 @@
+//! What is told of a state that was recovered.
+
+use decl_core::object::Object;
+use front_core::source::source_of;
+use hosted_core::start::{Ended, begin_again};
+use live_core::call::Limits;
+use recover_core::recover::Recovered;
+use replay_core::replay::Played;
+use std::alloc::{AllocError, Global};
+
+/// The front with which an object goes on behind what was recovered. `None`: it cannot. The error is that memory was
+/// refused.
+pub fn front_behind(
+    alloc: Global,
+    object: Object,
+    recovered: Recovered,
+    limits: Limits,
+) -> Result<Option<Vec<u8>>, AllocError> {
+    let source = source_of(&object);
+    let Recovered {
+        epoch,
+        base,
+        played,
+        guests,
+        ..
+    } = recovered;
+    let Played {
+        contents,
+        counters,
+        long,
+        greatest,
+    } = played;
+    let ended = Ended {
+        epoch,
+        base,
+        greatest,
+        contents,
+        counters,
+        long,
+        guests,
+    };
+    match begin_again(alloc, object, ended, source, limits)? {
+        None => Ok(None),
+        Some(hosted) => {
+            let mut front = Vec::new(alloc);
+            hosted.push_first(&mut front)?;
+            Ok(Some(front))
+        }
+    }
+}

@@ -1,0 +1,292 @@
+//! A scenario, and the crashes that are tried in it.
+
+use crate::crash::{How, mixed};
+use crate::device::{Happened, Kept};
+use crate::drive::{Asked as Call, Drive, LIMITS, Stop, cut_line};
+use crate::judge::{Outcome, follow, judge, standing_behind};
+use crate::tell::front_behind;
+use decl_core::object::Object;
+use line_core::write_whole;
+use recover_core::recover::{House, Recovered};
+use script_open::open::{Opened, open_script};
+use std::alloc::{AllocError, AllocFailed, Global};
+use std::io::Write;
+
+/// What is tried.
+#[derive(Drop)]
+pub struct Asked {
+    /// The text of FILE.
+    pub source: Vec<u8>,
+    /// The scenario, with its first line.
+    pub scenario: Vec<u8>,
+    /// So many crashes are drawn.
+    pub crashes: u64,
+    /// From this number on.
+    pub seed: u64,
+}
+
+/// How a trial ended.
+#[derive(Clone, Copy, Debug, PartialEq, Eq)]
+pub enum Ended {
+    /// No crash was wrong.
+    Right,
+    /// One was, or there was nothing to play.
+    Wrong,
+}
+
+/// Why a trial did not end.
+#[derive(Clone, Copy, Debug, PartialEq, Eq)]
+pub enum Fault {
+    /// Memory was refused.
+    Memory,
+    /// A line could not be written.
+    Written,
+}
+
+impl<T: Drop> From<AllocFailed<T>> for Fault {
+    fn from(_: AllocFailed<T>) -> Self {
+        Fault::Memory
+    }
+}
+
+impl From<AllocError> for Fault {
+    fn from(_: AllocError) -> Self {
+        Fault::Memory
+    }
+}
+
+/// Clients of a trial.
+const HOUSE: House = House {
+    sessions: LIMITS.sessions,
+    names: 64,
+    now: 0,
+};
+
+// What was tried so far.
+#[derive(Drop)]
+struct Tried {
+    crashes: u64,
+    wrong: u64,
+    // Of each state that was recovered: which epoch, and how many bytes of it.
+    states: Vec<(u64, usize)>,
+}
+
+fn tell<W: Write>(writer: &mut W, text: &[u8]) -> Result<(), Fault> {
+    match write_whole(writer, text) {
+        Ok(()) => Ok(()),
+        Err(_) => Err(Fault::Written),
+    }
+}
+
+// The object of a scenario.
+fn object_of(alloc: Global, asked: &Asked) -> Result<Option<Object>, AllocError> {
+    let (line, _) = cut_line(&asked.scenario);
+    let mut head = line.to_vec(alloc)?;
+    head.push(b'\n')?;
+    match open_script(alloc, &asked.source, &head)? {
+        Opened::Ready(accepted) => Ok(Some(accepted.into_object())),
+        Opened::Told(_) => Ok(None),
+    }
+}
+
+// What became of the file of a journal, and what the journal was asked for.
+#[derive(Drop)]
+struct Played {
+    file: Kept,
+    calls: Vec<Call>,
+}
+
+// Plays a scenario, and gives what became of the file; or the number of the line that ended it.
+fn play_scenario(
+    alloc: Global,
+    object: Object,
+    scenario: &[u8],
+) -> Result<Result<Played, u64>, AllocError> {
+    let Some(mut drive) = Drive::new(alloc, object)? else {
+        return Ok(Err(0));
+    };
+    let file = Kept::new(alloc, Vec::new(alloc));
+    let Some(mut journal) = drive.begin(file)? else {
+        return Ok(Err(0));
+    };
+    match drive.play_all(&mut journal, scenario, 1) {
+        Err((Stop::Memory, _)) => Err(AllocError),
+        Err((_, number)) => Ok(Err(number)),
+        Ok(()) => Ok(Ok(Played {
+            file: journal.into_device(),
+            calls: drive.asked().to_vec(alloc)?,
+        })),
+    }
+}
+
+// Tells a state, where it was not told before.
+fn tell_state<W: Write>(
+    alloc: Global,
+    asked: &Asked,
+    epoch: u64,
+    recovered: Recovered,
+    tried: &mut Tried,
+    writer: &mut W,
+) -> Result<bool, Fault> {
+    let length = recovered.length;
+    for state in &tried.states {
+        if state.0 == epoch && state.1 == length {
+            return Ok(true);
+        }
+    }
+    tried.states.push((epoch, length))?;
+    let Some(object) = object_of(alloc, asked)? else {
+        return Ok(false);
+    };
+    let Some(front) = front_behind(alloc, object, recovered, LIMITS)? else {
+        return Ok(false);
+    };
+    let line = format!(in alloc; "state {epoch} {length}\n")?;
+    tell(writer, line.as_bytes())?;
+    tell(writer, &front)?;
+    Ok(true)
+}
+
+// Tries a crash behind these calls.
+fn try_crash<W: Write>(
+    alloc: Global,
+    asked: &Asked,
+    object: &Object,
+    file: &Kept,
+    calls: usize,
+    how: &How,
+    tried: &mut Tried,
+    writer: &mut W,
+) -> Result<(), Fault> {
+    let happened = file.happened();
+    let happened = &happened[..calls.min(happened.len())];
+    let epoch = standing_behind(alloc, happened)?.epochs;
+    tried.crashes = tried.crashes.saturating_add(1);
+    let why = match judge(alloc, object, HOUSE, file.first(), happened, how)? {
+        Outcome::Wrong(why) => why,
+        Outcome::Right(recovered) => {
+            if tell_state(alloc, asked, epoch, recovered, tried, writer)? {
+                return Ok(());
+            }
+            "it cannot go on"
+        }
+    };
+    tried.wrong = tried.wrong.saturating_add(1);
+    let line = format!(in alloc; "wrong {calls} {how:?} {why}\n")?;
+    tell(writer, line.as_bytes())
+}
+
+// Whether each call of a journal reached its file, in order, and nothing else did.
+fn is_each_done(asked: &[Call], happened: &[Happened]) -> bool {
+    if asked.len() != happened.len() {
+        return false;
+    }
+    for place in 0..asked.len() {
+        let is_done = match &happened[place] {
+            Happened::Wrote(_, _) => asked[place] == Call::Lines,
+            Happened::Stored => asked[place] == Call::Sync,
+            Happened::Replaced(_) => asked[place] == Call::Front,
+        };
+        if !is_done {
+            return false;
+        }
+    }
+    true
+}
+
+// A number of a list of so many, drawn.
+fn drawn(seed: u64, at: u64, count: usize) -> usize {
+    let number = mixed(seed, at as usize, count);
+    (number % (count.max(1) as u64)) as usize
+}
+
+// Tries a crash at each byte of each write.
+fn try_each<W: Write>(
+    alloc: Global,
+    asked: &Asked,
+    object: &Object,
+    file: &Kept,
+    tried: &mut Tried,
+    writer: &mut W,
+) -> Result<(), Fault> {
+    for call in 0..file.happened().len() {
+        if let Happened::Wrote(_, bytes) = &file.happened()[call] {
+            for byte in 0..bytes.len() + 1 {
+                let how = How::Cut(call, byte);
+                try_crash(alloc, asked, object, file, call + 1, &how, tried, writer)?;
+            }
+        }
+    }
+    Ok(())
+}
+
+// Draws crashes.
+fn try_drawn<W: Write>(
+    alloc: Global,
+    asked: &Asked,
+    object: &Object,
+    file: &Kept,
+    tried: &mut Tried,
+    writer: &mut W,
+) -> Result<(), Fault> {
+    for crash in 0..asked.crashes {
+        let calls = drawn(asked.seed, crash, file.happened().len()).saturating_add(1);
+        let how = How::Drawn(mixed(asked.seed, crash as usize, usize::MAX));
+        try_crash(alloc, asked, object, file, calls, &how, tried, writer)?;
+    }
+    Ok(())
+}
+
+// Tells the lines of each epoch.
+fn tell_epochs<W: Write>(alloc: Global, file: &Kept, writer: &mut W) -> Result<(), Fault> {
+    let mut standing = standing_behind(alloc, &[])?;
+    for call in file.happened() {
+        if let Happened::Replaced(_) = call {
+            tell(writer, &standing.text)?;
+            let epoch = standing.epochs.saturating_add(1);
+            let line = format!(in alloc; "epoch {epoch}\n")?;
+            tell(writer, line.as_bytes())?;
+        }
+        follow(alloc, &mut standing, call)?;
+    }
+    tell(writer, &standing.text)
+}
+
+/// Plays a scenario, and tries crashes in it. An `Err` is that memory was refused, or a line could not be written.
+pub fn run_trial<W: Write>(alloc: Global, asked: &Asked, writer: &mut W) -> Result<Ended, Fault> {
+    let (Some(object), Some(judged)) = (object_of(alloc, asked)?, object_of(alloc, asked)?) else {
+        tell(writer, b"no object\n")?;
+        return Ok(Ended::Wrong);
+    };
+    let (_, scenario) = cut_line(&asked.scenario);
+    let Played { file, calls } = match play_scenario(alloc, object, scenario)? {
+        Ok(played) => played,
+        Err(number) => {
+            let line = format!(in alloc; "line {number} ends the scenario\n")?;
+            tell(writer, line.as_bytes())?;
+            return Ok(Ended::Wrong);
+        }
+    };
+    if !is_each_done(&calls, file.happened()) {
+        tell(
+            writer,
+            b"wrong, the file heard other calls than the journal\n",
+        )?;
+        return Ok(Ended::Wrong);
+    }
+    tell_epochs(alloc, &file, writer)?;
+    let mut tried = Tried {
+        crashes: 0,
+        wrong: 0,
+        states: Vec::new(alloc),
+    };
+    try_each(alloc, asked, &judged, &file, &mut tried, writer)?;
+    try_drawn(alloc, asked, &judged, &file, &mut tried, writer)?;
+    let (crashes, wrong) = (tried.crashes, tried.wrong);
+    let line = format!(in alloc; "crashes {crashes} wrong {wrong}\n")?;
+    tell(writer, line.as_bytes())?;
+    if wrong > 0 {
+        return Ok(Ended::Wrong);
+    }
+    Ok(Ended::Right)
+}

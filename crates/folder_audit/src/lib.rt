@@ -1,0 +1,9 @@
+//! The audit of a folder of kept objects: for each object its epochs, the oldest one first.
+//!
+//! The epoch that goes on is `NAME.journal`; ended ones are `NAME.NNNNNN.trace`, with the number of the epoch in six
+//! digits at least. `files` reads them, `audit` hands them to recover_text, one after another, and gathers what is said.
+//! No clause can say what a folder holds: what is proved of the epochs stands in recover_text.
+#![tactic(auto)]
+
+pub mod audit;
+pub mod files;

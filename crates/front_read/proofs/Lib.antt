@@ -1,0 +1,15 @@
+mod Answering
+mod Calling
+mod Clear
+mod Forms
+mod Levels
+mod Moving
+mod None
+mod Numerals
+mod Parting
+mod Rowing
+mod Standing
+mod Telling
+mod Texts
+mod Unique
+mod Whole

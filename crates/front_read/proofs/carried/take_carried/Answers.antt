@@ -1,0 +1,26 @@
+use Rattle.decl_core.specs.ObjectMap.{object_of}
+use Rattle.std.specs.Prelude.{codes}
+use Rattle.word_core.specs.View.{words_of}
+use Rattle.front_core.specs.Front.{IsCarried}
+use Rattle.front_core.specs.Text.{carried_words}
+use Rattle.front_read.specs.Rows.{row_words}
+use Rattle.front_read.specs.Row.{carried_row}
+use Rattle.front_read.proofs.Clear.{carried_clear}
+use Rattle.front_read.proofs.Standing.{no_words, not_told, takes_told, have_words, have_none}
+use Rattle.front_read.proofs.carried.take_carried.Goals as goal
+
+pub returns-in-Some-2 : goal.returns-in-Some-2
+returns-in-Some-2 c =
+    takes_told (IsCarried (object_of c.args.object.now)) (row_words (codes "carried") (carried_words (object_of c.args.object.now))) carried_row c.in-Some-2.row c.args.text.now c.first_line.result.now (words_of c.deref.result.now) c.args.out.now.items c.in_ok-found-in-Some-2.found c.take_this_carried.new.out.items (carried_clear (object_of c.args.object.now) c.object_has_names.ensures) c.first_line.ensures
+    (have_words c.first_line.result.now c.in_ok-words.field-0 c.in-Some.words c.deref.result.now c.in_ok-words.ensures c.in-Some.is c.deref.ensures.value)
+    (rw c.in-Some-2.is at c.in_ok-row-in-Some.ensures) c.in_ok-found-in-Some-2.ensures
+
+pub returns-in-Some : goal.returns-in-Some
+returns-in-Some c =
+    not_told (IsCarried (object_of c.args.object.now)) (row_words (codes "carried") (carried_words (object_of c.args.object.now))) carried_row c.args.text.now c.first_line.result.now (words_of c.deref.result.now) (carried_clear (object_of c.args.object.now) c.object_has_names.ensures) c.first_line.ensures
+    (have_words c.first_line.result.now c.in_ok-words.field-0 c.in-Some.words c.deref.result.now c.in_ok-words.ensures c.in-Some.is c.deref.ensures.value)
+    (rw c.in-None-2.is at c.in_ok-row-in-Some.ensures)
+
+pub returns : goal.returns
+returns c =
+    no_words (IsCarried (object_of c.args.object.now)) (row_words (codes "carried") (carried_words (object_of c.args.object.now))) c.args.text.now c.first_line.result.now (carried_clear (object_of c.args.object.now) c.object_has_names.ensures) c.first_line.ensures (have_none c.first_line.result.now c.in_ok-words.field-0 c.in_ok-words.ensures c.in-None.is)

@@ -1,0 +1,25 @@
+-- How an object that was served before begins again.
+use Rattle.std.specs.Prelude.{◌≡◌, ◌+◌, ◌-◌, ◌^◌, List, [], length, map, min}
+use Rattle.decl_core.specs.declared.object.Object.{Object}
+use Rattle.past_core.specs.declared.past.PastEvent.{PastEvent}
+use Rattle.past_core.specs.Found.{LeavesSame}
+use Rattle.live_core.specs.declared.call.Limits.{Limits}
+use Rattle.live_core.specs.Answers.{IsSetUp}
+use Rattle.live_core.specs.Epochs.{told_behind}
+use Rattle.live_core.specs.Hall.{IsHeld}
+use Rattle.guest_core.specs.Seats.{renewed}
+use Rattle.hosted_core.specs.declared.start.Ended.{Ended}
+use Rattle.hosted_core.specs.Scene.{Scene}
+
+-- It has the contents with which it ended, behind a past that leaves what its paths had counted; no call waits; its clients
+-- are those that it had, and the numbers of forgotten names are free; and each number that will be told is greater by
+-- 65,536 at least than each of which a line tells.
+pub record BeginsAgain (object : Object) (ended : Ended) (limits : Limits) (s : Scene) : Type 0 where
+  pub past : List PastEvent
+  pub held : IsHeld s.hall (told_behind past ended.contents.items)
+  pub counted : LeavesSame ended.counters.words (length object.operations.items) object.paths.items past
+  pub set_up : IsSetUp object limits past s.hall
+  pub waiting : s.hall.waiting ≡ []
+  pub guests : s.guests ≡ record ended.guests { seats = map renewed ended.guests.seats }
+  pub carried : s.carried ≡ []
+  pub base : s.base ≡ min (min (ended.base + ended.greatest) (2 ^ 64 - 1) + 65536) (2 ^ 64 - 1)

@@ -1,0 +1,6 @@
+pub mod Again
+pub mod Calls
+pub mod Lines
+pub mod Scene
+pub mod Steps
+pub mod View

@@ -1,0 +1,20 @@
+-- An object with its clients.
+use Rattle.std.specs.Prelude.{ℕ, ◌+◌, ◌-◌, ◌^◌, List, min, slice_index_or}
+use Rattle.guest_core.specs.Guests.{Guests}
+use Rattle.live_core.specs.Hall.{Hall}
+
+-- What its hand holds, who its clients are, the numbers that were told of the calls that were carried into this epoch, in
+-- their order, and what is added to the number of another call where it is told.
+pub record Scene : Type 0 where
+  pub hall : Hall
+  pub guests : Guests
+  pub carried : List ℕ
+  pub base : ℕ
+
+-- the number that is told of the call of this number in this epoch; at most the greatest of 64 bits
+abbrev pub told_of : Scene → ℕ → ℕ
+told_of s number = slice_index_or s.carried (number - 1) (min (s.base + number) (2 ^ 64 - 1))
+
+-- the same object, and its clients are these
+abbrev pub with_guests : Scene → Guests → Scene
+with_guests s guests = record s { guests = guests }

@@ -1,0 +1,52 @@
+-- What happens to an object with its clients, and the lines that tell of it.
+use Rattle.std.specs.Prelude.{◌≡◌, ℕ, List, [], ◌++◌, Bool, Result, map}
+use Rattle.value_core.specs.declared.datum.Datum.{Datum}
+use Rattle.decl_core.specs.ObjectMap.{object_of}
+use Rattle.trace_core.specs.Events.{Called}
+use Rattle.past_core.specs.declared.past.PastEvent.{PastEvent}
+use Rattle.live_core.specs.declared.live.Taken.{Taken}
+use Rattle.live_core.specs.Epochs.{IsBegun}
+use Rattle.live_core.specs.Lines.{all_lines}
+use Rattle.guest_core.specs.declared.guests.Entered.{Entered}
+use Rattle.guest_core.specs.declared.guests.EnterFault.{EnterFault}
+use Rattle.guest_core.specs.declared.seats.Seat.TheVariants.{Nameless}
+use Rattle.guest_core.specs.Entering.{Enters, Leaves}
+use Rattle.guest_core.specs.Guests.{Guests, with_seat}
+use Rattle.guest_core.specs.Seats.{IsLeastFree, renewed}
+use Rattle.hosted_core.specs.Calls.{Does, Cancels}
+use Rattle.hosted_core.specs.Lines.{entered_lines}
+use Rattle.hosted_core.specs.Scene.{Scene, told_of, with_guests}
+
+-- What it answers where a client comes by its name, and the line that it adds.
+pub record Comes (old : Scene) (name : List ℕ) (now : ℕ) (before : List ℕ) (a : Result Entered EnterFault) (after : List ℕ)
+    (new : Scene) : Type 0 where
+  pub enters : Enters old.guests name now a new.guests
+  pub left : new ≡ with_guests old new.guests
+  pub added : after ≡ before ++ entered_lines name a
+
+-- One thing that happens to an object, and the lines that tell of it: a client comes by its name; a session without a name
+-- gets a number; a session leaves; a call is taken; a waiting call is cancelled.
+pub data Step : Scene → List ℕ → Scene → Type 0 where
+  comes : {old : Scene} (name : List ℕ) (now : ℕ) (a : Result Entered EnterFault) (guests : Guests) →
+      Enters old.guests name now a guests → Step old (entered_lines name a) (with_guests old guests)
+  gets_number : {old : Scene} (session : ℕ) → IsLeastFree old.guests.seats session →
+      Step old [] (with_guests old (with_seat old.guests session Nameless))
+  leaves : {old : Scene} (session now : ℕ) (was_here : Bool) (guests : Guests) → Leaves old.guests session now was_here guests →
+      Step old [] (with_guests old guests)
+  calls : {old new : Scene} (session operation : ℕ) (arguments : List Datum) (a : Taken) →
+      Does old session operation arguments a new → Step old (all_lines (object_of old.hall.object) a.ran.items) new
+  cancels : {old new : Scene} (session told : ℕ) (lines : List ℕ) → Cancels old session told [] lines new → Step old lines new
+
+-- such steps, one after the other, and all of their lines
+pub data Steps : Scene → List ℕ → Scene → Type 0 where
+  rests : {old : Scene} → Steps old [] old
+  does : {old new : Scene} {lines : List ℕ} → Step old lines new → Steps old lines new
+  goes_on : {old mid new : Scene} {lines added : List ℕ} → Steps old lines mid → Steps mid added new →
+      Steps old (lines ++ added) new
+
+-- an epoch more has begun: the calls that wait are told by the numbers that they had, and the numbers of forgotten names
+-- are free
+pub record IsFollowed (old : Scene) (past : List PastEvent) (new : Scene) : Type 0 where
+  pub begun : IsBegun old.hall past new.hall
+  pub carried : new.carried ≡ map (λ (c : Called). told_of old c.number) old.hall.waiting
+  pub guests : new.guests ≡ record old.guests { seats = map renewed old.guests.seats }

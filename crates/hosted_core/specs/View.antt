@@ -1,0 +1,6 @@
+-- What is seen of an object with its clients, without where it lies in memory.
+use Rattle.hosted_core.specs.declared.hosted.Hosted.TheInside.{Inside}
+use Rattle.hosted_core.specs.Scene.{Scene}
+
+abbrev pub scene_of : Inside → Scene
+scene_of h = record { hall = h.live; guests = h.guests; carried = h.carried.items; base = h.base }

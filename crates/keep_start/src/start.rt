@@ -1,0 +1,199 @@
+//! One object, from its journal or from its parts.
+
+ghost use Rattle.std.specs.Prelude.{◌≡◌, IfOk};
+ghost use Rattle.hand_core.specs.Papers.{Papers};
+ghost use Rattle.store_core.specs.Opened.{AreLoaded};
+
+use decl_core::object::Object;
+use device_core::memory::MemHand;
+use front_core::source::source_of;
+use guest_core::guests::Guests;
+use hand_core::hand::HandFault;
+use hand_core::shelf::Shelf;
+use hosted_core::hosted::{Begun, Hosted};
+use hosted_core::start::{Ended, begin_again};
+use live_core::call::Limits;
+use live_core::live::Live;
+use path_tree::node::{Members, Node};
+use path_tree::tree::PathTree;
+use recover_core::recover::{House, RecoverFault, Recovered};
+use recover_text::recover::recover;
+use replay_core::replay::Played;
+use std::alloc::{AllocError, AllocFailed, Global};
+use store_core::open::{OpenFault, open_parts};
+use value_core::value::Value;
+
+/// Why an object is not begun with. The first that applies is told, in this order.
+#[derive(Clone, Copy, Debug, PartialEq, Eq)]
+pub enum NotBegun {
+    /// Its journal is refused.
+    Refused(RecoverFault),
+    /// Behind its journal no past was found that leaves what its paths have counted.
+    NoPast,
+    /// It has parts of before, and its paths have a `;`: what they have counted is not known.
+    Uncounted,
+    /// The bytes of the part at this place spell no value of its kind.
+    Damaged(usize),
+    /// The folder failed.
+    Device,
+    /// Memory was refused.
+    Memory,
+}
+
+impl From<AllocError> for NotBegun {
+    fn from(_: AllocError) -> NotBegun {
+        NotBegun::Memory
+    }
+}
+
+impl<T: Drop> From<AllocFailed<T>> for NotBegun {
+    fn from(_: AllocFailed<T>) -> NotBegun {
+        NotBegun::Memory
+    }
+}
+
+impl From<OpenFault> for NotBegun {
+    fn from(fault: OpenFault) -> NotBegun {
+        match fault {
+            OpenFault::Damaged(part) => NotBegun::Damaged(part),
+            OpenFault::Device => NotBegun::Device,
+            OpenFault::Memory => NotBegun::Memory,
+        }
+    }
+}
+
+// Whether a `;` stands below a node of a path.
+#[cycle(looking)]
+fn has_sequence(node: &Node) -> bool {
+    match node {
+        Node::Name(_) => false,
+        Node::Sequence(_) => true,
+        Node::List(members) => is_below(members),
+        Node::Bound(_, inner) => has_sequence(inner),
+        Node::Burst(inner) => has_sequence(inner),
+    }
+}
+
+#[cycle(looking)]
+fn is_below(members: &Members) -> bool {
+    match members {
+        Members::Two(first, second) => has_sequence(first) || has_sequence(second),
+        Members::More(first, rest) => has_sequence(first) || is_below(rest),
+    }
+}
+
+// Whether a path of an object counts what was before, also where nothing runs.
+fn counts(paths: &[PathTree]) -> bool {
+    for path in paths {
+        if has_sequence(path.root()) {
+            return true;
+        }
+    }
+    false
+}
+
+// Whether a part of an object is there.
+fn has_part<S: Shelf>(alloc: Global, object: &Object, shelf: &mut S) -> Result<bool, NotBegun> {
+    for part in &object.parts {
+        let mut key = object.name.as_bytes().to_vec(alloc)?;
+        key.push(b'.')?;
+        key.extend_from_slice(part.name.as_bytes())?;
+        match shelf.load(alloc, &key) {
+            Ok(None) => {}
+            Ok(Some(_)) => return Ok(true),
+            Err(HandFault::Device) => return Err(NotBegun::Device),
+            Err(HandFault::Memory) => return Err(NotBegun::Memory),
+        }
+    }
+    Ok(false)
+}
+
+/// The values with which an object begins of which there is no journal: what the shelf has under the names of its parts, or
+/// those of their kinds where nothing is there. The errors are those of [`NotBegun`] from `Uncounted` on.
+pub fn opening_of<S: Shelf>(
+    alloc: Global,
+    object: &Object,
+    shelf: &mut S,
+) -> Result<Vec<Value>, NotBegun>
+    ensures { IfOk result (λ values. (papers : Papers) → S.holds shelf.new papers →
+        AreLoaded papers object.now.name object.now.parts.items values.items) }
+{
+    if counts(&object.paths) && has_part(alloc, object, shelf)? {
+        return Err(NotBegun::Uncounted);
+    }
+    let mut hand = MemHand::new(alloc);
+    let (_pins, values) = open_parts(alloc, object, shelf, &mut hand)?;
+    Ok(values)
+}
+
+/// An object that nobody has called, with these values in its parts, and so many names before a new one takes the place of
+/// another. The errors are `NoPast`, where a value is not of its part's kind, and `Memory`.
+pub fn begin_first(
+    alloc: Global,
+    object: Object,
+    values: Vec<Value>,
+    names: u16,
+    limits: Limits,
+) -> Result<Hosted, NotBegun>
+    ensures { IfOk result (λ h. h.hall.contents ≡ values.items) }
+{
+    let source = source_of(&object);
+    let found = Live::behind(alloc, object, &[], values, Vec::new(alloc), limits)?;
+    let Some(live) = found else {
+        return Err(NotBegun::NoPast);
+    };
+    let begun = Begun {
+        live,
+        guests: Guests::new(alloc, limits.sessions, names)?,
+        long: Vec::new(alloc),
+        epoch: 1,
+        source,
+        base: 0,
+        sessions: limits.sessions,
+        waiting: limits.waiting,
+    };
+    Ok(Hosted::new(alloc, begun)?)
+}
+
+/// An object that goes on behind the text of its journal, in the next epoch: with its values, what its paths have
+/// counted, its clients and their last calls. Calls that waited wait no more. The errors are `Refused`, `NoPast` and
+/// `Memory`.
+pub fn begin_behind(
+    alloc: Global,
+    object: Object,
+    text: &[u8],
+    house: House,
+    limits: Limits,
+) -> Result<Hosted, NotBegun> {
+    let recovered = match recover(alloc, &object, house, text)? {
+        Ok(recovered) => recovered,
+        Err(fault) => return Err(NotBegun::Refused(fault)),
+    };
+    let source = source_of(&object);
+    let Recovered {
+        epoch,
+        base,
+        played,
+        guests,
+        ..
+    } = recovered;
+    let Played {
+        contents,
+        counters,
+        long,
+        greatest,
+    } = played;
+    let ended = Ended {
+        epoch,
+        base,
+        greatest,
+        contents,
+        counters,
+        long,
+        guests,
+    };
+    match begin_again(alloc, object, ended, source, limits)? {
+        Some(hosted) => Ok(hosted),
+        None => Err(NotBegun::NoPast),
+    }
+}

@@ -1,0 +1,337 @@
+//! `pathserve keep`: objects in memory, over journals in a folder.
+
+use answer_core::answer::{ACCEPTED, REFUSED};
+use answer_core::failure::Failure;
+use audit_core::verdict::Fault as TraceFault;
+use command_line::request::{Address, Keeping, Sync};
+use decl_core::object::Object;
+use device_core::dir_shelf::DirShelf;
+use exclude_core::analyse::Accepted;
+use hosted_core::hosted::Hosted;
+use journal_core::device::DeviceError;
+use journal_core::folder::FolderFile;
+use journal_core::journal::recover as lines_of;
+use keep_core::open::push_damaged;
+use keep_loop::{Fault, Limits as LoopLimits, run};
+use keep_start::start::{NotBegun, begin_behind, begin_first, opening_of};
+use line_core::write_whole;
+use live_core::call::Limits;
+use mio_core::clock::Pace;
+use mio_core::journals::Journals;
+use mio_core::stream::Listener;
+use mio_core::wires::{Serving, Wires};
+use recover_core::recover::{House, RecoverFault};
+use std::alloc::{AllocError, Global};
+use std::fs;
+use std::io::{self, Write};
+use table_core::table::Table;
+
+/// So many names an object knows before a new one takes the place of another.
+const NAMES: u16 = 4_096;
+
+/// Sessions have the numbers from 1 to this one, and so many calls wait at most.
+const LIMITS: Limits = Limits {
+    sessions: 65_535,
+    waiting: 10_000,
+};
+
+/// Behind a front a journal has room for so many bytes.
+const ROOM: usize = 8_388_608;
+
+/// So often, in seconds, objects are told the time.
+const TICK: u64 = 1;
+
+// The objects of a server, with their names and the fronts with which their journals begin.
+#[derive(Drop)]
+struct Kept {
+    objects: Vec<Hosted>,
+    names: Vec<String>,
+    fronts: Vec<Vec<u8>>,
+}
+
+// One object, or the line that says why it is not kept.
+enum Begun {
+    Ready(Hosted),
+    Told(Vec<u8>),
+}
+
+fn object_line(alloc: Global, name: &str, said: &[u8]) -> Result<Vec<u8>, AllocError> {
+    let mut line = Vec::new(alloc);
+    line.extend_from_slice(b"object ")?;
+    line.extend_from_slice(name.as_bytes())?;
+    line.extend_from_slice(said)?;
+    Ok(line)
+}
+
+// What is said of a fault of a line.
+fn fault_text(alloc: Global, fault: TraceFault) -> Result<String, AllocError> {
+    match fault {
+        TraceFault::Bad => format!(in alloc; "bad"),
+        TraceFault::Breaks(path) => format!(in alloc; "breaks path {path}"),
+        TraceFault::Wrong => format!(in alloc; "wrong reply"),
+        TraceFault::Stranger => format!(in alloc; "not running"),
+    }
+}
+
+// The line of a journal that is refused.
+fn refused_line(alloc: Global, name: &str, fault: RecoverFault) -> Result<Vec<u8>, AllocError> {
+    let line = match fault {
+        RecoverFault::Changed => {
+            format!(in alloc; "object {name} was changed: start the old FILE once\n")?
+        }
+        RecoverFault::Past => format!(in alloc; "object {name} past does not fit\n")?,
+        RecoverFault::Front(line) | RecoverFault::Contradicts(line) => {
+            format!(in alloc; "{name}.journal line {line} bad\n")?
+        }
+        RecoverFault::Line(line, fault) => {
+            let said = fault_text(alloc, fault)?;
+            format!(in alloc; "{name}.journal line {line} {said}\n")?
+        }
+    };
+    line.as_bytes().to_vec(alloc)
+}
+
+// The line that says why an object is not begun with.
+fn told_line(
+    alloc: Global,
+    object: &Object,
+    name: &str,
+    why: NotBegun,
+) -> Result<Vec<u8>, Failure> {
+    let line = match why {
+        NotBegun::Refused(fault) => refused_line(alloc, name, fault)?,
+        NotBegun::NoPast => object_line(alloc, name, b" past does not fit\n")?,
+        NotBegun::Uncounted => object_line(alloc, name, b" past is not known\n")?,
+        NotBegun::Damaged(part) => {
+            let mut line = Vec::new(alloc);
+            push_damaged(&mut line, object, part)?;
+            line
+        }
+        NotBegun::Device => return Err(Failure::ReadFault),
+        NotBegun::Memory => return Err(Failure::Memory),
+    };
+    Ok(line)
+}
+
+// The lines of a journal in a folder, which is made where it is missing.
+fn journal_lines(rt: &HostRuntime, folder: &str, name: &str) -> Result<Vec<u8>, Failure> {
+    let mut file = FolderFile::open(*rt, folder, name)?;
+    match lines_of(rt.alloc(), &mut file) {
+        Ok(lines) => Ok(lines),
+        Err(DeviceError::Memory) => Err(Failure::Memory),
+        Err(_) => Err(Failure::ReadFault),
+    }
+}
+
+// Begins one object: behind its journal, or where that has no line yet with the parts in the folder.
+fn begin_one(
+    rt: &HostRuntime,
+    object: Object,
+    name: &str,
+    folder: &str,
+    shelf: &mut DirShelf<HostRuntime>,
+) -> Result<Begun, Failure> {
+    let alloc = rt.alloc();
+    let lines = journal_lines(rt, folder, name)?;
+    if lines.is_empty() {
+        return begin_new(alloc, object, name, shelf);
+    }
+    let house = House {
+        sessions: LIMITS.sessions,
+        names: NAMES,
+        now: 0,
+    };
+    match begin_behind(alloc, object, &lines, house, LIMITS) {
+        Ok(hosted) => Ok(Begun::Ready(hosted)),
+        Err(NotBegun::Refused(fault)) => Ok(Begun::Told(refused_line(alloc, name, fault)?)),
+        Err(NotBegun::Memory) => Err(Failure::Memory),
+        Err(_) => Ok(Begun::Told(object_line(alloc, name, b" past does not fit\n")?)),
+    }
+}
+
+// Begins one object that has no journal.
+fn begin_new(
+    alloc: Global,
+    object: Object,
+    name: &str,
+    shelf: &mut DirShelf<HostRuntime>,
+) -> Result<Begun, Failure> {
+    let values = match opening_of(alloc, &object, shelf) {
+        Ok(values) => values,
+        Err(why) => return Ok(Begun::Told(told_line(alloc, &object, name, why)?)),
+    };
+    match begin_first(alloc, object, values, NAMES, LIMITS) {
+        Ok(hosted) => Ok(Begun::Ready(hosted)),
+        Err(NotBegun::Memory) => Err(Failure::Memory),
+        Err(_) => Ok(Begun::Told(object_line(alloc, name, b" past does not fit\n")?)),
+    }
+}
+
+fn name_of(alloc: Global, object: &Object) -> Result<String, Failure> {
+    match String::from_utf8(object.name.as_bytes().to_vec(alloc)?) {
+        Ok(name) => Ok(name),
+        Err(_) => Err(Failure::ReadFault),
+    }
+}
+
+// Begins the objects, in order, or gives the lines of those that are not.
+fn begin_all(
+    rt: &HostRuntime,
+    accepted: Vec<Accepted>,
+    folder: &str,
+) -> Result<Result<Kept, Vec<u8>>, Failure> {
+    let alloc = rt.alloc();
+    let mut shelf = DirShelf::new(*rt, folder)?;
+    let mut kept = Kept {
+        objects: Vec::new(alloc),
+        names: Vec::new(alloc),
+        fronts: Vec::new(alloc),
+    };
+    let mut told = Vec::new(alloc);
+    for one in accepted {
+        let object = one.into_object();
+        let name = name_of(alloc, &object)?;
+        match begin_one(rt, object, name.as_str(), folder, &mut shelf)? {
+            Begun::Told(line) => told.extend_from_slice(&line)?,
+            Begun::Ready(hosted) => add(alloc, &mut kept, hosted, name)?,
+        }
+    }
+    if told.is_empty() {
+        return Ok(Ok(kept));
+    }
+    Ok(Err(told))
+}
+
+// Adds an object.
+fn add(alloc: Global, kept: &mut Kept, hosted: Hosted, name: String) -> Result<(), AllocError> {
+    let mut front = Vec::new(alloc);
+    hosted.push_first(&mut front)?;
+    kept.fronts.push(front)?;
+    kept.names.push(name)?;
+    kept.objects.push(hosted)?;
+    Ok(())
+}
+
+// How often what no answer waits for is stored, in milliseconds; 0 where each answer waits.
+fn pace_of(sync: Sync) -> u64 {
+    match sync {
+        Sync::Always => 0,
+        Sync::Millis(millis) => u64::from(millis),
+    }
+}
+
+// Serves objects until the server is to end.
+fn serve_kept<W: Write>(
+    rt: &HostRuntime,
+    kept: Kept,
+    asked: Keeping<'_>,
+    listener: Listener,
+    writer: &mut W,
+) -> Result<u8, Failure> {
+    let alloc = rt.alloc();
+    let Kept {
+        objects,
+        names,
+        fronts,
+    } = kept;
+    let count = objects.len();
+    let begun = Journals::begin(*rt, asked.folder, &names, &fronts, ROOM);
+    let Some(journals) = begun else {
+        return Err(Failure::WriteFault);
+    };
+    let table = Table::new(alloc, objects, asked.at_once, 0)?;
+    let serving = Serving {
+        places: asked.at_once,
+        pace: Pace {
+            tick: TICK,
+            sync: pace_of(asked.sync),
+        },
+        stops_with_input: asked.stops,
+    };
+    let mut wires = Wires::open(rt, *rt, listener, journals, serving)?;
+    tell_place(alloc, asked, writer)?;
+    let limits = LoopLimits {
+        places: asked.at_once,
+        journals: count,
+        waits: asked.sync == Sync::Always,
+    };
+    match run(alloc, table, limits, &mut wires, u64::MAX) {
+        Ok(table) => tell_entries(alloc, &table, writer),
+        Err(Fault::Memory) => Err(Failure::Memory),
+        Err(Fault::Journal(_)) => Err(Failure::WriteFault),
+    }
+}
+
+// Writes a line whole.
+fn say<W: Write>(writer: &mut W, line: &[u8]) -> Result<(), Failure> {
+    match write_whole(writer, line) {
+        Ok(()) => Ok(()),
+        Err(_) => Err(Failure::WriteFault),
+    }
+}
+
+// `listening PLACE`.
+fn tell_place<W: Write>(alloc: Global, asked: Keeping<'_>, writer: &mut W) -> Result<(), Failure> {
+    let line = match asked.address {
+        Address::Port(port) => format!(in alloc; "listening {port}\n")?,
+        Address::Path(path) => format!(in alloc; "listening {path}\n")?,
+    };
+    say(writer, line.as_bytes())
+}
+
+// `NAME entries K` for each object, in order: so many calls of it finished since the server began.
+fn tell_entries<W: Write>(alloc: Global, table: &Table, writer: &mut W) -> Result<u8, Failure> {
+    for hosted in table.objects() {
+        let entries = hosted.entries();
+        let mut line = hosted.name().as_bytes().to_vec(alloc)?;
+        let told = format!(in alloc; " entries {entries}\n")?;
+        line.extend_from_slice(told.as_bytes())?;
+        say(writer, &line)?;
+    }
+    Ok(ACCEPTED)
+}
+
+/// Whether a folder has a journal of an object that is kept: a file `NAME.journal` that is not empty. No: it cannot be read.
+pub fn is_kept(rt: &HostRuntime, folder: &str) -> bool {
+    match has_journal(rt, folder) {
+        Ok(found) => found,
+        Err(_) => false,
+    }
+}
+
+fn has_journal(rt: &HostRuntime, folder: &str) -> io::Result<bool> {
+    for entry in fs::read_dir(rt, folder)? {
+        let entry = entry?;
+        if entry.file_name().ends_with(".journal") && is_begun(rt, folder, entry.file_name())? {
+            return Ok(true);
+        }
+    }
+    Ok(false)
+}
+
+// Whether a file of a folder is not empty.
+fn is_begun(rt: &HostRuntime, folder: &str, name: &str) -> io::Result<bool> {
+    let path = format!(in rt.alloc(); "{folder}/{name}")?;
+    Ok(fs::metadata(rt, path.as_str())?.len() > 0)
+}
+
+/// `pathserve keep`: serves these objects, which nobody else serves from the folder, to who connects at the listener, until
+/// the server is to end; and gives the exit status: 0 where each was kept, 1 where lines say why one is not begun with.
+///
+/// A failure is `ReadFault` where the folder could not be read, `WriteFault` where a journal or a line could not be written,
+/// or `Memory`. What was answered is on the disk then.
+pub fn keep_objects<W: Write>(
+    rt: &HostRuntime,
+    accepted: Vec<Accepted>,
+    asked: Keeping<'_>,
+    listener: Listener,
+    writer: &mut W,
+) -> Result<u8, Failure> {
+    match begin_all(rt, accepted, asked.folder)? {
+        Ok(kept) => serve_kept(rt, kept, asked, listener, writer),
+        Err(lines) => {
+            say(writer, &lines)?;
+            Ok(REFUSED)
+        }
+    }
+}

@@ -1,0 +1,4 @@
+pub mod Coming
+pub mod Cutting
+pub mod Hearing
+pub mod Recovering

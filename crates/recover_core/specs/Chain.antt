@@ -1,0 +1,66 @@
+-- When an epoch may follow another one.
+use Rattle.std.specs.Prelude.{◌≡◌, ◌≢◌, ℕ, ◌+◌, ◌≤◌, List, [], ◌∷◌, ◌++◌, length}
+use Rattle.decl_core.specs.ObjectForm.{ObjectForm}
+use Rattle.past_core.specs.Found.{LeavesSame}
+use Rattle.front_core.specs.declared.front.Client.{Client}
+use Rattle.front_core.specs.declared.front.KeptCall.{KeptCall}
+use Rattle.front_core.specs.Front.{Opening}
+use Rattle.front_core.specs.Past.{events_in}
+use Rattle.guest_core.specs.declared.guest.Guest.{Guest}
+use Rattle.guest_core.specs.declared.kept.Kept.{Kept}
+use Rattle.guest_core.specs.Guests.{Guests, IsNamed}
+use Rattle.guest_core.specs.Keys.{asks}
+use Rattle.recover_core.specs.declared.recover.Recovered.{Recovered}
+use Rattle.recover_core.specs.declared.chain.ChainFault.{ChainFault}
+use Rattle.recover_core.specs.declared.chain.ChainFault.TheVariants as faults
+use Rattle.recover_core.specs.Clients.{reply_in}
+
+-- Behind numbers up to `base + greatest` the next epoch gives numbers behind `next + carried`: none of them twice; and
+-- none is left out but such as calls of which no line tells can have had, 65,536 at most.
+abbrev pub AreNumbered : ℕ → ℕ → ℕ → ℕ → Type 0
+AreNumbered base greatest next carried =
+    (base + greatest ≤ next + carried) × (next + carried ≤ (base + greatest) + 65536)
+
+-- a kept line is of this call
+pub record IsSameCall (k : KeptCall) (c : Kept) : Type 0 where
+  pub asked : asks k.operation k.arguments ≡ c.asked
+  pub told : k.told ≡ c.told
+  pub reply : reply_in k.answer ≡ c.reply
+
+-- kept lines, the oldest call first, are of these calls, the newest first
+abbrev pub AreSameCalls : List KeptCall → List Kept → Type 0
+AreSameCalls [] kept = kept ≡ []
+AreSameCalls (k ∷ calls) kept =
+    (others : List Kept) × (last : Kept) × (kept ≡ others ++ last ∷ []) × IsSameCall k last × AreSameCalls calls others
+
+-- the client of this line was known, with this session and this next key; these of its calls are kept
+pub record IsKnown (v : Guests) (c : Client) (kept : List Kept) : Type 0 where
+  pub place : ℕ
+  pub guest : Guest
+  pub by : IsNamed v c.session place guest
+  pub named : guest.name ≡ c.name
+  pub next : guest.keys.next ≡ c.keys + 1
+  pub kept_is : guest.keys.kept ≡ kept
+
+-- so were all clients, each with its kept lines, which stand in the order of the clients
+abbrev pub AreKnown : Guests → List Client → List KeptCall → Type 0
+AreKnown v [] kept = kept ≡ []
+AreKnown v (c ∷ clients) kept =
+    (mine : List KeptCall) × (more : List KeptCall) × (calls : List Kept) × (kept ≡ mine ++ more)
+    × IsKnown v c calls × AreSameCalls mine calls × AreKnown v clients more
+
+-- An epoch that begins so may follow one that came to this.
+pub record Follows (o : ObjectForm) (r : Recovered) (f : Opening) : Type 0 where
+  pub epoch : f.epoch ≡ r.epoch + 1
+  pub contents : r.played.contents.items ≡ f.parts
+  pub past : LeavesSame r.played.counters.words (length o.operations) o.paths (events_in f.past)
+  pub numbers : AreNumbered r.base r.played.greatest f.base (length f.carried)
+  pub clients : AreKnown r.guests f.clients f.kept
+
+-- what is told of one that may not
+abbrev pub Differs : Recovered → Opening → ChainFault → Type 0
+Differs r f faults.Epoch = f.epoch ≢ r.epoch + 1
+Differs r f faults.Values = r.played.contents.items ≢ f.parts
+Differs r f faults.Past = Unit {0}
+Differs r f faults.Numbers = AreNumbered r.base r.played.greatest f.base (length f.carried) → ⊥
+Differs r f faults.Clients = Unit {0}

@@ -1,0 +1,6 @@
+pub mod Lines
+pub mod Carried
+pub mod Clients
+pub mod Playing
+pub mod Recovered
+pub mod Chain

@@ -1,0 +1,220 @@
+//! Whether an epoch may follow another one.
+
+ghost use Rattle.std.specs.Prelude.{◌≡◌, [], ◌+◌, ◌≤◌, ◌∷◌, ◌↔◌, length, IsTrue, IfOk, IfSome, MatchOption};
+ghost use Rattle.decl_core.specs.ObjectMap.{object_of};
+ghost use Rattle.front_core.specs.Front.{opening_of};
+ghost use Rattle.front_core.specs.Past.{events_in};
+ghost use Rattle.past_core.specs.Found.{LeavesSame};
+ghost use Rattle.recover_core.specs.Clients.{reply_in};
+ghost use Rattle.recover_core.specs.Chain.{IsSameCall, AreSameCalls, IsKnown, AreKnown, AreNumbered, Follows, Differs};
+
+use crate::recover::Recovered;
+use decl_core::object::Object;
+use front_core::front::{Answer, Client, Front, KeptCall};
+use front_core::past::{PastRun, events_of};
+use guest_core::guests::Guests;
+use guest_core::kept::Kept;
+use past_core::past::counters_behind;
+use path_count::counters::Counters;
+use path_tree::node::OpId;
+use std::alloc::{AllocError, Global};
+use value_core::encode::encode;
+use value_core::value::Value;
+
+/// What of a front is not as the epoch before it left it. The first that applies is told, in this order.
+#[derive(Clone, Copy, Debug, PartialEq, Eq)]
+pub enum ChainFault {
+    /// It is not the next epoch.
+    Epoch,
+    /// A value is another one.
+    Values,
+    /// The past does not leave what the paths have counted.
+    Past,
+    /// A number may be told again, or numbers are left out that no call can have had.
+    Numbers,
+    /// A client was not known, has another session or another next key, or its kept calls are others.
+    Clients,
+}
+
+// Whether an epoch is the one behind another.
+fn is_next(before: u64, next: u64) -> bool
+    ensures { IsTrue result ↔ (next ≡ before + 1) }
+{
+    before.checked_add(1) == Some(next)
+}
+
+// Whether both are the same value.
+fn is_same_value(alloc: Global, a: &Value, b: &Value) -> Result<bool, AllocError>
+    ensures { IfOk result (λ yes. IsTrue yes ↔ (a.now ≡ b.now)) }
+{
+    let first = encode(alloc, a)?;
+    let second = encode(alloc, b)?;
+    Ok(is_same(&first, &second))
+}
+
+fn is_same(a: &[u8], b: &[u8]) -> bool
+    ensures { IsTrue result ↔ (a.now ≡ b.now) }
+{
+    a == b
+}
+
+// Whether both are the same values, in order.
+fn are_same_values(alloc: Global, a: &[Value], b: &[Value]) -> Result<bool, AllocError>
+    ensures { IfOk result (λ yes. IsTrue yes ↔ (a.now ≡ b.now)) }
+{
+    match (a, b) {
+        ([], []) => Ok(true),
+        ([first, a @ ..], [second, b @ ..]) => {
+            if !is_same_value(alloc, first, second)? {
+                return Ok(false);
+            }
+            are_same_values(alloc, a, b)
+        }
+        _ => Ok(false),
+    }
+}
+
+// Whether a past leaves these counters.
+fn leaves_same(
+    alloc: Global,
+    object: &Object,
+    counters: &Counters,
+    past: &[PastRun],
+) -> Result<bool, AllocError>
+    ensures { IfOk result (λ yes. IsTrue yes → LeavesSame counters.now.words
+        (length (object_of object.now).operations) (object_of object.now).paths (events_in past.now)) }
+{
+    let past = events_of(alloc, past)?;
+    match counters_behind(alloc, &object.paths, object.operations.len() as OpId, &past)? {
+        None => Ok(false),
+        Some(found) => Ok(found.leaves_same(counters)),
+    }
+}
+
+// Whether numbers go on behind so many of an epoch: none of them is told again, and no more are left out than calls of
+// which no line tells can have had.
+fn are_numbered(base: u64, greatest: u32, next: u64, carried: usize) -> bool
+    ensures { IsTrue result ↔ AreNumbered base greatest next carried }
+{
+    let last = u128::from(base) + u128::from(greatest);
+    let first = u128::from(next) + carried as u128;
+    last <= first && first <= last + 65_536
+}
+
+// Whether a call was kept so.
+fn is_same_call(call: &KeptCall, kept: &Kept) -> bool
+    ensures { IsTrue result ↔ IsSameCall call.now kept.now }
+{
+    if call.operation != kept.asked().operation() || call.told != kept.told() {
+        return false;
+    }
+    call.arguments.is_same(kept.asked().arguments()) && is_same_answer(&call.answer, kept)
+}
+
+fn is_same_answer(answer: &Answer, kept: &Kept) -> bool
+    ensures { IsTrue result ↔ (reply_in answer.now ≡ kept.now.reply) }
+{
+    match (answer, kept.reply()) {
+        (Answer::Replied(short), Some(reply)) => short.is(&reply),
+        (Answer::Cancelled, None) => true,
+        _ => false,
+    }
+}
+
+// Whether these calls, the oldest first, are those that are kept, the newest first.
+fn are_same_calls(calls: &[KeptCall], kept: &[Kept]) -> bool
+    ensures { IsTrue result ↔ AreSameCalls calls.now kept.now }
+{
+    match calls {
+        [] => is_none(kept),
+        [call, calls @ ..] => match kept.split_last() {
+            None => false,
+            Some((last, others)) => is_same_call(call, last) && are_same_calls(calls, others),
+        },
+    }
+}
+
+fn is_none(kept: &[Kept]) -> bool
+    ensures { IsTrue result ↔ (kept.now ≡ []) }
+{
+    kept.is_empty()
+}
+
+// Whether a client was known before, with its session and key; then so many of its calls are kept.
+fn known_calls<'a>(guests: &'a Guests, client: &Client) -> Option<&'a [Kept]>
+    ensures { IfSome result (λ kept. IsKnown guests.now client.now kept.now) }
+{
+    let Ok(session) = u16::try_from(client.session) else {
+        return None;
+    };
+    let guest = guests.guest(session)?;
+    if !is_same(guest.name().as_bytes(), client.name.as_bytes()) {
+        return None;
+    }
+    if client.keys.checked_add(1) != Some(guest.keys().next()) {
+        return None;
+    }
+    Some(guest.keys().kept())
+}
+
+// Whether clients were known before, with their sessions, keys and kept calls, these in the order of the clients.
+fn are_known(guests: &Guests, clients: &[Client], kept: &[KeptCall]) -> bool
+    ensures { IsTrue result → AreKnown guests.now clients.now kept.now }
+{
+    let mut clients_left = clients;
+    let mut kept_left = kept;
+    'clients: while let Some((client, more)) = clients_left.split_first() {
+        let Some(known) = known_calls(guests, client) else {
+            return false;
+        };
+        if known.len() > kept_left.len() {
+            return false;
+        }
+        let (mine, others) = kept_left.split_at(known.len());
+        if !are_same_calls(mine, known) {
+            return false;
+        }
+        clients_left = more;
+        kept_left = others;
+    }
+    kept_left.is_empty()
+}
+
+/// Whether an epoch that begins with this front may follow one that came to this: it is the next one; its values are
+/// those; its past leaves what the paths have counted; no number that was told is told again, and none is left out but
+/// such as calls can have had of which no line tells; and its clients were known, with the same sessions, keys and kept
+/// calls. A client may have been forgotten, and a waiting call may be gone.
+///
+/// `None`: it may. The error is that memory was refused.
+pub fn follows(
+    alloc: Global,
+    object: &Object,
+    before: &Recovered,
+    front: &Front,
+) -> Result<Option<ChainFault>, AllocError>
+    ensures { IfOk result (λ found. MatchOption found
+        (Follows (object_of object.now) before.now (opening_of front.now))
+        (Differs before.now (opening_of front.now))) }
+{
+    if !is_next(before.epoch, front.epoch) {
+        return Ok(Some(ChainFault::Epoch));
+    }
+    if !are_same_values(alloc, &before.played.contents, &front.parts)? {
+        return Ok(Some(ChainFault::Values));
+    }
+    if !leaves_same(alloc, object, &before.played.counters, &front.past)? {
+        return Ok(Some(ChainFault::Past));
+    }
+    if !are_numbered(
+        before.base,
+        before.played.greatest,
+        front.base,
+        front.carried.len(),
+    ) {
+        return Ok(Some(ChainFault::Numbers));
+    }
+    if !are_known(&before.guests, &front.clients, &front.kept) {
+        return Ok(Some(ChainFault::Clients));
+    }
+    Ok(None)
+}
