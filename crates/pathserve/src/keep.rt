@@ -291,15 +291,9 @@ fn tell_entries<W: Write>(alloc: Global, table: &Table, writer: &mut W) -> Resul
     Ok(ACCEPTED)
 }
 
-/// Whether a folder has a journal of an object that is kept: a file `NAME.journal` that is not empty. No: it cannot be read.
-pub fn is_kept(rt: &HostRuntime, folder: &str) -> bool {
-    match has_journal(rt, folder) {
-        Ok(found) => found,
-        Err(_) => false,
-    }
-}
-
-fn has_journal(rt: &HostRuntime, folder: &str) -> io::Result<bool> {
+/// Whether a folder has a journal of an object that is kept: a file `NAME.journal` that is not empty. The error is that of
+/// the system, or a want of memory.
+pub fn is_kept(rt: &HostRuntime, folder: &str) -> io::Result<bool> {
     for entry in fs::read_dir(rt, folder)? {
         let entry = entry?;
         if entry.file_name().ends_with(".journal") && is_begun(rt, folder, entry.file_name())? {

@@ -308,11 +308,29 @@ fn path_of(address: Address<'_>) -> &str {
     }
 }
 
+// Whether an error of a folder is one that opening it has too.
+fn is_told_later(error: &io::Error) -> bool {
+    matches!(
+        error.kind(),
+        ErrorKind::NotFound | ErrorKind::NotADirectory | ErrorKind::PermissionDenied
+    )
+}
+
 // Prepares a server. Where it lacks something that is told.
 fn prepare_server(rt: &HostRuntime, asked: Serving<'_>) -> Result<Prepared, Failure> {
-    if is_kept(rt, asked.folder) {
-        let line = format!(in rt.alloc(); "{} is kept: use pathserve keep\n", asked.folder)?;
-        return Ok(Prepared::Ended(written(rt, line.as_bytes(), REFUSED)?));
+    match is_kept(rt, asked.folder) {
+        Ok(false) => {}
+        Ok(true) => {
+            let line = format!(in rt.alloc(); "{} is kept: use pathserve keep\n", asked.folder)?;
+            return Ok(Prepared::Ended(written(rt, line.as_bytes(), REFUSED)?));
+        }
+        Err(error) => {
+            // (what is no folder, or may not be read, is told in its turn)
+            if !is_told_later(&error) {
+                let lacking = Lacking::of(Need::Folder, error);
+                return Err(told(rt, lacking, asked.folder));
+            }
+        }
     }
     match take_needs(rt, asked) {
         Ok(started) => Ok(Prepared::Serves(started, asked.stops)),
