@@ -94,7 +94,7 @@ pub fn connected<'a>(
 }
 
 // After so many turns nobody comes any more.
-const MOST_TURNS: u64 = 100_000_000;
+const MOST_TURNS: u64 = 20_000_000_000;
 
 /// Turns until so many lines were written, or nobody comes any more.
 pub fn await_lines(written: &AtomicU64, count: u64) {
