@@ -78,7 +78,12 @@ fn an_epoch_follows(rt: HostRuntime) {
     let due = s.table.due(&mut front).expect(&rt, "memory");
     assert!(rt; due == Some(0));
     assert!(rt; front.starts_with(b"object buffer epoch 2\nsource 0000000000000007\npart items "));
-    assert!(rt; is_in(b"base 6402\ncarried 1 6403 s3 put 'late'\nclient s2 ann 2\nkept s2 1 6401 done put 'a'\n", &front));
+    assert!(rt;
+        is_in(
+            b"base 6402\ncarried 1 6403 s3 put 'late'\nclient s2 ann 2\nkept s2 1 6401 done put 'a'\n",
+            &front
+        )
+    );
     s.table.changed(0, &front, true).expect(&rt, "memory");
     plays_on(&rt, &mut s, BEHIND);
     let due = s.table.due(&mut front).expect(&rt, "memory");

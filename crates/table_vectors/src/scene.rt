@@ -3,14 +3,13 @@
 use decl_core::object::Object;
 use decl_read::read::read_objects;
 use guest_core::guests::Guests;
+use hosted_core::hosted::{Begun, Hosted};
 use keep_loop::{LineEnd, Note, Post, Served};
 use live_core::call::Limits;
 use live_core::live::Live;
 use past_core::past::PastEvent;
 use std::alloc::Global;
 use std::process::Abort;
-
-use hosted_core::hosted::{Begun, Hosted};
 use table_core::table::Table;
 use value_core::value::Value;
 
@@ -80,9 +79,7 @@ fn hosted(rt: &impl Abort, alloc: Global, object: Object) -> Hosted {
 pub fn made(rt: &impl Abort, alloc: Global) -> Scene {
     let mut objects = Vec::new(alloc);
     for (_, object) in read_objects(alloc, OBJECTS).expect(rt, "objects") {
-        objects
-            .push(hosted(rt, alloc, object))
-            .expect(rt, "memory");
+        objects.push(hosted(rt, alloc, object)).expect(rt, "memory");
     }
     let table = Table::new(alloc, objects, 8, 1_000).expect(rt, "memory");
     let post = Post::new(alloc, 8, 2).expect(rt, "memory");
@@ -102,10 +99,26 @@ fn zeros(rt: &impl Abort, alloc: Global, count: usize) -> Vec<usize> {
     all
 }
 
+// How much was looked at of the one at a place.
+fn count_at(all: &[usize], place: usize) -> usize {
+    match all.get(place) {
+        Some(count) => *count,
+        None => 0,
+    }
+}
+
+fn set(all: &mut Vec<usize>, place: usize, count: usize) {
+    if let Some(seen) = all.get_mut(place) {
+        *seen = count;
+    }
+}
+
 impl Scene {
     pub fn join(&mut self, rt: &impl Abort, who: u64) {
-        self.post.open(who);
-        self.told[who as usize % 8] = 0;
+        if self.post.places() > 0 {
+            self.post.open(who);
+        }
+        set(&mut self.told, (who % 8) as usize, 0);
         self.table
             .note(Note::Joins(who), &mut self.post)
             .expect(rt, "memory");
@@ -126,10 +139,11 @@ impl Scene {
     /// All that was told and added counts as looked at.
     pub fn skip(&mut self) {
         for who in 1..8 {
-            self.told[who as usize] = self.post.owed(who).len();
+            let length = self.post.owed(who).len();
+            set(&mut self.told, who as usize, length);
         }
-        self.added[0] = self.post.lines(0).len();
-        self.added[1] = self.post.lines(1).len();
+        set(&mut self.added, 0, self.post.lines(0).len());
+        set(&mut self.added, 1, self.post.lines(1).len());
     }
 
     pub fn say(&mut self, rt: &impl Abort, who: u64, line: &str) {
@@ -152,15 +166,16 @@ impl Scene {
 
     /// Whether a connection is told this line next.
     pub fn tells(&mut self, who: u64, row: &str) -> bool {
-        let at = who as usize % 8;
-        let length = match self.post.owed(who).get(self.told[at]..) {
+        let at = (who % 8) as usize;
+        let seen = count_at(&self.told, at);
+        let length = match self.post.owed(who).get(seen..) {
             None => return false,
             Some(rest) => front_of(rest, row),
         };
         match length {
             None => false,
             Some(length) => {
-                self.told[at] += length;
+                set(&mut self.told, at, seen.saturating_add(length));
                 true
             }
         }
@@ -168,14 +183,15 @@ impl Scene {
 
     /// Whether this line was added to a journal next.
     pub fn adds(&mut self, at: usize, row: &str) -> bool {
-        let length = match self.post.lines(at).get(self.added[at]..) {
+        let seen = count_at(&self.added, at);
+        let length = match self.post.lines(at).get(seen..) {
             None => return false,
             Some(rest) => front_of(rest, row),
         };
         match length {
             None => false,
             Some(length) => {
-                self.added[at] += length;
+                set(&mut self.added, at, seen.saturating_add(length));
                 true
             }
         }
@@ -184,11 +200,12 @@ impl Scene {
     /// Whether nothing was told and added that was not looked at.
     pub fn is_quiet(&self) -> bool {
         for who in 1..8 {
-            if self.post.owed(who).len() != self.told[who as usize] {
+            if self.post.owed(who).len() != count_at(&self.told, who as usize) {
                 return false;
             }
         }
-        self.post.lines(0).len() == self.added[0] && self.post.lines(1).len() == self.added[1]
+        self.post.lines(0).len() == count_at(&self.added, 0)
+            && self.post.lines(1).len() == count_at(&self.added, 1)
     }
 }
 
