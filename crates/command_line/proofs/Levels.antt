@@ -119,8 +119,8 @@ AreOthers x (n ∷ ns) = (bytes_eq x n ≡ false) × AreOthers x ns
 pub places_more : (ns ws : List Text) (rows : List Row) (id : Text) (values : List Text) → AreOthers id ns → Places ns ws rows → Places ns ws (with_values id AsWritten CommandLine values rows)
 places_more [] [] rows id values others h = h
 places_more [] (w ∷ ws) rows id values others h = h
-places_more (n ∷ ns) [] rows id values others h = (more_other id n values rows others.0 ∙ h.0, places_more ns [] rows id values others.1 h.1)
-places_more (n ∷ ns) (w ∷ ws) rows id values others h = (more_other id n values rows others.0 ∙ h.0, places_more ns ws rows id values others.1 h.1)
+places_more (n ∷ ns) [] rows id values others h = (more_other id values n rows others.0 ∙ h.0, places_more ns [] rows id values others.1 h.1)
+places_more (n ∷ ns) (w ∷ ws) rows id values others h = (more_other id values n rows others.0 ∙ h.0, places_more ns ws rows id values others.1 h.1)
 
 pub places_kept : (ns ws : List Text) (rows : List Row) (r : Row) → AreOthers r.id ns → Places ns ws rows → Places ns ws (rows ++ r ∷ [])
 places_kept [] [] rows r others h = h

@@ -135,7 +135,6 @@ choice_used of_at_once n rows e = (
   passes_number 1 10000 n (passed (accepts false (parsers.Unsigned 1 10000) n) (first_of _ [] (then_of (cond (has_row (codes "at-once") rows && true) (kinds.ArgumentConflict ∷ []) []) _ e))),
 )
 choice_used of_sync n rows e = (no_conflict (has_row (codes "sync") rows) (first_of (cond (has_row (codes "sync") rows && true) (kinds.ArgumentConflict ∷ []) []) _ e), tt)
-
 choice_used of_traces n rows e = (
   no_conflict (has_row (codes "traces") rows) (first_of (cond (has_row (codes "traces") rows && true) (kinds.ArgumentConflict ∷ []) []) _ e),
   passes_number 1 1000000 n (passed (accepts false (parsers.Unsigned 1 1000000) n) (first_of _ [] (then_of (cond (has_row (codes "traces") rows && true) (kinds.ArgumentConflict ∷ []) []) _ e))),

@@ -1,6 +1,6 @@
 -- Calls of an operation, one behind another.
 use Rattle.std.proofs.Common.{◌≡◌, ◌∙◌, ◌++◌, ◌<◌, ◌-◌, ℕ, zero, suc, List, [], ◌∷◌, ap, sym, arith}
-use Rattle.std.proofs.lemmas.List.{append-assoc}
+use Rattle.std.proofs.Common.{append_assoc}
 use Rattle.past_core.specs.declared.past.PastEvent.{PastEvent}
 use Rattle.past_core.specs.declared.past.PastEvent.TheVariants.{Start, End}
 use Rattle.keep_start.specs.First.{calls_of}
@@ -13,6 +13,6 @@ one_of (suc k) op some = ap (λ n. Start op ∷ End op ∷ calls_of n op) (omega
 pub one_more : (done : List PastEvent) (left op : ℕ) → 0 < left
     → ((done ++ Start op ∷ []) ++ End op ∷ []) ++ calls_of (left - 1) op ≡ done ++ calls_of left op
 one_more done left op some =
-    append-assoc (done ++ Start op ∷ []) (End op ∷ []) (calls_of (left - 1) op)
-    ∙ append-assoc done (Start op ∷ []) (End op ∷ calls_of (left - 1) op)
+    append_assoc (done ++ Start op ∷ []) (End op ∷ []) (calls_of (left - 1) op)
+    ∙ append_assoc done (Start op ∷ []) (End op ∷ calls_of (left - 1) op)
     ∙ ap (λ more. done ++ more) (sym (one_of left op some))

@@ -29,7 +29,9 @@ use answer_core::failure::{Failure, exit_status, words_end};
 use answer_core::script::answer_script;
 use answer_core::source::read_source;
 use command_line::past::{MEANS, Past, past_in};
-use command_line::request::{Address, Explain, Keeping, Request, Serving, past_error, pasts_of, request_of};
+use command_line::request::{
+    Address, Explain, Keeping, Request, Serving, past_error, pasts_of, request_of,
+};
 use exclude_core::analyse::Accepted;
 use explain_line::files::Files;
 use explain_line::kept::Kept;
