@@ -566,9 +566,11 @@ fn pasts_in<'a>(rt: &HostRuntime, words: &'a [&'a str]) -> Result<Vec<Past<'a>>,
     };
     let mut pasts = Vec::new(alloc);
     for word in &told {
-        match past_in(word) {
-            Some(past) => pasts.push(past)?,
-            None => return Err(Failure::Usage(past_error(alloc, word, MEANS)?)),
+        let Some(past) = past_in(word) else {
+            return Err(Failure::Usage(past_error(alloc, word, MEANS)?));
+        };
+        if pasts.push(past).is_err() {
+            return Err(Failure::Memory);
         }
     }
     Ok(pasts)

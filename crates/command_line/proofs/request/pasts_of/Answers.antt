@@ -1,4 +1,4 @@
-use Rattle.std.proofs.Common.{◌≡◌, ◌∙◌, List, Some, map, codes, ap, refl, subst, sym}
+use Rattle.std.proofs.Common.{◌≡◌, ◌∙◌, false, true, List, Some, map, codes, ap, refl, subst, sym}
 use Rattle.clap.proofs.TakesLemmas.{passed_up}
 use Rattle.clap.specs.Matches.{found_of, subcommand_name_of}
 use Rattle.clap.specs.Walk.{rows_of}
@@ -7,6 +7,9 @@ use Rattle.command_line.specs.Forms.{Text, keep, name_of}
 use Rattle.command_line.proofs.Asking.{asks_matched, refused}
 use Rattle.command_line.proofs.Found.{matched_is, matched_name}
 use Rattle.command_line.proofs.request.pasts_of.Goals as goal
+
+clash : false ≡ true → ⊥
+clash x = cc
 
 pub returns-in_err-matches-clause-refused : goal.returns-in_err-matches-clause-refused
 returns-in_err-matches-clause-refused c =
@@ -31,4 +34,4 @@ returns-clause-told c = λ q asked is_keep.
     let m = c.in_ok-matches.matches in
     let matched = asks_matched words c.in_ok-command.field-0 c.in_ok-command.ensures m q c.in_ok-matches.ensures.matches asked in
     let name : subcommand_name_of m ≡ Some (codes "keep") = matched_name m asked.verb asked.given matched ∙ ap (λ v. Some (name_of v)) is_keep in
-    absurd (c.in-None.ensures.found.1 name)
+    absurd (clash (c.in-None.ensures.found.1 name))
