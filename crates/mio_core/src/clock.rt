@@ -1,5 +1,7 @@
 //! When it is time for what.
 
+ghost use Rattle.std.specs.Prelude.{◌≡◌, ◌≤◌, ◌<◌, ◌/◌, true, false, IfOk, IfSome, IfNone};
+
 use std::io;
 use std::time::{Clock, Duration, Instant};
 
@@ -24,7 +26,11 @@ pub struct Watch {
 
 impl Watch {
     /// It begins now. The error is that of the clock.
-    pub fn begin(clock: &impl Clock, pace: Pace) -> io::Result<Watch> {
+    pub fn begin(clock: &impl Clock, pace: Pace) -> io::Result<Watch>
+        ensures now { IfOk result (λ watch. watch.now ≡ 0) }
+        ensures tick { IfOk result (λ watch. watch.tick_at ≡ pace.tick) }
+        ensures sync { IfOk result (λ watch. watch.sync_at ≡ pace.sync) }
+    {
         Ok(Watch {
             start: Instant::now(clock)?,
             pace,
@@ -35,7 +41,11 @@ impl Watch {
     }
 
     /// Looks at the clock. Where it fails, the time stays.
-    pub fn look(&mut self, clock: &impl Clock) {
+    pub fn look(&mut self, clock: &impl Clock)
+        ensures rises { self.old.now ≤ self.new.now }
+        ensures tick { self.new.tick_at ≡ self.old.tick_at }
+        ensures sync { self.new.sync_at ≡ self.old.sync_at }
+    {
         if let Ok(time) = self.start.elapsed(clock) {
             let now = u64::try_from(time.as_millis()).unwrap_or(u64::MAX);
             self.now = self.now.max(now);
@@ -49,7 +59,13 @@ impl Watch {
     }
 
     /// The time, in seconds since the server began, where the object is to be told. It never falls.
-    pub fn tick(&mut self) -> Option<u64> {
+    pub fn tick(&mut self) -> Option<u64>
+        ensures time { IfSome result (λ time. time ≡ self.old.now / 1000) }
+        ensures due { IfSome result (λ time. self.old.tick_at ≤ self.old.now) }
+        ensures later { IfNone result (self.old.now < self.old.tick_at) }
+        ensures now { self.new.now ≡ self.old.now }
+        ensures sync { self.new.sync_at ≡ self.old.sync_at }
+    {
         if self.now < self.tick_at {
             return None;
         }
@@ -58,7 +74,12 @@ impl Watch {
     }
 
     /// Whether journals are to be stored.
-    pub fn is_sync_due(&mut self) -> bool {
+    pub fn is_sync_due(&mut self) -> bool
+        ensures due { result ≡ true → self.old.sync_at ≤ self.old.now }
+        ensures later { result ≡ false → self.old.now < self.old.sync_at }
+        ensures now { self.new.now ≡ self.old.now }
+        ensures tick { self.new.tick_at ≡ self.old.tick_at }
+    {
         if self.now < self.sync_at {
             return false;
         }
