@@ -18,6 +18,8 @@ pub struct Clients {
     rows: Vec<Client>,
     first: Option<usize>,
     last: Option<usize>,
+    // whether held lines of some are done later
+    has_stalled: bool,
 }
 
 // So many places, which nobody has.
@@ -79,6 +81,7 @@ impl Clients {
             rows,
             first: None,
             last: None,
+            has_stalled: false,
         })
     }
 
@@ -303,6 +306,7 @@ impl Clients {
     pub fn stall(&mut self, place: usize) {
         if let Some(client) = self.rows.get_mut(place) {
             client.is_stalled = true;
+            self.has_stalled = true;
         }
     }
 
@@ -316,9 +320,16 @@ impl Clients {
 
     /// All whose held lines were to be done later are ready again.
     pub fn wake(&mut self) {
+        if !self.has_stalled {
+            return;
+        }
+        self.has_stalled = false;
         for place in 0..self.rows.len() {
             if self.is_stalled(place) {
                 self.ready(place);
+                if self.is_stalled(place) {
+                    self.has_stalled = true;
+                }
             }
         }
     }

@@ -1,6 +1,6 @@
 //! When it is time for what.
 
-ghost use Rattle.std.specs.Prelude.{◌≡◌, ◌≤◌, ◌<◌, ◌/◌, true, false, IfOk, IfSome, IfNone};
+ghost use Rattle.std.specs.Prelude.{◌≡◌, ◌⊎◌, ◌≤◌, ◌<◌, ◌/◌, true, false, IfOk, IfSome, IfNone};
 
 use std::io;
 use std::time::{Clock, Duration, Instant};
@@ -10,7 +10,7 @@ use std::time::{Clock, Duration, Instant};
 pub struct Pace {
     /// So often the object is told the time.
     pub tick: u64,
-    /// So often journals are stored for which no answer waits.
+    /// So often journals are stored for which no answer waits. 0: never.
     pub sync: u64,
 }
 
@@ -30,6 +30,7 @@ impl Watch {
         ensures now { IfOk result (λ watch. watch.now ≡ 0) }
         ensures tick { IfOk result (λ watch. watch.tick_at ≡ pace.tick) }
         ensures sync { IfOk result (λ watch. watch.sync_at ≡ pace.sync) }
+        ensures pace { IfOk result (λ watch. watch.pace ≡ pace) }
     {
         Ok(Watch {
             start: Instant::now(clock)?,
@@ -52,14 +53,27 @@ impl Watch {
         }
     }
 
+    // When something is due next.
+    fn next(&self) -> u64
+        ensures never { self.now.pace.sync ≡ 0 → result ≡ self.now.tick_at }
+        ensures tick { result ≤ self.now.tick_at }
+        ensures sync { 0 < self.now.pace.sync → result ≤ self.now.sync_at }
+        ensures one { (result ≡ self.now.tick_at) ⊎ (result ≡ self.now.sync_at) }
+    {
+        if self.pace.sync == 0 || self.tick_at <= self.sync_at {
+            return self.tick_at;
+        }
+        self.sync_at
+    }
+
     /// The time until something is due.
     pub fn rest(&self) -> Duration {
-        let next = self.tick_at.min(self.sync_at);
-        Duration::from_millis(next.saturating_sub(self.now))
+        Duration::from_millis(self.next().saturating_sub(self.now))
     }
 
     /// The time, in seconds since the server began, where the object is to be told. It never falls.
     pub fn tick(&mut self) -> Option<u64>
+        ensures next { IfSome result (λ time. self.old.now ≤ self.new.tick_at) }
         ensures time { IfSome result (λ time. time ≡ self.old.now / 1000) }
         ensures due { IfSome result (λ time. self.old.tick_at ≤ self.old.now) }
         ensures later { IfNone result (self.old.now < self.old.tick_at) }

@@ -311,19 +311,32 @@ impl Table {
             return self.refuse(place, Refusal::NoObject, post);
         };
         let operation = object.operation(name);
-        let keyed = match key {
-            None => Keyed::New,
-            Some(key) => object.key(
-                named_session(&opened),
-                opened.calls,
-                key,
-                operation,
-                &arguments,
-            ),
+        match key {
+            None => self.call_new(asker, operation, arguments, post),
+            Some(key) => self.call_under(asker, key, operation, arguments, post),
+        }
+    }
+
+    // A call under a key, which says whether it is to be made. What it says has room for a reply.
+    #[inline(never)]
+    fn call_under(
+        &mut self,
+        asker: Asker,
+        key: u64,
+        operation: Option<OpId>,
+        arguments: Vec<Datum>,
+        post: &mut Post,
+    ) -> Result<(), AllocError>
+        ensures { OnOk result (GoesOn self.old post.old self.new post.new) }
+    {
+        let opened = asker.opened;
+        let Some(object) = self.objects.get_mut(opened.object) else {
+            return self.refuse(asker.place, Refusal::NoObject, post);
         };
-        match keyed {
+        let session = named_session(&opened);
+        match object.key(session, opened.calls, key, operation, &arguments) {
             Keyed::New => self.call_new(asker, operation, arguments, post),
-            other => self.answer_key(place, other, post),
+            other => self.answer_key(asker.place, other, post),
         }
     }
 
