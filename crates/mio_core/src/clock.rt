@@ -21,13 +21,13 @@ pub struct Watch {
     pace: Pace,
     tick_at: u64,
     sync_at: u64,
-    now: u64,
+    time: u64,
 }
 
 impl Watch {
     /// It begins now. The error is that of the clock.
     pub fn begin(clock: &impl Clock, pace: Pace) -> io::Result<Watch>
-        ensures now { IfOk result (λ watch. watch.now ≡ 0) }
+        ensures now { IfOk result (λ watch. watch.time ≡ 0) }
         ensures tick { IfOk result (λ watch. watch.tick_at ≡ pace.tick) }
         ensures sync { IfOk result (λ watch. watch.sync_at ≡ pace.sync) }
         ensures pace { IfOk result (λ watch. watch.pace ≡ pace) }
@@ -37,19 +37,19 @@ impl Watch {
             pace,
             tick_at: pace.tick,
             sync_at: pace.sync,
-            now: 0,
+            time: 0,
         })
     }
 
     /// Looks at the clock. Where it fails, the time stays.
     pub fn look(&mut self, clock: &impl Clock)
-        ensures rises { self.old.now ≤ self.new.now }
+        ensures rises { self.old.time ≤ self.new.time }
         ensures tick { self.new.tick_at ≡ self.old.tick_at }
         ensures sync { self.new.sync_at ≡ self.old.sync_at }
     {
         if let Ok(time) = self.start.elapsed(clock) {
             let now = u64::try_from(time.as_millis()).unwrap_or(u64::MAX);
-            self.now = self.now.max(now);
+            self.time = self.time.max(now);
         }
     }
 
@@ -68,36 +68,36 @@ impl Watch {
 
     /// The time until something is due.
     pub fn rest(&self) -> Duration {
-        Duration::from_millis(self.next().saturating_sub(self.now))
+        Duration::from_millis(self.next().saturating_sub(self.time))
     }
 
     /// The time, in seconds since the server began, where the object is to be told. It never falls.
     pub fn tick(&mut self) -> Option<u64>
-        ensures next { IfSome result (λ time. self.old.now ≤ self.new.tick_at) }
-        ensures time { IfSome result (λ time. time ≡ self.old.now / 1000) }
-        ensures due { IfSome result (λ time. self.old.tick_at ≤ self.old.now) }
-        ensures later { IfNone result (self.old.now < self.old.tick_at) }
-        ensures now { self.new.now ≡ self.old.now }
+        ensures next { IfSome result (λ time. self.old.time ≤ self.new.tick_at) }
+        ensures time { IfSome result (λ time. time ≡ self.old.time / 1000) }
+        ensures due { IfSome result (λ time. self.old.tick_at ≤ self.old.time) }
+        ensures later { IfNone result (self.old.time < self.old.tick_at) }
+        ensures now { self.new.time ≡ self.old.time }
         ensures sync { self.new.sync_at ≡ self.old.sync_at }
     {
-        if self.now < self.tick_at {
+        if self.time < self.tick_at {
             return None;
         }
-        self.tick_at = self.now.saturating_add(self.pace.tick);
-        Some(self.now / 1_000)
+        self.tick_at = self.time.saturating_add(self.pace.tick);
+        Some(self.time / 1_000)
     }
 
     /// Whether journals are to be stored.
     pub fn is_sync_due(&mut self) -> bool
-        ensures due { result ≡ true → self.old.sync_at ≤ self.old.now }
-        ensures later { result ≡ false → self.old.now < self.old.sync_at }
-        ensures now { self.new.now ≡ self.old.now }
+        ensures due { result ≡ true → self.old.sync_at ≤ self.old.time }
+        ensures later { result ≡ false → self.old.time < self.old.sync_at }
+        ensures now { self.new.time ≡ self.old.time }
         ensures tick { self.new.tick_at ≡ self.old.tick_at }
     {
-        if self.now < self.sync_at {
+        if self.time < self.sync_at {
             return false;
         }
-        self.sync_at = self.now.saturating_add(self.pace.sync);
+        self.sync_at = self.time.saturating_add(self.pace.sync);
         true
     }
 }
