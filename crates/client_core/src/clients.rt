@@ -22,6 +22,8 @@ pub struct Clients {
     rows: Vec<Client>,
     first: Option<usize>,
     last: Option<usize>,
+    // whether held lines of some are done later
+    has_stalled: bool,
 }
 
 // So many places, which nobody has.
@@ -154,6 +156,7 @@ impl Clients {
             rows,
             first: None,
             last: None,
+            has_stalled: false,
         })
     }
 
@@ -414,6 +417,7 @@ impl Clients {
         ensures { AreSame self.old self.new }
     {
         set_stalled(&mut self.rows, place);
+        self.has_stalled = true;
     }
 
     // Whether the held lines of the one at a place are done later.
@@ -428,9 +432,16 @@ impl Clients {
     pub fn wake(&mut self)
         ensures { AreSame self.old self.new }
     {
+        if !self.has_stalled {
+            return;
+        }
+        self.has_stalled = false;
         for place in 0..self.rows.len() {
             if self.is_stalled(place) {
                 self.ready(place);
+                if self.is_stalled(place) {
+                    self.has_stalled = true;
+                }
             }
         }
     }

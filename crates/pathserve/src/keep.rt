@@ -38,8 +38,8 @@ const LIMITS: Limits = Limits {
 /// Behind a front a journal has room for so many bytes.
 const ROOM: usize = 8_388_608;
 
-/// So often, in seconds, objects are told the time.
-const TICK: u64 = 1;
+/// So often, in milliseconds, objects are told the time, and lines are done that wait for their client to read.
+const TICK: u64 = 20;
 
 // The objects of a server, with their names and the fronts with which their journals begin.
 #[derive(Drop)]
@@ -212,7 +212,7 @@ fn add(alloc: Global, kept: &mut Kept, hosted: Hosted, name: String) -> Result<(
     Ok(())
 }
 
-// How often what no answer waits for is stored, in milliseconds; 0 where each answer waits.
+// How often what no answer waits for is stored, in milliseconds; 0, never, where each answer waits.
 fn pace_of(sync: Sync) -> u64 {
     match sync {
         Sync::Always => 0,
@@ -248,7 +248,7 @@ fn serve_kept<W: Write>(
         },
         stops_with_input: asked.stops,
     };
-    let mut wires = Wires::open(rt, *rt, listener, journals, serving)?;
+    let mut wires = Wires::open(rt, *rt, listener, journals, serving, rt.stderr())?;
     tell_place(alloc, asked, writer)?;
     let limits = LoopLimits {
         places: asked.at_once,
