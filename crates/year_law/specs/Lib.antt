@@ -1,1 +1,2 @@
 pub mod Year
+pub mod Read

@@ -1,6 +1,12 @@
 //! The laws, each a function without a body whose contract it is.
 
-ghost use Rattle.year_law.specs.Year.{BegunFollows, EpochsAreSound};
+ghost use Rattle.year_law.specs.Year.{KeptIsEpoch, BegunFollows, EpochsAreSound};
+ghost use Rattle.year_law.specs.Read.{ReadIsEpoch, TextsAreEpochs};
+
+/// What `Live` holds at one of its moments is an epoch.
+pub fn kept_is_epoch()
+    ensures { KeptIsEpoch }
+{}
 
 /// An epoch that `Live::epoch` has begun follows the one before it, at each of its moments.
 pub fn begun_follows()
@@ -11,4 +17,14 @@ pub fn begun_follows()
 /// history, from the contents with which the first epoch opened to those of now.
 pub fn epochs_are_sound()
     ensures { EpochsAreSound }
+{}
+
+/// What is recovered of the text of a journal is an epoch.
+pub fn read_is_epoch()
+    ensures { ReadIsEpoch }
+{}
+
+/// Texts that `Epochs::hear` has found to follow one another tell epochs that do, over which all of that holds.
+pub fn texts_are_epochs()
+    ensures { TextsAreEpochs }
 {}
