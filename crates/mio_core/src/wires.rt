@@ -258,6 +258,10 @@ impl<R: Files + AllocGlobal + Input + Clock + Drop, E: Write + Drop> Outside for
         }
     }
 
+    fn is_over(&mut self, who: u64) -> bool {
+        self.places.is_ending(who)
+    }
+
     fn write(&mut self, who: u64, bytes: &[u8]) -> Option<usize> {
         self.places.write(who, bytes)
     }
