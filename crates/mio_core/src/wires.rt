@@ -53,7 +53,7 @@ pub struct Serving {
     pub stops_with_input: bool,
 }
 
-impl<R: Files + AllocGlobal + Input + Clock + Drop> Wires<R> {
+impl<R: Files + AllocGlobal + Input + Clock + Eprint + Drop> Wires<R> {
     /// Connections of this listener, none yet, and these journals. The error is that of the system, or a want of memory.
     pub fn open(
         net: &impl Net,
@@ -89,7 +89,7 @@ impl<R: Files + AllocGlobal + Input + Clock + Drop> Wires<R> {
     }
 }
 
-impl<R: Files + AllocGlobal + Input + Clock + Drop> Wires<R> {
+impl<R: Files + AllocGlobal + Input + Clock + Eprint + Drop> Wires<R> {
     // Has the end of standard input end the server. What cannot be waited for, as a file, is at its end.
     fn listen_to_input(&mut self) {
         self.input = Some(self.rt.reader());
@@ -154,7 +154,7 @@ impl<R: Files + AllocGlobal + Input + Clock + Drop> Wires<R> {
     }
 }
 
-impl<R: Files + AllocGlobal + Input + Clock + Drop> Outside for Wires<R> {
+impl<R: Files + AllocGlobal + Input + Clock + Eprint + Drop> Outside for Wires<R> {
     ghost use Rattle.std.specs.Prelude.{None};
 
     ghost seen = { λ _. None };
@@ -238,10 +238,9 @@ impl<R: Files + AllocGlobal + Input + Clock + Drop> Outside for Wires<R> {
     }
 
     fn change(&mut self, journal: usize, front: &[u8]) -> Result<bool, Fault> {
-        if self.journals.change(journal, front) {
-            Ok(true)
-        } else {
-            Err(Fault::Journal(journal))
+        match self.journals.change(journal, front) {
+            Some(went) => Ok(went),
+            None => Err(Fault::Journal(journal)),
         }
     }
 }

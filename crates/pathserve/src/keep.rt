@@ -7,7 +7,7 @@ use command_line::request::{Address, Keeping, Sync};
 use decl_core::object::Object;
 use device_core::dir_shelf::DirShelf;
 use exclude_core::analyse::Accepted;
-use hosted_core::hosted::Hosted;
+use hosted_core::hosted::{Hosted, MOST_LINES};
 use journal_core::device::DeviceError;
 use journal_core::folder::FolderFile;
 use journal_core::journal::recover as lines_of;
@@ -36,7 +36,10 @@ const LIMITS: Limits = Limits {
 };
 
 /// Behind a front a journal has room for so many bytes.
-const ROOM: usize = 8_388_608;
+const ROOM: usize = MOST_LINES;
+
+/// The files of ended epochs have so many bytes at most, all together.
+const TRACES: u64 = 300_000_000;
 
 /// So often, in seconds, objects are told the time.
 const TICK: u64 = 1;
@@ -235,7 +238,7 @@ fn serve_kept<W: Write>(
         fronts,
     } = kept;
     let count = objects.len();
-    let begun = Journals::begin(*rt, asked.folder, &names, &fronts, ROOM);
+    let begun = Journals::begin(*rt, asked.folder, &names, &fronts, ROOM, TRACES);
     let Some(journals) = begun else {
         return Err(Failure::WriteFault);
     };
