@@ -9,7 +9,7 @@ use decl_core::object::Object;
 use device_core::dir_shelf::DirShelf;
 use exclude_core::analyse::Accepted;
 use hand_core::hand::HandFault;
-use hosted_core::hosted::Hosted;
+use hosted_core::hosted::{Hosted, MOST_LINES};
 use journal_core::device::DeviceError;
 use journal_core::folder::FolderFile;
 use journal_core::journal::recover as lines_of;
@@ -41,7 +41,10 @@ const LIMITS: Limits = Limits {
 };
 
 /// Behind a front a journal has room for so many bytes.
-const ROOM: usize = 8_388_608;
+const ROOM: usize = MOST_LINES;
+
+/// So many bytes are a megabyte.
+const MEGABYTE: u64 = 1_000_000;
 
 /// So often, in milliseconds, objects are told the time, and lines are done that wait for their client to read.
 const TICK: u64 = 20;
@@ -324,7 +327,8 @@ fn serve_kept<W: Write, E: Write>(
         fronts,
     } = kept;
     let count = objects.len();
-    let begun = Journals::begin(*rt, asked.folder, &names, &fronts, ROOM);
+    let traces = u64::from(asked.traces).saturating_mul(MEGABYTE);
+    let begun = Journals::begin(*rt, asked.folder, &names, &fronts, ROOM, traces);
     let Some(journals) = begun else {
         return Err(Failure::WriteFault);
     };
