@@ -1,6 +1,6 @@
 -- Lines that are held.
 use Rattle.std.specs.Prelude.{◌≡◌, ◌+◌, ℕ, Bool, true, false, Option, Some, None, List, [], ◌∷◌, ◌++◌, length, drop}
-use Rattle.std.specs.Prelude.{Result, Ok, Err, IfOk, slice_get}
+use Rattle.std.specs.Prelude.{Result, IfOk, slice_get}
 use Rattle.std.specs.declared.alloc.AllocError.{AllocError}
 use Rattle.line_core.specs.Runs.{NoLineFeed}
 use Rattle.client_core.specs.declared.ask.Ask.{Ask}

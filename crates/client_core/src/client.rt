@@ -9,6 +9,9 @@ ghost use Rattle.client_core.specs.Places.{has_in};
 
 use std::alloc::{AllocError, Global};
 
+// Where so many bytes of lines are done, they are let go, also while others are held.
+const MOST_DONE: usize = 65_536;
+
 /// What a connection has opened.
 #[derive(Clone, Copy, Debug, PartialEq, Eq)]
 pub struct Opened {
@@ -189,8 +192,9 @@ impl Client {
         self.rest().len()
     }
 
-    // Lets held lines go, where all are done.
-    fn settle(&mut self)
+    // Lets go of what is held of lines that are done: where all are, or where it is much. Where memory is refused for the
+    // others, it stays.
+    fn settle(&mut self, alloc: Global)
         ensures who { self.new.who ≡ self.old.who }
         ensures here { self.new.is_here ≡ self.old.is_here }
         ensures opened { self.new.opened ≡ self.old.opened }
@@ -201,15 +205,29 @@ impl Client {
         if self.done >= self.held.len() {
             self.held.clear();
             self.done = 0;
+            return;
         }
+        if self.done < MOST_DONE {
+            return;
+        }
+        let Ok(rest) = self.rest().to_vec(alloc) else {
+            return;
+        };
+        self.held = rest;
+        self.done = 0;
     }
 
     /// Holds a line. `is_whole`: it had an LF. The error is that memory was refused: then it is not held.
-    pub(crate) fn hold(&mut self, line: &[u8], is_whole: bool) -> Result<(), AllocError>
+    pub(crate) fn hold(
+        &mut self,
+        alloc: Global,
+        line: &[u8],
+        is_whole: bool,
+    ) -> Result<(), AllocError>
         ensures ok { OnOk result (IsHeld line.now is_whole (Some self.old) (Some self.new)) }
         ensures err { OnErr result (IsSame (Some self.old) (Some self.new)) }
     {
-        self.settle();
+        self.settle(alloc);
         append_line(&mut self.held, line)?;
         self.is_cut = !is_whole;
         Ok(())
