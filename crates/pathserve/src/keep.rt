@@ -284,7 +284,11 @@ fn begin_all(
         let name = name_of(alloc, &object)?;
         match begin_one(rt, object, name.as_str(), folder, pasts, &mut shelf)? {
             Begun::Told(line) => told.extend_from_slice(&line)?,
-            Begun::Ready(hosted) => add(alloc, &mut kept, hosted, name)?,
+            Begun::Ready(hosted) => {
+                if let Some(line) = add(alloc, &mut kept, hosted, name)? {
+                    told.extend_from_slice(&line)?;
+                }
+            }
         }
     }
     if told.is_empty() {
@@ -293,14 +297,22 @@ fn begin_all(
     Ok(Err(told))
 }
 
-// Adds an object.
-fn add(alloc: Global, kept: &mut Kept, hosted: Hosted, name: String) -> Result<(), AllocError> {
+// Adds an object, or gives the line that says why it is not kept.
+fn add(
+    alloc: Global,
+    kept: &mut Kept,
+    hosted: Hosted,
+    name: String,
+) -> Result<Option<Vec<u8>>, AllocError> {
     let mut front = Vec::new(alloc);
-    hosted.push_first(&mut front)?;
+    if !hosted.push_first(&mut front)? {
+        let line = object_line(alloc, name.as_str(), b" past does not fit\n")?;
+        return Ok(Some(line));
+    }
     kept.fronts.push(front)?;
     kept.names.push(name)?;
     kept.objects.push(hosted)?;
-    Ok(())
+    Ok(None)
 }
 
 // How often what no answer waits for is stored, in milliseconds; 0, never, where each answer waits.

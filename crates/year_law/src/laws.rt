@@ -2,6 +2,7 @@
 
 ghost use Rattle.year_law.specs.Year.{KeptIsEpoch, BegunFollows, EpochsAreSound};
 ghost use Rattle.year_law.specs.Read.{ReadIsEpoch, TextsAreEpochs};
+ghost use Rattle.year_law.specs.Lives.{FoundGoesOn, LifeFollows};
 
 /// What `Live` holds at one of its moments is an epoch.
 pub fn kept_is_epoch()
@@ -27,4 +28,15 @@ pub fn read_is_epoch()
 /// Texts that `Epochs::hear` has found to follow one another tell epochs that do, over which all of that holds.
 pub fn texts_are_epochs()
     ensures { TextsAreEpochs }
+{}
+
+/// What is recovered of a text that has more than what was stored of it has each call that ended in what was stored, in
+/// the same order and with the same reply, and maybe more behind them.
+pub fn found_goes_on()
+    ensures { FoundGoesOn }
+{}
+
+/// An epoch that a start has begun behind a journal follows the epoch that the journal tells, at each of its moments.
+pub fn life_follows()
+    ensures { LifeFollows }
 {}
