@@ -262,6 +262,10 @@ impl<R: Files + AllocGlobal + Eprint + Drop> Journals<R> {
     /// `Some(false)`: it could not, or the front is not whole lines, or too long, and the journal is as it was; standard
     /// error is told so. `None`: it failed, and is shut.
     pub fn change(&mut self, at: usize, front: &[u8]) -> Option<bool> {
+        // Else the file of the epoch that ends might lack lines behind a crash.
+        if !self.sync(at) {
+            return None;
+        }
         let ending = self.lines_at(at);
         let is_linked = self.link(at, ending);
         let went = self.renew(at, front)?;
