@@ -1,6 +1,6 @@
 //! What is known of a connection.
 
-ghost use Rattle.std.specs.Prelude.{◌≡◌, ◌≤◌, ◌↔◌, ◌++◌, ◌∷◌, [], ℕ, List, length, true, false, Some, None};
+ghost use Rattle.std.specs.Prelude.{◌≡◌, ◌≤◌, ◌↔◌, ◌++◌, ◌∷◌, [], ℕ, List, length, drop, true, false, Some, None};
 ghost use Rattle.std.specs.Prelude.{MatchOption, OnOk, OnErr};
 ghost use Rattle.line_core.specs.Runs.{NoLineFeed};
 ghost use Rattle.client_core.specs.Held.{rest_in, waits_in, IsFirstLine, is_whole_before};
@@ -8,6 +8,9 @@ ghost use Rattle.client_core.specs.Held.{IsHeld, IsPassed, IsSame, IsSetTo};
 ghost use Rattle.client_core.specs.Places.{has_in};
 
 use std::alloc::{AllocError, Global};
+
+// Where so many bytes of held lines are done they are let go: who always has a line that is held takes no more.
+const MOST_DONE: usize = 65_536;
 
 /// What a connection has opened.
 #[derive(Clone, Copy, Debug, PartialEq, Eq)]
@@ -77,6 +80,14 @@ fn split_line(bytes: &[u8]) -> Option<(&[u8], &[u8])>
 {
     let at = bytes.iter().position(|b| *b == b'\n')?;
     Some((&bytes[..at], &bytes[at + 1..]))
+}
+
+// The first bytes, so many, are let go.
+fn cut(bytes: &mut Vec<u8>, n: usize)
+    requires { n ≤ length bytes.old.items }
+    ensures { bytes.new.items ≡ drop n bytes.old.items }
+{
+    bytes.drain(..n);
 }
 
 impl Client {
@@ -189,7 +200,7 @@ impl Client {
         self.rest().len()
     }
 
-    // Lets held lines go, where all are done.
+    // Lets held lines go that are done, where these are all of them or many.
     fn settle(&mut self)
         ensures who { self.new.who ≡ self.old.who }
         ensures here { self.new.is_here ≡ self.old.is_here }
@@ -200,6 +211,11 @@ impl Client {
     {
         if self.done >= self.held.len() {
             self.held.clear();
+            self.done = 0;
+            return;
+        }
+        if self.done >= MOST_DONE {
+            cut(&mut self.held, self.done);
             self.done = 0;
         }
     }
