@@ -276,6 +276,16 @@ impl Clients {
         }
     }
 
+    /// Whether a call of the one at a place waits.
+    pub fn waits(&self, place: usize) -> bool
+        ensures { result ≡ waits_in (place_at self.now place) }
+    {
+        if place >= self.rows.len() {
+            return false;
+        }
+        self.rows[place].waits()
+    }
+
     /// Whether a line of the one at a place has to be held: a call of it waits, or lines are held that came before.
     pub fn must_hold(&self, place: usize) -> bool
         ensures { result ≡ false ↔ ((waits_in (place_at self.now place) ≡ false)

@@ -305,6 +305,14 @@ pub const KEEP_AT_ONCE: &str = "Clients connected at once, 1 to 10000";
 
 pub const KEEP_SYNC: &str = "Answers are safe `always`, or 1 to 60000 ms later";
 
+pub const KEEP_TRACES: &str = "Megabytes of ended epochs that are kept, 1 to 1000000";
+
+pub const KEEP_PAST: &str =
+    "A first start: OPERATION was done K times, 1 to 30000; can be repeated";
+
+/// What is said of a word that should say what was done before a first start.
+pub const PAST_IS: &str = "it is OBJECT:OPERATION:K, with a number K, 1 to 30000";
+
 /// What is said of a word that should say when an answer is safe.
 pub const SYNC_IS: &str = "WORD is `always`, or a number of milliseconds, 1 to 60000";
 

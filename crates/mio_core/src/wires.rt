@@ -73,7 +73,7 @@ fn spare_of<R: Files>(rt: &R) -> Option<R::File> {
     File::open(rt, "/dev/null").ok()
 }
 
-impl<R: Files + AllocGlobal + Input + Clock + Drop, E: Write + Drop> Wires<R, E> {
+impl<R: Files + AllocGlobal + Input + Clock + Eprint + Drop, E: Write + Drop> Wires<R, E> {
     /// Connections of this listener, none yet, and these journals. `errors` is told once where a connection cannot be taken
     /// since the system has no file or memory for it. The error is that of the system, or a want of memory.
     pub fn open(
@@ -116,7 +116,7 @@ impl<R: Files + AllocGlobal + Input + Clock + Drop, E: Write + Drop> Wires<R, E>
     }
 }
 
-impl<R: Files + AllocGlobal + Input + Clock + Drop, E: Write + Drop> Wires<R, E> {
+impl<R: Files + AllocGlobal + Input + Clock + Eprint + Drop, E: Write + Drop> Wires<R, E> {
     // Has the end of standard input end the server. What cannot be waited for, as a file, is at its end.
     fn listen_to_input(&mut self) {
         self.input = Some(self.rt.reader());
@@ -213,7 +213,7 @@ impl<R: Files + AllocGlobal + Input + Clock + Drop, E: Write + Drop> Wires<R, E>
     }
 }
 
-impl<R: Files + AllocGlobal + Input + Clock + Drop, E: Write + Drop> Outside for Wires<R, E> {
+impl<R: Files + AllocGlobal + Input + Clock + Eprint + Drop, E: Write + Drop> Outside for Wires<R, E> {
     ghost use Rattle.std.specs.Prelude.{None};
 
     ghost seen = { λ _. None };
@@ -256,6 +256,10 @@ impl<R: Files + AllocGlobal + Input + Clock + Drop, E: Write + Drop> Outside for
             Got::End => Ok(Read::Ended),
             Got::Broken => Ok(Read::Broken),
         }
+    }
+
+    fn is_over(&mut self, who: u64) -> bool {
+        self.places.is_ending(who)
     }
 
     fn write(&mut self, who: u64, bytes: &[u8]) -> Option<usize> {
@@ -303,10 +307,9 @@ impl<R: Files + AllocGlobal + Input + Clock + Drop, E: Write + Drop> Outside for
         self.spare = None;
         let went = self.journals.change(journal, front);
         self.spare = spare_of(&self.rt);
-        if went {
-            Ok(true)
-        } else {
-            Err(Fault::Journal(journal))
+        match went {
+            Some(went) => Ok(went),
+            None => Err(Fault::Journal(journal)),
         }
     }
 }

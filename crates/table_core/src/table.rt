@@ -4,7 +4,9 @@ ghost use Rattle.std.specs.Prelude.{◌≡◌, [], OnOk, IfOk};
 ghost use Rattle.post_core.specs.Posts.{Tells};
 ghost use Rattle.table_core.specs.Along.{GoesOn, Keeps};
 
-use crate::objects::{Comer, Made, begin_at, call_at, cancel_at, enter_at, leave_at, seat_at};
+use crate::objects::{
+    Comer, Made, begin_at, call_at, cancel_at, enter_at, leave_at, may_come, seat_at,
+};
 use ask_core::answer::{Cancelled, KeyedFault, SubmitFault};
 use client_core::answer::{
     push_accepted, push_cancel, push_ended, push_kept, push_opened, push_repeated, push_withdrawn,
@@ -234,6 +236,9 @@ impl Table {
     ) -> Result<(), AllocError>
         ensures { OnOk result (GoesOn self.old post.old self.new post.new) }
     {
+        if !may_come(&self.objects, at, client) {
+            return self.reject(place, SubmitFault::HistoryFull, post);
+        }
         if self
             .make_room(place, SHORT_LINE, at, SHORT_LINE, post)
             .is_err()

@@ -318,6 +318,13 @@ impl Served for Table {
         }
     }
 
+    fn waits(&self, who: u64) -> bool {
+        match self.clients.place_of(who) {
+            Some(place) => self.clients.waits(place),
+            None => false,
+        }
+    }
+
     fn due(&self, front: &mut Vec<u8>) -> Result<Option<usize>, AllocError> {
         for at in 0..self.objects.len() {
             if self.objects[at].is_due() {
