@@ -1,6 +1,6 @@
 //! What is known of a connection.
 
-ghost use Rattle.std.specs.Prelude.{◌≡◌, ◌≤◌, ◌↔◌, ◌++◌, ◌∷◌, [], ℕ, List, length, true, false, Some, None};
+ghost use Rattle.std.specs.Prelude.{◌≡◌, ◌≤◌, ◌↔◌, ◌++◌, ◌∷◌, [], ℕ, List, length, drop, true, false, Some, None};
 ghost use Rattle.std.specs.Prelude.{MatchOption, OnOk, OnErr};
 ghost use Rattle.line_core.specs.Runs.{NoLineFeed};
 ghost use Rattle.client_core.specs.Held.{rest_in, waits_in, IsFirstLine, is_whole_before};
@@ -9,7 +9,7 @@ ghost use Rattle.client_core.specs.Places.{has_in};
 
 use std::alloc::{AllocError, Global};
 
-// Where so many bytes of lines are done, they are let go, also while others are held.
+// Where so many bytes of held lines are done they are let go: who always has a line that is held takes no more.
 const MOST_DONE: usize = 65_536;
 
 /// What a connection has opened.
@@ -80,6 +80,14 @@ fn split_line(bytes: &[u8]) -> Option<(&[u8], &[u8])>
 {
     let at = bytes.iter().position(|b| *b == b'\n')?;
     Some((&bytes[..at], &bytes[at + 1..]))
+}
+
+// The first bytes, so many, are let go.
+fn cut(bytes: &mut Vec<u8>, n: usize)
+    requires { n ≤ length bytes.old.items }
+    ensures { bytes.new.items ≡ drop n bytes.old.items }
+{
+    bytes.drain(..n);
 }
 
 impl Client {
@@ -192,9 +200,8 @@ impl Client {
         self.rest().len()
     }
 
-    // Lets go of what is held of lines that are done: where all are, or where it is much. Where memory is refused for the
-    // others, it stays.
-    fn settle(&mut self, alloc: Global)
+    // Lets held lines go that are done, where these are all of them or many.
+    fn settle(&mut self)
         ensures who { self.new.who ≡ self.old.who }
         ensures here { self.new.is_here ≡ self.old.is_here }
         ensures opened { self.new.opened ≡ self.old.opened }
@@ -207,27 +214,18 @@ impl Client {
             self.done = 0;
             return;
         }
-        if self.done < MOST_DONE {
-            return;
+        if self.done >= MOST_DONE {
+            cut(&mut self.held, self.done);
+            self.done = 0;
         }
-        let Ok(rest) = self.rest().to_vec(alloc) else {
-            return;
-        };
-        self.held = rest;
-        self.done = 0;
     }
 
     /// Holds a line. `is_whole`: it had an LF. The error is that memory was refused: then it is not held.
-    pub(crate) fn hold(
-        &mut self,
-        alloc: Global,
-        line: &[u8],
-        is_whole: bool,
-    ) -> Result<(), AllocError>
+    pub(crate) fn hold(&mut self, line: &[u8], is_whole: bool) -> Result<(), AllocError>
         ensures ok { OnOk result (IsHeld line.now is_whole (Some self.old) (Some self.new)) }
         ensures err { OnErr result (IsSame (Some self.old) (Some self.new)) }
     {
-        self.settle(alloc);
+        self.settle();
         append_line(&mut self.held, line)?;
         self.is_cut = !is_whole;
         Ok(())

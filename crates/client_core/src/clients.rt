@@ -84,20 +84,14 @@ fn set_waits(rows: &mut Vec<Client>, at: usize, waits: bool)
 }
 
 // Holds a line of the one at a place.
-fn hold(
-    rows: &mut Vec<Client>,
-    at: usize,
-    alloc: Global,
-    line: &[u8],
-    is_whole: bool,
-) -> Result<(), AllocError>
+fn hold(rows: &mut Vec<Client>, at: usize, line: &[u8], is_whole: bool) -> Result<(), AllocError>
     requires { at < length rows.old.items }
     ensures count { length rows.new.items ≡ length rows.old.items }
     ensures ok { OnOk result (IsHeld line.now is_whole (slice_get rows.old.items at) (slice_get rows.new.items at)) }
     ensures err { OnErr result (IsSame (slice_get rows.old.items at) (slice_get rows.new.items at)) }
     ensures others { (k : ℕ) → (at == k) ≡ false → slice_get rows.new.items k ≡ slice_get rows.old.items k }
 {
-    rows[at].hold(alloc, line, is_whole)
+    rows[at].hold(line, is_whole)
 }
 
 // The first bytes, so many, of the held lines of the one at a place are held no more.
@@ -349,8 +343,7 @@ impl Clients {
         if place >= self.rows.len() {
             return Ok(());
         }
-        let alloc = self.alloc;
-        hold(&mut self.rows, place, alloc, line, is_whole)
+        hold(&mut self.rows, place, line, is_whole)
     }
 
     // What the next held line of the one at a place asks for, and how many bytes it has.
