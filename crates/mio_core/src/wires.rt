@@ -213,7 +213,8 @@ impl<R: Files + AllocGlobal + Input + Clock + Eprint + Drop, E: Write + Drop> Wi
     }
 }
 
-impl<R: Files + AllocGlobal + Input + Clock + Eprint + Drop, E: Write + Drop> Outside for Wires<R, E> {
+impl<R: Files + AllocGlobal + Input + Clock + Eprint + Drop, E: Write + Drop> Outside
+    for Wires<R, E> {
     ghost use Rattle.std.specs.Prelude.{None};
 
     ghost seen = { λ _. None };
