@@ -2,7 +2,6 @@
 import contextlib
 import os
 import pathlib
-import signal
 import socket
 import subprocess
 import sys
@@ -50,9 +49,7 @@ class Server:
             words = ["bash", "-c", f'ulimit -n {self.files} && exec "$@"', "bash", *words]
         with open(self.room / "error", "wb") as error:
             pipes = {"stdin": subprocess.PIPE, "stdout": subprocess.PIPE, "stderr": error}
-            # (a write past a limit on the size of files is to fail, and not to kill)
-            signal.signal(signal.SIGXFSZ, signal.SIG_IGN)
-            self.child = subprocess.Popen(words, env={**os.environ, **self.env}, restore_signals=False, **pipes)
+            self.child = subprocess.Popen(words, env={**os.environ, **self.env}, **pipes)
 
     def start(self):
         self.begin()
