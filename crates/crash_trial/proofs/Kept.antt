@@ -6,7 +6,7 @@ use Rattle.std.specs.declared.alloc.Global.{Global}
 use Rattle.journal_core.specs.Device.{IsTorn, Writes, with_bytes, Elapses}
 use Rattle.journal_core.proofs.Lines.{torn_old, torn_new, length-with_bytes}
 use Rattle.crash_trial.specs.declared.device.Happened.{Happened}
-use Rattle.crash_trial.specs.declared.device.Happened.TheVariants.{Wrote, Stored, Replaced}
+use Rattle.crash_trial.specs.declared.device.Happened.TheVariants.{Wrote, Stored, Replaced, Refused}
 use Rattle.crash_trial.specs.Kept.{read_behind, Leaves, MayLeave, LeftSince}
 
 -- one call more
@@ -59,12 +59,21 @@ read_wrote file [] at bytes = refl
 read_wrote file (Wrote a b ∷ happened) at bytes = read_wrote (with_bytes a b.items file) happened at bytes
 read_wrote file (Stored ∷ happened) at bytes = read_wrote file happened at bytes
 read_wrote file (Replaced b ∷ happened) at bytes = read_wrote b.items happened at bytes
+read_wrote file (Refused ∷ happened) at bytes = read_wrote file happened at bytes
 
 pub read_stored : (file : List ℕ) (happened : List Happened) → read_behind file (happened ++ Stored ∷ []) ≡ read_behind file happened
 read_stored file [] = refl
 read_stored file (Wrote a b ∷ happened) = read_stored (with_bytes a b.items file) happened
 read_stored file (Stored ∷ happened) = read_stored file happened
 read_stored file (Replaced b ∷ happened) = read_stored b.items happened
+read_stored file (Refused ∷ happened) = read_stored file happened
+
+pub read_refused : (file : List ℕ) (happened : List Happened) → read_behind file (happened ++ Refused ∷ []) ≡ read_behind file happened
+read_refused file [] = refl
+read_refused file (Wrote a b ∷ happened) = read_refused (with_bytes a b.items file) happened
+read_refused file (Stored ∷ happened) = read_refused file happened
+read_refused file (Replaced b ∷ happened) = read_refused b.items happened
+read_refused file (Refused ∷ happened) = read_refused file happened
 
 pub read_replaced : (file : List ℕ) (happened : List Happened) (bytes : Vec ℕ Global) →
     read_behind file (happened ++ Replaced bytes ∷ []) ≡ bytes.items
@@ -72,6 +81,7 @@ read_replaced file [] bytes = refl
 read_replaced file (Wrote a b ∷ happened) bytes = read_replaced (with_bytes a b.items file) happened bytes
 read_replaced file (Stored ∷ happened) bytes = read_replaced file happened bytes
 read_replaced file (Replaced b ∷ happened) bytes = read_replaced b.items happened bytes
+read_replaced file (Refused ∷ happened) bytes = read_replaced file happened bytes
 
 leaves_wrote : (file left : List ℕ) (happened : List Happened) (at : ℕ) (bytes : Vec ℕ Global) (c : List ℕ) →
     Leaves file left (happened ++ Wrote at bytes ∷ []) c → (d : List ℕ) × Leaves file left happened d × IsTorn d (with_bytes at bytes.items d) c
@@ -80,18 +90,28 @@ leaves_wrote file left (Wrote a b ∷ happened) at bytes c (fits, torn, is, rest
     let found = leaves_wrote (with_bytes a b.items file) torn happened at bytes c rest in (found.0, (fits, torn, is, found.1), found.2)
 leaves_wrote file left (Stored ∷ happened) at bytes c left_is = leaves_wrote file file happened at bytes c left_is
 leaves_wrote file left (Replaced b ∷ happened) at bytes c left_is = leaves_wrote b.items b.items happened at bytes c left_is
+leaves_wrote file left (Refused ∷ happened) at bytes c left_is = leaves_wrote file left happened at bytes c left_is
 
 leaves_stored : (file left : List ℕ) (happened : List Happened) (c : List ℕ) → Leaves file left (happened ++ Stored ∷ []) c → c ≡ read_behind file happened
 leaves_stored file left [] c is = is
 leaves_stored file left (Wrote a b ∷ happened) c (fits, torn, is, rest) = leaves_stored (with_bytes a b.items file) torn happened c rest
 leaves_stored file left (Stored ∷ happened) c is = leaves_stored file file happened c is
 leaves_stored file left (Replaced b ∷ happened) c is = leaves_stored b.items b.items happened c is
+leaves_stored file left (Refused ∷ happened) c is = leaves_stored file left happened c is
 
 leaves_replaced : (file left : List ℕ) (happened : List Happened) (bytes : Vec ℕ Global) (c : List ℕ) → Leaves file left (happened ++ Replaced bytes ∷ []) c → c ≡ bytes.items
 leaves_replaced file left [] bytes c is = is
 leaves_replaced file left (Wrote a b ∷ happened) bytes c (fits, torn, is, rest) = leaves_replaced (with_bytes a b.items file) torn happened bytes c rest
 leaves_replaced file left (Stored ∷ happened) bytes c is = leaves_replaced file file happened bytes c is
 leaves_replaced file left (Replaced b ∷ happened) bytes c is = leaves_replaced b.items b.items happened bytes c is
+leaves_replaced file left (Refused ∷ happened) bytes c is = leaves_replaced file left happened bytes c is
+
+leaves_refused : (file left : List ℕ) (happened : List Happened) (c : List ℕ) → Leaves file left (happened ++ Refused ∷ []) c → Leaves file left happened c
+leaves_refused file left [] c is = is
+leaves_refused file left (Wrote a b ∷ happened) c (fits, torn, is, rest) = (fits, torn, is, leaves_refused (with_bytes a b.items file) torn happened c rest)
+leaves_refused file left (Stored ∷ happened) c is = leaves_refused file file happened c is
+leaves_refused file left (Replaced b ∷ happened) c is = leaves_refused b.items b.items happened c is
+leaves_refused file left (Refused ∷ happened) c is = leaves_refused file left happened c is
 
 -- two that are the same have the same in them
 pub in_some : {a b : List ℕ} → Some a ≡ Some b → a ≡ b
@@ -127,6 +147,7 @@ leaves_length file left (Wrote a b ∷ happened) c same (fits, torn, is, rest) =
     (torn_length left (with_bytes a b.items left) torn is ∙ same ∙ length-with_bytes a b.items file fits) rest
 leaves_length file left (Stored ∷ happened) c same is = leaves_length file file happened c refl is
 leaves_length file left (Replaced b ∷ happened) c same is = leaves_length b.items b.items happened c refl is
+leaves_length file left (Refused ∷ happened) c same is = leaves_length file left happened c same is
 
 may_length : (file : List ℕ) (happened : List Happened) (c : List ℕ) → MayLeave file happened c → length c ≡ length (read_behind file happened)
 may_length file happened c (inl read) = ap length read
@@ -167,3 +188,11 @@ may_replaced file happened later bytes same c left = of (subst (λ (l : List Hap
     of : MayLeave file (happened ++ Replaced bytes ∷ []) c → c ≡ bytes.items
     of (inl read) = read ∙ read_replaced file happened bytes
     of (inr torn) = leaves_replaced file file happened bytes c torn
+
+-- the file could not be begun anew: it is as it was
+pub may_refused : (file : List ℕ) (happened later : List Happened) → later ≡ happened ++ Refused ∷ [] → (c : List ℕ) → MayLeave file later c → MayLeave file happened c
+may_refused file happened later same c left = of (subst (λ (l : List Happened). MayLeave file l c) same left)
+  where
+    of : MayLeave file (happened ++ Refused ∷ []) c → MayLeave file happened c
+    of (inl read) = inl (read ∙ read_refused file happened)
+    of (inr torn) = inr (leaves_refused file file happened c torn)

@@ -4,7 +4,7 @@ use Rattle.std.proofs.Common.{refl, sym, ◌∙◌, ap, subst, arith}
 use Rattle.std.proofs.Math.Seq.{take-length}
 use Rattle.journal_core.specs.Device.{IsTorn, with_bytes}
 use Rattle.crash_trial.specs.declared.device.Happened.{Happened}
-use Rattle.crash_trial.specs.declared.device.Happened.TheVariants.{Wrote, Stored, Replaced}
+use Rattle.crash_trial.specs.declared.device.Happened.TheVariants.{Wrote, Stored, Replaced, Refused}
 
 -- what a read returns behind these, the oldest first
 abbrev pub read_behind : List ℕ → List Happened → List ℕ
@@ -12,6 +12,7 @@ read_behind file [] = file
 read_behind file (Wrote at bytes ∷ happened) = read_behind (with_bytes at bytes.items file) happened
 read_behind file (Stored ∷ happened) = read_behind file happened
 read_behind file (Replaced bytes ∷ happened) = read_behind bytes.items happened
+read_behind file (Refused ∷ happened) = read_behind file happened
 
 -- A crash may leave this behind these: `file` is what a read returned before them, `left` what a crash left of that.
 abbrev pub Leaves : List ℕ → List ℕ → List Happened → List ℕ → Type 0
@@ -21,6 +22,7 @@ Leaves file left (Wrote at bytes ∷ happened) c =
     × IsTorn left (with_bytes at bytes.items left) torn × Leaves (with_bytes at bytes.items file) torn happened c
 Leaves file left (Stored ∷ happened) c = Leaves file file happened c
 Leaves file left (Replaced bytes ∷ happened) c = Leaves bytes.items bytes.items happened c
+Leaves file left (Refused ∷ happened) c = Leaves file left happened c
 
 -- what a crash may leave of a file behind these: all that was written, or some of it
 abbrev pub MayLeave : List ℕ → List Happened → List ℕ → Type 0

@@ -81,6 +81,9 @@ fn left_behind(
         [Happened::Replaced(bytes), happened @ ..] => {
             left_behind(alloc, bytes, bytes, happened, how, call.saturating_add(1))
         }
+        [Happened::Refused, happened @ ..] => {
+            left_behind(alloc, seen, left, happened, how, call.saturating_add(1))
+        }
     }
 }
 

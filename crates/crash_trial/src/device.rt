@@ -4,6 +4,7 @@ ghost use Rattle.std.specs.Prelude.{◌≡◌, ◌≤◌, ◌++◌, ◌∷◌, [
 ghost use Rattle.crash_trial.specs.Kept.{read_behind, MayLeave, LeftSince, counts, only};
 ghost use Rattle.journal_core.specs.Device.{with_bytes};
 
+use crate::crash::mixed;
 use journal_core::device::{Device, DeviceError};
 use std::alloc::{AllocError, Global};
 
@@ -16,6 +17,8 @@ pub enum Happened {
     Stored,
     /// Other bytes were put in the place of all.
     Replaced(Vec<u8>),
+    /// Other bytes were to be put in the place of all, and could not.
+    Refused,
 }
 
 /// A file, and all that happened to it, the oldest first.
@@ -24,6 +27,10 @@ pub struct Kept {
     alloc: Global,
     file: Vec<u8>,
     happened: Vec<Happened>,
+    // Which replacements are refused is drawn from this number.
+    seed: u64,
+    // So many were asked for.
+    replacements: usize,
 }
 
 // The file with other bytes from a place on.
@@ -55,7 +62,13 @@ fn read_of(alloc: Global, file: &[u8], happened: &[Happened]) -> Result<Vec<u8>,
         }
         [Happened::Stored, happened @ ..] => read_of(alloc, file, happened),
         [Happened::Replaced(bytes), happened @ ..] => read_of(alloc, bytes, happened),
+        [Happened::Refused, happened @ ..] => read_of(alloc, file, happened),
     }
+}
+
+// Whether a replacement is refused, behind so many others: one in three, and never the first.
+fn is_refused(seed: u64, before: usize) -> bool {
+    before > 0 && mixed(seed, before, usize::MAX) % 3 == 0
 }
 
 // Notes a call.
@@ -68,8 +81,9 @@ fn note(happened: &mut Vec<Happened>, call: Happened) -> Result<(), AllocError>
 }
 
 impl Kept {
-    /// A file with these bytes, all of them on the disk, to which nothing happened yet.
-    pub fn new(alloc: Global, file: Vec<u8>) -> Kept
+    /// A file with these bytes, all of them on the disk, to which nothing happened yet. Of those replacements that come
+    /// behind the first one some are refused, as `seed` draws it.
+    pub fn new(alloc: Global, file: Vec<u8>, seed: u64) -> Kept
         ensures file { result.file.items ≡ file.items }
         ensures nothing { result.happened.items ≡ [] }
     {
@@ -77,6 +91,8 @@ impl Kept {
             alloc,
             file,
             happened: Vec::new(alloc),
+            seed,
+            replacements: 0,
         }
     }
 
@@ -123,8 +139,15 @@ impl Device for Kept {
         Ok(note(&mut self.happened, Happened::Stored)?)
     }
 
-    fn replace(&mut self, bytes: &[u8]) -> Result<(), DeviceError> {
+    fn replace(&mut self, bytes: &[u8]) -> Result<bool, DeviceError> {
+        let before = self.replacements;
+        self.replacements = before.saturating_add(1);
+        if is_refused(self.seed, before) {
+            note(&mut self.happened, Happened::Refused)?;
+            return Ok(false);
+        }
         let bytes = bytes.to_vec(self.alloc)?;
-        Ok(note(&mut self.happened, Happened::Replaced(bytes))?)
+        note(&mut self.happened, Happened::Replaced(bytes))?;
+        Ok(true)
     }
 }

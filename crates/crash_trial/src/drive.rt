@@ -103,8 +103,8 @@ fn is_front(front: &[u8]) -> bool
     are_lines(front) && front.len() <= 1 << 40
 }
 
-// Begins a journal anew.
-fn renew<D: Device>(alloc: Global, journal: &mut Journal<D>, front: &[u8]) -> Result<(), Stop>
+// Begins a journal anew. False: it could not, and goes on.
+fn renew<D: Device>(alloc: Global, journal: &mut Journal<D>, front: &[u8]) -> Result<bool, Stop>
     requires { IsInOrder D.seen D.may_leave journal.old }
     ensures { OnOk result (IsInOrder D.seen D.may_leave journal.new) }
 {
@@ -112,7 +112,7 @@ fn renew<D: Device>(alloc: Global, journal: &mut Journal<D>, front: &[u8]) -> Re
         return Err(Stop::Journal);
     }
     match journal.change(alloc, front, ROOM) {
-        Ok(()) => Ok(()),
+        Ok(went) => Ok(went),
         Err(_) => Err(Stop::Journal),
     }
 }
@@ -198,7 +198,9 @@ impl Drive {
         ensures { IfOk result (λ found. IfSome found (λ journal. IsInOrder D.seen D.may_leave journal)) }
     {
         let mut front = Vec::new(self.alloc);
-        self.hosted.push_first(&mut front)?;
+        if !self.hosted.push_first(&mut front)? {
+            return Ok(None);
+        }
         self.asked.push(Asked::Front)?;
         if !is_front(&front) {
             return Ok(None);
@@ -228,17 +230,24 @@ impl Drive {
         store(journal)
     }
 
-    // Begins the next epoch.
+    // Begins the next epoch, where the journal can begin anew.
     fn change<D: Device>(&mut self, journal: &mut Journal<D>) -> Result<(), Stop>
         requires { IsInOrder D.seen D.may_leave journal.old }
         ensures { OnOk result (IsInOrder D.seen D.may_leave journal.new) }
     {
         let mut front = Vec::new(self.alloc);
-        if !self.hosted.write_next(&mut front)? || !self.hosted.begin_next()? {
+        if !self.hosted.write_next(&mut front)? {
             return Err(Stop::Journal);
         }
         self.asked.push(Asked::Front)?;
-        renew(self.alloc, journal, &front)
+        if !renew(self.alloc, journal, &front)? {
+            self.hosted.put_off();
+            return Ok(());
+        }
+        if !self.hosted.begin_next()? {
+            return Err(Stop::Journal);
+        }
+        Ok(())
     }
 
     // The session at a place, which gets one where it has none.

@@ -46,6 +46,7 @@ pub(crate) fn follow(
             standing.epochs = standing.epochs.saturating_add(1);
             Ok(())
         }
+        Happened::Refused => Ok(()),
     }
 }
 

@@ -101,11 +101,12 @@ fn play_scenario(
     alloc: Global,
     object: Object,
     scenario: &[u8],
+    seed: u64,
 ) -> Result<Result<Played, u64>, AllocError> {
     let Some(mut drive) = Drive::new(alloc, object)? else {
         return Ok(Err(0));
     };
-    let file = Kept::new(alloc, Vec::new(alloc));
+    let file = Kept::new(alloc, Vec::new(alloc), seed);
     let Some(mut journal) = drive.begin(file)? else {
         return Ok(Err(0));
     };
@@ -185,7 +186,7 @@ fn is_each_done(asked: &[Call], happened: &[Happened]) -> bool {
         let is_done = match &happened[place] {
             Happened::Wrote(_, _) => asked[place] == Call::Lines,
             Happened::Stored => asked[place] == Call::Sync,
-            Happened::Replaced(_) => asked[place] == Call::Front,
+            Happened::Replaced(_) | Happened::Refused => asked[place] == Call::Front,
         };
         if !is_done {
             return false;
@@ -237,10 +238,14 @@ fn try_drawn<W: Write>(
     Ok(())
 }
 
-// Tells the lines of each epoch.
+// Tells the lines of each epoch, and how often no new one could begin.
 fn tell_epochs<W: Write>(alloc: Global, file: &Kept, writer: &mut W) -> Result<(), Fault> {
     let mut standing = standing_behind(alloc, &[])?;
+    let mut refused: u64 = 0;
     for call in file.happened() {
+        if let Happened::Refused = call {
+            refused = refused.saturating_add(1);
+        }
         if let Happened::Replaced(_) = call {
             tell(writer, &standing.text)?;
             let epoch = standing.epochs.saturating_add(1);
@@ -249,7 +254,9 @@ fn tell_epochs<W: Write>(alloc: Global, file: &Kept, writer: &mut W) -> Result<(
         }
         follow(alloc, &mut standing, call)?;
     }
-    tell(writer, &standing.text)
+    tell(writer, &standing.text)?;
+    let line = format!(in alloc; "refused {refused}\n")?;
+    tell(writer, line.as_bytes())
 }
 
 /// Plays a scenario, and tries crashes in it. An `Err` is that memory was refused, or a line could not be written.
@@ -259,7 +266,7 @@ pub fn run_trial<W: Write>(alloc: Global, asked: &Asked, writer: &mut W) -> Resu
         return Ok(Ended::Wrong);
     };
     let (_, scenario) = cut_line(&asked.scenario);
-    let Played { file, calls } = match play_scenario(alloc, object, scenario)? {
+    let Played { file, calls } = match play_scenario(alloc, object, scenario, asked.seed)? {
         Ok(played) => played,
         Err(number) => {
             let line = format!(in alloc; "line {number} ends the scenario\n")?;

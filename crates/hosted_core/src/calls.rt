@@ -115,6 +115,7 @@ impl Hosted {
         let before = lines.len();
         push_name(lines, entered.session, name)?;
         self.add(lines.len().saturating_sub(before));
+        self.count();
         Ok(())
     }
 
@@ -130,7 +131,8 @@ impl Hosted {
     /// each waiting call that may start then, in the order of their numbers; else it waits. The lines of all that ran are
     /// added, and their clients remember them. `is_first`: no line was added since a new epoch was last asked for.
     ///
-    /// A fault changes nothing. The error is that memory was refused for the lines.
+    /// A fault changes nothing; it is `HistoryFull` also where the journal lacks room for the lines of the call and of all
+    /// that wait. The error is that memory was refused for the lines.
     pub fn call(
         &mut self,
         is_first: bool,
@@ -166,7 +168,7 @@ impl Hosted {
         }
     }
 
-    // Submits a call. A fault changes nothing.
+    // Submits a call, where the journal has room for its lines and those of all calls that wait. A fault changes nothing.
     fn submit(
         &mut self,
         session: u16,
@@ -176,9 +178,12 @@ impl Hosted {
         ensures ok { IfOk result (λ a. Takes self.old session operation arguments.items a self.new) }
         ensures err { OnErr result (self.new ≡ self.old) }
     {
+        let own = most_of(self.live.object(), operation, &arguments);
+        if !self.has_room(self.owing.saturating_add(own)) {
+            return Err(SubmitFault::HistoryFull);
+        }
         let _is_named = self.has_name(session);
         self.ask(session, operation, &arguments)?;
-        let own = most_of(self.live.object(), operation, &arguments);
         match self.live.submit(u32::from(session), operation, arguments) {
             Ok(taken) => {
                 self.given = taken.number;

@@ -11,7 +11,7 @@ ghost use Rattle.live_core.specs.Hall.{Every};
 ghost use Rattle.hosted_core.specs.Scene.{told_of, with_guests};
 
 use crate::calls::most_of;
-use crate::size::most_told;
+use crate::size::{MOST_NAME, most_told};
 use apply_core::fits::arguments_fit;
 use apply_core::reply::Reply;
 use ask_core::answer::{Cancelled, KeyedFault};
@@ -30,7 +30,7 @@ use value_core::datum::Datum;
 /// At so many calls, with those of the past, a new epoch begins.
 pub const EPOCH_CALLS: u32 = 60_000;
 
-/// The lines behind a front have at most so many bytes.
+/// The lines behind a front have at most so many bytes: a journal has room for as many there.
 pub const MOST_LINES: usize = 8_388_608;
 
 /// Where no more bytes are left for lines, a new epoch begins.
@@ -99,7 +99,7 @@ pub struct Hosted {
     // of each session one more than the place of its connection, or 0
     pub(crate) owners: Vec<u32>,
     pub(crate) waiting: u32,
-    // how many calls were asked for since a new epoch is due
+    // how many calls were asked for, and new names came, since a new epoch is due
     pub(crate) behind: u32,
     // how many of them there were when one was tried last, and could not begin; 0 where none was
     pub(crate) tried: u32,
@@ -165,7 +165,15 @@ fn no_owners(alloc: Global, sessions: u16) -> Result<Vec<u32>, AllocError> {
 impl Hosted {
     /// An object to which no client is connected. The error is that memory was refused.
     pub fn new(alloc: Global, begun: Begun) -> Result<Hosted, AllocError>
-        ensures { IfOk result (λ h. h ≡ record { hall = begun.live; guests = begun.guests; carried = []; base = begun.base }) }
+        ensures { IfOk result (λ h. h ≡ record {
+          hall = begun.live;
+          guests = begun.guests;
+          carried = [];
+          base = begun.base;
+          given = 0;
+          epoch = begun.epoch;
+          source = begun.source;
+        }) }
     {
         let owners = no_owners(alloc, begun.sessions)?;
         let Begun {
@@ -355,9 +363,15 @@ impl Hosted {
         }
     }
 
-    /// Whether the journal has room for lines of so many bytes.
+    /// Whether the journal has room for lines of so many bytes, behind those that it has.
     pub fn has_room(&self, size: usize) -> bool {
         self.added.saturating_add(size) <= MOST_LINES
+    }
+
+    /// Whether a client of this name may come: it is known, or the journal has room for the line of a new name besides
+    /// those of all calls that wait.
+    pub fn may_come(&self, name: &Name) -> bool {
+        self.guests.knows(name) || self.has_room(self.owing.saturating_add(MOST_NAME))
     }
 
     /// Whether as many calls wait as may.
@@ -376,7 +390,7 @@ impl Hosted {
         left <= LEAST_LEFT || self.live.numbers_left() <= 65_536 - EPOCH_CALLS
     }
 
-    /// A call is asked for.
+    /// A call is asked for, or a new name has come.
     pub fn count(&mut self)
         ensures { self.new ≡ self.old }
     {

@@ -7,6 +7,9 @@ use value_core::kind::Elem;
 // `start`, a number, a session, spaces and the LF; and `end`, a number, `refused` and a word, or `failed memory`.
 const WORDS: usize = 128;
 
+/// How many bytes the line of a new name has at most: `name`, a session, a name of 64 bytes, spaces and the LF.
+pub const MOST_NAME: usize = 80;
+
 // A text between apostrophes, and a space before it, of which each byte is an apostrophe.
 const MOST_TEXT: usize = 2_003;
 

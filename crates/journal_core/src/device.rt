@@ -1,7 +1,7 @@
 //! A file as a journal sees it: what a read returns, and what a crash may leave at each moment. What a disk has to do
 //! for a journal to be safe on it are the clauses of `Device`; whether a real one does is no more than a premise.
 
-ghost use Rattle.std.specs.Prelude.{◌≡◌, ◌≤◌, ◌+◌, List, ℕ, Option, Some, length, IfOk, OnOk};
+ghost use Rattle.std.specs.Prelude.{◌≡◌, ◌≤◌, ◌+◌, List, ℕ, Option, Some, true, false, length, IfOk, OnOk};
 ghost use Rattle.journal_core.specs.declared.device.DeviceError.TheVariants.{Memory};
 ghost use Rattle.journal_core.specs.Device.{Only, IsOnDisk, IsChanged, IsAtMost, Writes, Replaces, with_bytes, Elapses};
 ghost use Rattle.journal_core.specs.Device.{HasCause};
@@ -82,11 +82,15 @@ pub trait Device {
         ensures cause { HasCause (faults self.old) (faults self.new) result };
 
     /// Puts other bytes, as many as are given, in place of all that is there, in one step: a file beside it, a sync, a
-    /// renaming, and a sync of the folder. A crash leaves the one or the other, after an `Err` too; after `Ok` the new
-    /// bytes alone.
-    fn replace(&mut self, bytes: &[u8]) -> Result<(), DeviceError>
-        ensures replaced { OnOk result (IsChanged (λ _. bytes.now) (seen self.old) (seen self.new)) }
-        ensures durable { OnOk result (Only bytes.now (may_leave self.new)) }
+    /// renaming, and a sync of the folder. `false`: it could not, as where the disk is full, and the file is as it was.
+    /// A crash leaves the one or the other, after an `Err` too; after `true` the new bytes alone, after `false` what it
+    /// might have left before.
+    fn replace(&mut self, bytes: &[u8]) -> Result<bool, DeviceError>
+        ensures replaced { IfOk result (λ went. went ≡ true → IsChanged (λ _. bytes.now) (seen self.old) (seen self.new)) }
+        ensures durable { IfOk result (λ went. went ≡ true → Only bytes.now (may_leave self.new)) }
+        ensures kept { IfOk result (λ went. went ≡ false → seen self.new ≡ seen self.old) }
+        ensures kept_crash { IfOk result (λ went. went ≡ false →
+            ((c : List ℕ) → may_leave self.new c → may_leave self.old c)) }
         ensures crash { Replaces bytes.now (may_leave self.old) (may_leave self.new) }
         ensures time { Elapses (moment self.old) (moment self.new) (left_since self.old) (left_since self.new)
             (may_leave self.new) }

@@ -12,7 +12,8 @@ use std::io::{ErrorKind, Read, Seek, SeekFrom, Write};
 use std::rt::Files;
 use std::{fs, io};
 
-/// The file `FOLDER/NAME.journal`. Its replacement is written as `FOLDER/NAME.journal.new`, and renamed.
+/// The file `FOLDER/NAME.journal`. Its replacement is written as `FOLDER/NAME.journal.new`, and renamed; where it cannot be
+/// written whole, it is removed.
 #[derive(Drop)]
 pub struct FolderFile<R: Files + AllocGlobal> {
     rt: R,
@@ -76,14 +77,20 @@ impl<R: Files + AllocGlobal + Drop> FolderFile<R> {
 }
 
 impl<R: Files + AllocGlobal> FolderFile<R> {
-    // Writes another file, has it go to the disk, renames it, and has the folder go there too.
-    fn put(&mut self, bytes: &[u8]) -> io::Result<()>
-        ensures { self.new.faults ≡ self.old.faults }
-    {
+    // Another file with these bytes, beside it, all of them on the disk.
+    fn write_fresh(&self, bytes: &[u8]) -> io::Result<R::File> {
         let mut file = open_or_make(&self.rt, self.fresh.as_str())?;
         file.set_len(0)?;
         file.write_all(bytes)?;
         file.sync_all()?;
+        Ok(file)
+    }
+
+    // The other file takes the place of this one, and the folder goes to the disk. After an error nobody knows which of
+    // them stands there: a folder on another machine may say that a renaming failed which was done.
+    fn put(&mut self, file: R::File) -> io::Result<()>
+        ensures { self.new.faults ≡ self.old.faults }
+    {
         fs::rename(&self.rt, self.fresh.as_str(), self.path.as_str())?;
         self.file = file;
         File::open(&self.rt, self.folder.as_str())?.sync_all()
@@ -126,9 +133,14 @@ impl<R: Files + AllocGlobal> Device for FolderFile<R> {
         }
     }
 
-    fn replace(&mut self, bytes: &[u8]) -> Result<(), DeviceError> {
-        match self.put(bytes) {
-            Ok(()) => Ok(()),
+    fn replace(&mut self, bytes: &[u8]) -> Result<bool, DeviceError> {
+        let Ok(file) = self.write_fresh(bytes) else {
+            // What was written of it takes no room then.
+            let _removed = fs::remove_file(&self.rt, self.fresh.as_str());
+            return Ok(false);
+        };
+        match self.put(file) {
+            Ok(()) => Ok(true),
             Err(error) => Err(count(&mut self.faults, error)),
         }
     }

@@ -2,7 +2,7 @@
 //! were stored, and maybe some more of those that were added since, in order.
 
 ghost use Rattle.std.specs.Prelude.{◌≡◌, ◌⊎◌, ◌<◌, ◌≤◌, ◌^◌, ◌+◌, ◌++◌, [], List, ℕ, length, take, IfOk, OnOk, OnErr};
-ghost use Rattle.std.specs.Prelude.{IfErr, IsErrOf, Some};
+ghost use Rattle.std.specs.Prelude.{IfErr, IsErrOf, Some, true, false};
 ghost use lib.ListN.{replicate};
 ghost use Rattle.journal_core.specs.Device.{IsOnDisk, LeavesOnly, Rises};
 ghost use Rattle.journal_core.specs.Journal.{recovered, AreLines, IsBetween};
@@ -125,8 +125,8 @@ impl<D: Device> Journal<D> {
     ghost use Rattle.journal_core.specs.Order.{IsInOrder, Holds};
 
     /// Begins a journal with this front, and room for so many bytes behind it: together fewer than 2^62. A crash at any
-    /// moment leaves what it might have left before, or the front. `Err`: `Memory`, or `Failed` of the device; the
-    /// device is handed back, and its file is the old one or the new one.
+    /// moment leaves what it might have left before, or the front. `Err`: `Memory`, or `Failed` where the device failed or
+    /// could not begin; the device is handed back, and its file is the old one or the new one.
     pub fn begin(
         alloc: Global,
         device: D,
@@ -149,38 +149,52 @@ impl<D: Device> Journal<D> {
             return Err((DeviceError::Memory, device));
         };
         match device.replace(&file) {
-            Ok(()) => Ok(Journal {
+            Ok(true) => Ok(Journal {
                 device,
                 stored: front.len(),
                 size: front.len(),
                 room,
             }),
+            Ok(false) => Err((DeviceError::Failed, device)),
             Err(error) => Err((error, device)),
         }
     }
 
     /// Begins the file anew with this front, in place of all lines, and room for so many bytes behind it: together
-    /// fewer than 2^62. A crash at any moment leaves lines of before, all that were stored among them, or the front.
-    /// `Err`: `Memory`, or `Failed` of the device; the file is to be opened again.
-    pub fn change(&mut self, alloc: Global, front: &[u8], room: usize) -> Result<(), DeviceError>
+    /// fewer than 2^62. `false`: memory or the disk had no room for it, and the journal is as it was. A crash at any
+    /// moment leaves lines of before, all that were stored among them, or the front; where it answers `false`, lines of
+    /// before. `Err`: `Memory`, or `Failed` of the device; the file is to be opened again.
+    pub fn change(&mut self, alloc: Global, front: &[u8], room: usize) -> Result<bool, DeviceError>
         requires in_order { IsInOrder D.seen D.may_leave self.old }
         requires lines { AreLines front.now }
         requires small { length front.now + room < 2 ^ 62 }
 
         ensures in_order { OnOk result (IsInOrder D.seen D.may_leave self.new) }
-        ensures holds { OnOk result ((stored text : List ℕ) → Holds D.seen self.old stored text
-            → Holds D.seen self.new front.now front.now) }
+        ensures holds { IfOk result (λ went. went ≡ true → ((stored text : List ℕ) → Holds D.seen self.old stored text
+            → Holds D.seen self.new front.now front.now)) }
+        ensures kept { IfOk result (λ went. went ≡ false → ((stored text : List ℕ) → Holds D.seen self.old stored text
+            → Holds D.seen self.new stored text)) }
         ensures any_moment { (stored text : List ℕ) → Holds D.seen self.old stored text
             → LeavesOnly D.moment D.left_since self.old.device self.new.device
             (λ c. IsBetween stored text (recovered c) ⊎ (recovered c ≡ front.now)) }
+        ensures any_moment_kept { IfOk result (λ went. went ≡ false → ((stored text : List ℕ)
+            → Holds D.seen self.old stored text → LeavesOnly D.moment D.left_since self.old.device self.new.device
+            (λ c. IsBetween stored text (recovered c)))) }
         ensures failed { IsErrOf result Failed → Rises (D.faults self.old.device) (D.faults self.new.device) }
     {
-        let file = file_of(alloc, front, room)?;
-        self.device.replace(&file)?;
-        self.stored = front.len();
-        self.size = front.len();
-        self.room = room;
-        Ok(())
+        let Ok(file) = file_of(alloc, front, room) else {
+            return Ok(false);
+        };
+        match self.device.replace(&file) {
+            Ok(true) => {
+                self.stored = front.len();
+                self.size = front.len();
+                self.room = room;
+                Ok(true)
+            }
+            Ok(false) => Ok(false),
+            Err(error) => Err(error),
+        }
     }
 }
 

@@ -94,8 +94,9 @@ impl Device for Memory {
         Ok(())
     }
 
-    fn replace(&mut self, bytes: &[u8]) -> Result<(), DeviceError> {
+    fn replace(&mut self, bytes: &[u8]) -> Result<bool, DeviceError> {
         let next = bytes.to_vec(self.alloc)?;
-        Ok(put_in_place(self.alloc, &mut self.bytes, &mut self.past, next)?)
+        put_in_place(self.alloc, &mut self.bytes, &mut self.past, next)?;
+        Ok(true)
     }
 }

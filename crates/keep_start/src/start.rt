@@ -1,9 +1,13 @@
 //! One object, from its journal or from its parts.
 
-ghost use Rattle.std.specs.Prelude.{◌≡◌, ◌++◌, IfOk, OnOk};
+ghost use Rattle.std.specs.Prelude.{◌≡◌, ◌++◌, ◌⊎◌, ℕ, IfOk, IfErr, OnOk};
 ghost use Rattle.hand_core.specs.Papers.{Papers};
+ghost use Rattle.journal_core.specs.Journal.{recovered};
 ghost use Rattle.store_core.specs.Opened.{AreLoaded};
 ghost use Rattle.keep_start.specs.First.{BeginsFirst, calls_of};
+ghost use Rattle.hosted_core.specs.Again.{BeginsAgain};
+ghost use Rattle.keep_start.specs.Behind.{BeginsBehind, BeginsNot, ended_of};
+ghost use Rattle.keep_start.specs.declared.start.NotBegun.TheVariants.{NoPast as IsNoPast, Memory as IsMemory};
 
 use crate::save::key_of;
 use decl_core::object::Object;
@@ -183,20 +187,11 @@ pub fn begin_first(
     Ok(hosted)
 }
 
-/// An object that goes on behind the text of its journal, in the next epoch: with its values, what its paths have
-/// counted, its clients and their last calls. Calls that waited wait no more. The errors are `Refused`, `NoPast` and
-/// `Memory`.
-pub fn begin_behind(
-    alloc: Global,
-    object: Object,
-    text: &[u8],
-    house: House,
-    limits: Limits,
-) -> Result<Hosted, NotBegun> {
-    let recovered = match recover(alloc, &object, house, text)? {
-        Ok(recovered) => recovered,
-        Err(fault) => return Err(NotBegun::Refused(fault)),
-    };
+// An object begins again with what was recovered of it. The errors are `NoPast` and `Memory`.
+fn go_on(alloc: Global, object: Object, came: Recovered, limits: Limits) -> Result<Hosted, NotBegun>
+    ensures ok { IfOk result (λ s. (source : ℕ) × BeginsAgain object (ended_of came) source limits s) }
+    ensures err { IfErr result (λ why. (why ≡ IsNoPast) ⊎ (why ≡ IsMemory)) }
+{
     let source = source_of(&object);
     let Recovered {
         epoch,
@@ -204,7 +199,7 @@ pub fn begin_behind(
         played,
         guests,
         ..
-    } = recovered;
+    } = came;
     let Played {
         contents,
         counters,
@@ -220,8 +215,32 @@ pub fn begin_behind(
         long,
         guests,
     };
-    match begin_again(alloc, object, ended, source, limits)? {
-        Some(hosted) => Ok(hosted),
-        None => Err(NotBegun::NoPast),
+    match begin_again(alloc, object, ended, source, limits) {
+        Ok(Some(hosted)) => Ok(hosted),
+        Ok(None) => Err(NotBegun::NoPast),
+        Err(AllocError) => Err(NotBegun::Memory),
+    }
+}
+
+/// An object that goes on behind the text of its journal, in the next epoch: with its values, what its paths have
+/// counted, its clients and their last calls. Calls that waited wait no more. The errors are `Refused`, `NoPast` and
+/// `Memory`.
+pub fn begin_behind(
+    alloc: Global,
+    object: Object,
+    text: &[u8],
+    house: House,
+    limits: Limits,
+) -> Result<Hosted, NotBegun>
+    ensures ok { IfOk result (λ s. BeginsBehind object house (recovered text.now) limits s) }
+    ensures err { IfErr result (λ why. BeginsNot object house (recovered text.now) why) }
+{
+    match recover(alloc, &object, house, text) {
+        Ok(Ok(came)) => match go_on(alloc, object, came, limits) {
+            Ok(hosted) => Ok(hosted),
+            Err(why) => Err(why),
+        },
+        Ok(Err(fault)) => Err(NotBegun::Refused(fault)),
+        Err(AllocError) => Err(NotBegun::Memory),
     }
 }

@@ -8,4 +8,5 @@ pub mod clock;
 pub mod journals;
 mod places;
 pub mod stream;
+pub mod traces;
 pub mod wires;

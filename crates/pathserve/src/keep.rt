@@ -9,7 +9,7 @@ use decl_core::object::Object;
 use device_core::dir_shelf::DirShelf;
 use exclude_core::analyse::Accepted;
 use hand_core::hand::HandFault;
-use hosted_core::hosted::Hosted;
+use hosted_core::hosted::{Hosted, MOST_LINES};
 use journal_core::device::DeviceError;
 use journal_core::folder::FolderFile;
 use journal_core::journal::recover as lines_of;
@@ -41,10 +41,13 @@ const LIMITS: Limits = Limits {
 };
 
 /// Behind a front a journal has room for so many bytes.
-const ROOM: usize = 8_388_608;
+const ROOM: usize = MOST_LINES;
 
-/// So often, in seconds, objects are told the time.
-const TICK: u64 = 1;
+/// So many bytes are a megabyte.
+const MEGABYTE: u64 = 1_000_000;
+
+/// So often, in milliseconds, objects are told the time, and lines are done that wait for their client to read.
+const TICK: u64 = 20;
 
 // The objects of a server, with their names and the fronts with which their journals begin.
 #[derive(Drop)]
@@ -281,7 +284,11 @@ fn begin_all(
         let name = name_of(alloc, &object)?;
         match begin_one(rt, object, name.as_str(), folder, pasts, &mut shelf)? {
             Begun::Told(line) => told.extend_from_slice(&line)?,
-            Begun::Ready(hosted) => add(alloc, &mut kept, hosted, name)?,
+            Begun::Ready(hosted) => {
+                if let Some(line) = add(alloc, &mut kept, hosted, name)? {
+                    told.extend_from_slice(&line)?;
+                }
+            }
         }
     }
     if told.is_empty() {
@@ -290,17 +297,25 @@ fn begin_all(
     Ok(Err(told))
 }
 
-// Adds an object.
-fn add(alloc: Global, kept: &mut Kept, hosted: Hosted, name: String) -> Result<(), AllocError> {
+// Adds an object, or gives the line that says why it is not kept.
+fn add(
+    alloc: Global,
+    kept: &mut Kept,
+    hosted: Hosted,
+    name: String,
+) -> Result<Option<Vec<u8>>, AllocError> {
     let mut front = Vec::new(alloc);
-    hosted.push_first(&mut front)?;
+    if !hosted.push_first(&mut front)? {
+        let line = object_line(alloc, name.as_str(), b" past does not fit\n")?;
+        return Ok(Some(line));
+    }
     kept.fronts.push(front)?;
     kept.names.push(name)?;
     kept.objects.push(hosted)?;
-    Ok(())
+    Ok(None)
 }
 
-// How often what no answer waits for is stored, in milliseconds; 0 where each answer waits.
+// How often what no answer waits for is stored, in milliseconds; 0, never, where each answer waits.
 fn pace_of(sync: Sync) -> u64 {
     match sync {
         Sync::Always => 0,
@@ -324,7 +339,8 @@ fn serve_kept<W: Write, E: Write>(
         fronts,
     } = kept;
     let count = objects.len();
-    let begun = Journals::begin(*rt, asked.folder, &names, &fronts, ROOM);
+    let traces = u64::from(asked.traces).saturating_mul(MEGABYTE);
+    let begun = Journals::begin(*rt, asked.folder, &names, &fronts, ROOM, traces);
     let Some(journals) = begun else {
         return Err(Failure::WriteFault);
     };
@@ -337,7 +353,7 @@ fn serve_kept<W: Write, E: Write>(
         },
         stops_with_input: asked.stops,
     };
-    let mut wires = Wires::open(rt, *rt, listener, journals, serving)?;
+    let mut wires = Wires::open(rt, *rt, listener, journals, serving, rt.stderr())?;
     tell_place(alloc, asked, writer)?;
     let limits = LoopLimits {
         places: asked.at_once,

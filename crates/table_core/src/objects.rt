@@ -27,6 +27,14 @@ pub(crate) struct Made {
     pub operation: OpId,
 }
 
+/// Whether a client of this name may come: the journal has room for the line that would tell of it.
+pub(crate) fn may_come(objects: &[Hosted], at: usize, name: &Name) -> bool {
+    match objects.get(at) {
+        None => true,
+        Some(object) => object.may_come(name),
+    }
+}
+
 /// A client comes by its name. The line that tells of it stands in `line` then, alone.
 pub(crate) fn enter_at(
     objects: &mut Vec<Hosted>,
