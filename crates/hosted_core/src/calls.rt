@@ -132,7 +132,8 @@ impl Hosted {
     /// added, and their clients remember them. `is_first`: no line was added since a new epoch was last asked for.
     ///
     /// A fault changes nothing; it is `HistoryFull` also where the journal lacks room for the lines of the call and of all
-    /// that wait. The error is that memory was refused for the lines.
+    /// that wait, and `Full` also where the call would have to wait and these lines have more than 6 MiB. The error is that
+    /// memory was refused for the lines.
     pub fn call(
         &mut self,
         is_first: bool,
@@ -179,6 +180,9 @@ impl Hosted {
         ensures err { OnErr result (self.new ≡ self.old) }
     {
         let size = self.most_with(operation, &arguments);
+        if self.is_crowded(operation, size) {
+            return Err(SubmitFault::Full);
+        }
         if !self.has_room(size) {
             return Err(SubmitFault::HistoryFull);
         }
