@@ -178,12 +178,13 @@ impl Hosted {
         ensures ok { IfOk result (λ a. Takes self.old session operation arguments.items a self.new) }
         ensures err { OnErr result (self.new ≡ self.old) }
     {
-        let own = most_of(self.live.object(), operation, &arguments);
-        if !self.has_room(self.owing.saturating_add(own)) {
+        let size = self.most_with(operation, &arguments);
+        if !self.has_room(size) {
             return Err(SubmitFault::HistoryFull);
         }
         let _is_named = self.has_name(session);
         self.ask(session, operation, &arguments)?;
+        let own = most_of(self.live.object(), operation, &arguments);
         match self.live.submit(u32::from(session), operation, arguments) {
             Ok(taken) => {
                 self.given = taken.number;
