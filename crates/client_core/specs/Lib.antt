@@ -1,3 +1,4 @@
 pub mod Asks
+pub mod Held
 pub mod Numbers
 pub mod Places

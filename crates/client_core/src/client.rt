@@ -1,9 +1,16 @@
 //! What is known of a connection.
 
-ghost use Rattle.std.specs.Prelude.{◌≡◌, ◌↔◌, [], true, false, Some, None, IsTrue};
+ghost use Rattle.std.specs.Prelude.{◌≡◌, ◌≤◌, ◌↔◌, ◌++◌, ◌∷◌, [], ℕ, List, length, drop, true, false, Some, None};
+ghost use Rattle.std.specs.Prelude.{MatchOption, OnOk, OnErr};
+ghost use Rattle.line_core.specs.Runs.{NoLineFeed};
+ghost use Rattle.client_core.specs.Held.{rest_in, waits_in, IsFirstLine, is_whole_before};
+ghost use Rattle.client_core.specs.Held.{IsHeld, IsPassed, IsSame, IsSetTo};
 ghost use Rattle.client_core.specs.Places.{has_in};
 
 use std::alloc::{AllocError, Global};
+
+// Where so many bytes of held lines are done they are let go: who always has a line that is held takes no more.
+const MOST_DONE: usize = 65_536;
 
 /// What a connection has opened.
 #[derive(Clone, Copy, Debug, PartialEq, Eq)]
@@ -41,12 +48,46 @@ pub struct Client {
     pub(crate) next: Option<usize>,
 }
 
+// Whether a line had its LF, behind which these stand.
+fn is_whole(is_cut: bool, behind: &[u8]) -> bool
+    ensures { result ≡ is_whole_before is_cut behind.now }
+{
+    if !is_cut {
+        return true;
+    }
+    !behind.is_empty()
+}
+
+// Adds a line with its LF, all or nothing of it.
+fn append_line(held: &mut Vec<u8>, line: &[u8]) -> Result<(), AllocError>
+    ensures ok { OnOk result (held.new.items ≡ held.old.items ++ (line.now ++ 10 ∷ [])) }
+    ensures err { OnErr result (held.new.items ≡ held.old.items) }
+{
+    held.reserve(line.len().saturating_add(1))?;
+    held.extend_from_slice(line)?;
+    match held.push(b'\n') {
+        Ok(()) => Ok(()),
+        Err(_) => {
+            held.truncate(held.len() - line.len());
+            Err(AllocError)
+        }
+    }
+}
+
 // Cuts bytes at the first LF.
-fn split_line(bytes: &[u8]) -> Option<(&[u8], &[u8])> {
+fn split_line(bytes: &[u8]) -> Option<(&[u8], &[u8])>
+    ensures { MatchOption result (NoLineFeed bytes.now) (λ parts. IsFirstLine bytes.now parts.0.now parts.1.now) }
+{
     let at = bytes.iter().position(|b| *b == b'\n')?;
-    let line = bytes.get(..at)?;
-    let rest = bytes.get(at + 1..)?;
-    Some((line, rest))
+    Some((&bytes[..at], &bytes[at + 1..]))
+}
+
+// The first bytes, so many, are let go.
+fn cut(bytes: &mut Vec<u8>, n: usize)
+    requires { n ≤ length bytes.old.items }
+    ensures { bytes.new.items ≡ drop n bytes.old.items }
+{
+    bytes.drain(..n);
 }
 
 impl Client {
@@ -117,49 +158,98 @@ impl Client {
     }
 
     /// Whether a call of it waits.
-    pub(crate) fn waits(&self) -> bool {
+    pub(crate) fn waits(&self) -> bool
+        ensures { result ≡ waits_in (Some self.now) }
+    {
         match self.opened {
             Some(opened) => opened.waits,
             None => false,
         }
     }
 
+    /// A call of it waits, or waits no more.
+    pub(crate) fn set_waits(&mut self, waits: bool)
+        ensures { IsSetTo waits (Some self.old) (Some self.new) }
+    {
+        if let Some(opened) = &mut self.opened {
+            opened.waits = waits;
+        }
+    }
+
     /// Whether lines are held that are not done.
-    pub(crate) fn holds(&self) -> bool {
-        self.done < self.held.len()
+    pub(crate) fn holds(&self) -> bool
+        ensures { result ≡ false ↔ (rest_in (Some self.now) ≡ []) }
+    {
+        !self.rest().is_empty()
+    }
+
+    // The held lines that are not done.
+    fn rest(&self) -> &[u8]
+        ensures { result.now ≡ rest_in (Some self.now) }
+    {
+        if self.done >= self.held.len() {
+            return &[];
+        }
+        &self.held[self.done..]
     }
 
     /// How many bytes of held lines are not done.
-    pub(crate) fn held_bytes(&self) -> usize {
-        self.held.len().saturating_sub(self.done)
+    pub(crate) fn held_bytes(&self) -> usize
+        ensures { result ≡ length (rest_in (Some self.now)) }
+    {
+        self.rest().len()
+    }
+
+    // Lets held lines go that are done, where these are all of them or many.
+    fn settle(&mut self)
+        ensures who { self.new.who ≡ self.old.who }
+        ensures here { self.new.is_here ≡ self.old.is_here }
+        ensures opened { self.new.opened ≡ self.old.opened }
+        ensures rest { rest_in (Some self.new) ≡ rest_in (Some self.old) }
+        ensures cut { self.new.is_cut ≡ self.old.is_cut }
+        ensures within { self.new.done ≤ length self.new.held.items }
+    {
+        if self.done >= self.held.len() {
+            self.held.clear();
+            self.done = 0;
+            return;
+        }
+        if self.done >= MOST_DONE {
+            cut(&mut self.held, self.done);
+            self.done = 0;
+        }
     }
 
     /// Holds a line. `is_whole`: it had an LF. The error is that memory was refused: then it is not held.
-    pub(crate) fn hold(&mut self, line: &[u8], is_whole: bool) -> Result<(), AllocError> {
-        self.held.reserve(line.len().saturating_add(1))?;
-        self.held.extend_from_slice(line)?;
-        self.held.push(b'\n')?;
+    pub(crate) fn hold(&mut self, line: &[u8], is_whole: bool) -> Result<(), AllocError>
+        ensures ok { OnOk result (IsHeld line.now is_whole (Some self.old) (Some self.new)) }
+        ensures err { OnErr result (IsSame (Some self.old) (Some self.new)) }
+    {
+        self.settle();
+        append_line(&mut self.held, line)?;
         self.is_cut = !is_whole;
         Ok(())
     }
 
     /// The next held line that is not done, and whether it had an LF.
-    pub(crate) fn line(&self) -> Option<(&[u8], bool)> {
-        let rest = self.held.get(self.done..)?;
-        let (line, behind) = split_line(rest)?;
-        Some((line, !(self.is_cut && behind.is_empty())))
+    pub(crate) fn line(&self) -> Option<(&[u8], bool)>
+        ensures { MatchOption result (NoLineFeed (rest_in (Some self.now))) (λ found. (behind : List ℕ)
+            × IsFirstLine (rest_in (Some self.now)) found.0.now behind
+            × (found.1 ≡ is_whole_before self.now.is_cut behind)) }
+    {
+        let (line, behind) = split_line(self.rest())?;
+        Some((line, is_whole(self.is_cut, behind)))
     }
 
-    /// The next held line is done.
-    pub(crate) fn pass(&mut self, alloc: Global) {
-        let length = match self.line() {
-            Some((line, _)) => line.len().saturating_add(1),
-            None => self.held_bytes(),
-        };
-        self.done = self.done.saturating_add(length);
-        if self.done >= self.held.len() {
+    /// The first bytes of its held lines, so many, are held no more.
+    pub(crate) fn pass(&mut self, alloc: Global, count: usize)
+        ensures { IsPassed count (Some self.old) (Some self.new) }
+    {
+        if self.held_bytes() <= count {
             self.held = Vec::new(alloc);
             self.done = 0;
+            return;
         }
+        self.done += count;
     }
 }

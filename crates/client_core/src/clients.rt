@@ -1,6 +1,10 @@
 //! All connections.
 
 ghost use Rattle.std.specs.Prelude.{◌≡◌, ◌<◌, ◌==◌, ◌%◌, [], ℕ, true, false, Some, None, IfOk, IfSome, IfNone, length, slice_get};
+ghost use Rattle.std.specs.Prelude.{◌↔◌, ◌≤◌, ◌⊎◌, OnOk, OnErr};
+ghost use Rattle.line_core.specs.Runs.{NoLineFeed};
+ghost use Rattle.client_core.specs.Held.{rest_in, waits_in, AreSame, AreSameRows, IsAsked};
+ghost use Rattle.client_core.specs.Held.{IsHeld, IsPassed, IsSame, IsSetTo, IsTaken};
 ghost use Rattle.client_core.specs.Places.{has_in, is_here_in, opened_in, held_in, place_for, place_at, Elsewhere};
 
 use crate::ask::{Ask, ask_of};
@@ -18,6 +22,8 @@ pub struct Clients {
     rows: Vec<Client>,
     first: Option<usize>,
     last: Option<usize>,
+    // whether held lines of some are done later
+    has_stalled: bool,
 }
 
 // So many places, which nobody has.
@@ -67,6 +73,77 @@ fn set_opened(rows: &mut Vec<Client>, at: usize, opened: Opened)
     rows[at].opened = Some(opened);
 }
 
+// A call of the one at a place waits, or waits no more.
+fn set_waits(rows: &mut Vec<Client>, at: usize, waits: bool)
+    requires { at < length rows.old.items }
+    ensures count { length rows.new.items ≡ length rows.old.items }
+    ensures set { IsSetTo waits (slice_get rows.old.items at) (slice_get rows.new.items at) }
+    ensures others { (k : ℕ) → (at == k) ≡ false → slice_get rows.new.items k ≡ slice_get rows.old.items k }
+{
+    rows[at].set_waits(waits);
+}
+
+// Holds a line of the one at a place.
+fn hold(rows: &mut Vec<Client>, at: usize, line: &[u8], is_whole: bool) -> Result<(), AllocError>
+    requires { at < length rows.old.items }
+    ensures count { length rows.new.items ≡ length rows.old.items }
+    ensures ok { OnOk result (IsHeld line.now is_whole (slice_get rows.old.items at) (slice_get rows.new.items at)) }
+    ensures err { OnErr result (IsSame (slice_get rows.old.items at) (slice_get rows.new.items at)) }
+    ensures others { (k : ℕ) → (at == k) ≡ false → slice_get rows.new.items k ≡ slice_get rows.old.items k }
+{
+    rows[at].hold(line, is_whole)
+}
+
+// The first bytes, so many, of the held lines of the one at a place are held no more.
+fn pass(rows: &mut Vec<Client>, at: usize, alloc: Global, count: usize)
+    requires { at < length rows.old.items }
+    ensures count { length rows.new.items ≡ length rows.old.items }
+    ensures passed { IsPassed count (slice_get rows.old.items at) (slice_get rows.new.items at) }
+    ensures others { (k : ℕ) → (at == k) ≡ false → slice_get rows.new.items k ≡ slice_get rows.old.items k }
+{
+    rows[at].pass(alloc, count);
+}
+
+// The one at a place is ready, behind all others.
+fn set_ready(rows: &mut Vec<Client>, at: usize)
+    requires { at < length rows.old.items }
+    ensures { AreSameRows rows.old.items rows.new.items }
+{
+    let client = &mut rows[at];
+    client.is_ready = true;
+    client.is_stalled = false;
+    client.next = None;
+}
+
+// One stands behind the one at a place.
+fn set_next(rows: &mut Vec<Client>, at: usize, next: usize)
+    ensures { AreSameRows rows.old.items rows.new.items }
+{
+    if at < rows.len() {
+        rows[at].next = Some(next);
+    }
+}
+
+// The one at a place is ready no more. It answers the place behind it.
+fn set_unready(rows: &mut Vec<Client>, at: usize) -> Option<usize>
+    ensures { AreSameRows rows.old.items rows.new.items }
+{
+    if at >= rows.len() {
+        return None;
+    }
+    rows[at].is_ready = false;
+    rows[at].next
+}
+
+// The held lines of the one at a place are done later.
+fn set_stalled(rows: &mut Vec<Client>, at: usize)
+    ensures { AreSameRows rows.old.items rows.new.items }
+{
+    if at < rows.len() {
+        rows[at].is_stalled = true;
+    }
+}
+
 impl Clients {
     /// So many places, which nobody has. The error is that memory was refused.
     pub fn new(alloc: Global, count: usize) -> Result<Clients, AllocError>
@@ -79,6 +156,7 @@ impl Clients {
             rows,
             first: None,
             last: None,
+            has_stalled: false,
         })
     }
 
@@ -189,104 +267,143 @@ impl Clients {
     }
 
     /// A call of the one at a place waits, or waits no more.
-    pub fn set_waits(&mut self, place: usize, waits: bool) {
-        if let Some(client) = self.rows.get_mut(place) {
-            if let Some(opened) = &mut client.opened {
-                opened.waits = waits;
-            }
+    pub fn set_waits(&mut self, place: usize, waits: bool)
+        ensures set { IsSetTo waits (place_at self.old place) (place_at self.new place) }
+        ensures others { Elsewhere self.old self.new place }
+    {
+        if place < self.rows.len() {
+            set_waits(&mut self.rows, place, waits);
         }
+    }
+
+    /// Whether a call of the one at a place waits.
+    pub fn waits(&self, place: usize) -> bool
+        ensures { result ≡ waits_in (place_at self.now place) }
+    {
+        if place >= self.rows.len() {
+            return false;
+        }
+        self.rows[place].waits()
     }
 
     /// Whether a line of the one at a place has to be held: a call of it waits, or lines are held that came before.
-    pub fn must_hold(&self, place: usize) -> bool {
-        match self.rows.get(place) {
-            Some(client) => client.waits() || client.holds(),
-            None => false,
+    pub fn must_hold(&self, place: usize) -> bool
+        ensures { result ≡ false ↔ ((waits_in (place_at self.now place) ≡ false)
+            × (rest_in (place_at self.now place) ≡ [])) }
+    {
+        if place >= self.rows.len() {
+            return false;
         }
+        if self.rows[place].waits() {
+            return true;
+        }
+        self.rows[place].holds()
     }
 
-    /// Whether lines of the one at a place may be done: some are held, and no call of it waits.
-    fn may_go_on(&self, place: usize) -> bool {
-        match self.rows.get(place) {
-            Some(client) => client.is_here && client.holds() && !client.waits(),
-            None => false,
+    // Whether lines of the one at a place may be done: some are held, and no call of it waits.
+    fn may_go_on(&self, place: usize) -> bool
+        ensures here { result ≡ true → is_here_in (place_at self.now place) ≡ true }
+        ensures waits { result ≡ true → waits_in (place_at self.now place) ≡ false }
+        ensures held { result ≡ true → rest_in (place_at self.now place) ≡ [] → ⊥ }
+        ensures not { result ≡ false → is_here_in (place_at self.now place) ≡ true →
+            waits_in (place_at self.now place) ≡ false → rest_in (place_at self.now place) ≡ [] }
+    {
+        if place >= self.rows.len() {
+            return false;
         }
+        if !self.rows[place].is_here {
+            return false;
+        }
+        if self.rows[place].waits() {
+            return false;
+        }
+        self.rows[place].holds()
     }
 
-    /// Whether more may be read of the one at a place.
-    pub fn may_read(&self, place: usize) -> bool {
-        match self.rows.get(place) {
-            Some(client) => client.held_bytes() <= MOST_HELD,
-            None => false,
+    /// Whether more may be read of the one at a place: so many bytes of lines at most are held of it.
+    pub fn may_read(&self, place: usize) -> bool
+        ensures within { result ≡ true → length (rest_in (place_at self.now place)) ≤ 65536 }
+        ensures none { result ≡ false → (place_at self.now place ≡ None)
+            ⊎ (65536 < length (rest_in (place_at self.now place))) }
+    {
+        if place >= self.rows.len() {
+            return false;
         }
+        self.rows[place].held_bytes() <= MOST_HELD
     }
 
-    /// Holds a line of the one at a place. The error is that memory was refused: then it is not held.
-    pub fn hold(&mut self, place: usize, line: &[u8], is_whole: bool) -> Result<(), AllocError> {
-        match self.rows.get_mut(place) {
-            Some(client) => client.hold(line, is_whole),
-            None => Ok(()),
+    /// Holds a line of the one at a place; where there is none nothing is held. The error is that memory was refused:
+    /// then it is not held.
+    pub fn hold(&mut self, place: usize, line: &[u8], is_whole: bool) -> Result<(), AllocError>
+        ensures ok { OnOk result (place < length self.old.rows.items →
+            IsHeld line.now is_whole (place_at self.old place) (place_at self.new place)) }
+        ensures err { OnErr result (IsSame (place_at self.old place) (place_at self.new place)) }
+        ensures others { Elsewhere self.old self.new place }
+    {
+        if place >= self.rows.len() {
+            return Ok(());
         }
+        hold(&mut self.rows, place, line, is_whole)
     }
 
-    // What the next held line of the one at a place asks for.
-    fn asked(&self, place: usize) -> Option<Result<Ask, AllocError>> {
-        let client = self.rows.get(place)?;
+    // What the next held line of the one at a place asks for, and how many bytes it has.
+    fn asked(&self, place: usize) -> Option<(usize, Result<Ask, AllocError>)>
+        ensures some { IfSome result (λ found. IsAsked (place_at self.now place) found.0 found.1) }
+        ensures none { IfNone result (NoLineFeed (rest_in (place_at self.now place))) }
+        ensures within { IfSome result (λ found. place < length self.now.rows.items) }
+    {
+        if place >= self.rows.len() {
+            return None;
+        }
+        let client = &self.rows[place];
         let (line, is_whole) = client.line()?;
-        Some(ask_of(self.alloc, client.opened.is_some(), is_whole, line))
+        Some((
+            line.len() + 1,
+            ask_of(self.alloc, client.opened.is_some(), is_whole, line),
+        ))
     }
 
-    /// Takes what the next held line of the one at a place asks for. `None`: no line is held. The error is that memory was
-    /// refused; then too the line is held no more.
-    pub fn take(&mut self, place: usize) -> Option<Result<Ask, AllocError>> {
-        let asked = self.asked(place);
+    /// Takes what the next held line of the one at a place asks for: it is held no more. `None`: no line is held, and
+    /// nothing changes. The error is that memory was refused to read it; then too it is held no more.
+    pub fn take(&mut self, place: usize) -> Option<Result<Ask, AllocError>>
+        ensures some { IfSome result (λ asked. IsTaken (place_at self.old place) (place_at self.new place) asked) }
+        ensures none { IfNone result (NoLineFeed (rest_in (place_at self.old place)) × (self.new ≡ self.old)) }
+        ensures others { Elsewhere self.old self.new place }
+    {
+        let (count, asked) = self.asked(place)?;
         let alloc = self.alloc;
-        if let Some(client) = self.rows.get_mut(place) {
-            client.pass(alloc);
-        }
-        asked
+        pass(&mut self.rows, place, alloc, count);
+        Some(asked)
     }
 
     /// The held lines of the one at a place may be done, where some are held and no call of it waits.
-    pub fn ready(&mut self, place: usize) {
-        if !self.may_go_on(place) {
+    pub fn ready(&mut self, place: usize)
+        ensures { AreSame self.old self.new }
+    {
+        if !self.may_go_on(place) || self.rows[place].is_ready {
             return;
         }
-        let Some(client) = self.rows.get_mut(place) else {
-            return;
-        };
-        if client.is_ready {
-            return;
-        }
-        client.is_ready = true;
-        client.is_stalled = false;
-        client.next = None;
+        set_ready(&mut self.rows, place);
         self.append(place);
     }
 
     // Puts a place behind all that are ready.
-    fn append(&mut self, place: usize) {
+    fn append(&mut self, place: usize)
+        ensures { AreSame self.old self.new }
+    {
         match self.last {
             None => self.first = Some(place),
-            Some(last) => {
-                if let Some(client) = self.rows.get_mut(last) {
-                    client.next = Some(place);
-                }
-            }
+            Some(last) => set_next(&mut self.rows, last, place),
         }
         self.last = Some(place);
     }
 
     /// Takes the first of those whose held lines may be done.
-    pub fn next(&mut self) -> Option<usize> {
+    pub fn next(&mut self) -> Option<usize>
+        ensures { AreSame self.old self.new }
+    {
         let place = self.first?;
-        let behind = match self.rows.get_mut(place) {
-            None => None,
-            Some(client) => {
-                client.is_ready = false;
-                client.next
-            }
-        };
+        let behind = set_unready(&mut self.rows, place);
         self.first = behind;
         if behind.is_none() {
             self.last = None;
@@ -294,19 +411,26 @@ impl Clients {
         Some(place)
     }
 
-    /// Whether lines of the one at a place may be done now. Else it waits for its turn again.
-    pub fn goes_on(&self, place: usize) -> bool {
+    /// Whether lines of the one at a place may be done now: it is here, some are held, and no call of it waits.
+    pub fn goes_on(&self, place: usize) -> bool
+        ensures here { result ≡ true → is_here_in (place_at self.now place) ≡ true }
+        ensures waits { result ≡ true → waits_in (place_at self.now place) ≡ false }
+        ensures held { result ≡ true → rest_in (place_at self.now place) ≡ [] → ⊥ }
+        ensures not { result ≡ false → is_here_in (place_at self.now place) ≡ true →
+            waits_in (place_at self.now place) ≡ false → rest_in (place_at self.now place) ≡ [] }
+    {
         self.may_go_on(place)
     }
 
     /// The held lines of the one at a place are done later, since too much is owed to it.
-    pub fn stall(&mut self, place: usize) {
-        if let Some(client) = self.rows.get_mut(place) {
-            client.is_stalled = true;
-        }
+    pub fn stall(&mut self, place: usize)
+        ensures { AreSame self.old self.new }
+    {
+        set_stalled(&mut self.rows, place);
+        self.has_stalled = true;
     }
 
-    /// Whether the held lines of the one at a place are done later.
+    // Whether the held lines of the one at a place are done later.
     fn is_stalled(&self, place: usize) -> bool {
         match self.rows.get(place) {
             Some(client) => client.is_stalled,
@@ -315,10 +439,19 @@ impl Clients {
     }
 
     /// All whose held lines were to be done later are ready again.
-    pub fn wake(&mut self) {
+    pub fn wake(&mut self)
+        ensures { AreSame self.old self.new }
+    {
+        if !self.has_stalled {
+            return;
+        }
+        self.has_stalled = false;
         for place in 0..self.rows.len() {
             if self.is_stalled(place) {
                 self.ready(place);
+                if self.is_stalled(place) {
+                    self.has_stalled = true;
+                }
             }
         }
     }

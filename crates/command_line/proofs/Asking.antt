@@ -4,7 +4,7 @@ use Rattle.std.specs.Prelude.{IsErrAnd}
 use Rattle.clap.specs.declared.error.kind.ErrorKind.{ErrorKind}
 use Rattle.clap.specs.Kinds.{HasKind, IsAmong, Kinds, or_else}
 use Rattle.clap.specs.Faults.{fault_of, is_simple_and_free}
-use Rattle.clap.specs.Simple.{HasMatchesOf, app_of}
+use Rattle.clap.specs.Simple.{HasMatchesOf, app_of, subcommand_of}
 use Rattle.clap.specs.declared.builder.command.Command.{Command}
 use Rattle.clap.specs.Walk.{rows_after}
 use Rattle.clap.specs.Values.{kind_of}
@@ -16,7 +16,7 @@ use Rattle.command_line.specs.Forms.{Text, Verb, Given, Makes, Asks}
 use Rattle.command_line.specs.Commands.{IsMatched, program}
 use Rattle.command_line.proofs.Levels.{rules}
 use Rattle.command_line.proofs.Once.{finds}
-use Rattle.command_line.proofs.Whole.{Found, line_completes, line_sound, simple, simple_and_free}
+use Rattle.command_line.proofs.Whole.{Found, found_is, full_from, level_holds, line_completes, line_sound, simple, simple_and_free}
 
 -- what matches say that words ask for
 pub record Asked (words : List Text) (m : ArgMatches) : Type 0 where
@@ -54,6 +54,15 @@ module _ (words : List Text) (command : Command) (is : app_of command ≡ progra
       let f = finds words q asks in
       let mine = subst (λ a. HasMatchesOf a words m) is has in
       (f.verb, f.given, (f.rows, (mine simple).1 ∙ f.found, f.holds), f.makes)
+
+  -- the matches are those of what the words ask for
+  pub asks_matched : (m : ArgMatches) (q : Request) → HasMatchesOf (app_of command) words m → (a : Asks words q) → IsMatched a.verb a.given m
+  asks_matched m q has a =
+      let mine = subst (λ a. HasMatchesOf a words m) is has in (
+        rows_after (rules a.verb) [] a.rest,
+        (mine simple).1 ∙ (ap (subcommand_of program) a.are ∙ found_is a.verb a.rest),
+        level_holds a.verb a.rest a.given a.gives (full_from a.verb a.given q a.makes),
+      )
 
   pub refused : (e : Error) (q : Request) → (is_simple_and_free (app_of command) ≡ true → HasKind (fault_of (app_of command) words) e) → Asks words q → kind_of e ≡ OutOfMemory
   refused e q kinds asks = go (subst (λ a. HasKind (fault_of a words) e) is (kinds (ap is_simple_and_free is ∙ simple_and_free)))

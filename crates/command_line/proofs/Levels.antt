@@ -1,7 +1,7 @@
 -- The arguments of each subcommand, as the parser has them once it is built.
 use Rattle.std.proofs.Common.{◌≡◌, ◌∙◌, ◌++◌, ◌||◌, ◌==◌, ◌⊎◌, inl, inr, cond, Bool, true, false, ℕ, List, [], ◌∷◌, Option, Some, None, refl, bytes_eq, codes, arith, ◌<◌}
 use Rattle.std.specs.Prelude.{⊤}
-use Rattle.clap.specs.Walk.{Row, Rule, Text, arg_by_id, arg_by_index, arg_by_long, arg_by_short, next_position}
+use Rattle.clap.specs.Walk.{Row, Rule, Text, arg_by_id, arg_by_index, arg_by_long, arg_by_short, next_position, with_values}
 use Rattle.clap.specs.Simple.{App, Shape, filled, filled_from, help_rule, version_rule, help_shape, built, built_leaf, new_shape}
 use Rattle.clap.specs.ValueTests.{accepts}
 use Rattle.clap.specs.Values.{reading_of}
@@ -12,8 +12,8 @@ use Rattle.clap.specs.declared.builder.value_parser.ValueParser.TheVariants as p
 use Rattle.clap.specs.declared.builder.value_parser.Reading.TheVariants.{AsWritten}
 use Rattle.clap.specs.declared.parser.matches.ValueSource.TheVariants.{CommandLine}
 use Rattle.command_line.specs.Forms.{Verb, paths, check, run, audit, serve, keep, name_of, Takes, IsNumber}
-use Rattle.command_line.specs.Commands.{at_once_rule, flag_rule, own_rules, program, sessions_rule, sync_rule}
-use Rattle.command_line.proofs.Rows.{seen, row_with, seen_new, seen_other}
+use Rattle.command_line.specs.Commands.{at_once_rule, flag_rule, own_rules, past_rule, program, sessions_rule, sync_rule, traces_rule}
+use Rattle.command_line.proofs.Rows.{seen, row_with, seen_new, seen_other, more_other}
 
 abbrev pub rules : Verb → List Rule
 rules v = filled_from 1 (own_rules v ++ help_rule ∷ version_rule ∷ [])
@@ -74,6 +74,12 @@ at_once_built = filled at_once_rule
 abbrev pub sync_built : Rule
 sync_built = filled sync_rule
 
+abbrev pub traces_built : Rule
+traces_built = filled traces_rule
+
+abbrev pub past_built : Rule
+past_built = filled past_rule
+
 abbrev pub help_built : Rule
 help_built = filled help_rule
 
@@ -110,6 +116,12 @@ abbrev pub AreOthers : Text → List Text → Type 0
 AreOthers x [] = ⊤
 AreOthers x (n ∷ ns) = (bytes_eq x n ≡ false) × AreOthers x ns
 
+pub places_more : (ns ws : List Text) (rows : List Row) (id : Text) (values : List Text) → AreOthers id ns → Places ns ws rows → Places ns ws (with_values id AsWritten CommandLine values rows)
+places_more [] [] rows id values others h = h
+places_more [] (w ∷ ws) rows id values others h = h
+places_more (n ∷ ns) [] rows id values others h = (more_other id values n rows others.0 ∙ h.0, places_more ns [] rows id values others.1 h.1)
+places_more (n ∷ ns) (w ∷ ws) rows id values others h = (more_other id values n rows others.0 ∙ h.0, places_more ns ws rows id values others.1 h.1)
+
 pub places_kept : (ns ws : List Text) (rows : List Row) (r : Row) → AreOthers r.id ns → Places ns ws rows → Places ns ws (rows ++ r ∷ [])
 places_kept [] [] rows r others h = h
 places_kept [] (w ∷ ws) rows r others h = h
@@ -134,6 +146,8 @@ pub record Place (v : Verb) (words : List Text) : Type 0 where
   pub no_sessions : bytes_eq name (codes "sessions") ≡ false
   pub no_at_once : bytes_eq name (codes "at-once") ≡ false
   pub no_sync : bytes_eq name (codes "sync") ≡ false
+  pub no_traces : bytes_eq name (codes "traces") ≡ false
+  pub no_past : bytes_eq name (codes "past") ≡ false
 
 -- numbers
 pub number_passes : (low high : ℕ) (w : Text) → high < 18446744073709551616 → IsNumber low high w → accepts false (parsers.Unsigned low high) w ≡ true
@@ -171,6 +185,8 @@ place check [] = inl (record {
   no_sessions = refl;
   no_at_once = refl;
   no_sync = refl;
+  no_traces = refl;
+  no_past = refl;
 })
 place check (a ∷ []) = inr refl
 place check (a ∷ b ∷ []) = inr refl
@@ -192,6 +208,8 @@ place run [] = inl (record {
   no_sessions = refl;
   no_at_once = refl;
   no_sync = refl;
+  no_traces = refl;
+  no_past = refl;
 })
 place run (a ∷ []) = inl (record {
   name = codes "SCRIPT";
@@ -210,6 +228,8 @@ place run (a ∷ []) = inl (record {
   no_sessions = refl;
   no_at_once = refl;
   no_sync = refl;
+  no_traces = refl;
+  no_past = refl;
 })
 place run (a ∷ b ∷ []) = inr refl
 place run (a ∷ b ∷ c ∷ more) = inr refl
@@ -230,6 +250,8 @@ place audit [] = inl (record {
   no_sessions = refl;
   no_at_once = refl;
   no_sync = refl;
+  no_traces = refl;
+  no_past = refl;
 })
 place audit (a ∷ []) = inl (record {
   name = codes "TRACE";
@@ -248,6 +270,8 @@ place audit (a ∷ []) = inl (record {
   no_sessions = refl;
   no_at_once = refl;
   no_sync = refl;
+  no_traces = refl;
+  no_past = refl;
 })
 place audit (a ∷ b ∷ []) = inr refl
 place audit (a ∷ b ∷ c ∷ more) = inr refl
@@ -268,6 +292,8 @@ place serve [] = inl (record {
   no_sessions = refl;
   no_at_once = refl;
   no_sync = refl;
+  no_traces = refl;
+  no_past = refl;
 })
 place serve (a ∷ []) = inl (record {
   name = codes "DIR";
@@ -286,6 +312,8 @@ place serve (a ∷ []) = inl (record {
   no_sessions = refl;
   no_at_once = refl;
   no_sync = refl;
+  no_traces = refl;
+  no_past = refl;
 })
 place serve (a ∷ b ∷ []) = inl (record {
   name = codes "PLACE";
@@ -304,6 +332,8 @@ place serve (a ∷ b ∷ []) = inl (record {
   no_sessions = refl;
   no_at_once = refl;
   no_sync = refl;
+  no_traces = refl;
+  no_past = refl;
 })
 place serve (a ∷ b ∷ c ∷ more) = inr refl
 place keep [] = inl (record {
@@ -323,6 +353,8 @@ place keep [] = inl (record {
   no_sessions = refl;
   no_at_once = refl;
   no_sync = refl;
+  no_traces = refl;
+  no_past = refl;
 })
 place keep (a ∷ []) = inl (record {
   name = codes "DIR";
@@ -341,6 +373,8 @@ place keep (a ∷ []) = inl (record {
   no_sessions = refl;
   no_at_once = refl;
   no_sync = refl;
+  no_traces = refl;
+  no_past = refl;
 })
 place keep (a ∷ b ∷ []) = inl (record {
   name = codes "PLACE";
@@ -359,6 +393,8 @@ place keep (a ∷ b ∷ []) = inl (record {
   no_sessions = refl;
   no_at_once = refl;
   no_sync = refl;
+  no_traces = refl;
+  no_past = refl;
 })
 place keep (a ∷ b ∷ c ∷ more) = inr refl
 
@@ -376,15 +412,16 @@ explain_rule explain silence more =
 abbrev pub stop_rule : Bool → Option Rule → Option Rule
 stop_rule stop more = cond (stop || false) (Some (flag (codes "stop-with-input"))) more
 
-abbrev pub long_rule : Verb → Bool → Bool → Bool → Bool → Bool → Bool → Option Rule → Option Rule
-long_rule paths explain silence stop sessions at_once sync more = more
-long_rule serve explain silence stop sessions at_once sync more =
+abbrev pub long_rule : Verb → Bool → Bool → Bool → Bool → Bool → Bool → Bool → Bool → Option Rule → Option Rule
+long_rule paths explain silence stop sessions at_once sync traces past more = more
+long_rule serve explain silence stop sessions at_once sync traces past more =
     cond (sessions || false) (Some sessions_built) (stop_rule stop (explain_rule explain silence more))
-long_rule keep explain silence stop sessions at_once sync more =
-    cond (at_once || false) (Some at_once_built) (cond (sync || false) (Some sync_built) (stop_rule stop (explain_rule explain silence more)))
-long_rule check explain silence stop sessions at_once sync more = explain_rule explain silence more
-long_rule run explain silence stop sessions at_once sync more = explain_rule explain silence more
-long_rule audit explain silence stop sessions at_once sync more = explain_rule explain silence more
+long_rule keep explain silence stop sessions at_once sync traces past more =
+    cond (at_once || false) (Some at_once_built) (cond (sync || false) (Some sync_built) (cond (traces || false) (Some traces_built) (cond (past || false) (Some past_built)
+    (stop_rule stop (explain_rule explain silence more)))))
+long_rule check explain silence stop sessions at_once sync traces past more = explain_rule explain silence more
+long_rule run explain silence stop sessions at_once sync traces past more = explain_rule explain silence more
+long_rule audit explain silence stop sessions at_once sync traces past more = explain_rule explain silence more
 
 abbrev pub shown_by : Text → Option Rule
 shown_by name = shown_rule (bytes_eq (codes "help") name) (bytes_eq (codes "version") name)
@@ -394,7 +431,7 @@ shown_short x = shown_rule (104 == x) (86 == x)
 
 pub long_is : (v : Verb) (name : Text) → arg_by_long (rules v) name
     ≡ long_rule v (bytes_eq (codes "explain") name) (bytes_eq (codes "no-explain") name) (bytes_eq (codes "stop-with-input") name) (bytes_eq (codes "sessions") name)
-    (bytes_eq (codes "at-once") name) (bytes_eq (codes "sync") name) (shown_by name)
+    (bytes_eq (codes "at-once") name) (bytes_eq (codes "sync") name) (bytes_eq (codes "traces") name) (bytes_eq (codes "past") name) (shown_by name)
 long_is paths name = refl
 long_is check name = refl
 long_is run name = refl

@@ -118,7 +118,8 @@ same_made keep g h rows (requests.Keep s) (requests.Keep t) a b m n =
       m.3 ∙ a.11 ∙ ap number_of counts ∙ sym b.11 ∙ sym n.3,
       same_sync _ _ s.sync t.sync (a.13 ∙ syncs_same ∙ sym b.13) m.4 n.4,
       sym m.5 ∙ bools g.stops h.stops (same_one rows (codes "stop-with-input") _ _ a.14 b.14) ∙ n.5,
-      m.6 ∙ same_explain g h rows a.15 b.15 ∙ sym n.6,
+      m.6 ∙ a.15.3 ∙ ap number_of (same_one rows (codes "traces") a.15.0 b.15.0 a.15.1 b.15.1) ∙ sym b.15.3 ∙ sym n.6,
+      m.7 ∙ same_explain g h rows a.17 b.17 ∙ sym n.7,
     )
 same_made keep g h rows (requests.Keep s) q a b m n = absurd n
 same_made keep g h rows p q a b m n = absurd m

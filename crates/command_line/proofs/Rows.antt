@@ -1,12 +1,13 @@
 -- What is found under a name, as uses and defaults are added.
-use Rattle.std.proofs.Common.{◌≡◌, ◌∙◌, ◌++◌, ◌&&◌, ◌||◌, cond, not, Bool, true, false, List, [], ◌∷◌, Option, Some, None, is_some, find, fold, refl, sym, ap, subst, bytes_eq, arith, suc, length}
+use Rattle.std.proofs.Common.{◌≡◌, ◌∙◌, ◌++◌, ◌&&◌, ◌||◌, cond, not, Bool, true, false, List, [], ◌∷◌, Option, Some, None, is_some, find, fold, refl, sym, ap, subst, bytes_eq, arith, suc, length, option_map}
 use Rattle.std.proofs.lemmas.Bool.{ne_eqb}
 use Rattle.std.specs.Option.{option_or}
 use Rattle.std.proofs.lemmas.List.{append-nil}
 use Rattle.std.proofs.lemmas.List.Folds.{find-append}
 use Rattle.std.proofs.lemmas.Slice.Eq.{bytes_eq-Decides}
-use Rattle.clap.specs.Walk.{Row, Rule, Text, at_row, default_rows, has_row, is_empty, more_values, reading_by, with_default, with_values, without}
+use Rattle.clap.specs.Walk.{Row, Rule, Text, at_row, default_rows, has_row, is_empty, more_values, reading_by, stronger, with_default, with_values, without}
 use Rattle.clap.specs.declared.builder.value_parser.Reading.{Reading}
+use Rattle.clap.specs.declared.builder.value_parser.Reading.TheVariants.{AsWritten}
 use Rattle.clap.specs.declared.parser.matches.ValueSource.{ValueSource}
 use Rattle.clap.specs.declared.parser.matches.ValueSource.TheVariants.{DefaultValue, CommandLine}
 
@@ -64,6 +65,51 @@ pub used_new : (id : Text) (how : Reading) (values : List Text) (rows : List Row
     → with_values id how CommandLine values (without id rows) ≡ rows ++ row_with CommandLine id how values ∷ []
 used_new id how values rows none =
     ap (with_values id how CommandLine values) (at_none id (λ _. []) [] rows none ∙ append-nil rows) ∙ with_new id how CommandLine values rows none
+
+-- ---- what comes again and again
+
+module _ (id : Text) (values : List Text) where
+  abbrev more_of : List Row → List Row
+  more_of rows = with_values id AsWritten CommandLine values rows
+
+  -- what is found under another name
+  pub more_other : (y : Text) (rows : List Row) → bytes_eq id y ≡ false → seen y (more_of rows) ≡ seen y rows
+  more_other y [] differs = ap (λ b. cond b (Some (row_with CommandLine id AsWritten values)) None) differs
+  more_other y (r ∷ rows) differs = go (bytes_eq r.id id) refl (more_other y rows differs)
+    where
+      other : bytes_eq r.id id ≡ true → bytes_eq r.id y ≡ false
+      other is = ap (λ t. bytes_eq t y) ((bytes_eq-Decides r.id id).0 is) ∙ differs
+
+      go : (b : Bool) → bytes_eq r.id id ≡ b → seen y (more_of rows) ≡ seen y rows
+          → seen y (cond b (more_values CommandLine values r ++ rows) (r ∷ more_of rows)) ≡ cond (bytes_eq r.id y) (Some r) (seen y rows)
+      go true is rest = ap (λ b. cond b (Some (record r { values = r.values ++ values; source = Some (stronger r.source CommandLine) })) (seen y rows)) (other is)
+          ∙ sym (ap (λ b. cond b (Some r) (seen y rows)) (other is))
+      go false is rest = ap (λ o. cond (bytes_eq r.id y) (Some r) o) rest
+
+  -- what is found under this one
+  pub more_same : (before : List Text) (rows : List Row) → seen id rows ≡ Some (row_with CommandLine id AsWritten before)
+      → seen id (more_of rows) ≡ Some (row_with CommandLine id AsWritten (before ++ values))
+  more_same before [] is = absurd (some_none _ (sym is))
+  more_same before (r ∷ rows) is = go (bytes_eq r.id id) refl is (more_same before rows)
+    where
+      go : (b : Bool) → bytes_eq r.id id ≡ b → cond b (Some r) (seen id rows) ≡ Some (row_with CommandLine id AsWritten before)
+          → (seen id rows ≡ Some (row_with CommandLine id AsWritten before) → seen id (more_of rows) ≡ Some (row_with CommandLine id AsWritten (before ++ values)))
+          → seen id (cond b (more_values CommandLine values r ++ rows) (r ∷ more_of rows)) ≡ Some (row_with CommandLine id AsWritten (before ++ values))
+      go true here found rest =
+          ap (λ b. cond b (Some (record r { values = r.values ++ values; source = Some (stronger r.source CommandLine) })) (seen id rows)) here
+          ∙ ap (λ (o : Option Row). option_map (λ (x : Row). record x { values = x.values ++ values; source = Some (stronger x.source CommandLine) }) o) found
+      go false here found rest = ap (λ b. cond b (Some r) (seen id (more_of rows))) here ∙ rest found
+
+-- the row of an option that may come again and again
+abbrev pub again_row : Text → List Text → Option Row
+again_row id [] = None
+again_row id (w ∷ ws) = Some (row_with CommandLine id AsWritten (w ∷ ws))
+
+pub again_more : (id w : Text) (ws : List Text) (rows : List Row) → seen id rows ≡ again_row id ws
+    → seen id (with_values id AsWritten CommandLine (w ∷ []) rows) ≡ again_row id (ws ++ w ∷ [])
+again_more id w [] rows is =
+    ap (seen id) (with_new id AsWritten CommandLine (w ∷ []) rows is) ∙ seen_new id (row_with CommandLine id AsWritten (w ∷ [])) rows (same id) is
+again_more id w (x ∷ ws) rows is = more_same id (w ∷ []) (x ∷ ws) rows is
 
 -- ---- defaults
 

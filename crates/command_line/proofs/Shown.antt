@@ -10,11 +10,11 @@ use Rattle.clap.specs.declared.error.kind.ErrorKind.TheVariants as kinds
 use Rattle.clap.specs.declared.error.kind.ErrorKind.TheVariants.{OutOfMemory}
 use Rattle.clap.specs.Faults.{fault_of, level_fault, turn_fault, walk_fault, built_fault}
 use Rattle.clap.proofs.WalkLemmas.{both}
-use Rattle.command_line.specs.Forms.{Verb, paths, check, run, audit, serve, keep, name_of, Given, nothing, is_bare, Gives, ends, word, explain, silence, stop, sessions, joined, at_once, at_once_joined, sync, sync_joined, hyphens as ends_flags, Topic, help, version, word_for, kind_for, has_no_hyphens, Shows, of_program, of_verb}
+use Rattle.command_line.specs.Forms.{Verb, paths, check, run, audit, serve, keep, name_of, Given, nothing, is_bare, Gives, ends, word, explain, silence, stop, sessions, joined, at_once, at_once_joined, sync, sync_joined, traces, traces_joined, past, past_joined, hyphens as ends_flags, Topic, help, version, word_for, kind_for, has_no_hyphens, Shows, of_program, of_verb}
 use Rattle.command_line.specs.Commands.{program}
 use Rattle.command_line.proofs.Turns.{long_turn, neither, some_fault}
 use Rattle.command_line.proofs.Levels.{rules, leaf, top, whole, place_after, place, flag}
-use Rattle.command_line.proofs.Choices.{Choice, of_sessions, of_at_once, of_sync, id_of, word_of, joined_of, built_of, has_choice, chosen, Allows}
+use Rattle.command_line.proofs.Choices.{Choice, of_sessions, of_at_once, of_sync, of_traces, of_past, id_of, word_of, joined_of, built_of, has_choice, Open, Allows}
 use Rattle.command_line.proofs.Rows.{seen}
 use Rattle.command_line.proofs.Steps.{held, at, rows_now, settle, flag_seen, Stands, flag_use, choice_use}
 use Rattle.command_line.proofs.Walks.{word_turn, word_after, word_stands, none_left, explain_turn, explain_after, explain_stands, silence_turn, silence_after, silence_stands, stop_turn, stop_after, stop_stands}
@@ -75,7 +75,7 @@ module _ (o : Choice) (v : Verb) (g : Given) (w n : Text) (ws : List Text) (has 
       (ap (λ x. walked (rules v) [] (at true k (held rows q)) x) is ∙ spaced_after k rows q o v has)
       (goes_on v (waits k rows q o v) n ws (at true k (held (rows_now v rows q) (Some (id_of o, n ∷ [])))) ks (given_turn k rows q o v has n plain) (given_after k rows q o v has n plain) rest)
 
-  joined_goes_on : w ≡ joined_of o n → chosen o g ≡ None → Allows o n → walk_fault (leaf v) [] (at true k (held (used (built_of o) (n ∷ []) (rows_now v rows q)) None)) ws ≡ ks
+  joined_goes_on : w ≡ joined_of o n → Open o g → Allows o n → walk_fault (leaf v) [] (at true k (held (used (built_of o) (n ∷ []) (rows_now v rows q)) None)) ws ≡ ks
       → walk_fault (leaf v) [] (at true k (held rows q)) (w ∷ ws) ≡ ks
   joined_goes_on is off allowed rest =
       goes_on v (at true k (held rows q)) w ws (at true k (held (used (built_of o) (n ∷ []) (rows_now v rows q)) None)) ks
@@ -146,6 +146,18 @@ module _ (t : Topic) (more : List Text) where
   shown_walk v free g front after (sync_joined x y w n ws is has off rest) opened clean rows q st =
       joined_goes_on of_sync v g w n (ws ++ word_for t ∷ more) has rows q st (kind_for t ∷ []) is off tt
       (shown_walk v true (record g { sync = Some n }) ws after rest refl (later w ws clean) (used (built_of of_sync) (n ∷ []) (rows_now v rows q)) None (joined_stands of_sync v has g rows q n st off tt))
+  shown_walk v free g front after (traces x y w n ws is plain has off number rest) opened clean rows q st =
+      spaced_goes_on of_traces v g w n (ws ++ word_for t ∷ more) has rows q st (kind_for t ∷ []) is plain
+      (shown_walk v true (record g { traces = Some n }) ws after rest refl (later n ws (later w (n ∷ ws) clean)) (rows_now v rows q) (Some (id_of of_traces, n ∷ [])) (given_stands of_traces v has g rows q n st off number))
+  shown_walk v free g front after (traces_joined x y w n ws is has off number rest) opened clean rows q st =
+      joined_goes_on of_traces v g w n (ws ++ word_for t ∷ more) has rows q st (kind_for t ∷ []) is off number
+      (shown_walk v true (record g { traces = Some n }) ws after rest refl (later w ws clean) (used (built_of of_traces) (n ∷ []) (rows_now v rows q)) None (joined_stands of_traces v has g rows q n st off number))
+  shown_walk v free g front after (past x y w n ws is plain has rest) opened clean rows q st =
+      spaced_goes_on of_past v g w n (ws ++ word_for t ∷ more) has rows q st (kind_for t ∷ []) is plain
+      (shown_walk v true (record g { past = g.past ++ n ∷ [] }) ws after rest refl (later n ws (later w (n ∷ ws) clean)) (rows_now v rows q) (Some (id_of of_past, n ∷ [])) (given_stands of_past v has g rows q n st tt tt))
+  shown_walk v free g front after (past_joined x y w n ws is has rest) opened clean rows q st =
+      joined_goes_on of_past v g w n (ws ++ word_for t ∷ more) has rows q st (kind_for t ∷ []) is tt tt
+      (shown_walk v true (record g { past = g.past ++ n ∷ [] }) ws after rest refl (later w ws clean) (used (built_of of_past) (n ∷ []) (rows_now v rows q)) None (joined_stands of_past v has g rows q n st tt tt))
   shown_walk v free g front after (ends_flags x y w ws is rest) opened clean rows q st = absurd (no_dashes w ws is clean)
 
 -- ---- the whole line

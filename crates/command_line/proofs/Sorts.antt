@@ -171,3 +171,9 @@ at_once_lacks = no_cut (codes "at-once") refl
 
 pub sync_lacks : Lacks 61 (codes "sync")
 sync_lacks = no_cut (codes "sync") refl
+
+pub traces_lacks : Lacks 61 (codes "traces")
+traces_lacks = no_cut (codes "traces") refl
+
+pub past_lacks : Lacks 61 (codes "past")
+past_lacks = no_cut (codes "past") refl

@@ -6,8 +6,8 @@ use Rattle.clap.specs.Kinds.{Kinds as Faults}
 use Rattle.clap.specs.Faults.{long_fault, settle_fault, short_fault, react_fault, use_fault}
 use Rattle.command_line.specs.Forms.{Verb, paths, check, run, audit, serve, keep, has_explain, has_stop}
 use Rattle.command_line.proofs.Turns.{some_fault, first_of, then_of}
-use Rattle.command_line.proofs.Levels.{rules, flag, sessions_built, at_once_built, sync_built, help_built, version_built, explain_rule, stop_rule, shown_rule, shown_by, long_rule, long_is}
-use Rattle.command_line.proofs.Choices.{Choice, of_sessions, of_at_once, of_sync, id_of, built_of, has_choice}
+use Rattle.command_line.proofs.Levels.{rules, flag, sessions_built, at_once_built, sync_built, traces_built, past_built, help_built, version_built, explain_rule, stop_rule, shown_rule, shown_by, long_rule, long_is}
+use Rattle.command_line.proofs.Choices.{Choice, of_sessions, of_at_once, of_sync, of_traces, of_past, id_of, built_of, has_choice}
 
 module _ (c : List Rule) (h : Held) where
   pub flag_case : (name : Text) (o : Option Text) → long_fault c false (Some (flag name)) o h ≡ []
@@ -52,6 +52,10 @@ module _ (c : List Rule) (h : Held) where
     spaced_or_joined of_at_once most is (Some n) some e = is_joined of_at_once n most is some (first_of (settle_fault c false h) _ e) (then_of (settle_fault c false h) _ e)
     spaced_or_joined of_sync most is None none e = is_spaced of_sync most is none e
     spaced_or_joined of_sync most is (Some n) some e = is_joined of_sync n most is some (first_of (settle_fault c false h) _ e) (then_of (settle_fault c false h) _ e)
+    spaced_or_joined of_traces most is None none e = is_spaced of_traces most is none e
+    spaced_or_joined of_traces most is (Some n) some e = is_joined of_traces n most is some (first_of (settle_fault c false h) _ e) (then_of (settle_fault c false h) _ e)
+    spaced_or_joined of_past most is None none e = is_spaced of_past most is none e
+    spaced_or_joined of_past most is (Some n) some e = is_joined of_past n most is some (first_of (settle_fault c false h) _ e) (then_of (settle_fault c false h) _ e)
 
     -- what is found behind the other names fails
     module _ (more : Option Rule) (fails : long_fault c false more o h ≡ [] → ⊥) where
@@ -80,20 +84,37 @@ module _ (c : List Rule) (h : Held) where
       by_serve has stops most false s x y is also third fourth e = by_stop has stops s x y also third fourth e
       by_serve has stops most true s x y is also third fourth e = spaced_or_joined of_sessions most (named name (codes "sessions") is) o refl e
 
-      by_sync : has_explain v ≡ true → has_stop v ≡ true → has_choice of_sync v ≡ true
-          → (n s x y : Bool) → bytes_eq (codes "sync") name ≡ n → bytes_eq (codes "stop-with-input") name ≡ s → bytes_eq (codes "explain") name ≡ x → bytes_eq (codes "no-explain") name ≡ y
-          → long_fault c false (cond (n || false) (Some sync_built) (stop_rule s (explain_rule x y more))) o h ≡ []
+      by_past : has_explain v ≡ true → has_stop v ≡ true → has_choice of_past v ≡ true
+          → (n s x y : Bool) → bytes_eq (codes "past") name ≡ n → bytes_eq (codes "stop-with-input") name ≡ s → bytes_eq (codes "explain") name ≡ x → bytes_eq (codes "no-explain") name ≡ y
+          → long_fault c false (cond (n || false) (Some past_built) (stop_rule s (explain_rule x y more))) o h ≡ []
           → Passes v name o
-      by_sync has stops most false s x y is also third fourth e = by_stop has stops s x y also third fourth e
-      by_sync has stops most true s x y is also third fourth e = spaced_or_joined of_sync most (named name (codes "sync") is) o refl e
+      by_past has stops most false s x y is also third fourth e = by_stop has stops s x y also third fourth e
+      by_past has stops most true s x y is also third fourth e = spaced_or_joined of_past most (named name (codes "past") is) o refl e
 
-      by_keep : has_explain v ≡ true → has_stop v ≡ true → has_choice of_at_once v ≡ true → has_choice of_sync v ≡ true
-          → (m n s x y : Bool) → bytes_eq (codes "at-once") name ≡ m → bytes_eq (codes "sync") name ≡ n → bytes_eq (codes "stop-with-input") name ≡ s → bytes_eq (codes "explain") name ≡ x
+      by_traces : has_explain v ≡ true → has_stop v ≡ true → has_choice of_traces v ≡ true → has_choice of_past v ≡ true
+          → (m n s x y : Bool) → bytes_eq (codes "traces") name ≡ m → bytes_eq (codes "past") name ≡ n → bytes_eq (codes "stop-with-input") name ≡ s → bytes_eq (codes "explain") name ≡ x
           → bytes_eq (codes "no-explain") name ≡ y
-          → long_fault c false (cond (m || false) (Some at_once_built) (cond (n || false) (Some sync_built) (stop_rule s (explain_rule x y more)))) o h ≡ []
+          → long_fault c false (cond (m || false) (Some traces_built) (cond (n || false) (Some past_built) (stop_rule s (explain_rule x y more)))) o h ≡ []
           → Passes v name o
-      by_keep has stops most syncs false n s x y is also third fourth fifth e = by_sync has stops syncs n s x y also third fourth fifth e
-      by_keep has stops most syncs true n s x y is also third fourth fifth e = spaced_or_joined of_at_once most (named name (codes "at-once") is) o refl e
+      by_traces has stops most pasts false n s x y is also third fourth fifth e = by_past has stops pasts n s x y also third fourth fifth e
+      by_traces has stops most pasts true n s x y is also third fourth fifth e = spaced_or_joined of_traces most (named name (codes "traces") is) o refl e
+
+      by_sync : has_explain v ≡ true → has_stop v ≡ true → has_choice of_sync v ≡ true → has_choice of_traces v ≡ true → has_choice of_past v ≡ true
+          → (l m n s x y : Bool) → bytes_eq (codes "sync") name ≡ l → bytes_eq (codes "traces") name ≡ m → bytes_eq (codes "past") name ≡ n → bytes_eq (codes "stop-with-input") name ≡ s
+          → bytes_eq (codes "explain") name ≡ x → bytes_eq (codes "no-explain") name ≡ y
+          → long_fault c false (cond (l || false) (Some sync_built) (cond (m || false) (Some traces_built) (cond (n || false) (Some past_built) (stop_rule s (explain_rule x y more))))) o h ≡ []
+          → Passes v name o
+      by_sync has stops most kept pasts false m n s x y is also third fourth fifth sixth e = by_traces has stops kept pasts m n s x y also third fourth fifth sixth e
+      by_sync has stops most kept pasts true m n s x y is also third fourth fifth sixth e = spaced_or_joined of_sync most (named name (codes "sync") is) o refl e
+
+      by_keep : has_explain v ≡ true → has_stop v ≡ true → has_choice of_at_once v ≡ true → has_choice of_sync v ≡ true → has_choice of_traces v ≡ true → has_choice of_past v ≡ true
+          → (k l m n s x y : Bool) → bytes_eq (codes "at-once") name ≡ k → bytes_eq (codes "sync") name ≡ l → bytes_eq (codes "traces") name ≡ m → bytes_eq (codes "past") name ≡ n
+          → bytes_eq (codes "stop-with-input") name ≡ s → bytes_eq (codes "explain") name ≡ x → bytes_eq (codes "no-explain") name ≡ y
+          → long_fault c false (cond (k || false) (Some at_once_built) (cond (l || false) (Some sync_built) (cond (m || false) (Some traces_built) (cond (n || false) (Some past_built)
+          (stop_rule s (explain_rule x y more)))))) o h ≡ []
+          → Passes v name o
+      by_keep has stops most syncs kept pasts false l m n s x y is also third fourth fifth sixth seventh e = by_sync has stops syncs kept pasts l m n s x y also third fourth fifth sixth seventh e
+      by_keep has stops most syncs kept pasts true l m n s x y is also third fourth fifth sixth seventh e = spaced_or_joined of_at_once most (named name (codes "at-once") is) o refl e
 
 pub passes : (v : Verb) (h : Held) (name : Text) (o : Option Text) → long_fault (rules v) false (arg_by_long (rules v) name) o h ≡ [] → Passes (rules v) h v name o
 passes v h name o e = go v (sym (ap (λ r. long_fault (rules v) false r o h) (long_is v name)) ∙ e)
@@ -102,7 +123,7 @@ passes v h name o e = go v (sym (ap (λ r. long_fault (rules v) false r o h) (lo
     fails v e = by_shown (rules v) h v name o (bytes_eq (codes "help") name) (bytes_eq (codes "version") name) e
 
     go : (v : Verb) → long_fault (rules v) false (long_rule v (bytes_eq (codes "explain") name) (bytes_eq (codes "no-explain") name) (bytes_eq (codes "stop-with-input") name) (bytes_eq (codes "sessions") name) (bytes_eq (codes "at-once") name)
-        (bytes_eq (codes "sync") name) (shown_by name)) o h ≡ []
+        (bytes_eq (codes "sync") name) (bytes_eq (codes "traces") name) (bytes_eq (codes "past") name) (shown_by name)) o h ≡ []
         → Passes (rules v) h v name o
     go paths e = absurd (fails paths e)
     go check e = by_explain (rules check) h check name o (shown_by name) (fails check) refl (bytes_eq (codes "explain") name) (bytes_eq (codes "no-explain") name) refl refl e
@@ -110,8 +131,8 @@ passes v h name o e = go v (sym (ap (λ r. long_fault (rules v) false r o h) (lo
     go audit e = by_explain (rules audit) h audit name o (shown_by name) (fails audit) refl (bytes_eq (codes "explain") name) (bytes_eq (codes "no-explain") name) refl refl e
     go serve e = by_serve (rules serve) h serve name o (shown_by name) (fails serve) refl refl refl (bytes_eq (codes "sessions") name) (bytes_eq (codes "stop-with-input") name) (bytes_eq (codes "explain") name)
         (bytes_eq (codes "no-explain") name) refl refl refl refl e
-    go keep e = by_keep (rules keep) h keep name o (shown_by name) (fails keep) refl refl refl refl (bytes_eq (codes "at-once") name) (bytes_eq (codes "sync") name) (bytes_eq (codes "stop-with-input") name)
-        (bytes_eq (codes "explain") name) (bytes_eq (codes "no-explain") name) refl refl refl refl refl e
+    go keep e = by_keep (rules keep) h keep name o (shown_by name) (fails keep) refl refl refl refl refl refl (bytes_eq (codes "at-once") name) (bytes_eq (codes "sync") name) (bytes_eq (codes "traces") name)
+        (bytes_eq (codes "past") name) (bytes_eq (codes "stop-with-input") name) (bytes_eq (codes "explain") name) (bytes_eq (codes "no-explain") name) refl refl refl refl refl refl refl e
 
 -- a short flag always fails
 pub short_fails : (c : List Rule) (h : Held) (help version : Bool) (rest : Text) (next : Held → Faults) → short_fault c false (shown_rule help version) rest h next ≡ [] → ⊥

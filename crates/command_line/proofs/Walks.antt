@@ -11,13 +11,13 @@ use Rattle.clap.specs.Faults.{positional_fault, settle_fault, short_fault, step_
 use Rattle.clap.specs.declared.builder.value_parser.Reading.TheVariants.{AsWritten}
 use Rattle.clap.specs.declared.parser.matches.ValueSource.TheVariants.{CommandLine}
 use Rattle.clap.proofs.LexerLemmas.{name_and_value-at}
-use Rattle.command_line.specs.Forms.{Verb, paths, check, run, audit, serve, keep, has_explain, has_stop, is_bare, Given, Takes, Gives, ends, word, explain, silence, stop, sessions, joined, at_once, at_once_joined, sync, sync_joined, hyphens as ends_flags}
-use Rattle.command_line.proofs.Choices.{Choice, of_sessions, of_at_once, of_sync, id_of, word_of, joined_of, built_of, has_choice, chosen, choose, Allows, by_choice, by_stop}
+use Rattle.command_line.specs.Forms.{Verb, paths, check, run, audit, serve, keep, has_explain, has_stop, is_bare, Given, Takes, Gives, ends, word, explain, silence, stop, sessions, joined, at_once, at_once_joined, sync, sync_joined, traces, traces_joined, past, past_joined, hyphens as ends_flags}
+use Rattle.command_line.proofs.Choices.{Choice, of_sessions, of_at_once, of_sync, of_traces, of_past, id_of, word_of, joined_of, built_of, has_choice, Open, choose, Allows, by_choice, by_stop}
 use Rattle.command_line.proofs.Rows.{seen, row_with, used_new}
-use Rattle.command_line.proofs.Sorts.{bare, hyphens, long, short, kind, bare_word, dashes, Cut, whole, parts, cut, sessions_lacks, at_once_lacks, sync_lacks}
+use Rattle.command_line.proofs.Sorts.{bare, hyphens, long, short, kind, bare_word, dashes, Cut, whole, parts, cut, sessions_lacks, at_once_lacks, sync_lacks, traces_lacks, past_lacks}
 use Rattle.command_line.proofs.Turns.{some_fault, first_of, then_of, neither, stands, bare_fault, bare_after, long_first, long_turn, long_after, short_first, bundle_first, value_fault, value_after}
 use Rattle.command_line.proofs.Levels.{rules, leaf, place_rule, place_after, text_row, Place, place, flag, short_is}
-use Rattle.command_line.proofs.Steps.{held, at, rows_now, settle, flag_seen, Holding, Stands, and_false, or_false, word_use, word_accepted, choice_use, choice_used, flag_use, flag_used, not_given, no_choice, chosen_row, holds_explain, holds_silence, holds_stop, holds_choice, holds_word}
+use Rattle.command_line.proofs.Steps.{held, at, rows_now, settle, flag_seen, Holding, Stands, and_false, or_false, word_use, word_accepted, choice_use, choice_used, flag_use, flag_used, not_given, Fresh, rows_with, opens, fresh, holds_explain, holds_silence, holds_stop, holds_choice, holds_word}
 use Rattle.command_line.proofs.Uses.{Passes, is_explain, is_silence, is_stop, is_joined, is_spaced, passes, short_fails}
 
 abbrev pub end_of : Verb → Walk → List Text → Held
@@ -114,17 +114,23 @@ dashed_id : (o : Choice) → 45 ∷ 45 ∷ id_of o ≡ word_of o
 dashed_id of_sessions = refl
 dashed_id of_at_once = refl
 dashed_id of_sync = refl
+dashed_id of_traces = refl
+dashed_id of_past = refl
 
 dashed_value : (o : Choice) (n : Text) → 45 ∷ 45 ∷ (id_of o ++ 61 ∷ n) ≡ joined_of o n
 dashed_value of_sessions n = refl
 dashed_value of_at_once n = refl
 dashed_value of_sync n = refl
+dashed_value of_traces n = refl
+dashed_value of_past n = refl
 
 -- a long word with a value in it
 joined_long : (o : Choice) (n : Text) → long_of (joined_of o n) ≡ Some (id_of o, Some n)
 joined_long of_sessions n = ap (λ x. Some x) (name_and_value-at (codes "sessions") n sessions_lacks)
 joined_long of_at_once n = ap (λ x. Some x) (name_and_value-at (codes "at-once") n at_once_lacks)
 joined_long of_sync n = ap (λ x. Some x) (name_and_value-at (codes "sync") n sync_lacks)
+joined_long of_traces n = ap (λ x. Some x) (name_and_value-at (codes "traces") n traces_lacks)
+joined_long of_past n = ap (λ x. Some x) (name_and_value-at (codes "past") n past_lacks)
 
 module _ (k : ℕ) (rows : List Row) (q : Option (Text × List Text)) where
   pub explain_turn : (v : Verb) → has_explain v ≡ true → turn_fault (leaf v) [] (at true k (held rows q)) (codes "--explain")
@@ -199,57 +205,73 @@ module _ (k : ℕ) (rows : List Row) (q : Option (Text × List Text)) where
         ≡ or_else (or_else (settle v rows q) (use_fault false (built_of o) (n ∷ []) (rows_now v rows q))) [])
         (long_turn (leaf serve) [] k (held rows q) idle (codes "--sessions=" ++ n) refl refl (codes "sessions", Some n) (joined_long of_sessions n))
         (long_turn (leaf keep) [] k (held rows q) idle (codes "--at-once=" ++ n) refl refl (codes "at-once", Some n) (joined_long of_at_once n))
-        (long_turn (leaf keep) [] k (held rows q) idle (codes "--sync=" ++ n) refl refl (codes "sync", Some n) (joined_long of_sync n)) o v has
+        (long_turn (leaf keep) [] k (held rows q) idle (codes "--sync=" ++ n) refl refl (codes "sync", Some n) (joined_long of_sync n))
+        (long_turn (leaf keep) [] k (held rows q) idle (codes "--traces=" ++ n) refl refl (codes "traces", Some n) (joined_long of_traces n))
+        (long_turn (leaf keep) [] k (held rows q) idle (codes "--past=" ++ n) refl refl (codes "past", Some n) (joined_long of_past n)) o v has
 
     pub joined_after : (n : Text) → walked (rules v) [] (at true k (held rows q)) (joined_of o n) ≡ at true k (held (used (built_of o) (n ∷ []) (rows_now v rows q)) None)
     joined_after n = by_choice (λ o v. walked (rules v) [] (at true k (held rows q)) (joined_of o n) ≡ at true k (held (used (built_of o) (n ∷ []) (rows_now v rows q)) None))
         (long_after (leaf serve) [] k (held rows q) idle (codes "--sessions=" ++ n) refl refl (codes "sessions", Some n) (joined_long of_sessions n))
         (long_after (leaf keep) [] k (held rows q) idle (codes "--at-once=" ++ n) refl refl (codes "at-once", Some n) (joined_long of_at_once n))
-        (long_after (leaf keep) [] k (held rows q) idle (codes "--sync=" ++ n) refl refl (codes "sync", Some n) (joined_long of_sync n)) o v has
+        (long_after (leaf keep) [] k (held rows q) idle (codes "--sync=" ++ n) refl refl (codes "sync", Some n) (joined_long of_sync n))
+        (long_after (leaf keep) [] k (held rows q) idle (codes "--traces=" ++ n) refl refl (codes "traces", Some n) (joined_long of_traces n))
+        (long_after (leaf keep) [] k (held rows q) idle (codes "--past=" ++ n) refl refl (codes "past", Some n) (joined_long of_past n)) o v has
 
     pub spaced_turn : turn_fault (leaf v) [] (at true k (held rows q)) (word_of o) ≡ or_else (settle v rows q) []
     spaced_turn = by_choice (λ o v. turn_fault (leaf v) [] (at true k (held rows q)) (word_of o) ≡ or_else (settle v rows q) [])
         (long_turn (leaf serve) [] k (held rows q) idle (codes "--sessions") refl refl (codes "sessions", None) refl)
         (long_turn (leaf keep) [] k (held rows q) idle (codes "--at-once") refl refl (codes "at-once", None) refl)
-        (long_turn (leaf keep) [] k (held rows q) idle (codes "--sync") refl refl (codes "sync", None) refl) o v has
+        (long_turn (leaf keep) [] k (held rows q) idle (codes "--sync") refl refl (codes "sync", None) refl)
+        (long_turn (leaf keep) [] k (held rows q) idle (codes "--traces") refl refl (codes "traces", None) refl)
+        (long_turn (leaf keep) [] k (held rows q) idle (codes "--past") refl refl (codes "past", None) refl) o v has
 
     pub spaced_after : walked (rules v) [] (at true k (held rows q)) (word_of o) ≡ waits o v
     spaced_after = by_choice (λ o v. walked (rules v) [] (at true k (held rows q)) (word_of o) ≡ waits o v)
         (long_after (leaf serve) [] k (held rows q) idle (codes "--sessions") refl refl (codes "sessions", None) refl)
         (long_after (leaf keep) [] k (held rows q) idle (codes "--at-once") refl refl (codes "at-once", None) refl)
-        (long_after (leaf keep) [] k (held rows q) idle (codes "--sync") refl refl (codes "sync", None) refl) o v has
+        (long_after (leaf keep) [] k (held rows q) idle (codes "--sync") refl refl (codes "sync", None) refl)
+        (long_after (leaf keep) [] k (held rows q) idle (codes "--traces") refl refl (codes "traces", None) refl)
+        (long_after (leaf keep) [] k (held rows q) idle (codes "--past") refl refl (codes "past", None) refl) o v has
 
     pub given_turn : (n : Text) → is_bare n ≡ true → turn_fault (leaf v) [] (waits o v) n ≡ []
     given_turn n is = by_choice (λ o v. turn_fault (leaf v) [] (waits o v) n ≡ [])
         (value_fault (leaf serve) [] k (held (rows_now serve rows q) (Some (codes "sessions", []))) (codes "sessions") n (bare_word n is) refl)
         (value_fault (leaf keep) [] k (held (rows_now keep rows q) (Some (codes "at-once", []))) (codes "at-once") n (bare_word n is) refl)
-        (value_fault (leaf keep) [] k (held (rows_now keep rows q) (Some (codes "sync", []))) (codes "sync") n (bare_word n is) refl) o v has
+        (value_fault (leaf keep) [] k (held (rows_now keep rows q) (Some (codes "sync", []))) (codes "sync") n (bare_word n is) refl)
+        (value_fault (leaf keep) [] k (held (rows_now keep rows q) (Some (codes "traces", []))) (codes "traces") n (bare_word n is) refl)
+        (value_fault (leaf keep) [] k (held (rows_now keep rows q) (Some (codes "past", []))) (codes "past") n (bare_word n is) refl) o v has
 
     pub given_after : (n : Text) → is_bare n ≡ true → walked (rules v) [] (waits o v) n ≡ at true k (held (rows_now v rows q) (Some (id_of o, n ∷ [])))
     given_after n is = by_choice (λ o v. walked (rules v) [] (waits o v) n ≡ at true k (held (rows_now v rows q) (Some (id_of o, n ∷ []))))
         (value_after (leaf serve) [] k (held (rows_now serve rows q) (Some (codes "sessions", []))) (codes "sessions") n (bare_word n is) refl)
         (value_after (leaf keep) [] k (held (rows_now keep rows q) (Some (codes "at-once", []))) (codes "at-once") n (bare_word n is) refl)
-        (value_after (leaf keep) [] k (held (rows_now keep rows q) (Some (codes "sync", []))) (codes "sync") n (bare_word n is) refl) o v has
+        (value_after (leaf keep) [] k (held (rows_now keep rows q) (Some (codes "sync", []))) (codes "sync") n (bare_word n is) refl)
+        (value_after (leaf keep) [] k (held (rows_now keep rows q) (Some (codes "traces", []))) (codes "traces") n (bare_word n is) refl)
+        (value_after (leaf keep) [] k (held (rows_now keep rows q) (Some (codes "past", []))) (codes "past") n (bare_word n is) refl) o v has
 
     -- the option does not do without a value
     pub no_value : settle v (rows_now v rows q) (Some (id_of o, [])) ≡ [] → ⊥
-    no_value = by_choice (λ o v. settle v (rows_now v rows q) (Some (id_of o, [])) ≡ [] → ⊥) (λ e. some_fault _ _ e) (λ e. some_fault _ _ e) (λ e. some_fault _ _ e) o v has
+    no_value = by_choice (λ o v. settle v (rows_now v rows q) (Some (id_of o, [])) ≡ [] → ⊥) (λ e. some_fault _ _ e) (λ e. some_fault _ _ e) (λ e. some_fault _ _ e) (λ e. some_fault _ _ e) (λ e. some_fault _ _ e) o v has
 
     pub value_is : (n : Text) → settle v (rows_now v rows q) (Some (id_of o, n ∷ [])) ≡ use_fault false (built_of o) (n ∷ []) (rows_now v rows q)
-    value_is n = by_choice (λ o v. settle v (rows_now v rows q) (Some (id_of o, n ∷ [])) ≡ use_fault false (built_of o) (n ∷ []) (rows_now v rows q)) refl refl refl o v has
+    value_is n = by_choice (λ o v. settle v (rows_now v rows q) (Some (id_of o, n ∷ [])) ≡ use_fault false (built_of o) (n ∷ []) (rows_now v rows q)) refl refl refl refl refl o v has
 
     -- the rows once its value is used
-    pub joined_rows : (n : Text) → seen (id_of o) (rows_now v rows q) ≡ None → used (built_of o) (n ∷ []) (rows_now v rows q) ≡ rows_now v rows q ++ text_row (id_of o) n ∷ []
-    joined_rows n none = by_choice (λ o v. seen (id_of o) (rows_now v rows q) ≡ None → used (built_of o) (n ∷ []) (rows_now v rows q) ≡ rows_now v rows q ++ text_row (id_of o) n ∷ [])
+    pub joined_rows : (n : Text) → Fresh o (rows_now v rows q) → used (built_of o) (n ∷ []) (rows_now v rows q) ≡ rows_with o n (rows_now v rows q)
+    joined_rows n fresh_rows = by_choice (λ o v. Fresh o (rows_now v rows q) → used (built_of o) (n ∷ []) (rows_now v rows q) ≡ rows_with o n (rows_now v rows q))
         (λ none. used_new (codes "sessions") AsWritten (n ∷ []) (rows_now serve rows q) none)
         (λ none. used_new (codes "at-once") AsWritten (n ∷ []) (rows_now keep rows q) none)
-        (λ none. used_new (codes "sync") AsWritten (n ∷ []) (rows_now keep rows q) none) o v has none
+        (λ none. used_new (codes "sync") AsWritten (n ∷ []) (rows_now keep rows q) none)
+        (λ none. used_new (codes "traces") AsWritten (n ∷ []) (rows_now keep rows q) none)
+        (λ none. refl) o v has fresh_rows
 
-    pub given_rows : (n : Text) → seen (id_of o) (rows_now v rows q) ≡ None → rows_now v (rows_now v rows q) (Some (id_of o, n ∷ [])) ≡ rows_now v rows q ++ text_row (id_of o) n ∷ []
-    given_rows n none = by_choice (λ o v. seen (id_of o) (rows_now v rows q) ≡ None → rows_now v (rows_now v rows q) (Some (id_of o, n ∷ [])) ≡ rows_now v rows q ++ text_row (id_of o) n ∷ [])
+    pub given_rows : (n : Text) → Fresh o (rows_now v rows q) → rows_now v (rows_now v rows q) (Some (id_of o, n ∷ [])) ≡ rows_with o n (rows_now v rows q)
+    given_rows n fresh_rows = by_choice (λ o v. Fresh o (rows_now v rows q) → rows_now v (rows_now v rows q) (Some (id_of o, n ∷ [])) ≡ rows_with o n (rows_now v rows q))
         (λ none. used_new (codes "sessions") AsWritten (n ∷ []) (rows_now serve rows q) none)
         (λ none. used_new (codes "at-once") AsWritten (n ∷ []) (rows_now keep rows q) none)
-        (λ none. used_new (codes "sync") AsWritten (n ∷ []) (rows_now keep rows q) none) o v has none
+        (λ none. used_new (codes "sync") AsWritten (n ∷ []) (rows_now keep rows q) none)
+        (λ none. used_new (codes "traces") AsWritten (n ∷ []) (rows_now keep rows q) none)
+        (λ none. refl) o v has fresh_rows
 
 -- ---- what stands after a flag
 
@@ -280,9 +302,9 @@ stop_stands v g rows q st off =
           (holds_stop v g (rows_now v rows q) st.holds off);
     }
 
-module _ (o : Choice) (v : Verb) (has : has_choice o v ≡ true) (g : Given) (rows : List Row) (q : Option (Text × List Text)) (n : Text) (st : Stands v g rows q) (off : chosen o g ≡ None) (is : Allows o n) where
-  pub no_choice_row : seen (id_of o) (rows_now v rows q) ≡ None
-  no_choice_row = chosen_row v g (rows_now v rows q) st.holds o ∙ ap (option_map (text_row (id_of o))) off
+module _ (o : Choice) (v : Verb) (has : has_choice o v ≡ true) (g : Given) (rows : List Row) (q : Option (Text × List Text)) (n : Text) (st : Stands v g rows q) (off : Open o g) (is : Allows o n) where
+  pub no_choice_row : Fresh o (rows_now v rows q)
+  no_choice_row = fresh v g (rows_now v rows q) st.holds o off
 
   pub joined_stands : Stands v (choose o n g) (used (built_of o) (n ∷ []) (rows_now v rows q)) None
   joined_stands = record {
@@ -335,7 +357,7 @@ unfolding walk_fault
 empty_tail v W = refl
 
 -- an option with its value in the next word, or in the same word, before words that do not fail
-module _ (o : Choice) (v : Verb) (g : Given) (w n : Text) (more : List Text) (after : Given) (has : has_choice o v ≡ true) (off : chosen o g ≡ None) (allowed : Allows o n)
+module _ (o : Choice) (v : Verb) (g : Given) (w n : Text) (more : List Text) (after : Given) (has : has_choice o v ≡ true) (off : Open o g) (allowed : Allows o n)
     (rows : List Row) (q : Option (Text × List Text)) (st : Stands v g rows q) where
   abbrev k : ℕ
   k = place_after g.words
@@ -408,6 +430,18 @@ completes v free g ws after (sync x y w n more is plain has off rest) rows q st 
 completes v free g ws after (sync_joined x y w n more is has off rest) rows q st =
     joined_more of_sync v g w n more after has off tt rows q st is
     (completes v true (record g { sync = Some n }) more after rest (used (built_of of_sync) (n ∷ []) (rows_now v rows q)) None (joined_stands of_sync v has g rows q n st off tt))
+completes v free g ws after (traces x y w n more is plain has off number rest) rows q st =
+    spaced_more of_traces v g w n more after has off number rows q st is plain
+    (completes v true (record g { traces = Some n }) more after rest (rows_now v rows q) (Some (id_of of_traces, n ∷ [])) (given_stands of_traces v has g rows q n st off number))
+completes v free g ws after (traces_joined x y w n more is has off number rest) rows q st =
+    joined_more of_traces v g w n more after has off number rows q st is
+    (completes v true (record g { traces = Some n }) more after rest (used (built_of of_traces) (n ∷ []) (rows_now v rows q)) None (joined_stands of_traces v has g rows q n st off number))
+completes v free g ws after (past x y w n more is plain has rest) rows q st =
+    spaced_more of_past v g w n more after has tt tt rows q st is plain
+    (completes v true (record g { past = g.past ++ n ∷ [] }) more after rest (rows_now v rows q) (Some (id_of of_past, n ∷ [])) (given_stands of_past v has g rows q n st tt tt))
+completes v free g ws after (past_joined x y w n more is has rest) rows q st =
+    joined_more of_past v g w n more after has tt tt rows q st is
+    (completes v true (record g { past = g.past ++ n ∷ [] }) more after rest (used (built_of of_past) (n ∷ []) (rows_now v rows q)) None (joined_stands of_past v has g rows q n st tt tt))
 completes v free g ws after (ends_flags x y w more is rest) rows q st =
     one_more v (at true (place_after g.words) (held rows q)) (at false (place_after g.words) (held rows q)) w more after
     (ap (λ x. turn_fault (leaf v) [] (at true (place_after g.words) (held rows q)) x) is ∙ hyphens_turn v (place_after g.words) (held rows q))
@@ -538,23 +572,29 @@ module _ (v : Verb) (g : Given) (rows : List Row) (q : Option (Text × List Text
       (found.0, stop g found.0 w ws is has off found.1, ended_back (here true) _ w ws found.0 goes found.2)
 
   -- words that give an option, with its value, give what they say
-  gives_joined : (o : Choice) (w n : Text) (ws : List Text) (after : Given) → w ≡ joined_of o n → has_choice o v ≡ true → chosen o g ≡ None → Allows o n → Gives v true (choose o n g) ws after
+  gives_joined : (o : Choice) (w n : Text) (ws : List Text) (after : Given) → w ≡ joined_of o n → has_choice o v ≡ true → Open o g → Allows o n → Gives v true (choose o n g) ws after
       → Gives v true g (w ∷ ws) after
   gives_joined of_sessions w n ws after is has off allowed rest = joined g after w n ws is has off allowed rest
   gives_joined of_at_once w n ws after is has off allowed rest = at_once_joined g after w n ws is has off allowed rest
   gives_joined of_sync w n ws after is has off allowed rest = sync_joined g after w n ws is has off rest
+  gives_joined of_traces w n ws after is has off allowed rest = traces_joined g after w n ws is has off allowed rest
+  gives_joined of_past w n ws after is has off allowed rest = past_joined g after w n ws is has rest
 
-  gives_spaced : (o : Choice) (w n : Text) (ws : List Text) (after : Given) → w ≡ word_of o → is_bare n ≡ true → has_choice o v ≡ true → chosen o g ≡ None → Allows o n
+  gives_spaced : (o : Choice) (w n : Text) (ws : List Text) (after : Given) → w ≡ word_of o → is_bare n ≡ true → has_choice o v ≡ true → Open o g → Allows o n
       → Gives v true (choose o n g) ws after → Gives v true g (w ∷ n ∷ ws) after
   gives_spaced of_sessions w n ws after is plain has off allowed rest = sessions g after w n ws is plain has off allowed rest
   gives_spaced of_at_once w n ws after is plain has off allowed rest = at_once g after w n ws is plain has off allowed rest
   gives_spaced of_sync w n ws after is plain has off allowed rest = sync g after w n ws is plain has off rest
+  gives_spaced of_traces w n ws after is plain has off allowed rest = traces g after w n ws is plain has off allowed rest
+  gives_spaced of_past w n ws after is plain has off allowed rest = past g after w n ws is plain has rest
 
   -- the words stay as they were
   same_words : (o : Choice) (n : Text) → (choose o n g).words ≡ g.words
   same_words of_sessions n = refl
   same_words of_at_once n = refl
   same_words of_sync n = refl
+  same_words of_traces n = refl
+  same_words of_past n = refl
 
   -- what follows an option
   rest_of : (o : Choice) (n : Text) (ws : List Text) (rows2 : List Row) (q2 : Option (Text × List Text)) → Rest v ws → Stands v (choose o n g) rows2 q2
@@ -563,12 +603,14 @@ module _ (v : Verb) (g : Given) (rows : List Row) (q : Option (Text × List Text
   rest_of of_sessions n ws rows2 q2 rest st2 e = rest true (choose of_sessions n g) rows2 q2 st2 e
   rest_of of_at_once n ws rows2 q2 rest st2 e = rest true (choose of_at_once n g) rows2 q2 st2 e
   rest_of of_sync n ws rows2 q2 rest st2 e = rest true (choose of_sync n g) rows2 q2 st2 e
+  rest_of of_traces n ws rows2 q2 rest st2 e = rest true (choose of_traces n g) rows2 q2 st2 e
+  rest_of of_past n ws rows2 q2 rest st2 e = rest true (choose of_past n g) rows2 q2 st2 e
 
   sound_joined : (o : Choice) (w n : Text) (ws : List Text) → w ≡ joined_of o n → has_choice o v ≡ true → use_fault false (built_of o) (n ∷ []) (rows_now v rows q) ≡ []
       → tail_fault v (here true) (w ∷ ws) ≡ [] → Rest v ws → Sound v true g (w ∷ ws) rows q
   sound_joined o w n ws is has works e rest =
       let got = choice_used o n (rows_now v rows q) works in
-      let off = no_choice v g (rows_now v rows q) st.holds (id_of o) (chosen o g) (chosen_row v g (rows_now v rows q) st.holds o) got.0 in
+      let off = opens v g (rows_now v rows q) st.holds o got.0 in
       let goes = ap (λ x. walked (rules v) [] (here true) x) is ∙ joined_after (place_after g.words) rows q o v has n in
       let later = follows true (at true (place_after g.words) (held (used (built_of o) (n ∷ []) (rows_now v rows q)) None)) w ws goes e in
       let found = rest_of o n ws (used (built_of o) (n ∷ []) (rows_now v rows q)) None rest (joined_stands o v has g rows q n st off got.1) later in
@@ -599,7 +641,7 @@ module _ (v : Verb) (g : Given) (rows : List Row) (q : Option (Text × List Text
           let last = ap (λ x. tail_fault v x more) (sym goes_on) ∙ (next_tail v (waiting o) n more e).1 in
           let pending = settles v true g.words (rows_now v rows q) (Some (id_of o, n ∷ [])) more last in
           let got = choice_used o n (rows_now v rows q) (sym (value_is (place_after g.words) rows q o v has n) ∙ pending) in
-          let off = no_choice v g (rows_now v rows q) st.holds (id_of o) (chosen o g) (chosen_row v g (rows_now v rows q) st.holds o) got.0 in
+          let off = opens v g (rows_now v rows q) st.holds o got.0 in
           let found = rest_of o n more (rows_now v rows q) (Some (id_of o, n ∷ [])) rest (given_stands o v has g rows q n st off got.1) last in (
             found.0,
             gives_spaced o w n more found.0 is plain has off got.1 found.1,

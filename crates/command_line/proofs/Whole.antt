@@ -1,6 +1,6 @@
 -- What the parser makes of a whole command line is what its words ask for.
 use Rattle.std.proofs.Common.{◌≡◌, ◌∙◌, ◌&&◌, ◌||◌, ◌==◌, cond, not, Bool, true, false, ℕ, List, [], ◌∷◌, Option, Some, None, is_some, refl, sym, ap, ap₂, subst, bytes_eq, codes, option_map, option_and_then, fold, slice_get}
-use Rattle.std.specs.Prelude.{⊤}
+use Rattle.std.specs.Prelude.{⊤, unwrap_or}
 use Rattle.std.specs.Option.{option_map_or, option_or}
 use Rattle.std.specs.List.{list_all, list_any}
 use Rattle.std.proofs.lemmas.Slice.Eq.{bytes_eq-Decides}
@@ -17,11 +17,11 @@ use Rattle.clap.specs.declared.builder.value_parser.Reading.TheVariants.{AsWritt
 use Rattle.clap.specs.declared.parser.matches.ValueSource.TheVariants.{DefaultValue}
 use Rattle.clap.proofs.WalkLemmas.{both, walk_stopped}
 use Rattle.clap.proofs.FaultLemmas.{stopped_fault}
-use Rattle.command_line.specs.Forms.{Verb, paths, check, run, audit, serve, keep, name_of, Given, nothing, Gives, IsNumber, number_of, sessions_of, at_once_of, sync_of, Makes, Asks}
-use Rattle.command_line.specs.Commands.{Holds, program}
+use Rattle.command_line.specs.Forms.{Verb, paths, check, run, audit, serve, keep, name_of, Given, nothing, Gives, IsNumber, number_of, sessions_of, at_once_of, sync_of, traces_of, Makes, Asks}
+use Rattle.command_line.specs.Commands.{Holds, HoldsTraces, past_in, program}
 use Rattle.command_line.specs.declared.request.Request.{Request}
 use Rattle.command_line.specs.declared.request.Request.TheVariants as requests
-use Rattle.command_line.proofs.Rows.{seen, row_with, seen_at_end, default_seen}
+use Rattle.command_line.proofs.Rows.{seen, row_with, seen_at_end, default_seen, again_row}
 use Rattle.command_line.proofs.Sorts.{bare, hyphens, long, short, kind, bare_word, dashes}
 use Rattle.command_line.proofs.Turns.{some_fault, first_of, then_of, neither, stands, bare_fault, long_first, short_first, bundle_first}
 use Rattle.command_line.proofs.Levels.{rules, leaf, top, whole, place_names, text_row, Places, passes_number, shown_by, shown_rule, shown_short}
@@ -169,6 +169,27 @@ sync_last g R h = go g.sync refl
       ap sync_of e,
     )
 
+traces_last : (g : Given) (R : List Row) → Holding keep g R → HoldsTraces g (last keep R)
+traces_last g R h = go g.traces refl
+  where
+    go : (o : Option Text) → g.traces ≡ o → HoldsTraces g (last keep R)
+    go (Some n) e = (n, one_last keep R (codes "traces") n (h.traces ∙ ap (option_map (text_row (codes "traces"))) e), h.megabytes n e, ap traces_of e)
+    go None e = (
+      codes "300",
+      ap (option_and_then row_text) (seen_at_end (codes "traces") (rules keep) R ∙ ap (λ o. option_or o (default_seen (codes "traces") (rules keep))) (h.traces ∙ ap (option_map (text_row (codes "traces"))) e)),
+      passes_number 1 1000000 (codes "300") refl,
+      ap traces_of e,
+    )
+
+again_values : (id : Text) (ws : List Text) → unwrap_or (option_map (λ (r : Row). r.values) (option_or (again_row id ws) None)) [] ≡ ws
+again_values id [] = refl
+again_values id (w ∷ ws) = refl
+
+past_last : (g : Given) (R : List Row) → Holding keep g R → past_in (last keep R) ≡ g.past
+past_last g R h =
+    ap (λ (o : Option Row). unwrap_or (option_map (λ (r : Row). r.values) o) []) (seen_at_end (codes "past") (rules keep) R ∙ ap (λ o. option_or o None) h.past)
+    ∙ again_values (codes "past") g.past
+
 -- what lacks nothing holds what was given
 holds_all : (v : Verb) (g : Given) (ws : List Text) (R : List Row) → g.words ≡ ws → Places (place_names v) ws R → Holding v g R → lacks v (last v R) ≡ false
     → IsFull v ws × Holds v g (last v R)
@@ -234,6 +255,8 @@ holds_all keep g (a ∷ b ∷ c ∷ []) R e places h none =
         y.1,
         y.2,
         flag_last keep R (codes "stop-with-input") g.stops refl h.stops,
+        traces_last g R h,
+        past_last g R h,
         (flag_last keep R (codes "explain") g.explains refl h.explains, flag_last keep R (codes "no-explain") g.silent refl h.silent),
       ),
     )
@@ -272,7 +295,7 @@ full_lacks_none keep (a ∷ b ∷ c ∷ d ∷ more) R places full = absurd full
 pub nothing_stands : (v : Verb) → Stands v nothing [] None
 nothing_stands v = record {
   valid = refl;
-  holds = record { places = none_placed v; explains = refl; silent = refl; stops = refl; sessions = refl; at_once = refl; sync = refl; number = λ n e. absurd (none_some n e); most = λ n e. absurd (none_some n e) };
+  holds = record { places = none_placed v; explains = refl; silent = refl; stops = refl; sessions = refl; at_once = refl; sync = refl; traces = refl; past = refl; number = λ n e. absurd (none_some n e); most = λ n e. absurd (none_some n e); megabytes = λ n e. absurd (none_some n e) };
 }
   where
     none_some : (n : Text) → None ≡ Some n → ⊥

@@ -1,16 +1,16 @@
 -- What the parser knows of the program: its subcommands with their arguments, and what it finds in words.
-use Rattle.std.specs.Prelude.{◌≡◌, ⊤, true, List, [], ◌∷◌, Some, codes}
-use Rattle.clap.specs.Walk.{Row, Rule, first_of, one_of}
+use Rattle.std.specs.Prelude.{◌≡◌, ⊤, true, List, [], ◌∷◌, Some, codes, unwrap_or}
+use Rattle.clap.specs.Walk.{Row, Rule, all_of, first_of, one_of}
 use Rattle.clap.specs.Faults.{fault_of}
 use Rattle.clap.specs.Kinds.{Kinds, or_else}
 use Rattle.clap.specs.Values.{bool_text}
 use Rattle.clap.specs.Simple.{App, new_app, new_rule, on_top, subcommand_rows_of, with_rule, with_subcommand}
-use Rattle.clap.specs.declared.builder.action.ArgAction.TheVariants.{SetTrue}
+use Rattle.clap.specs.declared.builder.action.ArgAction.TheVariants.{Append, SetTrue}
 use Rattle.clap.specs.declared.builder.value_parser.ValueParser.TheVariants as parsers
 use Rattle.clap.specs.declared.error.kind.ErrorKind.TheVariants as kinds
 use Rattle.clap.specs.declared.parser.matches.ArgMatches.{ArgMatches}
 use Rattle.command_line.specs.Forms.{Text, Verb, paths, check, run, audit, serve, keep, name_of, Given, IsNumber}
-use Rattle.command_line.specs.Forms.{number_of, sessions_of, at_once_of, sync_of}
+use Rattle.command_line.specs.Forms.{number_of, sessions_of, at_once_of, sync_of, traces_of}
 
 -- a word that has to be there
 abbrev pub required_rule : Text → Rule
@@ -43,6 +43,22 @@ sync_rule = record (new_rule (codes "sync")) {
   defaults = codes "always" ∷ [];
 }
 
+abbrev pub traces_rule : Rule
+traces_rule = record (new_rule (codes "traces")) {
+  long = Some (codes "traces");
+  value_names = 1;
+  defaults = codes "300" ∷ [];
+  parser = Some (parsers.Unsigned 1 1000000);
+}
+
+-- an option that may come again and again, whose words the program itself looks at
+abbrev pub past_rule : Rule
+past_rule = record (new_rule (codes "past")) {
+  long = Some (codes "past");
+  value_names = 1;
+  action = Some Append;
+}
+
 -- whether a refusal is explained
 abbrev pub explain_rules : List Rule
 explain_rules = flag_rule (codes "explain") ∷ flag_rule (codes "no-explain") ∷ []
@@ -58,7 +74,7 @@ own_rules serve =
     ∷ flag_rule (codes "stop-with-input") ∷ explain_rules
 own_rules keep =
     required_rule (codes "FILE") ∷ required_rule (codes "DIR") ∷ required_rule (codes "PLACE") ∷ at_once_rule
-    ∷ sync_rule ∷ flag_rule (codes "stop-with-input") ∷ explain_rules
+    ∷ sync_rule ∷ traces_rule ∷ past_rule ∷ flag_rule (codes "stop-with-input") ∷ explain_rules
 
 abbrev pub with_rules : App → List Rule → App
 with_rules a [] = a
@@ -79,6 +95,15 @@ abbrev pub HoldsExplain : Given → List Row → Type 0
 HoldsExplain g rows =
     (one_of (codes "explain") rows ≡ Some (bool_text g.explains))
     × (one_of (codes "no-explain") rows ≡ Some (bool_text g.silent))
+
+-- the option `--traces`, as what is found has it
+abbrev pub HoldsTraces : Given → List Row → Type 0
+HoldsTraces g rows = (traces : Text) × (one_of (codes "traces") rows ≡ Some traces) × IsNumber 1 1000000 traces
+    × (traces_of g.traces ≡ number_of traces)
+
+-- the values of `--past` that are found, in order
+abbrev pub past_in : List Row → List Text
+past_in rows = unwrap_or (all_of (codes "past") rows) []
 
 -- what is found holds what a subcommand was given, each word under its name
 abbrev pub Holds : Verb → Given → List Row → Type 0
@@ -103,7 +128,8 @@ Holds keep g rows =
     × (one_of (codes "at-once") rows ≡ Some at_once) × IsNumber 1 10000 at_once
     × (at_once_of g.at_once ≡ number_of at_once)
     × (first_of (codes "sync") rows ≡ Some sync) × (sync_of g.sync ≡ sync)
-    × (one_of (codes "stop-with-input") rows ≡ Some (bool_text g.stops)) × HoldsExplain g rows
+    × (one_of (codes "stop-with-input") rows ≡ Some (bool_text g.stops)) × HoldsTraces g rows
+    × (past_in rows ≡ g.past) × HoldsExplain g rows
 
 -- the matches are those of a subcommand that was given this
 abbrev pub IsMatched : Verb → Given → ArgMatches → Type 0

@@ -51,7 +51,7 @@ abbrev pub has_sessions : Verb → Bool
 has_sessions serve = true
 has_sessions v = false
 
--- which have the options `--at-once` and `--sync`
+-- which have the options `--at-once`, `--sync`, `--traces` and `--past`
 abbrev pub has_keeping : Verb → Bool
 has_keeping keep = true
 has_keeping v = false
@@ -96,6 +96,8 @@ pub record Given : Type 0 where
   pub sessions : Option Text
   pub at_once : Option Text
   pub sync : Option Text
+  pub traces : Option Text
+  pub past : List Text
 
 abbrev pub nothing : Given
 nothing = record {
@@ -106,10 +108,12 @@ nothing = record {
   sessions = None;
   at_once = None;
   sync = None;
+  traces = None;
+  past = [];
 }
 
--- the words behind the name of a subcommand, each with what it adds to what was given before; no flag is given twice,
--- and `--` ends the flags: `free` is whether they may come
+-- the words behind the name of a subcommand, each with what it adds to what was given before; no flag but `--past` is
+-- given twice, and `--` ends the flags: `free` is whether they may come
 pub data Gives (v : Verb) : Bool → Given → List Text → Given → Type 0 where
   ends : (free : Bool) (g : Given) → Gives v free g [] g
   word : (free : Bool) (g after : Given) (w : Text) (ws : List Text) → (free ≡ true → is_bare w ≡ true) →
@@ -142,6 +146,17 @@ pub data Gives (v : Verb) : Bool → Given → List Text → Given → Type 0 wh
   sync_joined : (g after : Given) (w s : Text) (ws : List Text) → w ≡ codes "--sync=" ++ s → has_keeping v ≡ true →
       g.sync ≡ None
       → Gives v true (record g { sync = Some s }) ws after → Gives v true g (w ∷ ws) after
+  traces : (g after : Given) (w n : Text) (ws : List Text) → w ≡ codes "--traces" → is_bare n ≡ true →
+      has_keeping v ≡ true → g.traces ≡ None → IsNumber 1 1000000 n
+      → Gives v true (record g { traces = Some n }) ws after → Gives v true g (w ∷ n ∷ ws) after
+  traces_joined : (g after : Given) (w n : Text) (ws : List Text) → w ≡ codes "--traces=" ++ n →
+      has_keeping v ≡ true → g.traces ≡ None → IsNumber 1 1000000 n
+      → Gives v true (record g { traces = Some n }) ws after → Gives v true g (w ∷ ws) after
+  past : (g after : Given) (w p : Text) (ws : List Text) → w ≡ codes "--past" → is_bare p ≡ true →
+      has_keeping v ≡ true
+      → Gives v true (record g { past = g.past ++ p ∷ [] }) ws after → Gives v true g (w ∷ p ∷ ws) after
+  past_joined : (g after : Given) (w p : Text) (ws : List Text) → w ≡ codes "--past=" ++ p → has_keeping v ≡ true
+      → Gives v true (record g { past = g.past ++ p ∷ [] }) ws after → Gives v true g (w ∷ ws) after
   hyphens : (g after : Given) (w : Text) (ws : List Text) → w ≡ codes "--" → Gives v false g ws after →
       Gives v true g (w ∷ ws) after
 
@@ -159,6 +174,11 @@ at_once_of (Some n) = number_of n
 abbrev pub sync_of : Option Text → Text
 sync_of None = codes "always"
 sync_of (Some w) = w
+
+-- how many megabytes of ended epochs are kept: 300 where no number is given
+abbrev pub traces_of : Option Text → ℕ
+traces_of None = 300
+traces_of (Some n) = number_of n
 
 -- what this word says: before an answer, or a number of milliseconds
 abbrev pub IsSyncOf : Text → Sync → Type 0
@@ -195,7 +215,7 @@ Makes serve g (requests.Serve s) =
 Makes keep g (requests.Keep k) =
     (place : Text) × (g.words ≡ k.file.now ∷ k.folder.now ∷ place ∷ []) × IsAddressOf place k.address
     × (k.at_once ≡ at_once_of g.at_once) × IsSyncOf (sync_of g.sync) k.sync × (g.stops ≡ k.stops)
-    × (k.explain ≡ explain_of g.explains g.silent)
+    × (k.traces ≡ traces_of g.traces) × (k.explain ≡ explain_of g.explains g.silent)
 Makes v g q = ⊥
 
 -- these words, the first of which names the program, ask for this

@@ -1,3 +1,4 @@
 pub mod Forms
 pub mod Commands
 pub mod Laws
+pub mod Past

@@ -305,6 +305,14 @@ pub const KEEP_AT_ONCE: &str = "Clients connected at once, 1 to 10000";
 
 pub const KEEP_SYNC: &str = "Answers are safe `always`, or 1 to 60000 ms later";
 
+pub const KEEP_TRACES: &str = "Megabytes of ended epochs that are kept, 1 to 1000000";
+
+pub const KEEP_PAST: &str =
+    "A first start: OPERATION was done K times, 1 to 30000; can be repeated";
+
+/// What is said of a word that should say what was done before a first start.
+pub const PAST_IS: &str = "it is OBJECT:OPERATION:K, with a number K, 1 to 30000";
+
 /// What is said of a word that should say when an answer is safe.
 pub const SYNC_IS: &str = "WORD is `always`, or a number of milliseconds, 1 to 60000";
 
@@ -324,8 +332,17 @@ client has read is never lost. With --sync MS an answer is written at once, and
 its lines are on the disk at most MS milliseconds later: what was answered in
 that time may be lost in a crash. That is faster.
 
-With --stop-with-input it ends in order when standard input ends: what runs is
-completed, what waits is cancelled, and the journals are closed.
+A journal is one epoch, of at most 60000 calls. Those that have ended stay, as
+DIR/NAME.000001.trace and so on: MB megabytes in all, the oldest go first.
+
+Where an object has no journal yet, its values are those of the parts in DIR, as
+`serve` saves them. What its paths have counted they do not tell: of an object
+with a `;` say it, by `--past buffer:put:3` for three calls of `put` before all
+others. With several the calls are done one behind the other.
+
+With --stop-with-input it ends in order when standard input ends: what waits is
+cancelled, the parts are saved in DIR as `serve` does, and for each object
+`NAME entries K` says how many of its calls have finished.
 
 With --explain, and where standard error is a terminal, standard error gets why
 FILE, or an object of it, is refused, where, and what would help. Nothing else
@@ -339,4 +356,5 @@ Example: kill it, and start it again: the cell holds what it held.
   listening 7000
 
 Exit status: 0 all was served and closed, 1 something was refused or is damaged,
-3 a read or write fault, or a journal failed, 4 out of memory.";
+2 a wrong command line, also --past of an object that has a journal, 3 a read or
+write fault, 4 out of memory.";

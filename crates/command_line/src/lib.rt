@@ -3,4 +3,5 @@
 
 mod help;
 pub mod laws;
+pub mod past;
 pub mod request;

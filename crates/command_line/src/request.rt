@@ -12,8 +12,9 @@ ghost use Rattle.command_line.specs.Forms.{Asks, Given, IsNumber, Makes, number_
 ghost use Rattle.command_line.specs.Forms.{run as run_verb, audit as audit_verb, serve as serve_verb};
 ghost use Rattle.command_line.specs.Forms.{keep as keep_verb, explain_of, sync_of};
 ghost use Rattle.command_line.specs.Forms.{IsAddressOf, IsSyncOf, Shows, Text, Topic, kind_for};
-ghost use Rattle.command_line.specs.Commands.{Holds, HoldsExplain, IsMatched, app_for, faults, flag_rule, program};
-ghost use Rattle.command_line.specs.Commands.{at_once_rule, required_rule, sessions_rule, sync_rule};
+ghost use Rattle.command_line.specs.Commands.{Holds, HoldsExplain, IsMatched, app_for, faults, flag_rule, past_in, program};
+ghost use Rattle.command_line.specs.Commands.{at_once_rule, past_rule, required_rule, sessions_rule, sync_rule};
+ghost use Rattle.command_line.specs.Commands.{traces_rule};
 
 use crate::help;
 use clap::builder::ValueParser;
@@ -47,7 +48,7 @@ pub enum Request<'a> {
     Audit(&'a str, &'a str, Explain),
     /// `pathserve serve FILE DIR PLACE --sessions N`.
     Serve(Serving<'a>),
-    /// `pathserve keep FILE DIR PLACE --at-once N --sync WORD`.
+    /// `pathserve keep FILE DIR PLACE --at-once N --sync WORD --traces MB`; `--past` is [`pasts_of`]'s.
     Keep(Keeping<'a>),
 }
 
@@ -101,6 +102,8 @@ pub struct Keeping<'a> {
     pub sync: Sync,
     /// Whether it stops with the end of standard input.
     pub stops: bool,
+    /// How many megabytes of ended epochs are kept, 1 to 1000000.
+    pub traces: u32,
     /// When a refusal of the source is explained.
     pub explain: Explain,
 }
@@ -119,6 +122,11 @@ const MOST_AT_ONCE: u64 = 10000;
 const SYNC: &str = "always";
 
 const MOST_MILLIS: u32 = 60000;
+
+// How many megabytes of ended epochs are kept where the command line does not say it, and the most.
+const TRACES: &str = "300";
+
+const MOST_TRACES: u64 = 1000000;
 
 // A word that is not what it should be.
 #[derive(Clone, Copy)]
@@ -274,6 +282,31 @@ fn sync_option<'a>(alloc: Global) -> Arg<'a>
         .help(help::KEEP_SYNC)
 }
 
+// The option `--traces`.
+fn traces_option<'a>(alloc: Global) -> Arg<'a>
+    ensures rule { rule_of result ≡ traces_rule }
+    ensures local { result.global ≡ false }
+{
+    Arg::new(alloc, "traces")
+        .long("traces")
+        .value_name("MB")
+        .default_value(TRACES)
+        .value_parser(ValueParser::unsigned(1, MOST_TRACES))
+        .help(help::KEEP_TRACES)
+}
+
+// The option `--past`.
+fn past_option<'a>(alloc: Global) -> Arg<'a>
+    ensures rule { rule_of result ≡ past_rule }
+    ensures local { result.global ≡ false }
+{
+    Arg::new(alloc, "past")
+        .long("past")
+        .value_name("OBJECT:OPERATION:K")
+        .action(ArgAction::Append)
+        .help(help::KEEP_PAST)
+}
+
 // `pathserve keep`.
 fn keep_command<'a>(alloc: Global) -> Result<Command<'a>, AllocError>
     ensures { IfOk result (λ c. (app_of c ≡ app_for keep_verb) × ((out-Command c).has_globals ≡ false)) }
@@ -287,6 +320,8 @@ fn keep_command<'a>(alloc: Global) -> Result<Command<'a>, AllocError>
         .arg(required(alloc, "PLACE", help::SERVE_PLACE))?
         .arg(at_once_option(alloc))?
         .arg(sync_option(alloc))?
+        .arg(traces_option(alloc))?
+        .arg(past_option(alloc))?
         .arg(stop_flag(alloc))?
         .arg(explain_flag(alloc, help::EXPLAIN))?
         .arg(silence_flag(alloc))
@@ -486,6 +521,17 @@ fn at_once_in(keep: &ArgMatches<'_>) -> u16
     }
 }
 
+// How many megabytes of ended epochs are kept.
+fn traces_in(keep: &ArgMatches<'_>) -> u32
+    requires { (g : Given) × Holds keep_verb g (rows_of (found_of keep.now)) }
+    ensures { (text : _) → one_text (found_of keep.now) (codes "traces") ≡ Some text → result ≡ number_of text }
+{
+    match keep.get_one("traces") {
+        Some(traces) => traces,
+        None => unreachable!(),
+    }
+}
+
 // What the words of `keep` ask for, of which one is this address, and one says this of lines on the disk.
 fn kept<'a>(keep: &ArgMatches<'a>, address: Address<'a>, sync: Sync) -> Request<'a>
     requires { (g : Given) × Holds keep_verb g (rows_of (found_of keep.now)) }
@@ -500,6 +546,7 @@ fn kept<'a>(keep: &ArgMatches<'a>, address: Address<'a>, sync: Sync) -> Request<
         at_once: usize::from(at_once_in(keep)),
         sync,
         stops: keep.get_flag("stop-with-input"),
+        traces: traces_in(keep),
         explain: explain_in(keep),
     })
 }
@@ -562,6 +609,14 @@ fn no_value(
     command.error(ErrorKind::ValueValidation, text.as_str())
 }
 
+/// The error of a value of `--past` that should be so.
+pub fn past_error(alloc: Global, word: &str, form: &str) -> Result<Error, AllocError>
+    ensures { IfOk result (λ e. kind_of e ≡ ErrorKind.ValueValidation) }
+{
+    let command = keep_command(alloc)?;
+    no_value(alloc, command, word, "--past <OBJECT:OPERATION:K>", form)
+}
+
 // The error of a word that is not what it should be.
 fn odd_error(alloc: Global, odd: Odd<'_>) -> Result<Error, AllocError>
     ensures { IfOk result (λ e. kind_of e ≡ ErrorKind.ValueValidation) }
@@ -609,5 +664,30 @@ pub fn request_of<'a>(alloc: Global, words: &'a [&'a str]) -> Result<Request<'a>
     match matched_request(&matches) {
         Ok(request) => Ok(request),
         Err(odd) => Err(odd_error(alloc, odd)?),
+    }
+}
+
+// The values of `--past` in what was found, in order.
+fn pasts_in<'a>(alloc: Global, keep: &ArgMatches<'a>) -> Result<Vec<&'a str>, AllocError>
+    ensures { IfOk result (λ pasts. map (λ w. w.now) pasts.items ≡ past_in (rows_of (found_of keep.now))) }
+{
+    match keep.get_raw("past") {
+        Some(words) => words.to_vec(alloc),
+        None => Ok(Vec::new(alloc)),
+    }
+}
+
+/// The values of `--past` that these words, which ask for something, give `keep`, in order. The errors are those of
+/// [`request_of`], but for words that are looked at behind the parser.
+pub fn pasts_of<'a>(alloc: Global, words: &'a [&'a str]) -> Result<Vec<&'a str>, Error>
+    ensures told { IfOk result (λ pasts. (q : Request) (asked : Asks (map (λ w. w.now) words.now) q) →
+        asked.verb ≡ keep_verb → map (λ w. w.now) pasts.items ≡ asked.given.past) }
+    ensures refused { IfErr result (λ e. (q : Request) → Asks (map (λ w. w.now) words.now) q →
+        kind_of e ≡ OutOfMemory) }
+{
+    let matches = command(alloc)?.try_get_matches_from(words)?;
+    match matches.subcommand_matches("keep") {
+        Some(keep) => Ok(pasts_in(alloc, keep)?),
+        None => Ok(Vec::new(alloc)),
     }
 }

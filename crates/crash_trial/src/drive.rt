@@ -198,7 +198,9 @@ impl Drive {
         ensures { IfOk result (λ found. IfSome found (λ journal. IsInOrder D.seen D.may_leave journal)) }
     {
         let mut front = Vec::new(self.alloc);
-        self.hosted.push_first(&mut front)?;
+        if !self.hosted.push_first(&mut front)? {
+            return Ok(None);
+        }
         self.asked.push(Asked::Front)?;
         if !is_front(&front) {
             return Ok(None);

@@ -43,7 +43,9 @@ pub fn front_behind(
         None => Ok(None),
         Some(hosted) => {
             let mut front = Vec::new(alloc);
-            hosted.push_first(&mut front)?;
+            if !hosted.push_first(&mut front)? {
+                return Ok(None);
+            }
             Ok(Some(front))
         }
     }

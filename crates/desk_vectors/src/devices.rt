@@ -105,15 +105,15 @@ fn gives_back<H: Hand>(hand: &mut H, receipt: Receipt, free: &[u64], left: &[u64
     is_free && are_files(&back, left)
 }
 
-// Whether call 2 reads this number.
+// Whether call 2 reads this number, and none runs or waits then.
 fn reads<H: Hand>(alloc: Global, desk: &mut Desk, hand: &mut H, number: u32) -> bool {
-    match outcome_of(alloc, desk, hand, 2) {
-        Some(outcome) => {
-            let told = *outcome.reply() == Reply::Done(Some(Datum::Integer(number)));
-            told && desk.finish(outcome).is_ok() && desk.is_idle()
-        }
-        None => false,
+    let Some(outcome) = outcome_of(alloc, desk, hand, 2) else {
+        return false;
+    };
+    if *outcome.reply() != Reply::Done(Some(Datum::Integer(number))) {
+        return false;
     }
+    desk.finish(outcome).is_ok() && desk.is_idle()
 }
 
 // Which call of the device fails, counted from 1 (0: none), what the call on the desk then replies, the numbers of the
@@ -132,23 +132,68 @@ const OF_CELL: [Row; 6] = [
 
 const NINE: Bytes = b"\x02\x01\x00\x01\x00\x00\x00\x09";
 
+// A call of an object with one part: the object, the operation, its argument, and that of the `get` that waits, if any.
+type Asked = (Bytes, &'static str, u32, Option<u32>);
+
+// The receipt of a call beside the `get` that waits.
+fn receipt_of_asked<H: Hand>(
+    alloc: Global,
+    desk: &mut Desk,
+    hand: &mut H,
+    asked: Asked,
+) -> Option<Receipt> {
+    let (_, op, arg, place) = asked;
+    match place {
+        None => receipt_beside(alloc, desk, hand, op, &[Datum::Integer(arg)], &[]),
+        Some(place) => receipt_beside(
+            alloc,
+            desk,
+            hand,
+            op,
+            &[Datum::Integer(arg)],
+            &[Datum::Integer(place)],
+        ),
+    }
+}
+
+// Whether a call replies as a row has it, and leaves its files to nobody.
+fn is_answered<H: Hand>(
+    alloc: Global,
+    desk: &mut Desk,
+    hand: &mut H,
+    asked: Asked,
+    row: &Row,
+) -> bool {
+    let (_, reply, free, left, _) = *row;
+    match receipt_of_asked(alloc, desk, hand, asked) {
+        Some(receipt) => *receipt.noted.reply() == reply && gives_back(hand, receipt, free, left),
+        None => false,
+    }
+}
+
+// Whether all goes by a row on a device that fails so, and the part then is published as these bytes.
+fn goes_by(rt: &impl Abort, alloc: Global, asked: Asked, row: &Row, bytes: &[u8]) -> bool {
+    let (text, _, _, _) = asked;
+    let (fails, _, _, _, later) = *row;
+    let mut files = MemHand::new(alloc);
+    let mut desk = opened(rt, alloc, text, &mut files);
+    let mut hand = OnceHand::new(files, fails);
+    is_answered(alloc, &mut desk, &mut hand, asked, row)
+        && published(rt, alloc, &desk, &mut hand).as_slice() == bytes
+        && reads(alloc, &mut desk, &mut hand, later)
+        && (hand.failures() == 1) == (fails > 0)
+}
+
+const PUT_NINE: Asked = (CELL, "put", 9, None);
+
 // Catches `body_always_wants_memory` and `retire_all_retires_nothing`, and no case can show which files are free: a `put`
 // on a device that fails at each of its calls in turn.
 #[test]
 fn a_device_fails_each_call_of_a_cell_in_turn(rt: HostRuntime) {
-    let alloc = rt.alloc();
-    for (fails, reply, free, left, later) in OF_CELL {
-        let mut files = MemHand::new(alloc);
-        let mut desk = opened(&rt, alloc, CELL, &mut files);
-        let mut hand = OnceHand::new(files, fails);
-        let args = [Datum::Integer(9)];
-        let receipt = receipt_beside(alloc, &mut desk, &mut hand, "put", &args, &[]);
-        let receipt = receipt.expect(&rt, "a receipt");
-        assert!(rt; *receipt.noted.reply() == reply && gives_back(&mut hand, receipt, free, left));
+    for row in &OF_CELL {
+        let (_, reply, _, _, _) = *row;
         let bytes = if reply == DONE { NINE } else { ZERO };
-        assert!(rt; published(&rt, alloc, &desk, &mut hand).as_slice() == bytes);
-        assert!(rt; reads(alloc, &mut desk, &mut hand, later));
-        assert!(rt; (hand.failures() == 1) == (fails > 0));
+        assert!(rt; goes_by(&rt, rt.alloc(), PUT_NINE, row, bytes));
     }
 }
 
@@ -202,24 +247,16 @@ fn spelled(rt: &impl Abort, alloc: Global, ends: u8) -> Vec<u8> {
     bytes
 }
 
+const BOTH_THREE: Asked = (WIDE, "both", 3, Some(1_023));
+
 // Catches `retire_all_gives_nothing_back`, and no case can show which files are free: `both` on a device that fails at
 // each of its calls in turn.
 #[test]
 fn a_device_fails_each_call_of_a_part_of_five_pages_in_turn(rt: HostRuntime) {
-    let alloc = rt.alloc();
-    for (fails, reply, free, left, later) in OF_WIDE {
-        let mut files = MemHand::new(alloc);
-        let mut desk = opened(&rt, alloc, WIDE, &mut files);
-        let mut hand = OnceHand::new(files, fails);
-        let args = [Datum::Integer(3)];
-        let place = [Datum::Integer(1_023)];
-        let receipt = receipt_beside(alloc, &mut desk, &mut hand, "both", &args, &place);
-        let receipt = receipt.expect(&rt, "a receipt");
-        assert!(rt; *receipt.noted.reply() == reply && gives_back(&mut hand, receipt, free, left));
-        let bytes = spelled(&rt, alloc, if reply == DONE { 3 } else { 0 });
-        assert!(rt; published(&rt, alloc, &desk, &mut hand).as_slice() == bytes.as_slice());
-        assert!(rt; reads(alloc, &mut desk, &mut hand, later));
-        assert!(rt; (hand.failures() == 1) == (fails > 0));
+    for row in &OF_WIDE {
+        let (_, reply, _, _, _) = *row;
+        let bytes = spelled(&rt, rt.alloc(), if reply == DONE { 3 } else { 0 });
+        assert!(rt; goes_by(&rt, rt.alloc(), BOTH_THREE, row, &bytes));
     }
 }
 

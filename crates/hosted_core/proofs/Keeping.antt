@@ -77,8 +77,8 @@ asked_by v now new session operation arguments same named nameless =
     subst (λ (w : Scene). IsAsked w.guests session operation arguments new) same (record { named = named; nameless = nameless })
 
 -- all but the clients is as it was, and they are too
-pub same_guests : (v now : Scene) (g : Guests) → v ≡ now → g ≡ v.guests → record { hall = v.hall; guests = g; carried = v.carried; base = v.base } ≡ now
-same_guests v now g same is = ap (λ x. record { hall = v.hall; guests = x; carried = v.carried; base = v.base }) is ∙ same
+pub same_guests : (v now : Scene) (g : Guests) → v ≡ now → g ≡ v.guests → record v { guests = g } ≡ now
+same_guests v now g same is = ap (λ x. record v { guests = x }) is ∙ same
 
 -- a call that is not asked leaves no trace
 pub not_asked : (old new : Guests) (session operation : ℕ) (arguments : List Datum) (fault : AskFault) → Whose old session →
@@ -122,16 +122,17 @@ pub gone_by : (v now : Scene) (h : Hall) (g : Guests) (session from told : ℕ) 
     ((c : Called) × (c.session ≡ from) × Leaves v.hall c h) → ((t : Told) → IsHeld v.hall t → IsHeld h t) →
     NamedSo v.guests session (λ keys after. Ends keys told None so after) g →
     (HasNoName v.guests session → (so ≡ false) × (g ≡ v.guests)) →
-    (c : Called) × LetsGo now session told c (record { hall = h; guests = g; carried = v.carried; base = v.base })
+    (c : Called) × LetsGo now session told c (record v { hall = h; guests = g })
 gone_by v now h g session from told so same is left held named nameless = (
   left.0,
-  subst (λ (w : Scene). LetsGo w session told left.0 (record { hall = h; guests = g; carried = v.carried; base = v.base })) same (record {
+  subst (λ (w : Scene). LetsGo w session told left.0 (record v { hall = h; guests = g })) same (record {
     of = left.1 ∙ is;
     left = left.2;
     held = held;
     was_asked = so;
     remembers = record { named = named; nameless = λ none. (nameless none).1 };
-    tells = record { carried = refl; base = refl };
+    given = refl;
+    tells = record { carried = refl; base = refl; epoch = refl; source = refl };
   }),
 )
 
@@ -140,19 +141,15 @@ pub refused_by : (old mid v : Scene) (h : Hall) (g : Guests) (session operation 
     v ≡ mid → mid ≡ with_guests old mid.guests → IsAsked old.guests session operation arguments mid.guests → h ≡ v.hall →
     ((p : ℕ) (k : Guest) → IsNamed v.guests session p k → g ≡ with_keys v.guests p k (withdrawn k.keys)) →
     (HasNoName v.guests session → g ≡ v.guests) →
-    record { hall = h; guests = g; carried = v.carried; base = v.base } ≡ old
+    record v { hall = h; guests = g } ≡ old
 refused_by old mid v h g session operation arguments who same left asked hall named nameless =
     let v_is : v ≡ with_guests old mid.guests = same ∙ left in
     let asked_v : IsAsked old.guests session operation arguments v.guests =
     subst (λ (w : Scene). IsAsked old.guests session operation arguments w.guests) (sym same) asked in
     let guests : g ≡ old.guests = restored old.guests v.guests g session operation arguments who asked_v named nameless in
     let hall_is : h ≡ old.hall = hall ∙ ap (λ (w : Scene). w.hall) v_is in
-    let carried : v.carried ≡ old.carried = ap (λ (w : Scene). w.carried) v_is in
-    let base : v.base ≡ old.base = ap (λ (w : Scene). w.base) v_is in
-    ap (λ x. record { hall = x; guests = g; carried = v.carried; base = v.base }) hall_is
-    ∙ ap (λ x. record { hall = old.hall; guests = x; carried = v.carried; base = v.base }) guests
-    ∙ ap (λ x. record { hall = old.hall; guests = old.guests; carried = x; base = v.base }) carried
-    ∙ ap (λ x. record { hall = old.hall; guests = old.guests; carried = old.carried; base = x }) base
+    ap (λ x. record v { hall = x; guests = g }) hall_is ∙ ap (λ x. record v { hall = old.hall; guests = x }) guests
+    ∙ ap (λ (w : Scene). record w { hall = old.hall; guests = old.guests }) v_is
 
 -- one more is remembered
 pub remembered_then : (old first mid new : Scene) (r : Ran) (all more : List Ran) → first ≡ old → IsRemembered first first.guests r mid.guests → mid ≡ with_guests first mid.guests →

@@ -1,2 +1,4 @@
 pub mod Calling
+pub mod Following
 pub mod Keeping
+pub mod Writing

@@ -1,5 +1,5 @@
 -- How an object that was served before begins again.
-use Rattle.std.specs.Prelude.{◌≡◌, ◌+◌, ◌-◌, ◌^◌, List, [], length, map, min}
+use Rattle.std.specs.Prelude.{◌≡◌, ℕ, ◌+◌, ◌-◌, ◌^◌, List, [], length, map, min}
 use Rattle.decl_core.specs.declared.object.Object.{Object}
 use Rattle.past_core.specs.declared.past.PastEvent.{PastEvent}
 use Rattle.past_core.specs.Found.{LeavesSame}
@@ -12,14 +12,17 @@ use Rattle.hosted_core.specs.declared.start.Ended.{Ended}
 use Rattle.hosted_core.specs.Scene.{Scene}
 
 -- It has the contents with which it ended, behind a past that leaves what its paths had counted; no call waits; its clients
--- are those that it had, and the numbers of forgotten names are free; and each number that will be told is greater by
--- 65,536 at least than each of which a line tells.
-pub record BeginsAgain (object : Object) (ended : Ended) (limits : Limits) (s : Scene) : Type 0 where
+-- are those that it had, and the numbers of forgotten names are free; each number that will be told is greater by 65,536 at
+-- least than each of which a line tells; and it is the epoch behind that one, of this declaration.
+pub record BeginsAgain (object : Object) (ended : Ended) (source : ℕ) (limits : Limits) (s : Scene) : Type 0 where
   pub past : List PastEvent
   pub held : IsHeld s.hall (told_behind past ended.contents.items)
   pub counted : LeavesSame ended.counters.words (length object.operations.items) object.paths.items past
   pub set_up : IsSetUp object limits past s.hall
   pub waiting : s.hall.waiting ≡ []
+  pub given : s.given ≡ 0
   pub guests : s.guests ≡ record ended.guests { seats = map renewed ended.guests.seats }
   pub carried : s.carried ≡ []
   pub base : s.base ≡ min (min (ended.base + ended.greatest) (2 ^ 64 - 1) + 65536) (2 ^ 64 - 1)
+  pub epoch : s.epoch ≡ min (ended.epoch + 1) (2 ^ 64 - 1)
+  pub source_is : s.source ≡ source

@@ -24,10 +24,12 @@ use Rattle.hosted_core.specs.Scene.{Scene, told_of, with_guests}
 abbrev pub seat_of : ℕ → ℕ
 seat_of session = if nat_lt session 65536 then session else 0
 
--- each call is told by the number by which it was told
+-- each call is told by the number by which it was told, and it is the same epoch
 pub record TellsSame (old new : Scene) : Type 0 where
   pub carried : new.carried ≡ old.carried
   pub base : new.base ≡ old.base
+  pub epoch : new.epoch ≡ old.epoch
+  pub source : new.source ≡ old.source
 
 -- a call ran, and its client, where it has a name, remembers it by the number that it was told
 pub record IsRemembered (s : Scene) (old : Guests) (r : Ran) (new : Guests) : Type 0 where
@@ -54,6 +56,7 @@ pub record Takes (old : Scene) (session operation : ℕ) (arguments : List Datum
       hall.SettlesTo (hall.joined old.hall (asked old.hall session operation arguments)) t a.ran.items new.hall
   pub held : (t : Told) → IsHeld old.hall t → IsHeld new.hall (with_all t a.ran.items)
   pub asked_by : IsAsked old.guests session operation arguments new.guests
+  pub given : new.given ≡ a.number
   pub tells : TellsSame old new
 
 -- the same, and each that ran is remembered
@@ -76,6 +79,7 @@ pub record LetsGo (old : Scene) (session told : ℕ) (call : Called) (new : Scen
   pub held : (t : Told) → IsHeld old.hall t → IsHeld new.hall t
   pub was_asked : Bool
   pub remembers : AtName old.guests session (λ keys after. Ends keys told None was_asked after) new.guests
+  pub given : new.given ≡ old.given
   pub tells : TellsSame old new
 
 -- the line of a cancelled call, where its client has a name

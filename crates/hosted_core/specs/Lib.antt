@@ -1,5 +1,6 @@
 pub mod Again
 pub mod Calls
+pub mod Fronts
 pub mod Lines
 pub mod Scene
 pub mod Steps

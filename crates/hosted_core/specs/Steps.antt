@@ -1,5 +1,5 @@
 -- What happens to an object with its clients, and the lines that tell of it.
-use Rattle.std.specs.Prelude.{◌≡◌, ℕ, List, [], ◌++◌, Bool, Result, map}
+use Rattle.std.specs.Prelude.{◌≡◌, ℕ, ◌-◌, ◌^◌, List, [], ◌++◌, Bool, Result, length, map, min}
 use Rattle.value_core.specs.declared.datum.Datum.{Datum}
 use Rattle.decl_core.specs.ObjectMap.{object_of}
 use Rattle.trace_core.specs.Events.{Called}
@@ -15,7 +15,7 @@ use Rattle.guest_core.specs.Guests.{Guests, with_seat}
 use Rattle.guest_core.specs.Seats.{IsLeastFree, renewed}
 use Rattle.hosted_core.specs.Calls.{Does, Cancels}
 use Rattle.hosted_core.specs.Lines.{entered_lines}
-use Rattle.hosted_core.specs.Scene.{Scene, told_of, with_guests}
+use Rattle.hosted_core.specs.Scene.{Scene, told_of, next_base, next_epoch, with_guests}
 
 -- What it answers where a client comes by its name, and the line that it adds.
 pub record Comes (old : Scene) (name : List ℕ) (now : ℕ) (before : List ℕ) (a : Result Entered EnterFault) (after : List ℕ)
@@ -50,3 +50,7 @@ pub record IsFollowed (old : Scene) (past : List PastEvent) (new : Scene) : Type
   pub begun : IsBegun old.hall past new.hall
   pub carried : new.carried ≡ map (λ (c : Called). told_of old c.number) old.hall.waiting
   pub guests : new.guests ≡ record old.guests { seats = map renewed old.guests.seats }
+  pub base : new.base ≡ next_base old
+  pub given : new.given ≡ min (length old.hall.waiting) (2 ^ 32 - 1)
+  pub epoch : new.epoch ≡ next_epoch old
+  pub source : new.source ≡ old.source

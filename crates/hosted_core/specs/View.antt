@@ -3,4 +3,12 @@ use Rattle.hosted_core.specs.declared.hosted.Hosted.TheInside.{Inside}
 use Rattle.hosted_core.specs.Scene.{Scene}
 
 abbrev pub scene_of : Inside → Scene
-scene_of h = record { hall = h.live; guests = h.guests; carried = h.carried.items; base = h.base }
+scene_of h = record {
+  hall = h.live;
+  guests = h.guests;
+  carried = h.carried.items;
+  base = h.base;
+  given = h.given;
+  epoch = h.epoch;
+  source = h.source;
+}

@@ -1,10 +1,16 @@
 //! The next epoch of an object.
 
-ghost use Rattle.std.specs.Prelude.{◌≡◌, true, false, List, Ok, IfOk, map};
+ghost use Rattle.std.specs.Prelude.{◌≡◌, ◌+◌, ◌<◌, ◌≤◌, ◌++◌, ◌∷◌, [], true, false, List, Ok, OnOk, IfOk, IfSome, IsTrue};
+ghost use Rattle.std.specs.Prelude.{◌-◌, ◌^◌, codes, length, map, min};
 ghost use Rattle.past_core.specs.declared.past.PastEvent.{PastEvent as AnEvent};
+ghost use Rattle.decl_core.specs.ObjectMap.{object_of};
+ghost use Rattle.word_core.specs.Words.{bare, line_of};
 ghost use Rattle.trace_core.specs.Events.{Called};
+ghost use Rattle.front_core.specs.Text.{carried_words, client_words, kept_words, carried_text, clients_text, kept_text};
 ghost use Rattle.guest_core.specs.Seats.{renewed};
-ghost use Rattle.hosted_core.specs.Scene.{told_of};
+ghost use Rattle.hosted_core.specs.Fronts.{carried_as, carried_from, client_of, kept_as, kept_below, kept_of};
+ghost use Rattle.hosted_core.specs.Fronts.{TellsCalls, TellsPast, TellsFront, IsPastOf, AddsFront, IsNextFront};
+ghost use Rattle.hosted_core.specs.Scene.{told_of, next_base, next_epoch};
 ghost use Rattle.hosted_core.specs.Steps.{IsFollowed};
 
 use crate::hosted::Hosted;
@@ -16,9 +22,10 @@ use front_core::write::{
 };
 use guest_core::guest::Guest;
 use guest_core::kept::Kept;
+use live_core::call::Call;
 use live_core::hall::MOST_NUMBERS;
 use past_core::finder::short_past;
-use past_core::past::PastEvent;
+use past_core::past::{PastEvent, counters_behind};
 use path_tree::node::OpId;
 use std::alloc::{AllocError, Global};
 
@@ -30,7 +37,10 @@ fn push_kept_call(
     session: u16,
     key: u64,
     call: &Kept,
-) -> Result<(), AllocError> {
+) -> Result<(), AllocError>
+    ensures { OnOk result (out.new.items ≡ out.old.items
+        ++ line_of (bare (codes "kept") ∷ kept_words (object_of object.now) (kept_as session key call.now))) }
+{
     let arguments = call.asked().arguments().list(alloc)?;
     let operation = call.asked().operation();
     let session = u32::from(session);
@@ -58,49 +68,93 @@ fn push_kept_call(
     }
 }
 
-// Adds the lines of the calls that are remembered of a client, in the order of their keys.
+// Adds the lines of the calls that are remembered of a session, the newest first in `kept`, in the order of their keys; the
+// newest has the key below `next`.
+fn push_kept_below(
+    alloc: Global,
+    out: &mut Vec<u8>,
+    object: &Object,
+    session: u16,
+    next: u64,
+    kept: &[Kept],
+) -> Result<(), AllocError>
+    ensures { OnOk result (out.new.items ≡ out.old.items
+        ++ kept_text (object_of object.now) (kept_below session next kept.now)) }
+{
+    match kept {
+        [] => Ok(()),
+        [newest, others @ ..] => {
+            let key = next.saturating_sub(1);
+            push_kept_below(alloc, out, object, session, key, others)?;
+            push_kept_call(alloc, out, object, session, key, newest)
+        }
+    }
+}
+
+// Adds the lines of the calls that are remembered of a client.
 fn push_kept_of(
     alloc: Global,
     out: &mut Vec<u8>,
     object: &Object,
     guest: &Guest,
-) -> Result<(), AllocError> {
+) -> Result<(), AllocError>
+    ensures { OnOk result (out.new.items ≡ out.old.items
+        ++ kept_text (object_of object.now) (kept_of (guest.now ∷ []))) }
+{
     let keys = guest.keys();
-    let kept = keys.kept();
-    let mut key = keys.next().saturating_sub(kept.len() as u64);
-    for back in 0..kept.len() {
-        if let Some(call) = kept.get(kept.len() - 1 - back) {
-            push_kept_call(alloc, out, object, guest.session(), key, call)?;
-        }
-        key = key.saturating_add(1);
-    }
-    Ok(())
+    push_kept_below(
+        alloc,
+        out,
+        object,
+        guest.session(),
+        keys.next(),
+        keys.kept(),
+    )
 }
 
-// Adds the lines of all clients.
-fn push_guests(
+// Adds the lines of the calls that are remembered of all clients.
+fn push_all_kept(
     alloc: Global,
     out: &mut Vec<u8>,
     object: &Object,
     guests: &[Guest],
-) -> Result<(), AllocError> {
-    for guest in guests {
-        let keys = guest.keys().next().saturating_sub(1);
-        push_client(
-            out,
-            u32::from(guest.session()),
-            guest.name().as_bytes(),
-            keys,
-        )?;
-    }
+) -> Result<(), AllocError>
+    ensures { OnOk result (out.new.items ≡ out.old.items ++ kept_text (object_of object.now) (kept_of guests.now)) }
+{
     for guest in guests {
         push_kept_of(alloc, out, object, guest)?;
     }
     Ok(())
 }
 
+// Adds the line of a client.
+fn push_guest(out: &mut Vec<u8>, guest: &Guest) -> Result<(), AllocError>
+    ensures { OnOk result (out.new.items ≡ out.old.items
+        ++ line_of (bare (codes "client") ∷ client_words (client_of guest.now))) }
+{
+    let keys = guest.keys().next().saturating_sub(1);
+    push_client(
+        out,
+        u32::from(guest.session()),
+        guest.name().as_bytes(),
+        keys,
+    )
+}
+
+// Adds the lines of all clients.
+fn push_clients(out: &mut Vec<u8>, guests: &[Guest]) -> Result<(), AllocError>
+    ensures { OnOk result (out.new.items ≡ out.old.items ++ clients_text (map client_of guests.now)) }
+{
+    for guest in guests {
+        push_guest(out, guest)?;
+    }
+    Ok(())
+}
+
 // How many calls there are, as far as 32 bits tell.
-fn count_of(count: usize) -> u32 {
+fn count_of(count: usize) -> u32
+    ensures { result ≡ min count (2 ^ 32 - 1) }
+{
     match u32::try_from(count) {
         Ok(count) => count,
         Err(_) => u32::MAX,
@@ -119,21 +173,48 @@ impl Hosted {
         Ok(all)
     }
 
-    // Adds the lines of the calls that wait, by the numbers that they will have.
-    fn push_waiting(&self, out: &mut Vec<u8>) -> Result<(), AllocError> {
+    // Adds the line of a call that waits, by the number behind this one.
+    fn push_call(&self, out: &mut Vec<u8>, number: u32, call: &Call) -> Result<(), AllocError>
+        requires few { number < 65536 }
+        ensures { OnOk result (out.new.items ≡ out.old.items
+            ++ line_of (bare (codes "carried") ∷ carried_words (object_of self.now.hall.object)
+            (carried_as self.now (number + 1) call.now))) }
+    {
+        push_carried(
+            out,
+            self.live.object(),
+            number + 1,
+            self.told(call.number()),
+            call.session(),
+            call.operation(),
+            call.arguments(),
+        )
+    }
+
+    // Adds the lines of calls that wait, by the numbers that they will have.
+    fn push_calls(&self, out: &mut Vec<u8>, calls: &[Call]) -> Result<(), AllocError>
+        requires few { length calls.now ≤ 65536 }
+        ensures { OnOk result (out.new.items ≡ out.old.items
+            ++ carried_text (object_of self.now.hall.object) (carried_from self.now 0 calls.now)) }
+    {
         let mut number: u32 = 0;
-        for call in self.live.waiting() {
-            number = number.saturating_add(1);
-            push_carried(
-                out,
-                self.live.object(),
-                number,
-                self.told(call.number()),
-                call.session(),
-                call.operation(),
-                call.arguments(),
-            )?;
+        let mut rest = calls;
+        'calls: while let Some((call, more)) = rest.split_first() {
+            self.push_call(out, number, call)?;
+            number += 1;
+            rest = more;
         }
+        Ok(())
+    }
+
+    // Adds the lines of a front behind that of the base.
+    fn push_behind_base(&self, out: &mut Vec<u8>) -> Result<(), AllocError>
+        requires few { length self.now.hall.waiting ≤ 65536 }
+        ensures { OnOk result (TellsCalls self.now out.old.items out.new.items) }
+    {
+        self.push_calls(out, self.live.waiting())?;
+        push_clients(out, self.guests.guests())?;
+        push_all_kept(self.alloc, out, self.live.object(), self.guests.guests())?;
         Ok(())
     }
 
@@ -143,13 +224,15 @@ impl Hosted {
         out: &mut Vec<u8>,
         past: &[PastEvent],
         base: u64,
-    ) -> Result<(), AllocError> {
-        let object = self.live.object();
+    ) -> Result<(), AllocError>
+        requires few { length self.now.hall.waiting ≤ 65536 }
+        ensures { OnOk result (TellsPast self.now past.now base out.old.items out.new.items) }
+    {
         let runs = runs_of(self.alloc, past)?;
-        push_past(out, object, &runs)?;
+        push_past(out, self.live.object(), &runs)?;
         push_base(out, base)?;
-        self.push_waiting(out)?;
-        push_guests(self.alloc, out, object, self.guests.guests())
+        self.push_behind_base(out)?;
+        Ok(())
     }
 
     // Adds the lines of the front of an epoch, behind this past.
@@ -159,49 +242,98 @@ impl Hosted {
         epoch: u64,
         past: &[PastEvent],
         base: u64,
-    ) -> Result<(), AllocError> {
+    ) -> Result<(), AllocError>
+        requires few { length self.now.hall.waiting ≤ 65536 }
+        ensures { OnOk result (TellsFront self.now epoch past.now base out.old.items out.new.items) }
+    {
         let object = self.live.object();
         push_object(out, object, epoch)?;
         push_source(self.alloc, out, self.source)?;
         push_parts(self.alloc, out, &object.parts, self.live.contents())?;
-        self.push_behind_parts(out, past, base)
+        self.push_behind_parts(out, past, base)?;
+        Ok(())
     }
 
     // What is added to numbers in the next epoch: the first number that is given there is told as the next one.
-    fn next_base(&self) -> u64 {
+    fn next_base(&self) -> u64
+        ensures { result ≡ next_base self.now }
+    {
         let waits = self.live.waiting().len() as u64;
         self.base
             .saturating_add(u64::from(self.given))
             .saturating_sub(waits)
     }
 
-    /// Adds the lines of the front of this epoch, in which nothing has happened yet. The error is that memory was refused;
-    /// how much then stands in `out` is not said.
-    pub fn push_first(&self, out: &mut Vec<u8>) -> Result<(), AllocError> {
-        self.push_front(out, self.epoch, &self.long, self.base)
+    // Which epoch comes next.
+    fn next_epoch(&self) -> u64
+        ensures { result ≡ next_epoch self.now }
+    {
+        self.epoch.saturating_add(1)
     }
 
-    /// Writes the front of the next epoch into `front`, in place of what is in it. False: no short past was found. The
-    /// error is that memory was refused; how much then stands in `front` is not said.
-    pub fn write_next(&self, front: &mut Vec<u8>) -> Result<bool, AllocError> {
+    // Whether an epoch has numbers for all calls that wait, behind a past of so many events.
+    fn has_numbers(&self, past: usize) -> bool
+        ensures { IsTrue result → length self.now.hall.waiting ≤ 65536 }
+    {
+        let calls = (past / 2).saturating_add(self.live.waiting().len());
+        calls <= MOST_NUMBERS as usize
+    }
+
+    // Whether a past leaves what the paths have counted.
+    fn is_past(&self, past: &[PastEvent]) -> Result<bool, AllocError>
+        ensures { IfOk result (λ yes. IsTrue yes → IsPastOf self.now past.now) }
+    {
         let object = self.live.object();
         let operations = object.operations.len() as OpId;
-        front.clear();
-        let found = short_past(
+        match counters_behind(self.alloc, &object.paths, operations, past)? {
+            None => Ok(false),
+            Some(found) => Ok(found.leaves_same(self.live.counters())),
+        }
+    }
+
+    // A past that leaves what the paths have counted. `None`: none was found.
+    fn find_past(&self) -> Result<Option<Vec<PastEvent>>, AllocError>
+        ensures { IfOk result (λ found. IfSome found (λ past. IsPastOf self.now past.items)) }
+    {
+        let object = self.live.object();
+        let operations = object.operations.len() as OpId;
+        short_past(
             self.alloc,
             &object.paths,
             operations,
             &self.long,
             self.live.counters(),
-        )?;
-        let Some(past) = found else {
-            return Ok(false);
-        };
-        let calls = (past.len() / 2).saturating_add(self.live.waiting().len());
-        if calls > MOST_NUMBERS as usize {
+        )
+    }
+
+    /// Adds the lines of the front of this epoch, in which nothing has happened yet. False: its past does not leave what the
+    /// paths have counted, or too few numbers for the calls that wait; then nothing is added. The error is that memory was
+    /// refused; how much then stands in `out` is not said.
+    pub fn push_first(&self, out: &mut Vec<u8>) -> Result<bool, AllocError>
+        ensures { IfOk result (λ yes. IsTrue yes →
+            AddsFront self.now self.now.epoch self.now.base out.old.items out.new.items) }
+    {
+        if !self.is_past(&self.long)? || !self.has_numbers(self.long.len()) {
             return Ok(false);
         }
-        self.push_front(front, self.epoch.saturating_add(1), &past, self.next_base())?;
+        self.push_front(out, self.epoch, &self.long, self.base)?;
+        Ok(true)
+    }
+
+    /// Writes the front of the next epoch into `front`, in place of what is in it. False: no short past was found, or it
+    /// leaves too few numbers for the calls that wait. The error is that memory was refused; how much then stands in `front`
+    /// is not said.
+    pub fn write_next(&self, front: &mut Vec<u8>) -> Result<bool, AllocError>
+        ensures { IfOk result (λ yes. IsTrue yes → IsNextFront self.now front.new.items) }
+    {
+        front.clear();
+        let Some(past) = self.find_past()? else {
+            return Ok(false);
+        };
+        if !self.has_numbers(past.len()) {
+            return Ok(false);
+        }
+        self.push_front(front, self.next_epoch(), &past, self.next_base())?;
         Ok(true)
     }
 
@@ -224,18 +356,19 @@ impl Hosted {
 
     // The next epoch has begun, behind this past.
     fn begun(&mut self, past: Vec<PastEvent>, carried: Vec<u64>, base: u64)
-        ensures { self.new ≡ record {
-          hall = self.old.hall;
+        ensures { self.new ≡ record self.old {
           guests = record self.old.guests { seats = map renewed self.old.guests.seats };
           carried = carried.items;
           base = base;
+          given = min (length self.old.hall.waiting) (2 ^ 32 - 1);
+          epoch = next_epoch self.old;
         } }
     {
+        self.epoch = self.next_epoch();
         self.given = count_of(self.live.waiting().len());
         self.long = past;
         self.carried = carried;
         self.base = base;
-        self.epoch = self.epoch.saturating_add(1);
         self.added = 0;
         self.behind = 0;
         self.tried = 0;

@@ -165,7 +165,15 @@ fn no_owners(alloc: Global, sessions: u16) -> Result<Vec<u32>, AllocError> {
 impl Hosted {
     /// An object to which no client is connected. The error is that memory was refused.
     pub fn new(alloc: Global, begun: Begun) -> Result<Hosted, AllocError>
-        ensures { IfOk result (λ h. h ≡ record { hall = begun.live; guests = begun.guests; carried = []; base = begun.base }) }
+        ensures { IfOk result (λ h. h ≡ record {
+          hall = begun.live;
+          guests = begun.guests;
+          carried = [];
+          base = begun.base;
+          given = 0;
+          epoch = begun.epoch;
+          source = begun.source;
+        }) }
     {
         let owners = no_owners(alloc, begun.sessions)?;
         let Begun {

@@ -49,7 +49,7 @@ pub fn begin_again(
     source: u64,
     limits: Limits,
 ) -> Result<Option<Hosted>, AllocError>
-    ensures { IfOk result (λ found. IfSome found (λ s. BeginsAgain object ended limits s)) }
+    ensures { IfOk result (λ found. IfSome found (λ s. BeginsAgain object ended source limits s)) }
 {
     let Ended {
         epoch,

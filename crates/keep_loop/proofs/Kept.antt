@@ -4,7 +4,7 @@ use Rattle.std.specs.Prelude.{Bool, true, false, Option, Result, Ok, Err, OnErr,
 use Rattle.post_core.specs.Texts.{text_at}
 use Rattle.post_core.specs.Turns.{Gives, is_joining}
 use Rattle.keep_loop.specs.Seen.{Happened, Grows, GrowsIf, Always, read_of}
-use Rattle.keep_loop.specs.Seen.Happened.{Wrote, Noticed, Added, Stored, Changed}
+use Rattle.keep_loop.specs.Seen.Happened.{Broke, Wrote, Noticed, Added, Stored, Changed}
 use Rattle.post_core.specs.Posts.{is_here, hears, owed_to}
 use Rattle.keep_loop.specs.Stands.{Stands, Rests, IsHonest, Good, Rested, Keeps, Settles, Sends, Fails, FailsRested}
 use Rattle.keep_loop.specs.declared.keep.Keep.{Keep}
@@ -13,7 +13,7 @@ use Rattle.keep_loop.specs.declared.outside.Read.{Read}
 use Rattle.post_core.specs.declared.served.Note.{Note}
 use Rattle.keep_loop.proofs.Grown.{grown, same}
 use Rattle.keep_loop.proofs.Stood.{rests_kept, stands_added, stands_stored, stands_changed, stands_synced}
-use Rattle.keep_loop.proofs.Honest.{honest, honest_read, honest_noticed, honest_added, honest_wrote}
+use Rattle.keep_loop.proofs.Honest.{honest, honest_broke, honest_read, honest_noticed, honest_added, honest_wrote}
 
 module _ {S : Type 0} (gives : Gives S) where
   -- nothing was seen
@@ -44,6 +44,10 @@ module _ {S : Type 0} (gives : Gives S) where
       ((c : ℕ) → is_joining c note ≡ true → old.base ≤ c) → Fails gives before old after
   fails_note note before after old is joining =
       fails_event (Noticed note) before after old is (λ first limits seen s. honest_noticed gives first limits seen old note joining s)
+
+  pub fails_broke : (who : ℕ) (before after : Option (List Happened)) (old : Keep S) → Grows (Broke who) before after → Fails gives before old after
+  fails_broke who before after old is =
+      fails_event (Broke who) before after old is (λ first limits seen s. honest_broke gives first limits seen old who s)
 
   pub fails_read : (who : ℕ) (bytes : List ℕ) (read : Read) (before after : Option (List Happened)) (old : Keep S) → Grows (read_of who bytes read) before after →
       hears old.post.places.items who ≡ true → Fails gives before old after

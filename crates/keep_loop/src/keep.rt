@@ -348,7 +348,7 @@ impl<O: Served> Keep<O> {
     }
 
     // A connection broke.
-    fn broke(&mut self, who: u64) -> Result<(), AllocError>
+    pub(crate) fn broke(&mut self, who: u64) -> Result<(), AllocError>
         ensures stands { OnOk result ((first : O) (limits : Limits) (seen : List Happened) → Stands O.gives first limits seen self.old
             → Stands O.gives first limits (Broke who ∷ seen) self.new) }
     {
@@ -416,8 +416,8 @@ impl<O: Served> Keep<O> {
         Ok(true)
     }
 
-    // Whether the one that waits longest may be read again.
-    pub(crate) fn resume_one(&mut self) -> Result<(), AllocError>
+    // The one that waits longest is read again, where it may be. Else it is answered, where it waits for what others do.
+    pub(crate) fn resume_one(&mut self) -> Result<Option<u64>, AllocError>
         ensures stands { OnOk result ((first : O) (limits : Limits) (seen : List Happened) → Stands O.gives first limits seen self.old
             → Stands O.gives first limits seen self.new) }
     {
@@ -425,10 +425,18 @@ impl<O: Served> Keep<O> {
             Some(who) => {
                 let may_read = self.object.may_read(who);
                 self.post.call_or_pause(who, may_read)?;
-                Ok(())
+                Ok(self.stuck(who, may_read))
             }
-            None => Ok(()),
+            None => Ok(None),
         }
+    }
+
+    // A connection that may not be read, where it waits for what others do.
+    fn stuck(&self, who: u64, may_read: bool) -> Option<u64> {
+        if may_read || !self.object.waits(who) {
+            return None;
+        }
+        Some(who)
     }
 
     // A connection that quit, where there is one of which the object was not told.

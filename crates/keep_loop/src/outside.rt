@@ -2,7 +2,7 @@
 
 ghost use Rattle.std.specs.Prelude.{◌≡◌, ◌≤◌, true, false, List, Option, length, take, OnOk, OnErr, IfOk, IfSome, IfNone};
 ghost use Rattle.keep_loop.specs.Seen.{Happened, Grows, GrowsIf, read_of};
-ghost use Rattle.keep_loop.specs.Seen.Happened.{Wrote, Noticed, Added, Stored, Changed};
+ghost use Rattle.keep_loop.specs.Seen.Happened.{Broke, Wrote, Noticed, Added, Stored, Changed};
 ghost use Rattle.post_core.specs.declared.served.Note.TheVariants.{Joins, Leaves, Ticks, Ends};
 
 use std::alloc::AllocError;
@@ -57,6 +57,12 @@ pub trait Outside {
     fn read(&mut self, who: u64, piece: &mut Vec<u8>) -> Result<Read, AllocError>
         ensures ok { IfOk result (λ read. Grows (read_of who piece.new.items read) (seen self.old) (seen self.new)) }
         ensures err { OnErr result (seen self.new ≡ seen self.old) };
+
+    /// Whether the client of a connection sends no more, so that nothing comes behind what was not read of it. Then it
+    /// counts as broken: what was not read is let go.
+    fn is_over(&mut self, who: u64) -> bool
+        ensures over { result ≡ true → Grows (Broke who) (seen self.old) (seen self.new) }
+        ensures none { result ≡ false → seen self.new ≡ seen self.old };
 
     /// Writes a front of these bytes, and says how many it took, or `None` where the connection broke.
     fn write(&mut self, who: u64, bytes: &[u8]) -> Option<usize>

@@ -145,13 +145,41 @@ fn hear<O: Served, W: Outside>(
     Ok(())
 }
 
+// A connection that may not be read, and waits for what others do, is over where its client sends no more: what it sent
+// behind that would not be done.
+fn give_up<O: Served, W: Outside>(
+    keep: &mut Keep<O>,
+    outside: &mut W,
+    who: u64,
+) -> Result<(), Fault>
+    ensures ok { OnOk result (Keeps O.gives (W.seen outside.old) keep.old (W.seen outside.new) keep.new) }
+    ensures err { OnErr result (Fails O.gives (W.seen outside.old) keep.old (W.seen outside.new)) }
+{
+    if !outside.is_over(who) {
+        return Ok(());
+    }
+    keep.broke(who)?;
+    Ok(())
+}
+
+// Looks whether the one that waits longest to be read may be read again.
+fn resume_one<O: Served, W: Outside>(keep: &mut Keep<O>, outside: &mut W) -> Result<(), Fault>
+    ensures ok { OnOk result (Keeps O.gives (W.seen outside.old) keep.old (W.seen outside.new) keep.new) }
+    ensures err { OnErr result (Fails O.gives (W.seen outside.old) keep.old (W.seen outside.new)) }
+{
+    match keep.resume_one()? {
+        Some(who) => give_up(keep, outside, who),
+        None => Ok(()),
+    }
+}
+
 // Notes who may be read again that might not for a while.
 fn resume<O: Served, W: Outside>(keep: &mut Keep<O>, outside: &mut W) -> Result<(), Fault>
     ensures ok { OnOk result (Keeps O.gives (W.seen outside.old) keep.old (W.seen outside.new) keep.new) }
     ensures err { OnErr result (Fails O.gives (W.seen outside.old) keep.old (W.seen outside.new)) }
 {
     for _paused in 0..keep.post.count_paused() {
-        keep.resume_one()?;
+        resume_one(keep, outside)?;
     }
     Ok(())
 }

@@ -1,9 +1,15 @@
 //! One object, from its journal or from its parts.
 
-ghost use Rattle.std.specs.Prelude.{◌≡◌, IfOk};
+ghost use Rattle.std.specs.Prelude.{◌≡◌, ◌++◌, ◌⊎◌, ℕ, IfOk, IfErr, OnOk};
 ghost use Rattle.hand_core.specs.Papers.{Papers};
+ghost use Rattle.journal_core.specs.Journal.{recovered};
 ghost use Rattle.store_core.specs.Opened.{AreLoaded};
+ghost use Rattle.keep_start.specs.First.{BeginsFirst, calls_of};
+ghost use Rattle.hosted_core.specs.Again.{BeginsAgain};
+ghost use Rattle.keep_start.specs.Behind.{BeginsBehind, BeginsNot, ended_of};
+ghost use Rattle.keep_start.specs.declared.start.NotBegun.TheVariants.{NoPast as IsNoPast, Memory as IsMemory};
 
+use crate::save::key_of;
 use decl_core::object::Object;
 use device_core::memory::MemHand;
 use front_core::source::source_of;
@@ -14,7 +20,9 @@ use hosted_core::hosted::{Begun, Hosted};
 use hosted_core::start::{Ended, begin_again};
 use live_core::call::Limits;
 use live_core::live::Live;
-use path_tree::node::{Members, Node};
+use past_core::finder::short_past;
+use past_core::past::{PastEvent, counters_behind};
+use path_tree::node::{Members, Node, OpId};
 use path_tree::tree::PathTree;
 use recover_core::recover::{House, RecoverFault, Recovered};
 use recover_text::recover::recover;
@@ -95,9 +103,7 @@ fn counts(paths: &[PathTree]) -> bool {
 // Whether a part of an object is there.
 fn has_part<S: Shelf>(alloc: Global, object: &Object, shelf: &mut S) -> Result<bool, NotBegun> {
     for part in &object.parts {
-        let mut key = object.name.as_bytes().to_vec(alloc)?;
-        key.push(b'.')?;
-        key.extend_from_slice(part.name.as_bytes())?;
+        let key = key_of(alloc, &object.name, &part.name)?;
         match shelf.load(alloc, &key) {
             Ok(None) => {}
             Ok(Some(_)) => return Ok(true),
@@ -109,16 +115,18 @@ fn has_part<S: Shelf>(alloc: Global, object: &Object, shelf: &mut S) -> Result<b
 }
 
 /// The values with which an object begins of which there is no journal: what the shelf has under the names of its parts, or
-/// those of their kinds where nothing is there. The errors are those of [`NotBegun`] from `Uncounted` on.
+/// those of their kinds where nothing is there. The errors are those of [`NotBegun`] from `Uncounted` on; where it is told
+/// what was done before, `Uncounted` is none.
 pub fn opening_of<S: Shelf>(
     alloc: Global,
     object: &Object,
+    is_told: bool,
     shelf: &mut S,
 ) -> Result<Vec<Value>, NotBegun>
     ensures { IfOk result (λ values. (papers : Papers) → S.holds shelf.new papers →
         AreLoaded papers object.now.name object.now.parts.items values.items) }
 {
-    if counts(&object.paths) && has_part(alloc, object, shelf)? {
+    if !is_told && counts(&object.paths) && has_part(alloc, object, shelf)? {
         return Err(NotBegun::Uncounted);
     }
     let mut hand = MemHand::new(alloc);
@@ -126,49 +134,64 @@ pub fn opening_of<S: Shelf>(
     Ok(values)
 }
 
-/// An object that nobody has called, with these values in its parts, and so many names before a new one takes the place of
-/// another. The errors are `NoPast`, where a value is not of its part's kind, and `Memory`.
+/// So many calls of an operation more, one behind another.
+pub fn push_calls(done: &mut Vec<PastEvent>, op: OpId, times: u32) -> Result<(), AllocError>
+    ensures { OnOk result (done.new.items ≡ done.old.items ++ calls_of times op) }
+{
+    let mut left = times;
+    while left > 0 {
+        done.push(PastEvent::Start(op))?;
+        done.push(PastEvent::End(op))?;
+        left -= 1;
+    }
+    Ok(())
+}
+
+/// An object with these values in its parts, of which all this was done before they were made, and so many names before
+/// a new one takes the place of another. The errors are `NoPast`, where its paths do not let that happen or leave a call
+/// of it running, it has more than 65,536 calls, or a value is not of its part's kind; and `Memory`.
 pub fn begin_first(
     alloc: Global,
     object: Object,
+    done: &[PastEvent],
     values: Vec<Value>,
     names: u16,
     limits: Limits,
 ) -> Result<Hosted, NotBegun>
-    ensures { IfOk result (λ h. h.hall.contents ≡ values.items) }
+    ensures contents { IfOk result (λ h. h.hall.contents ≡ values.items) }
+    ensures begins { IfOk result (λ h. BeginsFirst object done.now values.items limits h) }
 {
     let source = source_of(&object);
-    let found = Live::behind(alloc, object, &[], values, Vec::new(alloc), limits)?;
+    let operations = object.operations.len() as OpId;
+    let Some(counters) = counters_behind(alloc, &object.paths, operations, done)? else {
+        return Err(NotBegun::NoPast);
+    };
+    let Some(past) = short_past(alloc, &object.paths, operations, done, &counters)? else {
+        return Err(NotBegun::NoPast);
+    };
+    let found = Live::behind(alloc, object, &past, values, Vec::new(alloc), limits)?;
     let Some(live) = found else {
         return Err(NotBegun::NoPast);
     };
     let begun = Begun {
         live,
         guests: Guests::new(alloc, limits.sessions, names)?,
-        long: Vec::new(alloc),
+        long: past,
         epoch: 1,
         source,
         base: 0,
         sessions: limits.sessions,
         waiting: limits.waiting,
     };
-    Ok(Hosted::new(alloc, begun)?)
+    let hosted = Hosted::new(alloc, begun)?;
+    Ok(hosted)
 }
 
-/// An object that goes on behind the text of its journal, in the next epoch: with its values, what its paths have
-/// counted, its clients and their last calls. Calls that waited wait no more. The errors are `Refused`, `NoPast` and
-/// `Memory`.
-pub fn begin_behind(
-    alloc: Global,
-    object: Object,
-    text: &[u8],
-    house: House,
-    limits: Limits,
-) -> Result<Hosted, NotBegun> {
-    let recovered = match recover(alloc, &object, house, text)? {
-        Ok(recovered) => recovered,
-        Err(fault) => return Err(NotBegun::Refused(fault)),
-    };
+// An object begins again with what was recovered of it. The errors are `NoPast` and `Memory`.
+fn go_on(alloc: Global, object: Object, came: Recovered, limits: Limits) -> Result<Hosted, NotBegun>
+    ensures ok { IfOk result (λ s. (source : ℕ) × BeginsAgain object (ended_of came) source limits s) }
+    ensures err { IfErr result (λ why. (why ≡ IsNoPast) ⊎ (why ≡ IsMemory)) }
+{
     let source = source_of(&object);
     let Recovered {
         epoch,
@@ -176,7 +199,7 @@ pub fn begin_behind(
         played,
         guests,
         ..
-    } = recovered;
+    } = came;
     let Played {
         contents,
         counters,
@@ -192,8 +215,32 @@ pub fn begin_behind(
         long,
         guests,
     };
-    match begin_again(alloc, object, ended, source, limits)? {
-        Some(hosted) => Ok(hosted),
-        None => Err(NotBegun::NoPast),
+    match begin_again(alloc, object, ended, source, limits) {
+        Ok(Some(hosted)) => Ok(hosted),
+        Ok(None) => Err(NotBegun::NoPast),
+        Err(AllocError) => Err(NotBegun::Memory),
+    }
+}
+
+/// An object that goes on behind the text of its journal, in the next epoch: with its values, what its paths have
+/// counted, its clients and their last calls. Calls that waited wait no more. The errors are `Refused`, `NoPast` and
+/// `Memory`.
+pub fn begin_behind(
+    alloc: Global,
+    object: Object,
+    text: &[u8],
+    house: House,
+    limits: Limits,
+) -> Result<Hosted, NotBegun>
+    ensures ok { IfOk result (λ s. BeginsBehind object house (recovered text.now) limits s) }
+    ensures err { IfErr result (λ why. BeginsNot object house (recovered text.now) why) }
+{
+    match recover(alloc, &object, house, text) {
+        Ok(Ok(came)) => match go_on(alloc, object, came, limits) {
+            Ok(hosted) => Ok(hosted),
+            Err(why) => Err(why),
+        },
+        Ok(Err(fault)) => Err(NotBegun::Refused(fault)),
+        Err(AllocError) => Err(NotBegun::Memory),
     }
 }

@@ -1,5 +1,7 @@
 //! When it is time for what.
 
+ghost use Rattle.std.specs.Prelude.{◌≡◌, ◌⊎◌, ◌≤◌, ◌<◌, ◌/◌, true, false, IfOk, IfSome, IfNone};
+
 use std::io;
 use std::time::{Clock, Duration, Instant};
 
@@ -8,7 +10,7 @@ use std::time::{Clock, Duration, Instant};
 pub struct Pace {
     /// So often the object is told the time.
     pub tick: u64,
-    /// So often journals are stored for which no answer waits.
+    /// So often journals are stored for which no answer waits. 0: never.
     pub sync: u64,
 }
 
@@ -19,50 +21,83 @@ pub struct Watch {
     pace: Pace,
     tick_at: u64,
     sync_at: u64,
-    now: u64,
+    time: u64,
 }
 
 impl Watch {
     /// It begins now. The error is that of the clock.
-    pub fn begin(clock: &impl Clock, pace: Pace) -> io::Result<Watch> {
+    pub fn begin(clock: &impl Clock, pace: Pace) -> io::Result<Watch>
+        ensures now { IfOk result (λ watch. watch.time ≡ 0) }
+        ensures tick { IfOk result (λ watch. watch.tick_at ≡ pace.tick) }
+        ensures sync { IfOk result (λ watch. watch.sync_at ≡ pace.sync) }
+        ensures pace { IfOk result (λ watch. watch.pace ≡ pace) }
+    {
         Ok(Watch {
             start: Instant::now(clock)?,
             pace,
             tick_at: pace.tick,
             sync_at: pace.sync,
-            now: 0,
+            time: 0,
         })
     }
 
     /// Looks at the clock. Where it fails, the time stays.
-    pub fn look(&mut self, clock: &impl Clock) {
+    pub fn look(&mut self, clock: &impl Clock)
+        ensures rises { self.old.time ≤ self.new.time }
+        ensures tick { self.new.tick_at ≡ self.old.tick_at }
+        ensures sync { self.new.sync_at ≡ self.old.sync_at }
+    {
         if let Ok(time) = self.start.elapsed(clock) {
             let now = u64::try_from(time.as_millis()).unwrap_or(u64::MAX);
-            self.now = self.now.max(now);
+            self.time = self.time.max(now);
         }
+    }
+
+    // When something is due next.
+    fn next(&self) -> u64
+        ensures never { self.now.pace.sync ≡ 0 → result ≡ self.now.tick_at }
+        ensures tick { result ≤ self.now.tick_at }
+        ensures sync { 0 < self.now.pace.sync → result ≤ self.now.sync_at }
+        ensures one { (result ≡ self.now.tick_at) ⊎ (result ≡ self.now.sync_at) }
+    {
+        if self.pace.sync == 0 || self.tick_at <= self.sync_at {
+            return self.tick_at;
+        }
+        self.sync_at
     }
 
     /// The time until something is due.
     pub fn rest(&self) -> Duration {
-        let next = self.tick_at.min(self.sync_at);
-        Duration::from_millis(next.saturating_sub(self.now))
+        Duration::from_millis(self.next().saturating_sub(self.time))
     }
 
     /// The time, in seconds since the server began, where the object is to be told. It never falls.
-    pub fn tick(&mut self) -> Option<u64> {
-        if self.now < self.tick_at {
+    pub fn tick(&mut self) -> Option<u64>
+        ensures next { IfSome result (λ time. self.old.time ≤ self.new.tick_at) }
+        ensures time { IfSome result (λ time. time ≡ self.old.time / 1000) }
+        ensures due { IfSome result (λ time. self.old.tick_at ≤ self.old.time) }
+        ensures later { IfNone result (self.old.time < self.old.tick_at) }
+        ensures now { self.new.time ≡ self.old.time }
+        ensures sync { self.new.sync_at ≡ self.old.sync_at }
+    {
+        if self.time < self.tick_at {
             return None;
         }
-        self.tick_at = self.now.saturating_add(self.pace.tick);
-        Some(self.now / 1_000)
+        self.tick_at = self.time.saturating_add(self.pace.tick);
+        Some(self.time / 1_000)
     }
 
     /// Whether journals are to be stored.
-    pub fn is_sync_due(&mut self) -> bool {
-        if self.now < self.sync_at {
+    pub fn is_sync_due(&mut self) -> bool
+        ensures due { result ≡ true → self.old.sync_at ≤ self.old.time }
+        ensures later { result ≡ false → self.old.time < self.old.sync_at }
+        ensures now { self.new.time ≡ self.old.time }
+        ensures tick { self.new.tick_at ≡ self.old.tick_at }
+    {
+        if self.time < self.sync_at {
             return false;
         }
-        self.sync_at = self.now.saturating_add(self.pace.sync);
+        self.sync_at = self.time.saturating_add(self.pace.sync);
         true
     }
 }

@@ -109,6 +109,14 @@ impl Places {
         }
     }
 
+    /// Whether the client of a connection sends no more.
+    pub fn is_ending(&mut self, who: u64) -> bool {
+        match self.wire(who) {
+            Some(wire) => wire.is_ending,
+            None => true,
+        }
+    }
+
     /// Reads once, in place of what is in `piece`. The error is that memory was refused.
     pub fn read(&mut self, who: u64, piece: &mut Vec<u8>) -> Result<Got, AllocError> {
         piece.clear();

@@ -8,7 +8,8 @@ use keep_loop::{Fault, Outside, Read};
 use mio::unix::SourceFd;
 use mio::{Events, Interest, Poll, Token};
 use std::alloc::AllocError;
-use std::io::{self, ErrorKind, Input, Read as _};
+use std::fs::File;
+use std::io::{self, ErrorKind, Input, Read as _, Write};
 use std::net::Net;
 use std::rt::Files;
 use std::time::{Clock, Duration};
@@ -23,15 +24,29 @@ const MOST_EVENTS: usize = 1_024;
 // So many bytes of a connection are read at once.
 const PIECE: usize = 4_096;
 
+// So often a connection is taken anew where the one that waited has gone again.
+const MOST_TRIES: u32 = 16;
+
+// What standard error is told, once, where a connection could not be taken.
+const SHORT: &[u8] =
+    b"no file or memory for one more connection: who comes waits until another one ends\n";
+
 /// What a loop has outside of it.
 #[derive(Drop)]
-pub struct Wires<R: Files + AllocGlobal + Input> {
+pub struct Wires<R: Files + AllocGlobal + Input, E: Write> {
     rt: R,
     poll: Poll,
     events: Events,
     listener: Listener,
     // Whether somebody may wait to be taken.
     may_take: bool,
+    // Whether somebody waits for whom the system had no file or memory.
+    is_short: bool,
+    // Whether that was said.
+    has_told: bool,
+    errors: E,
+    // A file that is closed while a journal begins anew, which takes one more: connections may have all others.
+    spare: Option<R::File>,
     places: Places,
     // Who can be read or written again.
     ready: Vec<u64>,
@@ -53,15 +68,22 @@ pub struct Serving {
     pub stops_with_input: bool,
 }
 
-impl<R: Files + AllocGlobal + Input + Clock + Eprint + Drop> Wires<R> {
-    /// Connections of this listener, none yet, and these journals. The error is that of the system, or a want of memory.
+// A file that stands for nothing.
+fn spare_of<R: Files>(rt: &R) -> Option<R::File> {
+    File::open(rt, "/dev/null").ok()
+}
+
+impl<R: Files + AllocGlobal + Input + Clock + Eprint + Drop, E: Write + Drop> Wires<R, E> {
+    /// Connections of this listener, none yet, and these journals. `errors` is told once where a connection cannot be taken
+    /// since the system has no file or memory for it. The error is that of the system, or a want of memory.
     pub fn open(
         net: &impl Net,
         rt: R,
         mut listener: Listener,
         journals: Journals<R>,
         serving: Serving,
-    ) -> io::Result<Wires<R>> {
+        errors: E,
+    ) -> io::Result<Wires<R, E>> {
         let alloc = rt.alloc();
         let poll = Poll::new(net)?;
         listener.register(poll.registry(), LISTENER)?;
@@ -69,12 +91,17 @@ impl<R: Files + AllocGlobal + Input + Clock + Eprint + Drop> Wires<R> {
         let places = Places::new(alloc, serving.places, PIECE)?;
         let events = Events::with_capacity(alloc, MOST_EVENTS)?;
         let ready = Vec::with_capacity(alloc, MOST_EVENTS)?;
+        let spare = spare_of(&rt);
         let mut wires = Wires {
             rt,
             poll,
             events,
             listener,
             may_take: true,
+            is_short: false,
+            has_told: false,
+            errors,
+            spare,
             places,
             ready,
             watch,
@@ -89,7 +116,7 @@ impl<R: Files + AllocGlobal + Input + Clock + Eprint + Drop> Wires<R> {
     }
 }
 
-impl<R: Files + AllocGlobal + Input + Clock + Eprint + Drop> Wires<R> {
+impl<R: Files + AllocGlobal + Input + Clock + Eprint + Drop, E: Write + Drop> Wires<R, E> {
     // Has the end of standard input end the server. What cannot be waited for, as a file, is at its end.
     fn listen_to_input(&mut self) {
         self.input = Some(self.rt.reader());
@@ -152,9 +179,42 @@ impl<R: Files + AllocGlobal + Input + Clock + Eprint + Drop> Wires<R> {
         self.places.put(who, stream);
         Ok(())
     }
+
+    // None was taken. Where none waits the system tells when one comes. Where it had no file or memory it does not: then it
+    // is tried again when another one ends, and at each tick.
+    fn not_taken(&mut self, kind: ErrorKind) {
+        match kind {
+            ErrorKind::Interrupted | ErrorKind::ConnectionAborted => {}
+            ErrorKind::WouldBlock => {
+                self.may_take = false;
+                self.is_short = false;
+            }
+            _ => {
+                self.may_take = false;
+                self.is_short = true;
+                self.tell_short();
+            }
+        }
+    }
+
+    // Says once that connections wait.
+    fn tell_short(&mut self) {
+        if !self.has_told {
+            self.has_told = true;
+            let _ = self.errors.write_all(SHORT);
+        }
+    }
+
+    // There may be a file for who waits.
+    fn retry(&mut self) {
+        if self.is_short {
+            self.may_take = true;
+        }
+    }
 }
 
-impl<R: Files + AllocGlobal + Input + Clock + Eprint + Drop> Outside for Wires<R> {
+impl<R: Files + AllocGlobal + Input + Clock + Eprint + Drop, E: Write + Drop> Outside
+    for Wires<R, E> {
     ghost use Rattle.std.specs.Prelude.{None};
 
     ghost seen = { λ _. None };
@@ -178,16 +238,16 @@ impl<R: Files + AllocGlobal + Input + Clock + Eprint + Drop> Outside for Wires<R
     }
 
     fn accept(&mut self, who: u64) -> bool {
-        if !self.may_take {
-            return false;
-        }
-        match self.take(who) {
-            Ok(()) => true,
-            Err(_) => {
-                self.may_take = false;
-                false
+        for _try in 0..MOST_TRIES {
+            if !self.may_take {
+                return false;
+            }
+            match self.take(who) {
+                Ok(()) => return true,
+                Err(error) => self.not_taken(error.kind()),
             }
         }
+        false
     }
 
     fn read(&mut self, who: u64, piece: &mut Vec<u8>) -> Result<Read, AllocError> {
@@ -199,6 +259,10 @@ impl<R: Files + AllocGlobal + Input + Clock + Eprint + Drop> Outside for Wires<R
         }
     }
 
+    fn is_over(&mut self, who: u64) -> bool {
+        self.places.is_ending(who)
+    }
+
     fn write(&mut self, who: u64, bytes: &[u8]) -> Option<usize> {
         self.places.write(who, bytes)
     }
@@ -207,10 +271,13 @@ impl<R: Files + AllocGlobal + Input + Clock + Eprint + Drop> Outside for Wires<R
 
     fn close(&mut self, who: u64) {
         self.places.close(who);
+        self.retry();
     }
 
     fn tick(&mut self) -> Option<u64> {
-        self.watch.tick()
+        let time = self.watch.tick()?;
+        self.retry();
+        Some(time)
     }
 
     fn ends(&mut self) -> bool {
@@ -238,7 +305,10 @@ impl<R: Files + AllocGlobal + Input + Clock + Eprint + Drop> Outside for Wires<R
     }
 
     fn change(&mut self, journal: usize, front: &[u8]) -> Result<bool, Fault> {
-        match self.journals.change(journal, front) {
+        self.spare = None;
+        let went = self.journals.change(journal, front);
+        self.spare = spare_of(&self.rt);
+        match went {
             Some(went) => Ok(went),
             None => Err(Fault::Journal(journal)),
         }

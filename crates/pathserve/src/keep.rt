@@ -3,23 +3,28 @@
 use answer_core::answer::{ACCEPTED, REFUSED};
 use answer_core::failure::Failure;
 use audit_core::verdict::Fault as TraceFault;
-use command_line::request::{Address, Keeping, Sync};
+use command_line::past::Past;
+use command_line::request::{Address, Keeping, Sync, past_error};
 use decl_core::object::Object;
 use device_core::dir_shelf::DirShelf;
 use exclude_core::analyse::Accepted;
+use hand_core::hand::HandFault;
 use hosted_core::hosted::{Hosted, MOST_LINES};
 use journal_core::device::DeviceError;
 use journal_core::folder::FolderFile;
 use journal_core::journal::recover as lines_of;
-use keep_core::open::push_damaged;
+use keep_core::open::{push_damaged, push_part};
 use keep_loop::{Fault, Limits as LoopLimits, run};
-use keep_start::start::{NotBegun, begin_behind, begin_first, opening_of};
+use keep_start::save::save_value;
+use keep_start::start::{NotBegun, begin_behind, begin_first, opening_of, push_calls};
 use line_core::write_whole;
 use live_core::call::Limits;
 use mio_core::clock::Pace;
 use mio_core::journals::Journals;
 use mio_core::stream::Listener;
 use mio_core::wires::{Serving, Wires};
+use past_core::past::PastEvent;
+use path_tree::node::OpId;
 use recover_core::recover::{House, RecoverFault};
 use std::alloc::{AllocError, Global};
 use std::fs;
@@ -38,11 +43,11 @@ const LIMITS: Limits = Limits {
 /// Behind a front a journal has room for so many bytes.
 const ROOM: usize = MOST_LINES;
 
-/// The files of ended epochs have so many bytes at most, all together.
-const TRACES: u64 = 300_000_000;
+/// So many bytes are a megabyte.
+const MEGABYTE: u64 = 1_000_000;
 
-/// So often, in seconds, objects are told the time.
-const TICK: u64 = 1;
+/// So often, in milliseconds, objects are told the time, and lines are done that wait for their client to read.
+const TICK: u64 = 20;
 
 // The objects of a server, with their names and the fronts with which their journals begin.
 #[derive(Drop)]
@@ -116,6 +121,75 @@ fn told_line(
     Ok(line)
 }
 
+// Whether what was done before is told of an object.
+fn is_of(object: &Object, past: &Past<'_>) -> bool {
+    object.name.is_spelled_by(past.object.as_bytes())
+}
+
+// The first word of the command line that tells what was done of an object before.
+fn first_past<'s, 'a>(object: &Object, pasts: &'s [Past<'a>]) -> Option<&'s Past<'a>> {
+    pasts.iter().find(|past| is_of(object, past))
+}
+
+// The operation of this name.
+fn operation_of(object: &Object, name: &str) -> Option<OpId> {
+    let place = object
+        .operations
+        .iter()
+        .position(|operation| operation.name.is_spelled_by(name.as_bytes()))?;
+    Some(place as OpId)
+}
+
+// What was done of an object before its parts were made, or the line that names an operation that it has not.
+fn done_before(
+    alloc: Global,
+    object: &Object,
+    name: &str,
+    pasts: &[Past<'_>],
+) -> Result<Result<Vec<PastEvent>, Vec<u8>>, AllocError> {
+    let mut done = Vec::new(alloc);
+    for past in pasts {
+        if is_of(object, past) {
+            match operation_of(object, past.operation) {
+                Some(operation) => push_calls(&mut done, operation, past.times)?,
+                None => {
+                    let said = format!(in alloc; " no operation {}\n", past.operation)?;
+                    return Ok(Err(object_line(alloc, name, said.as_bytes())?));
+                }
+            }
+        }
+    }
+    Ok(Ok(done))
+}
+
+// The mistake of a word that tells of a past which a journal tells.
+fn told_twice(alloc: Global, name: &str, past: &Past<'_>) -> Result<Failure, AllocError> {
+    let Past {
+        object,
+        operation,
+        times,
+    } = past;
+    let word = format!(in alloc; "{object}:{operation}:{times}")?;
+    let form = format!(in alloc; "what was done before is read from {name}.journal alone")?;
+    Ok(Failure::Usage(past_error(alloc, word.as_str(), form.as_str())?))
+}
+
+// `no object NAME` for each word that tells of the past of an object that is not there.
+fn strangers(
+    alloc: Global,
+    accepted: &[Accepted],
+    pasts: &[Past<'_>],
+) -> Result<Vec<u8>, AllocError> {
+    let mut lines = Vec::new(alloc);
+    for past in pasts {
+        if !accepted.iter().any(|one| is_of(one.object(), past)) {
+            let line = format!(in alloc; "no object {}\n", past.object)?;
+            lines.extend_from_slice(line.as_bytes())?;
+        }
+    }
+    Ok(lines)
+}
+
 // The lines of a journal in a folder, which is made where it is missing.
 fn journal_lines(rt: &HostRuntime, folder: &str, name: &str) -> Result<Vec<u8>, Failure> {
     let mut file = FolderFile::open(*rt, folder, name)?;
@@ -132,12 +206,16 @@ fn begin_one(
     object: Object,
     name: &str,
     folder: &str,
+    pasts: &[Past<'_>],
     shelf: &mut DirShelf<HostRuntime>,
 ) -> Result<Begun, Failure> {
     let alloc = rt.alloc();
     let lines = journal_lines(rt, folder, name)?;
     if lines.is_empty() {
-        return begin_new(alloc, object, name, shelf);
+        return begin_new(alloc, object, name, pasts, shelf);
+    }
+    if let Some(past) = first_past(&object, pasts) {
+        return Err(told_twice(alloc, name, past)?);
     }
     let house = House {
         sessions: LIMITS.sessions,
@@ -157,13 +235,18 @@ fn begin_new(
     alloc: Global,
     object: Object,
     name: &str,
+    pasts: &[Past<'_>],
     shelf: &mut DirShelf<HostRuntime>,
 ) -> Result<Begun, Failure> {
-    let values = match opening_of(alloc, &object, shelf) {
+    let done = match done_before(alloc, &object, name, pasts)? {
+        Ok(done) => done,
+        Err(line) => return Ok(Begun::Told(line)),
+    };
+    let values = match opening_of(alloc, &object, !done.is_empty(), shelf) {
         Ok(values) => values,
         Err(why) => return Ok(Begun::Told(told_line(alloc, &object, name, why)?)),
     };
-    match begin_first(alloc, object, values, NAMES, LIMITS) {
+    match begin_first(alloc, object, &done, values, NAMES, LIMITS) {
         Ok(hosted) => Ok(Begun::Ready(hosted)),
         Err(NotBegun::Memory) => Err(Failure::Memory),
         Err(_) => Ok(Begun::Told(object_line(alloc, name, b" past does not fit\n")?)),
@@ -182,8 +265,13 @@ fn begin_all(
     rt: &HostRuntime,
     accepted: Vec<Accepted>,
     folder: &str,
+    pasts: &[Past<'_>],
 ) -> Result<Result<Kept, Vec<u8>>, Failure> {
     let alloc = rt.alloc();
+    let unknown = strangers(alloc, &accepted, pasts)?;
+    if !unknown.is_empty() {
+        return Ok(Err(unknown));
+    }
     let mut shelf = DirShelf::new(*rt, folder)?;
     let mut kept = Kept {
         objects: Vec::new(alloc),
@@ -194,9 +282,13 @@ fn begin_all(
     for one in accepted {
         let object = one.into_object();
         let name = name_of(alloc, &object)?;
-        match begin_one(rt, object, name.as_str(), folder, &mut shelf)? {
+        match begin_one(rt, object, name.as_str(), folder, pasts, &mut shelf)? {
             Begun::Told(line) => told.extend_from_slice(&line)?,
-            Begun::Ready(hosted) => add(alloc, &mut kept, hosted, name)?,
+            Begun::Ready(hosted) => {
+                if let Some(line) = add(alloc, &mut kept, hosted, name)? {
+                    told.extend_from_slice(&line)?;
+                }
+            }
         }
     }
     if told.is_empty() {
@@ -205,17 +297,25 @@ fn begin_all(
     Ok(Err(told))
 }
 
-// Adds an object.
-fn add(alloc: Global, kept: &mut Kept, hosted: Hosted, name: String) -> Result<(), AllocError> {
+// Adds an object, or gives the line that says why it is not kept.
+fn add(
+    alloc: Global,
+    kept: &mut Kept,
+    hosted: Hosted,
+    name: String,
+) -> Result<Option<Vec<u8>>, AllocError> {
     let mut front = Vec::new(alloc);
-    hosted.push_first(&mut front)?;
+    if !hosted.push_first(&mut front)? {
+        let line = object_line(alloc, name.as_str(), b" past does not fit\n")?;
+        return Ok(Some(line));
+    }
     kept.fronts.push(front)?;
     kept.names.push(name)?;
     kept.objects.push(hosted)?;
-    Ok(())
+    Ok(None)
 }
 
-// How often what no answer waits for is stored, in milliseconds; 0 where each answer waits.
+// How often what no answer waits for is stored, in milliseconds; 0, never, where each answer waits.
 fn pace_of(sync: Sync) -> u64 {
     match sync {
         Sync::Always => 0,
@@ -224,12 +324,13 @@ fn pace_of(sync: Sync) -> u64 {
 }
 
 // Serves objects until the server is to end.
-fn serve_kept<W: Write>(
+fn serve_kept<W: Write, E: Write>(
     rt: &HostRuntime,
     kept: Kept,
     asked: Keeping<'_>,
     listener: Listener,
     writer: &mut W,
+    error: &mut E,
 ) -> Result<u8, Failure> {
     let alloc = rt.alloc();
     let Kept {
@@ -238,7 +339,8 @@ fn serve_kept<W: Write>(
         fronts,
     } = kept;
     let count = objects.len();
-    let begun = Journals::begin(*rt, asked.folder, &names, &fronts, ROOM, TRACES);
+    let traces = u64::from(asked.traces).saturating_mul(MEGABYTE);
+    let begun = Journals::begin(*rt, asked.folder, &names, &fronts, ROOM, traces);
     let Some(journals) = begun else {
         return Err(Failure::WriteFault);
     };
@@ -251,7 +353,7 @@ fn serve_kept<W: Write>(
         },
         stops_with_input: asked.stops,
     };
-    let mut wires = Wires::open(rt, *rt, listener, journals, serving)?;
+    let mut wires = Wires::open(rt, *rt, listener, journals, serving, rt.stderr())?;
     tell_place(alloc, asked, writer)?;
     let limits = LoopLimits {
         places: asked.at_once,
@@ -259,7 +361,12 @@ fn serve_kept<W: Write>(
         waits: asked.sync == Sync::Always,
     };
     match run(alloc, table, limits, &mut wires, u64::MAX) {
-        Ok(table) => tell_entries(alloc, &table, writer),
+        Ok(table) => {
+            let saved = save_all(rt, &table, asked.folder, error);
+            let told = tell_entries(alloc, &table, writer);
+            saved?;
+            told
+        }
         Err(Fault::Memory) => Err(Failure::Memory),
         Err(Fault::Journal(_)) => Err(Failure::WriteFault),
     }
@@ -280,6 +387,51 @@ fn tell_place<W: Write>(alloc: Global, asked: Keeping<'_>, writer: &mut W) -> Re
         Address::Path(path) => format!(in alloc; "listening {path}\n")?,
     };
     say(writer, line.as_bytes())
+}
+
+// `OBJECT.PART not saved`.
+fn tell_unsaved<E: Write>(
+    alloc: Global,
+    object: &Object,
+    part: usize,
+    error: &mut E,
+) -> Result<(), AllocError> {
+    let mut line = Vec::new(alloc);
+    push_part(&mut line, object, part)?;
+    line.extend_from_slice(b" not saved\n")?;
+    let _ = write_whole(error, &line);
+    Ok(())
+}
+
+// Saves the parts of each object, as `serve` does, for people and for another folder: here they are read from the
+// journals alone. What is wrong with one of them keeps no other one from being saved.
+fn save_all<E: Write>(
+    rt: &HostRuntime,
+    table: &Table,
+    folder: &str,
+    error: &mut E,
+) -> Result<(), Failure> {
+    let alloc = rt.alloc();
+    let mut shelf = DirShelf::new(*rt, folder)?;
+    let mut ended = Ok(());
+    for hosted in table.objects() {
+        let object = hosted.live().object();
+        let values = hosted.live().contents();
+        for place in 0..object.parts.len() {
+            let Some(value) = values.get(place) else {
+                break;
+            };
+            let name = &object.parts[place].name;
+            if let Err(fault) = save_value(alloc, &object.name, name, value, &mut shelf) {
+                tell_unsaved(alloc, object, place, error)?;
+                ended = Err(match fault {
+                    HandFault::Device => Failure::WriteFault,
+                    HandFault::Memory => Failure::Memory,
+                });
+            }
+        }
+    }
+    ended
 }
 
 // `NAME entries K` for each object, in order: so many calls of it finished since the server began.
@@ -314,18 +466,23 @@ fn is_begun(rt: &HostRuntime, folder: &str, name: &str) -> io::Result<bool> {
 
 /// `pathserve keep`: serves these objects, which nobody else serves from the folder, to who connects at the listener, until
 /// the server is to end; and gives the exit status: 0 where each was kept, 1 where lines say why one is not begun with.
+/// `pasts` are what was done before parts were made, where an object begins with parts. At its end the parts of each are
+/// saved.
 ///
-/// A failure is `ReadFault` where the folder could not be read, `WriteFault` where a journal or a line could not be written,
-/// or `Memory`. What was answered is on the disk then.
-pub fn keep_objects<W: Write>(
+/// A failure is `Usage` where a past is told of an object that has a journal, `ReadFault` where the folder could not be
+/// read, `WriteFault` where a journal, a part or a line could not be written, or `Memory`. What was answered is on the
+/// disk then.
+pub fn keep_objects<W: Write, E: Write>(
     rt: &HostRuntime,
     accepted: Vec<Accepted>,
     asked: Keeping<'_>,
+    pasts: &[Past<'_>],
     listener: Listener,
     writer: &mut W,
+    error: &mut E,
 ) -> Result<u8, Failure> {
-    match begin_all(rt, accepted, asked.folder)? {
-        Ok(kept) => serve_kept(rt, kept, asked, listener, writer),
+    match begin_all(rt, accepted, asked.folder, pasts)? {
+        Ok(kept) => serve_kept(rt, kept, asked, listener, writer, error),
         Err(lines) => {
             say(writer, &lines)?;
             Ok(REFUSED)

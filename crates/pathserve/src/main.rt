@@ -28,7 +28,10 @@ use answer_core::explanation::{Telling, explained, explained_audit, explained_ru
 use answer_core::failure::{Failure, exit_status, words_end};
 use answer_core::script::answer_script;
 use answer_core::source::read_source;
-use command_line::request::{Address, Explain, Keeping, Request, Serving, request_of};
+use command_line::past::{MEANS, Past, past_in};
+use command_line::request::{
+    Address, Explain, Keeping, Request, Serving, past_error, pasts_of, request_of,
+};
 use exclude_core::analyse::Accepted;
 use explain_line::files::Files;
 use explain_line::kept::Kept;
@@ -361,6 +364,7 @@ fn prepare(rt: &HostRuntime) -> Result<Prepared, Failure> {
     let words: Vec<&str> = words.iter().map(|word| word.as_str()).collect(rt.alloc())?;
     let ended = match request_of(rt.alloc(), words.as_slice()) {
         Ok(Request::Serve(asked)) => return prepare_server(rt, asked),
+        Ok(Request::Keep(asked)) => run_keep(rt, asked, words.as_slice()),
         Ok(request) => run(rt, request),
         Err(error) => words_end(error, &mut io::writer(rt)),
     };
@@ -525,10 +529,19 @@ fn keep_source(
     rt: &HostRuntime,
     source: &[u8],
     asked: Keeping<'_>,
+    pasts: &[Past<'_>],
     ears: Ears,
 ) -> Result<u8, Failure> {
     match judge(rt.alloc(), source)? {
-        Judged::Ready(objects) => keep_objects(rt, objects, asked, ears, &mut io::writer(rt)),
+        Judged::Ready(objects) => keep_objects(
+            rt,
+            objects,
+            asked,
+            pasts,
+            ears,
+            &mut io::writer(rt),
+            &mut rt.stderr(),
+        ),
         Judged::Told(lines) => {
             let ended = written(rt, &lines, REFUSED);
             explained(
@@ -544,8 +557,28 @@ fn keep_source(
     }
 }
 
+// What the words of a command line tell of what was done before a first start.
+fn pasts_in<'a>(rt: &HostRuntime, words: &'a [&'a str]) -> Result<Vec<Past<'a>>, Failure> {
+    let alloc = rt.alloc();
+    let told = match pasts_of(alloc, words) {
+        Ok(told) => told,
+        Err(error) => return Err(Failure::Usage(error)),
+    };
+    let mut pasts = Vec::new(alloc);
+    for word in &told {
+        let Some(past) = past_in(word) else {
+            return Err(Failure::Usage(past_error(alloc, word, MEANS)?));
+        };
+        if pasts.push(past).is_err() {
+            return Err(Failure::Memory);
+        }
+    }
+    Ok(pasts)
+}
+
 // `pathserve keep`.
-fn run_keep(rt: &HostRuntime, asked: Keeping<'_>) -> Result<u8, Failure> {
+fn run_keep(rt: &HostRuntime, asked: Keeping<'_>, words: &[&str]) -> Result<u8, Failure> {
+    let pasts = pasts_in(rt, words)?;
     let source = match source_at(rt, asked.file) {
         Ok(source) => source,
         Err(lacking) => return Err(told(rt, lacking, asked.file)),
@@ -558,7 +591,7 @@ fn run_keep(rt: &HostRuntime, asked: Keeping<'_>) -> Result<u8, Failure> {
         Ok(found) => found,
         Err(lacking) => return Err(told(rt, lacking, path_of(asked.address))),
     };
-    let ended = keep_source(rt, &source, asked, ears);
+    let ended = keep_source(rt, &source, asked, &pasts, ears);
     if let Some(socket) = socket {
         socket.remove(rt);
     }
@@ -595,8 +628,7 @@ fn run(rt: &HostRuntime, request: Request<'_>) -> Result<u8, Failure> {
         Request::Check(path, when) => run_check(rt, path, when),
         Request::Run(source, text, when) => run_script(rt, Files { source, text }, when),
         Request::Audit(source, text, when) => run_audit(rt, Files { source, text }, when),
-        Request::Keep(asked) => run_keep(rt, asked),
-        // `prepare` has it.
-        Request::Serve(_) => Ok(0),
+        // `prepare` has them.
+        Request::Keep(_) | Request::Serve(_) => Ok(0),
     }
 }

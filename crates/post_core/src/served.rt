@@ -58,6 +58,10 @@ pub trait Served {
     /// behind each round.
     fn may_read(&self, who: u64) -> bool;
 
+    /// Whether a connection waits for something that others do, so that what it sends is not done before. Where its client
+    /// sends no more, and it may not be read, it is over then.
+    fn waits(&self, who: u64) -> bool;
+
     /// This front stands for what the lines of this journal tell.
     ghost fronts: { Self → ℕ → List ℕ → Type 0 };
 

@@ -9,3 +9,4 @@
 
 mod objects;
 pub mod table;
+mod turns;

@@ -1,1 +1,3 @@
 pub mod Sound
+pub mod Reading
+pub mod Living

@@ -1,1 +1,3 @@
 pub mod Year
+pub mod Read
+pub mod Lives

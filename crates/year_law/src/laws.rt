@@ -1,6 +1,13 @@
 //! The laws, each a function without a body whose contract it is.
 
-ghost use Rattle.year_law.specs.Year.{BegunFollows, EpochsAreSound};
+ghost use Rattle.year_law.specs.Year.{KeptIsEpoch, BegunFollows, EpochsAreSound};
+ghost use Rattle.year_law.specs.Read.{ReadIsEpoch, TextsAreEpochs};
+ghost use Rattle.year_law.specs.Lives.{FoundGoesOn, LifeFollows};
+
+/// What `Live` holds at one of its moments is an epoch.
+pub fn kept_is_epoch()
+    ensures { KeptIsEpoch }
+{}
 
 /// An epoch that `Live::epoch` has begun follows the one before it, at each of its moments.
 pub fn begun_follows()
@@ -11,4 +18,25 @@ pub fn begun_follows()
 /// history, from the contents with which the first epoch opened to those of now.
 pub fn epochs_are_sound()
     ensures { EpochsAreSound }
+{}
+
+/// What is recovered of the text of a journal is an epoch.
+pub fn read_is_epoch()
+    ensures { ReadIsEpoch }
+{}
+
+/// Texts that `Epochs::hear` has found to follow one another tell epochs that do, over which all of that holds.
+pub fn texts_are_epochs()
+    ensures { TextsAreEpochs }
+{}
+
+/// What is recovered of a text that has more than what was stored of it has each call that ended in what was stored, in
+/// the same order and with the same reply, and maybe more behind them.
+pub fn found_goes_on()
+    ensures { FoundGoesOn }
+{}
+
+/// An epoch that a start has begun behind a journal follows the epoch that the journal tells, at each of its moments.
+pub fn life_follows()
+    ensures { LifeFollows }
 {}

@@ -17,6 +17,8 @@ returns c =
     let three = with_arg _ c.in_ok-arg-3.field-0 _ _ _ c.in_ok-arg-3.ensures c.required-3.ensures.local c.required-3.ensures.rule two in
     let four = with_arg _ c.in_ok-arg-4.field-0 _ _ _ c.in_ok-arg-4.ensures c.at_once_option.ensures.local c.at_once_option.ensures.rule three in
     let five = with_arg _ c.in_ok-arg-5.field-0 _ _ _ c.in_ok-arg-5.ensures c.sync_option.ensures.local c.sync_option.ensures.rule four in
-    let six = with_arg _ c.in_ok-arg-6.field-0 _ _ _ c.in_ok-arg-6.ensures c.stop_flag.ensures.local c.stop_flag.ensures.rule five in
-    let seven = with_arg _ c.in_ok-arg-7.field-0 _ _ _ c.in_ok-arg-7.ensures c.explain_flag.ensures.local c.explain_flag.ensures.rule six in
-    IfOk-weaker c.arg-8.result _ _ (λ r h. with_arg _ r _ _ _ h c.silence_flag.ensures.local c.silence_flag.ensures.rule seven) c.arg-8.ensures
+    let six = with_arg _ c.in_ok-arg-6.field-0 _ _ _ c.in_ok-arg-6.ensures c.traces_option.ensures.local c.traces_option.ensures.rule five in
+    let seven = with_arg _ c.in_ok-arg-7.field-0 _ _ _ c.in_ok-arg-7.ensures c.past_option.ensures.local c.past_option.ensures.rule six in
+    let eight = with_arg _ c.in_ok-arg-8.field-0 _ _ _ c.in_ok-arg-8.ensures c.stop_flag.ensures.local c.stop_flag.ensures.rule seven in
+    let nine = with_arg _ c.in_ok-arg-9.field-0 _ _ _ c.in_ok-arg-9.ensures c.explain_flag.ensures.local c.explain_flag.ensures.rule eight in
+    IfOk-weaker c.arg-10.result _ _ (λ r h. with_arg _ r _ _ _ h c.silence_flag.ensures.local c.silence_flag.ensures.rule nine) c.arg-10.ensures

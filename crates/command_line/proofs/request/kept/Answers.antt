@@ -20,5 +20,6 @@ returns c = λ g h word read is syncs.
       same ∙ c.at_once_in.ensures h.3 (has_one f (codes "at-once") h.3 h.9) ∙ sym h.11,
       syncs,
       flag_is f (codes "stop-with-input") g.stops c.get_flag.result h.14 c.get_flag.ensures.value c.get_flag.ensures.other,
-      c.explain_in.ensures g h.15,
+      c.traces_in.ensures h.15.0 (has_one f (codes "traces") h.15.0 h.15.1) ∙ sym h.15.3,
+      c.explain_in.ensures g h.17,
     )

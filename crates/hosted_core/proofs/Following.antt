@@ -1,0 +1,35 @@
+-- An epoch that follows.
+use Rattle.std.proofs.Common.{◌≡◌, ℕ, suc, ◌+◌, ◌-◌, ◌^◌, List, [], ◌∷◌, length, map, refl, sym, ap, ◌∙◌, subst}
+use Rattle.std.specs.Prelude.{min}
+use Rattle.trace_core.specs.Events.{Called}
+use Rattle.past_core.specs.declared.past.PastEvent.{PastEvent}
+use Rattle.live_core.specs.Epochs.{IsBegun, numbered_from}
+use Rattle.live_core.specs.Hall.{Hall}
+use Rattle.guest_core.specs.Seats.{renewed}
+use Rattle.hosted_core.specs.Scene.{Scene, told_of, next_base, next_epoch}
+use Rattle.hosted_core.specs.Steps.{IsFollowed}
+
+length_numbered : (n : ℕ) (calls : List Called) → length (numbered_from n calls) ≡ length calls
+length_numbered n [] = refl
+length_numbered n (c ∷ calls) = ap suc (length_numbered (n + 1) calls)
+
+-- the next epoch has begun
+pub followed : (v now new : Scene) (h : Hall) (past : List PastEvent) (carried : List ℕ) (base : ℕ) → v ≡ now → IsBegun v.hall past h →
+    carried ≡ map (λ (c : Called). told_of now c.number) now.hall.waiting → base ≡ next_base now →
+    new ≡ record v {
+      hall = h;
+      guests = record v.guests { seats = map renewed v.guests.seats };
+      carried = carried;
+      base = base;
+      given = min (length h.waiting) (2 ^ 32 - 1);
+      epoch = next_epoch (record v { hall = h });
+    } → IsFollowed now past new
+followed v now new h past carried base same begun told based is = subst (λ (s : Scene). IsFollowed s past new) same (record {
+  begun = subst (λ (s : Scene). IsBegun v.hall past s.hall) (sym is) begun;
+  carried = ap (λ (s : Scene). s.carried) is ∙ told ∙ ap (λ (s : Scene). map (λ (c : Called). told_of s c.number) s.hall.waiting) (sym same);
+  guests = ap (λ (s : Scene). s.guests) is;
+  base = ap (λ (s : Scene). s.base) is ∙ based ∙ ap next_base (sym same);
+  given = ap (λ (s : Scene). s.given) is ∙ ap (λ n. min n (2 ^ 32 - 1)) (ap length begun.waiting ∙ length_numbered 0 v.hall.waiting);
+  epoch = ap (λ (s : Scene). s.epoch) is;
+  source = ap (λ (s : Scene). s.source) is;
+})

@@ -1,0 +1,192 @@
+-- Epochs of texts, line by line and text by text.
+use Rattle.std.proofs.Common.{◌≡◌, ℕ, ◌+◌, ◌<◌, ◌≤◌, List, [], ◌∷◌, ◌++◌, refl, sym, ap, ◌∙◌, subst, arith}
+use Rattle.std.specs.Prelude.{Option, Some, None}
+use Rattle.path_tree.specs.Trace.{Event, Start, End}
+use Rattle.path_law.specs.Future.{later, AreUpTo}
+use Rattle.decl_core.specs.ObjectForm.{ObjectForm}
+use Rattle.trace_core.specs.Events.{Called, Happened, began, ended, trace_of}
+use Rattle.past_core.specs.Past.{AreBefore}
+use Rattle.past_core.proofs.Behind.{before_of}
+use Rattle.live_core.specs.Hall.{AreNumbered}
+use Rattle.audit_core.specs.Tells.{IsCallNumber}
+use Rattle.front_core.specs.Front.{Opening}
+use Rattle.replay_core.specs.Steps.{Begun, Heard, nothing_heard, happened_of, told_by}
+use Rattle.replay_core.specs.Tells.{Tells, Tell, start_told, end_told, cancel_told, name_told}
+use Rattle.recover_core.specs.declared.recover.Recovered.{Recovered}
+use Rattle.recover_core.specs.Playing.{begun_by}
+use Rattle.recover_core.specs.Chain as chain
+use Rattle.recover_text.specs.Epochs as chains
+use Rattle.recover_text.specs.declared.epochs.Epochs.{Epochs}
+use Rattle.year_law.specs.Year.{Epoch, IsEpoch, Follows, AreEpochs, all_events}
+use Rattle.year_law.specs.Read.{IsReadOf, ReadIsEpoch, AreReadOf, TextsAreEpochs}
+use Rattle.year_law.proofs.Sound.{epochs_are_sound}
+
+-- the numbers of what lines told
+
+abbrev Runs : Option Called → Type 0
+Runs None = Unit {0}
+Runs (Some c) = IsCallNumber c.number
+
+record Counts (heard : Heard) : Type 0 where
+  steps : AreNumbered 65536 (happened_of heard.steps)
+  running : Runs heard.running
+
+number_is : (n m : ℕ) → n ≡ m → IsCallNumber m → IsCallNumber n
+number_is n m is number = subst IsCallNumber (sym is) number
+
+runs_by : (running : Option Called) (c : Called) → running ≡ Some c → Runs running → IsCallNumber c.number
+runs_by running c is runs = subst Runs is runs
+
+counts_line : (o : ObjectForm) (e : Begun) (heard : Heard) (line : List ℕ) (after : Heard) → Tells o e heard line after → Counts heard → Counts after
+counts_line o e heard line after (start_told {asked = a} {call = c} says is few) h =
+    record { steps = h.steps; running = number_is c.number a.number is.number is.number_is }
+counts_line o e heard line after (end_told {call = c} says runs is) h =
+    let n = runs_by heard.running c runs h.running in record { steps = (n.0, n.1, h.steps); running = tt }
+counts_line o e heard line after (cancel_told says is) h = record { steps = h.steps; running = h.running }
+counts_line o e heard line after (name_told says rests is spelled) h = record { steps = h.steps; running = h.running }
+
+counts_lines : (o : ObjectForm) (e : Begun) (heard : Heard) (lines : List (List ℕ)) (after : Heard) → Tell o e heard lines after → Counts heard → Counts after
+counts_lines o e heard [] after same h = subst Counts (sym same) h
+counts_lines o e heard (line ∷ more) after (mid, told, rest) h = counts_lines o e mid more after rest (counts_line o e heard line mid told h)
+
+-- a text tells an epoch
+pub read_is_epoch : ReadIsEpoch
+read_is_epoch o text came e is =
+    let b = is.read.is in
+    let n = counts_lines o (begun_by is.front) nothing_heard b.played.kept (record { steps = b.steps; running = None }) b.played.told (record { steps = tt; running = tt }) in
+    subst (λ t. IsEpoch o (record { counters = e.counters; contents = e.contents; told = t; base = e.base })) (sym is.told)
+    (subst (λ c. IsEpoch o (record { counters = c; contents = e.contents; told = told_by (begun_by is.front) b.steps; base = e.base })) (sym is.counters)
+    (record {
+      stands = b.comes.counters;
+      quiet = b.comes.quiet;
+      legal = b.played.sound.legal;
+      contents = is.contents ∙ b.comes.contents;
+      most = 65536;
+      numbers = n.steps;
+    }))
+
+-- an epoch that was found to follow another one does
+pub read_follows : (o : ObjectForm) (text other : List ℕ) (before came : Recovered) (d e : Epoch) (was : IsReadOf o text before d) (is : IsReadOf o other came e) → chain.Follows o before is.front → Follows o d e
+read_follows o text other before came d e was is f =
+    subst (λ t. Follows o d (record { counters = e.counters; contents = e.contents; told = t; base = e.base })) (sym is.told)
+    (record {
+      contents = sym f.contents ∙ sym was.contents;
+      counters = f.past.counters;
+      stands = f.past.stands;
+      quiet = f.past.quiet;
+      same = f.past.same ∙ ap (λ c. c.words) (sym was.counters);
+    })
+
+-- numbers from 1 are up to some number
+
+abbrev Positive : List Event → Type 0
+Positive [] = Unit {0}
+Positive (Start c ∷ t) = (0 < c.number) × Positive t
+Positive (End c ∷ t) = Positive t
+
+raise : (n m : ℕ) (t : List Event) → n ≤ m → AreUpTo n t → AreUpTo m t
+raise n m [] less all = tt
+raise n m (Start c ∷ t) less all = (all.0, omega (arith, less, all.1), raise n m t less all.2)
+raise n m (End c ∷ t) less all = raise n m t less all
+
+bounded : (t : List Event) → Positive t → (n : ℕ) × AreUpTo n t
+bounded [] p = (0, tt)
+bounded (Start c ∷ t) p =
+    let b = bounded t p.1 in (c.number + b.0, (p.0, omega (arith), raise b.0 (c.number + b.0) t (omega (arith)) b.1))
+bounded (End c ∷ t) p = bounded t p
+
+positive_past : (t : List Event) → AreBefore t → Positive t
+positive_past [] b = tt
+positive_past (Start c ∷ t) b = (omega (arith, b.0), positive_past t b.1)
+positive_past (End c ∷ t) b = positive_past t b
+
+positive_on : (most : ℕ) (happened : List Happened) (t : List Event) → AreNumbered most happened → Positive t → Positive (trace_of happened ++ t)
+positive_on most [] t n p = p
+positive_on most (began c ∷ happened) t n p = (omega (arith, n.0), positive_on most happened t n.2 p)
+positive_on most (ended c reply ∷ happened) t n p = positive_on most happened t n p
+
+positive_later : (base most : ℕ) (happened : List Happened) (t : List Event) → AreNumbered most happened → Positive t → Positive (later base (trace_of happened) ++ t)
+positive_later base most [] t n p = p
+positive_later base most (began c ∷ happened) t n p = (omega (arith, n.0), positive_later base most happened t n.2 p)
+positive_later base most (ended c reply ∷ happened) t n p = positive_later base most happened t n p
+
+-- what texts tell, the newest first, of which the last one came to this
+record Told (o : ObjectForm) (text : List ℕ) (texts : List (List ℕ)) (all : Epochs) : Type 0 where
+  now : Epoch
+  earlier : List Epoch
+  came : Recovered
+  last : all.last ≡ Some came
+  is : IsReadOf o text came now
+  others : AreReadOf o texts earlier
+  epochs : AreEpochs o now earlier
+  positive : Positive (all_events now earlier)
+
+abbrev epoch_with : (o : ObjectForm) (text : List ℕ) (before all : Epochs) → chains.IsNext o text before all → ℕ → Epoch
+epoch_with o text before all is base = record {
+  counters = is.came.played.counters;
+  contents = is.came.played.contents.items;
+  told = told_by (begun_by is.front) is.read.is.steps;
+  base = base;
+}
+
+abbrev read_with : (o : ObjectForm) (text : List ℕ) (before all : Epochs) (is : chains.IsNext o text before all) (base : ℕ) → IsReadOf o text is.came (epoch_with o text before all is base)
+read_with o text before all is base = record {
+  house = chains.all_clients;
+  front = is.front;
+  read = is.read;
+  told = refl;
+  counters = refl;
+  contents = refl;
+}
+
+told_first : (o : ObjectForm) (text : List ℕ) (before all : Epochs) → chains.IsNext o text before all → Told o text [] all
+told_first o text before all is =
+    let r = read_with o text before all is 0 in
+    let e = epoch_with o text before all is 0 in
+    let epoch = read_is_epoch o text is.came e r in
+    record {
+      now = e;
+      earlier = [];
+      came = is.came;
+      last = is.last;
+      is = r;
+      others = tt;
+      epochs = epoch;
+      positive = positive_on epoch.most e.told.happened e.told.past epoch.numbers (positive_past e.told.past (before_of (begun_by is.front).past));
+    }
+
+may_follow : (o : ObjectForm) (last : Option Recovered) (came : Recovered) (f : Opening) → last ≡ Some came → chains.MayFollow o last f → chain.Follows o came f
+may_follow o last came f is may = subst (λ l. chains.MayFollow o l f) is may
+
+told_next : (o : ObjectForm) (text other : List ℕ) (texts_before : List (List ℕ)) (before all : Epochs) → Told o other texts_before before → chains.IsNext o text before all → Told o text (other ∷ texts_before) all
+told_next o text other texts_before before all t is =
+    let b = bounded (all_events t.now t.earlier) t.positive in
+    let r = read_with o text before all is b.0 in
+    let e = epoch_with o text before all is b.0 in
+    let epoch = read_is_epoch o text is.came e r in
+    let follows = read_follows o other text t.came is.came t.now e t.is r (may_follow o before.last t.came is.front t.last is.follows) in
+    record {
+      now = e;
+      earlier = t.now ∷ t.earlier;
+      came = is.came;
+      last = is.last;
+      is = r;
+      others = ((t.came, t.is), t.others);
+      epochs = (epoch, follows, b.1, t.epochs);
+      positive = positive_later b.0 epoch.most e.told.happened (all_events t.now t.earlier) epoch.numbers t.positive;
+    }
+
+told_all : (o : ObjectForm) (text : List ℕ) (texts_before : List (List ℕ)) (all : Epochs) → chains.AreEpochs o (text ∷ texts_before) all → Told o text texts_before all
+told_all o text [] all (before, none, is) = told_first o text before all is
+told_all o text (other ∷ texts_before) all (before, more, is) = told_next o text other texts_before before all (told_all o other texts_before before more) is
+
+pub texts_are_epochs : TextsAreEpochs
+texts_are_epochs o text texts_before all are =
+    let t = told_all o text texts_before all are in
+    record {
+      last = t.now;
+      earlier = t.earlier;
+      told = ((t.came, t.is), t.others);
+      epochs = t.epochs;
+      sound = epochs_are_sound o t.now t.earlier t.epochs;
+    }

@@ -1,0 +1,341 @@
+"""A slow `pathserve keep`: what each line of a client is answered, from docs/KEEPING.md and docs/SERVING.md alone.
+Paths are counted over the whole history (gate/slow_world.py), values are whole, and nothing is written anywhere."""
+import collections
+import re
+
+from slow_world import MOST, written
+
+KEPT = 16
+LONGEST = 4096
+# So many numbers may be left out behind a start.
+UNTOLD = 65536
+NAME = re.compile(r"[A-Za-z][A-Za-z0-9_]{0,63}")
+RESERVED = set(
+    "append array begin const count else end entry erase first function has if integer lookup not object of path procedure"
+    " queue refuse store table take text then var".split()
+)
+
+
+class Number:
+    """The number that is told of a call: the k-th one of an object in a life of the server. It is known once it was
+    told."""
+
+    def __init__(self, life, place):
+        self.life, self.place = life, place
+
+    def value(self):
+        return None if self.life.base is None else self.life.base + self.place
+
+
+class Life:
+    """What was told of an object since the server began: so many numbers, behind `base`, which is known once one was
+    told; it is `after` at least, and no more than 65,536 further for each start behind which none was told."""
+
+    def __init__(self, after, base=None, starts=1):
+        self.base, self.after, self.starts, self.given = base, after, starts, 0
+
+
+class Guest:
+    """A client with a name: how many keys it has used, its last calls, and who speaks by it."""
+
+    def __init__(self):
+        self.used, self.kept, self.speaker = 0, [], None
+
+
+class Call:
+    def __init__(self, number, speaker, guest, op, arguments):
+        self.number, self.speaker, self.guest, self.op, self.arguments = number, speaker, guest, op, arguments
+
+
+class Speaker:
+    """A connection: what it has opened, its call that waits, the lines that are held, and all that it is told."""
+
+    def __init__(self):
+        self.hall, self.guest, self.waits, self.held = None, None, None, []
+        self.told, self.has_left, self.calls = [], False, 0
+
+    def tell(self, *words):
+        self.told.append(words)
+
+
+class Hall:
+    """A kept object."""
+
+    def __init__(self, made):
+        self.made, self.contents, self.trace = made, made.opening(), []
+        self.guests, self.waiting, self.ended = {}, [], 0
+        self.greatest, self.life = 0, Life(0, 0)
+
+    def may_start(self, op):
+        return self.made.admits([*self.trace, ("start", op)])
+
+    def begin(self):
+        """The server was started anew: who waited is forgotten."""
+        self.note_greatest()
+        starts = 1 if self.life.base is not None else self.life.starts + 1
+        self.waiting, self.ended, self.life = [], 0, Life(self.greatest, starts=starts)
+        for it in self.guests.values():
+            it.speaker = None
+
+    def note_greatest(self):
+        if self.life.base is not None:
+            self.greatest = max(self.greatest, self.life.base + self.life.given)
+
+    def called(self, speaker, op, arguments):
+        """A call is made that may be: those that end, in order."""
+        self.life.given += 1
+        speaker.calls += 1
+        call = Call(Number(self.life, self.life.given), speaker, speaker.guest, op, arguments)
+        speaker.waits = call
+        speaker.tell("accepted", call.number)
+        self.waiting.append(call)
+        ended = []
+        while found := next((it for it in self.waiting if self.may_start(it.op)), None):
+            self.waiting.remove(found)
+            self.do(found)
+            ended.append(found.speaker)
+        return ended
+
+    def do(self, call):
+        self.trace += [("start", call.op), ("end", call.op)]
+        (word, more), self.contents = self.made.applied(call.op, call.arguments, self.contents)
+        ending = (word, more if word == "refused" else written(more)) if more is not None else (word,)
+        self.ended += 1
+        self.close(call, ending)
+        call.speaker.tell(word, call.number, *ending[1:])
+
+    def close(self, call, ending):
+        call.speaker.waits = None
+        if call.guest:
+            call.guest.used += 1
+            call.guest.kept = [*call.guest.kept, (call.guest.used, call, ending)][-KEPT:]
+
+    def cancel(self, call):
+        self.waiting.remove(call)
+        self.close(call, ("cancelled",))
+        call.speaker.tell("cancelled", call.number)
+
+
+class Slow:
+    """All objects of a server, and what clients say."""
+
+    def __init__(self, objects):
+        self.halls = {it.name: Hall(it) for it in objects}
+        # Those whose held lines may be done, the one that waits longest first.
+        self.ready = collections.deque()
+
+    def start(self):
+        for it in self.halls.values():
+            it.begin()
+
+    # Lines.
+
+    def say(self, speaker, line, is_whole=True):
+        """A client says a line; `is_whole`: with its LF."""
+        if speaker.has_left:
+            return
+        if len(line) > LONGEST:
+            speaker.tell("no", "LineTooLong")
+            self.leave(speaker)
+        elif is_whole or line:
+            line = line.removesuffix("\r")
+            if speaker.waits and not (is_whole and self.cancel_of(line) is not None):
+                speaker.held.append((line, is_whole))
+            else:
+                self.heed(speaker, line, is_whole)
+                self.go_on()
+
+    def go_on(self):
+        while self.ready:
+            speaker = self.ready.popleft()
+            while speaker.held and not speaker.waits and not speaker.has_left:
+                self.heed(speaker, *speaker.held.pop(0))
+
+    def ended(self, speakers):
+        for it in speakers:
+            if it.held and it not in self.ready:
+                self.ready.append(it)
+
+    @staticmethod
+    def cancel_of(line):
+        words = line.split()
+        if len(words) == 2 and words[0] == "cancel" and words[1].isascii() and words[1].isdigit() and " " in line:
+            return int(words[1]) if set(line) <= set("cancel 0123456789") else None
+        return None
+
+    def heed(self, speaker, line, is_whole):
+        request = read(line)
+        if request is None:
+            speaker.tell("no", "BadLine")
+        elif request[0] == "open":
+            self.open(speaker, *request[1:])
+        elif request[0] == "quit":
+            speaker.tell("bye")
+            speaker.held = []
+            self.leave(speaker)
+        elif speaker.hall is None:
+            speaker.tell("no", "NotOpen")
+        elif request[0] == "cancel":
+            if is_whole:
+                self.cancel(speaker, request[1])
+            else:
+                speaker.tell("no", "BadLine")
+        elif not is_whole:
+            speaker.tell("no", "Gone")
+        else:
+            self.call(speaker, *request[1:])
+
+    def open(self, speaker, name, client):
+        if speaker.hall:
+            return speaker.tell("no", "Opened")
+        hall = self.halls.get(name.lower())
+        if hall is None:
+            return speaker.tell("no", "NoObject")
+        if client is None:
+            speaker.hall = hall
+            return speaker.tell("opened", name.lower())
+        guest = hall.guests.get(client.lower(), Guest())
+        if guest.speaker:
+            return speaker.tell("no", "InUse")
+        hall.guests[client.lower()] = guest
+        speaker.hall, speaker.guest, guest.speaker = hall, guest, speaker
+        return speaker.tell("opened", name.lower(), "next", guest.used + 1)
+
+    def call(self, speaker, key, op, arguments):
+        hall, op = speaker.hall, op.lower()
+        if key is not None:
+            used = speaker.guest.used if speaker.guest else speaker.calls
+            if key != used + 1:
+                return self.again(speaker, key, op, arguments)
+        if op not in hall.made.operations:
+            return speaker.tell("no", "UnknownOp")
+        if not hall.made.operations[op].takes(arguments):
+            return speaker.tell("no", "BadArgs")
+        return self.ended(hall.called(speaker, op, arguments))
+
+    @staticmethod
+    def again(speaker, key, op, arguments):
+        """A call is asked for again, or none has this key."""
+        kept = {it[0]: it for it in speaker.guest.kept} if speaker.guest else {}
+        if key not in kept:
+            return speaker.tell("no", "BadKey")
+        _, call, ending = kept[key]
+        if (call.op, call.arguments) != (op, arguments):
+            return speaker.tell("no", "KeyReused")
+        return speaker.tell("repeat", ending[0], call.number, *ending[1:])
+
+    def cancel(self, speaker, number):
+        hall = speaker.hall
+        found = next((it for it in hall.waiting if it.number.value() == number), None)
+        if found:
+            speaker.tell("cancel", number, "Cancelled")
+            hall.cancel(found)
+            self.ended([found.speaker])
+            return
+        hall.note_greatest()
+        is_told = 1 <= number <= hall.greatest
+        speaker.tell("cancel", number, "Ended" if is_told else "Unknown")
+
+    # Ends.
+
+    def leave(self, speaker):
+        """Nothing more is heard of a client: its waiting call is cancelled, and what it sent ahead is not done."""
+        if speaker.has_left:
+            return
+        speaker.has_left = True
+        if speaker.waits:
+            speaker.hall.cancel(speaker.waits)
+        for line, is_whole in speaker.held:
+            request = read(line)
+            if request is None or request[0] == "cancel" and not is_whole:
+                speaker.tell("no", "BadLine")
+            elif request[0] == "quit":
+                speaker.tell("bye")
+                break
+            elif request[0] == "open":
+                speaker.tell("no", "Opened")
+            elif request[0] == "call":
+                speaker.tell("no", "Gone")
+            else:
+                self.cancel(speaker, request[1])
+        speaker.held = []
+        if speaker.guest:
+            speaker.guest.speaker = None
+
+    def die(self, speakers):
+        """The server is killed: nobody is told anything, and who waits is forgotten."""
+        for it in speakers:
+            it.has_left = True
+        self.ready.clear()
+
+
+# What a line says.
+
+
+def words_of(line):
+    """The words of a line, or none where it has none: bare ones, and texts in apostrophes."""
+    found, at = [], 0
+    if not all(" " <= it <= "~" for it in line):
+        return None
+    while at < len(line):
+        if line[at] == " ":
+            at += 1
+        elif line[at] == "'":
+            end = at + 1
+            text = ""
+            while True:
+                if end >= len(line):
+                    return None
+                if line[end] != "'":
+                    text += line[end]
+                elif line[end + 1 : end + 2] == "'":
+                    text += "'"
+                    end += 1
+                else:
+                    break
+                end += 1
+            if line[end + 1 : end + 2] not in ("", " ") or len(text) > 1000:
+                return None
+            found.append(("text", text))
+            at = end + 1
+        else:
+            end = line.find(" ", at)
+            end = len(line) if end < 0 else end
+            found.append(("bare", line[at:end]))
+            at = end
+    return found
+
+
+def whole_number(word):
+    return int(word) if word.isascii() and word.isdigit() and int(word) <= MOST else None
+
+
+def read(line):
+    """What a line asks for, or none where it is a bad one."""
+    words = words_of(line)
+    if not words or words[0][0] != "bare":
+        return None
+    verb, rest = words[0][1], words[1:]
+    bare = [it[1] if it[0] == "bare" else "'" for it in rest]
+    if verb == "quit":
+        return ("quit",) if not rest else None
+    if verb == "open":
+        if len(rest) == 1 and NAME.fullmatch(bare[0]):
+            return "open", bare[0], None
+        is_named = len(rest) == 3 and NAME.fullmatch(bare[0]) and bare[1] == "as" and NAME.fullmatch(bare[2])
+        return ("open", bare[0], bare[2]) if is_named and bare[2].lower() not in RESERVED else None
+    if verb == "cancel":
+        number = whole_number(bare[0]) if len(rest) == 1 else None
+        return None if number is None else ("cancel", number)
+    if verb != "call" or not rest:
+        return None
+    key = None
+    if bare[0].startswith("#"):
+        key = whole_number(bare[0][1:])
+        if key is None or len(rest) < 2:
+            return None
+        rest, bare = rest[1:], bare[1:]
+    if not NAME.fullmatch(bare[0]):
+        return None
+    arguments = [text if kind == "text" else whole_number(text) for kind, text in rest[1:]]
+    return None if None in arguments else ("call", key, bare[0], arguments)
