@@ -44,7 +44,7 @@ end;
 AHEAD = (1, 1, 2, 5, 16)
 LONG = "n" * 1000
 
-Done = collections.namedtuple("Done", "key call ending number said heard")
+Done = collections.namedtuple("Done", "key call ending number said heard life")
 
 
 class Client:
@@ -60,7 +60,7 @@ class Client:
         self.it, self.rest, self.owes, self.is_open = None, b"", b"", False
         # The server may lose what was answered so late, in seconds; and it makes so many calls at most, where that is
         # said.
-        self.may_lose, self.killed, self.most, self.lacked = None, None, None, 0
+        self.may_lose, self.kills, self.most, self.lacked = None, [], None, 0
 
     def next_call(self):
         raise NotImplementedError
@@ -129,10 +129,11 @@ class Client:
 
     def forget(self, key):
         """Calls may be lost that were answered late, where a server may lose them."""
-        if self.may_lose is None or self.killed is None or key >= self.key:
+        if self.may_lose is None or key >= self.key:
             return
-        lost = [it for it in self.done if it.key >= key]
-        late = [f"{1000 * (self.killed - it.heard):.0f} ms" for it in lost if self.killed - it.heard > self.may_lose]
+        # So long before the end of the life in which each was answered.
+        before = [self.kills[it.life] - it.heard for it in self.done if it.key >= key]
+        late = [f"{1000 * it:.0f} ms" for it in before if it > self.may_lose]
         holds(not late, f"{self.name}: calls are lost that were answered {late} before the server was killed")
         self.done = [it for it in self.done if it.key < key]
         self.key, self.calls, self.since = key, [], {}
@@ -144,7 +145,7 @@ class Client:
             self.cancelled += 1
         else:
             ending = " ".join([words[0], *words[2:]])
-            self.done.append(Done(self.key, call, ending, int(words[1]), said, time.monotonic()))
+            self.done.append(Done(self.key, call, ending, int(words[1]), said, time.monotonic(), len(self.kills)))
         self.key += 1
 
 
@@ -199,9 +200,9 @@ class Crowd:
     def __init__(self, server, count, draw, may_lose=None):
         self.server, self.draw, self.numbers = server, draw, Numbers()
         self.clients = [KINDS[at % len(KINDS)](f"c{at}", draw) for at in range(count)]
-        self.selector, self.goes_on = selectors.DefaultSelector(), True
+        self.selector, self.goes_on, self.kills = selectors.DefaultSelector(), True, []
         for it in self.clients:
-            it.numbers, it.may_lose = self.numbers, may_lose
+            it.numbers, it.may_lose, it.kills = self.numbers, may_lose, self.kills
 
     def connect(self, client):
         """A connection that is not waited for."""
@@ -261,8 +262,6 @@ class Crowd:
         """The server was killed now. What stands in a connection is read: it was answered."""
         now = time.monotonic()
         for it in self.clients:
-            it.killed = now
-        for it in self.clients:
             while it.it is not None:
                 try:
                     self.read(it)
@@ -270,6 +269,7 @@ class Crowd:
                     break
                 except (OSError, EOFError):
                     self.drop(it)
+        self.kills.append(now)
 
     def is_done(self):
         return all(it.most is not None and it.key > it.most for it in self.clients)

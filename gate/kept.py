@@ -12,7 +12,7 @@ import time
 from served import free_port
 from tried import given_words, program
 
-SECONDS = 60
+SECONDS = 120
 # Folders are made in memory, where there is such a place: what a disk does is worked out (gate/losing.py), or tried by
 # itself.
 ROOMS = "/dev/shm" if os.access("/dev/shm", os.W_OK) else None

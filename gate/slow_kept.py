@@ -11,8 +11,8 @@ LONGEST = 4096
 UNTOLD = 65536
 NAME = re.compile(r"[A-Za-z][A-Za-z0-9_]{0,63}")
 RESERVED = set(
-    "append array begin const count else end entry erase first function has if integer lookup not object of path procedure"
-    " queue refuse store table take text then var".split()
+    "append array begin const count else end entry erase first function has if integer lookup not object of path"
+    " procedure queue refuse store table take text then var".split()
 )
 
 
