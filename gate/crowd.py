@@ -1,8 +1,8 @@
-"""A crowd of clients with names, in one thread, that call kept objects and come back where their server was killed; and what
-their answers come to. Nothing here knows how the server works: what is looked at is what docs/KEEPING.md promises."""
+"""A crowd of clients with names, in one thread, that call kept objects and come back where their server was killed; and
+what their answers come to. Nothing here knows how the server works: what is looked at is what docs/KEEPING.md promises.
+"""
 import collections
 import errno
-import os
 import selectors
 import socket
 import time
@@ -44,12 +44,12 @@ end;
 AHEAD = (1, 1, 2, 5, 16)
 LONG = "n" * 1000
 
-Done = collections.namedtuple("Done", "key call ending number said heard")
+Done = collections.namedtuple("Done", "key call ending number said heard life")
 
 
 class Client:
-    """A client with a name. Its calls have keys; it says some ahead, and asks again for those that have no last line where its
-    connection breaks."""
+    """A client with a name. Its calls have keys; it says some ahead, and asks again for those that have no last line
+    where its connection breaks."""
 
     def __init__(self, name, draw):
         self.name, self.draw, self.ahead = name, draw, draw.choice(AHEAD)
@@ -58,8 +58,9 @@ class Client:
         self.key, self.calls, self.said, self.since = 1, [], 0, {}
         self.done, self.number, self.cancelled = [], None, 0
         self.it, self.rest, self.owes, self.is_open = None, b"", b"", False
-        # The server may lose what was answered so late, in seconds; and it makes so many calls at most, where that is said.
-        self.may_lose, self.killed, self.most, self.lacked = None, None, None, 0
+        # The server may lose what was answered so late, in seconds; and it makes so many calls at most, where that is
+        # said.
+        self.may_lose, self.kills, self.most, self.lacked = None, [], None, 0
 
     def next_call(self):
         raise NotImplementedError
@@ -103,7 +104,8 @@ class Client:
         else:
             again = words[0] == "repeat"
             words = words[again:]
-            holds(words[0] in ("done", "refused", "failed", "cancelled") and self.said, f"{self.name}: {self.calls[:1]} is answered {line!r}")
+            is_last = words[0] in ("done", "refused", "failed", "cancelled") and self.said
+            holds(is_last, f"{self.name}: {self.calls[:1]} is answered {line!r}")
             holds(again or self.number == int(words[1]), f"{self.name}: {line!r} came, and {self.number} was accepted")
             self.number = None
             self.ended(words)
@@ -117,7 +119,8 @@ class Client:
         holds(words[:3] == ["opened", self.object, "next"], f"{self.name}: it is told {words}")
         key = int(words[3])
         self.forget(key)
-        holds(self.key <= key <= self.key + len(self.calls), f"{self.name}: the next key is {key}; {self.key} has no answer, {len(self.calls)} were said")
+        why = f"{self.name}: the next key is {key}; {self.key} has no answer, {len(self.calls)} were said"
+        holds(self.key <= key <= self.key + len(self.calls), why)
         self.is_open = True
         if goes_on:
             self.fill()
@@ -126,10 +129,11 @@ class Client:
 
     def forget(self, key):
         """Calls may be lost that were answered late, where a server may lose them."""
-        if self.may_lose is None or self.killed is None or key >= self.key:
+        if self.may_lose is None or key >= self.key:
             return
-        lost = [it for it in self.done if it.key >= key]
-        late = [f"{1000 * (self.killed - it.heard):.0f} ms" for it in lost if self.killed - it.heard > self.may_lose]
+        # So long before the end of the life in which each was answered.
+        before = [self.kills[it.life] - it.heard for it in self.done if it.key >= key]
+        late = [f"{1000 * it:.0f} ms" for it in before if it > self.may_lose]
         holds(not late, f"{self.name}: calls are lost that were answered {late} before the server was killed")
         self.done = [it for it in self.done if it.key < key]
         self.key, self.calls, self.since = key, [], {}
@@ -141,7 +145,7 @@ class Client:
             self.cancelled += 1
         else:
             ending = " ".join([words[0], *words[2:]])
-            self.done.append(Done(self.key, call, ending, int(words[1]), said, time.monotonic()))
+            self.done.append(Done(self.key, call, ending, int(words[1]), said, time.monotonic(), len(self.kills)))
         self.key += 1
 
 
@@ -196,9 +200,9 @@ class Crowd:
     def __init__(self, server, count, draw, may_lose=None):
         self.server, self.draw, self.numbers = server, draw, Numbers()
         self.clients = [KINDS[at % len(KINDS)](f"c{at}", draw) for at in range(count)]
-        self.selector, self.goes_on = selectors.DefaultSelector(), True
+        self.selector, self.goes_on, self.kills = selectors.DefaultSelector(), True, []
         for it in self.clients:
-            it.numbers, it.may_lose = self.numbers, may_lose
+            it.numbers, it.may_lose, it.kills = self.numbers, may_lose, self.kills
 
     def connect(self, client):
         """A connection that is not waited for."""
@@ -258,8 +262,6 @@ class Crowd:
         """The server was killed now. What stands in a connection is read: it was answered."""
         now = time.monotonic()
         for it in self.clients:
-            it.killed = now
-        for it in self.clients:
             while it.it is not None:
                 try:
                     self.read(it)
@@ -267,6 +269,7 @@ class Crowd:
                     break
                 except (OSError, EOFError):
                     self.drop(it)
+        self.kills.append(now)
 
     def is_done(self):
         return all(it.most is not None and it.key > it.most for it in self.clients)
@@ -303,7 +306,8 @@ class Crowd:
 
 def in_order_of_numbers(clients, name):
     done = sorted((it for client in clients if client.object == name for it in client.done), key=lambda it: it.number)
-    holds(all(it.ending in ("failed memory", "failed device") for it in done if it.ending.startswith("failed")), "a call failed otherwise")
+    failed = {it.ending for it in done if it.ending.startswith("failed")}
+    holds(failed <= {"failed memory", "failed device"}, f"calls ended as {failed}")
     numbers = [it.number for it in done]
     holds(len(set(numbers)) == len(numbers), f"{name}: two calls were told one number")
     return done
@@ -321,7 +325,8 @@ def follows_the_clock(name, done, place_of):
         while at < len(heard) and heard[at].heard < it.said:
             latest = max(latest, place_of(heard[at])) if latest is not None else place_of(heard[at])
             at += 1
-        holds(latest is None or latest < place_of(it), f"{name}: {it} was said behind the answer to another call, and stands before it")
+        why = f"{name}: {it} was said behind the answer to another call, and stands before it"
+        holds(latest is None or latest < place_of(it), why)
 
 
 def tickets_are_right(server, clients):
@@ -346,18 +351,22 @@ def ledger_is_right(server, clients):
             check(it.ending, f"done {accounts[giver]}", f"what {it.call[:40]} (number {it.number}) is answered")
         else:
             check(it.ending, "refused range", f"what {it.call[:40]} (number {it.number}) is answered")
-    check(server.replies("ledger", *(f"at {it}" for it in range(ACCOUNTS))), [f"done {it}" for it in accounts], "the accounts")
+    found = server.replies("ledger", *(f"at {it}" for it in range(ACCOUNTS)))
+    check(found, [f"done {it}" for it in accounts], "the accounts")
     return len(done)
 
 
 def buffer_is_right(server, clients):
     """What was put is got once, or is there; and what one client put is got in its order."""
-    puts = {it.call.split("'")[1]: it for client in clients if isinstance(client, Filling) for it in client.done if it.ending == "done"}
-    gets = [it for client in clients if isinstance(client, Taking) for it in client.done if it.ending.startswith("done ")]
+    puts = [it for client in clients if isinstance(client, Filling) for it in client.done if it.ending == "done"]
+    puts = [it.call.split("'")[1] for it in puts]
+    gets = [it for client in clients if isinstance(client, Taking) for it in client.done]
+    gets = [it for it in gets if it.ending.startswith("done ")]
     got = [it.ending.split("'")[1] for it in gets]
     size = int(server.replies("buffer", "size")[0].removeprefix("done "))
     left = [it.split("'")[1] for it in server.replies("buffer", *["get"] * size)]
-    holds(len(set(got + left)) == len(got) + len(left), f"one was got twice: {[k for k, n in collections.Counter(got + left).items() if n > 1][:5]}")
+    twice = [item for item, count in collections.Counter(got + left).items() if count > 1]
+    holds(not twice, f"{twice[:5]} were got twice")
     check(sorted(got + left), sorted(puts), "what was got and is left")
     by_client = collections.defaultdict(list)
     for it, item in zip(gets, got):
@@ -386,7 +395,7 @@ def are_right(server, crowd):
 
 
 def fill_ledger(server):
-    check(server.replies("ledger", *(f"fill {it} {FUNDS}" for it in range(ACCOUNTS))), ["done"] * ACCOUNTS, "the filled ledger")
+    found = server.replies("ledger", *(f"fill {it} {FUNDS}" for it in range(ACCOUNTS)))
+    check(found, ["done"] * ACCOUNTS, "the filled ledger")
 
 
-__all__ = ["Crowd", "NAMES", "SOURCE", "Wrong", "are_right", "fill_ledger", "os"]

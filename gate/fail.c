@@ -1,12 +1,13 @@
 // A library to preload: calls of the system fail in turn, or are noted.
 //
-// FAIL_CALL names a call (open, read, write, seek, size, sync, rename, link, unlink, accept, recv, send, wait, watch),
-// FAIL_NUMBER counts those of one kind from 1, FAIL_ERRNO is the error that the one of that number gives, or 0 where the program is killed
-// in its place, or -1 where a write does half of it and then the program is killed. With FAIL_REST each later one fails too.
-// FAIL_NOTE is a file that is made when that happened.
+// FAIL_CALL names a call (open, read, write, seek, size, sync, rename, link, unlink, accept, recv, send, wait,
+// watch), FAIL_NUMBER counts those of one kind from 1, FAIL_ERRNO is the error that the one of that number gives, or
+// 0 where the program is killed in its place, or -1 where a write does half of it and then the program is killed.
+// With FAIL_REST each later one fails too. FAIL_NOTE is a file that is made when that happened.
 //
-// With LOSE_LOG each change of a file below the folder LOSE_FROM is noted in that file, so that somebody may work out what
-// a loss of power would have left (gate/losing.py). open to unlink are those of files below LOSE_FROM, or of that folder.
+// With LOSE_LOG each change of a file below the folder LOSE_FROM is noted in that file, so that somebody may work
+// out what a loss of power would have left (gate/losing.py). open to unlink are those of files below LOSE_FROM, or
+// of that folder.
 #define _GNU_SOURCE
 #include <errno.h>
 #include <fcntl.h>

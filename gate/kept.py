@@ -1,4 +1,5 @@
-"""A server of kept objects as trials see it: it is started, killed, ended and audited; and connections that say and hear lines."""
+"""A server of kept objects as trials see it: it is started, killed, ended and audited; and connections that say and
+hear lines."""
 import contextlib
 import os
 import pathlib
@@ -11,8 +12,9 @@ import time
 from served import free_port
 from tried import given_words, program
 
-SECONDS = 60
-# Folders are made in memory, where there is such a place: what a disk does is worked out (gate/losing.py), or tried by itself.
+SECONDS = 120
+# Folders are made in memory, where there is such a place: what a disk does is worked out (gate/losing.py), or tried by
+# itself.
 ROOMS = "/dev/shm" if os.access("/dev/shm", os.W_OK) else None
 
 
@@ -31,8 +33,8 @@ def holds(it, what):
 
 
 class Server:
-    """`pathserve keep` over a folder `kept` in this one, at a port, or at the socket `place` where `at_path` is set. What it
-    says on standard error is in the file `error`."""
+    """`pathserve keep` over a folder `kept` in this one, at a port, or at the socket `place` where `at_path` is set.
+    What it says on standard error is in the file `error`."""
 
     def __init__(self, folder, source, *words, at_path=False, env=None, files=None, kept="kept"):
         self.room, self.words, self.env, self.files = folder, words, env or {}, files
@@ -231,4 +233,3 @@ def run(tool, trials, words, **more):
     return 0 if passed and not failed else 1
 
 
-__all__ = ["SECONDS", "Server", "Talk", "Wrong", "check", "given_words", "holds", "options", "program", "run", "sys", "until"]

@@ -1,7 +1,7 @@
 """What a loss of power may leave of a folder, by the changes that gate/fail.c notes.
 
-What a sync has stored is there. Of what was written since to a file any writes may be there or not, and of one a part; of the
-names that were made or changed since the folder went to the disk the first ones may be there.
+What a sync has stored is there. Of what was written since to a file any writes may be there or not, and of one a part;
+of the names that were made or changed since the folder went to the disk the first ones may be there.
 """
 import os
 import pathlib

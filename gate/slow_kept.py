@@ -1,5 +1,5 @@
-"""A slow `pathserve keep`: what each line of a client is answered, from docs/KEEPING.md and docs/SERVING.md alone. Paths are
-counted over the whole history (gate/slow_world.py), values are whole, and nothing is written anywhere."""
+"""A slow `pathserve keep`: what each line of a client is answered, from docs/KEEPING.md and docs/SERVING.md alone.
+Paths are counted over the whole history (gate/slow_world.py), values are whole, and nothing is written anywhere."""
 import collections
 import re
 
@@ -10,12 +10,15 @@ LONGEST = 4096
 # So many numbers may be left out behind a start.
 UNTOLD = 65536
 NAME = re.compile(r"[A-Za-z][A-Za-z0-9_]{0,63}")
-RESERVED = set("append array begin const count else end entry erase first function has if integer lookup not object of path procedure queue"
-               " refuse store table take text then var".split())
+RESERVED = set(
+    "append array begin const count else end entry erase first function has if integer lookup not object of path"
+    " procedure queue refuse store table take text then var".split()
+)
 
 
 class Number:
-    """The number that is told of a call: the k-th one of an object in a life of the server. It is known once it was told."""
+    """The number that is told of a call: the k-th one of an object in a life of the server. It is known once it was
+    told."""
 
     def __init__(self, life, place):
         self.life, self.place = life, place
@@ -25,8 +28,8 @@ class Number:
 
 
 class Life:
-    """What was told of an object since the server began: so many numbers, behind `base`, which is known once one was told; it
-    is `after` at least, and no more than 65,536 further for each start behind which none was told."""
+    """What was told of an object since the server began: so many numbers, behind `base`, which is known once one was
+    told; it is `after` at least, and no more than 65,536 further for each start behind which none was told."""
 
     def __init__(self, after, base=None, starts=1):
         self.base, self.after, self.starts, self.given = base, after, starts, 0
@@ -319,9 +322,8 @@ def read(line):
     if verb == "open":
         if len(rest) == 1 and NAME.fullmatch(bare[0]):
             return "open", bare[0], None
-        if len(rest) == 3 and NAME.fullmatch(bare[0]) and bare[1] == "as" and NAME.fullmatch(bare[2]) and bare[2].lower() not in RESERVED:
-            return "open", bare[0], bare[2]
-        return None
+        is_named = len(rest) == 3 and NAME.fullmatch(bare[0]) and bare[1] == "as" and NAME.fullmatch(bare[2])
+        return ("open", bare[0], bare[2]) if is_named and bare[2].lower() not in RESERVED else None
     if verb == "cancel":
         number = whole_number(bare[0]) if len(rest) == 1 else None
         return None if number is None else ("cancel", number)

@@ -1,6 +1,6 @@
 //! Calls that are run at once, as a server runs them: how many calls of the device each makes.
 
-use crate::make::{Bytes, desk_of};
+use crate::make::{Bytes, desk_of, grow};
 use apply_core::reply::{Failure, Reply};
 use ask_core::answer::Collected;
 use device_core::memory::MemHand;
@@ -84,13 +84,10 @@ fn reply_of(rt: &impl Abort, end: End) -> Reply {
 // The bytes of an array whose element i is 1,023 - i.
 fn falling(rt: &impl Abort, alloc: Global) -> Vec<u8> {
     let mut bytes = Vec::new(alloc);
-    bytes
-        .extend_from_slice(b"\x02\x01\x04\x00")
-        .expect(rt, "memory");
+    assert!(rt; grow(&mut bytes, b"\x02\x01\x04\x00", 0, 4));
     for n in 0..1_024u32 {
-        bytes
-            .extend_from_slice(&1_023u32.saturating_sub(n).to_be_bytes())
-            .expect(rt, "memory");
+        let number = 1_023u32.saturating_sub(n).to_be_bytes();
+        assert!(rt; bytes.extend_from_slice(&number).is_ok());
     }
     bytes
 }

@@ -2,7 +2,9 @@
 //! to nobody, which of them are given back when all are to be retired, what the published files hold then, and what the
 //! call that waited reads.
 
-use crate::make::{Bytes, CELL, ZERO, accepted, desk_of, outcome_of, pinned, receipt_of};
+use crate::make::{
+    Bytes, CELL, ZERO, accepted, desk_of, finished, grow, outcome_of, pinned, receipt_of,
+};
 use apply_core::reply::{Failure, Reply};
 use board_core::receipt::Receipt;
 use desk_core::desk::Desk;
@@ -59,27 +61,39 @@ fn published<H: Hand>(rt: &impl Abort, alloc: Global, desk: &Desk, hand: &mut H)
     fetch_pages(alloc, hand, list.stamps()).expect(rt, "its bytes")
 }
 
-// Session 1 makes call 1, while call 2, a `get` of session 2, waits. The receipt, where call 2 then has started.
+// A call of an object with one part: the object, the operation, its argument, and that of the `get` that waits, if any.
+type Asked = (Bytes, &'static str, u32, Option<u32>);
+
+// Whether session 1 asks for call 1, and session 2 for call 2, a `get`.
+fn asks(desk: &mut Desk, asked: Asked) -> bool {
+    let (_, op, arg, place) = asked;
+    if desk.submit(1, op, &[Datum::Integer(arg)]) != Ok(1) {
+        return false;
+    }
+    match place {
+        None => desk.submit(2, "get", &[]) == Ok(2),
+        Some(place) => desk.submit(2, "get", &[Datum::Integer(place)]) == Ok(2),
+    }
+}
+
+// The receipt of call 1, where call 2 waits before it ends, and then has started.
 fn receipt_beside<H: Hand>(
     alloc: Global,
     desk: &mut Desk,
     hand: &mut H,
-    op: &str,
-    args: &[Datum],
-    place: &[Datum],
+    asked: Asked,
 ) -> Option<Receipt> {
-    if desk.submit(1, op, args) != Ok(1) || desk.submit(2, "get", place) != Ok(2) {
+    if !asks(desk, asked) {
         return None;
     }
-    let outcome = outcome_of(alloc, desk, hand, 1)?;
+    let Some(outcome) = outcome_of(alloc, desk, hand, 1) else {
+        return None;
+    };
     if !desk.waits(2) {
         return None;
     }
-    let receipt = desk.finish(outcome).ok()?;
-    if !desk.runs(2) {
-        return None;
-    }
-    Some(receipt)
+    let receipt = finished(desk, outcome);
+    if desk.runs(2) { receipt } else { None }
 }
 
 // Whether the files of these numbers stand here, in this order.
@@ -113,7 +127,7 @@ fn reads<H: Hand>(alloc: Global, desk: &mut Desk, hand: &mut H, number: u32) -> 
     if *outcome.reply() != Reply::Done(Some(Datum::Integer(number))) {
         return false;
     }
-    desk.finish(outcome).is_ok() && desk.is_idle()
+    finished(desk, outcome).is_some() && desk.is_idle()
 }
 
 // Which call of the device fails, counted from 1 (0: none), what the call on the desk then replies, the numbers of the
@@ -132,30 +146,6 @@ const OF_CELL: [Row; 6] = [
 
 const NINE: Bytes = b"\x02\x01\x00\x01\x00\x00\x00\x09";
 
-// A call of an object with one part: the object, the operation, its argument, and that of the `get` that waits, if any.
-type Asked = (Bytes, &'static str, u32, Option<u32>);
-
-// The receipt of a call beside the `get` that waits.
-fn receipt_of_asked<H: Hand>(
-    alloc: Global,
-    desk: &mut Desk,
-    hand: &mut H,
-    asked: Asked,
-) -> Option<Receipt> {
-    let (_, op, arg, place) = asked;
-    match place {
-        None => receipt_beside(alloc, desk, hand, op, &[Datum::Integer(arg)], &[]),
-        Some(place) => receipt_beside(
-            alloc,
-            desk,
-            hand,
-            op,
-            &[Datum::Integer(arg)],
-            &[Datum::Integer(place)],
-        ),
-    }
-}
-
 // Whether a call replies as a row has it, and leaves its files to nobody.
 fn is_answered<H: Hand>(
     alloc: Global,
@@ -165,7 +155,7 @@ fn is_answered<H: Hand>(
     row: &Row,
 ) -> bool {
     let (_, reply, free, left, _) = *row;
-    match receipt_of_asked(alloc, desk, hand, asked) {
+    match receipt_beside(alloc, desk, hand, asked) {
         Some(receipt) => *receipt.noted.reply() == reply && gives_back(hand, receipt, free, left),
         None => false,
     }
@@ -239,11 +229,8 @@ const OF_WIDE: [Row; 11] = [
 // all others are zeros.
 fn spelled(rt: &impl Abort, alloc: Global, ends: u8) -> Vec<u8> {
     let mut bytes = Vec::new(alloc);
-    bytes
-        .extend_from_slice(&[2, 1, 4, 0, 0, 0, 0, ends])
-        .expect(rt, "memory");
-    bytes.resize(4_099, 0).expect(rt, "memory");
-    bytes.push(ends).expect(rt, "memory");
+    assert!(rt; grow(&mut bytes, &[2, 1, 4, 0, 0, 0, 0, ends], 0, 4_099));
+    assert!(rt; bytes.push(ends).is_ok());
     bytes
 }
 
@@ -287,9 +274,12 @@ const DAMAGES: [Damage; 11] = [
 
 // A file of a page of 1,024 bytes that begins so, all others being zeros.
 fn page(rt: &impl Abort, alloc: Global, hand: &mut MemHand, front: &[u8]) -> Stamp {
-    let mut bytes = front.to_vec(alloc).expect(rt, "memory");
-    bytes.resize(1_024, 0).expect(rt, "memory");
-    put(hand, &bytes).expect(rt, "a file")
+    let mut bytes = Vec::new(alloc);
+    assert!(rt; grow(&mut bytes, front, 0, 1_024));
+    match put(hand, &bytes) {
+        Ok(stamp) => stamp,
+        Err(_) => panic!(rt; "no file"),
+    }
 }
 
 // The pins of the wide object, of which the first page begins so and the last one has these bytes.
@@ -341,7 +331,7 @@ const DAMAGED_CELLS: [Bytes; 3] = [
 // Whether `get` of a cell whose file has these bytes fails, and its pin stays.
 fn is_damaged(rt: &impl Abort, alloc: Global, bytes: Bytes) -> bool {
     let mut hand = MemHand::new(alloc);
-    let pins = pinned(rt, &mut hand, &[bytes]);
+    let pins = pinned(rt, &mut hand, bytes);
     let mut desk = desk_of(rt, alloc, CELL, pins);
     let Some(receipt) = receipt_of(alloc, &mut desk, &mut hand, "get", &[]) else {
         return false;

@@ -5,7 +5,7 @@ use board_core::receipt::Receipt;
 use decl_read::read::read_objects;
 use desk_core::desk::Desk;
 use exclude_core::analyse::{Accepted, analyse};
-use hand_core::hand::{Hand, Stamp};
+use hand_core::hand::Hand;
 use hand_core::whole::put;
 use page_core::page_list::PageList;
 use page_core::pins::Pins;
@@ -43,14 +43,17 @@ pub fn accepted(rt: &impl Abort, alloc: Global, text: &[u8]) -> Accepted {
     panic!(rt; "no object")
 }
 
-/// A file for each part, with these bytes.
-pub fn pinned<H: Hand>(rt: &impl Abort, hand: &mut H, files: &[&[u8]]) -> Pins {
-    let mut lists = [PageList::of(&[Stamp { number: 0, len: 0 }]); 16];
-    assert!(rt; files.len() <= lists.len());
-    for (place, bytes) in files.iter().enumerate() {
-        lists[place] = PageList::of(&[put(hand, bytes).expect(rt, "a file")]);
+/// Adds some bytes, and behind them this one until there are so many.
+pub fn grow(bytes: &mut Vec<u8>, more: &[u8], byte: u8, count: usize) -> bool {
+    bytes.extend_from_slice(more).is_ok() && bytes.resize(count, byte).is_ok()
+}
+
+/// The pins of one part, in a file with these bytes.
+pub fn pinned<H: Hand>(rt: &impl Abort, hand: &mut H, bytes: &[u8]) -> Pins {
+    match put(hand, bytes) {
+        Ok(stamp) => Pins::new(&[PageList::of(&[stamp])]),
+        Err(_) => panic!(rt; "no file"),
     }
-    Pins::new(&lists[..files.len()])
 }
 
 /// The desk of the one object of a text, with these pins.
@@ -75,6 +78,14 @@ pub fn outcome_of<H: Hand>(
     }
 }
 
+/// The receipt of an outcome that a desk takes.
+pub fn finished(desk: &mut Desk, outcome: Outcome) -> Option<Receipt> {
+    match desk.finish(outcome) {
+        Ok(receipt) => Some(receipt),
+        Err(_) => None,
+    }
+}
+
 /// The receipt of a call that session 1 makes from beginning to end.
 pub fn receipt_of<H: Hand>(
     alloc: Global,
@@ -83,9 +94,13 @@ pub fn receipt_of<H: Hand>(
     op: &str,
     args: &[Datum],
 ) -> Option<Receipt> {
-    let number = desk.submit(1, op, args).ok()?;
-    let outcome = outcome_of(alloc, desk, hand, number)?;
-    desk.finish(outcome).ok()
+    let Ok(number) = desk.submit(1, op, args) else {
+        return None;
+    };
+    match outcome_of(alloc, desk, hand, number) {
+        Some(outcome) => finished(desk, outcome),
+        None => None,
+    }
 }
 
 /// Whether session 1 makes a call from beginning to end.

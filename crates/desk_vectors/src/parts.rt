@@ -1,6 +1,6 @@
 //! Parts that go from a shelf to a hand and back.
 
-use crate::make::{Bytes, ZERO, accepted};
+use crate::make::{Bytes, ZERO, accepted, grow};
 use decl_core::object::Object;
 use device_core::mem_shelf::MemShelf;
 use device_core::memory::MemHand;
@@ -24,12 +24,8 @@ end;
 // The bytes of a queue of two texts, which are cut into two pages.
 fn queue(rt: &impl Abort, alloc: Global) -> Vec<u8> {
     let mut bytes = Vec::new(alloc);
-    bytes
-        .extend_from_slice(b"\x02\x04\x00\x02\x03\xe8")
-        .expect(rt, "memory");
-    bytes.resize(1_006, b'x').expect(rt, "memory");
-    bytes.extend_from_slice(b"\x00\x11").expect(rt, "memory");
-    bytes.resize(1_025, b'y').expect(rt, "memory");
+    assert!(rt; grow(&mut bytes, b"\x02\x04\x00\x02\x03\xe8", b'x', 1_006));
+    assert!(rt; grow(&mut bytes, b"\x00\x11", b'y', 1_025));
     bytes
 }
 

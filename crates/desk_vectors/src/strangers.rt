@@ -82,7 +82,8 @@ fn is_strange(rt: &impl Abort, alloc: Global, hand: &mut MemHand, called: Called
 fn a_call_is_told_by_its_number_declaration_arguments_and_pins(rt: HostRuntime) {
     let mut hand = MemHand::new(rt.alloc());
     // Files 1 and 2 have the same bytes.
-    let _pins = pinned(&rt, &mut hand, &[ZERO, ZERO]);
+    let _first = pinned(&rt, &mut hand, ZERO);
+    let _second = pinned(&rt, &mut hand, ZERO);
     for called in OTHERS {
         assert!(rt; is_strange(&rt, rt.alloc(), &mut hand, called));
     }

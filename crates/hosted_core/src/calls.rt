@@ -132,7 +132,8 @@ impl Hosted {
     /// added, and their clients remember them. `is_first`: no line was added since a new epoch was last asked for.
     ///
     /// A fault changes nothing; it is `HistoryFull` also where the journal lacks room for the lines of the call and of all
-    /// that wait. The error is that memory was refused for the lines.
+    /// that wait, and `Full` also where the call would have to wait and these lines have more than 6 MiB. The error is that
+    /// memory was refused for the lines.
     pub fn call(
         &mut self,
         is_first: bool,
@@ -178,12 +179,16 @@ impl Hosted {
         ensures ok { IfOk result (λ a. Takes self.old session operation arguments.items a self.new) }
         ensures err { OnErr result (self.new ≡ self.old) }
     {
-        let own = most_of(self.live.object(), operation, &arguments);
-        if !self.has_room(self.owing.saturating_add(own)) {
+        let size = self.most_with(operation, &arguments);
+        if self.is_crowded(operation, size) {
+            return Err(SubmitFault::Full);
+        }
+        if !self.has_room(size) {
             return Err(SubmitFault::HistoryFull);
         }
         let _is_named = self.has_name(session);
         self.ask(session, operation, &arguments)?;
+        let own = most_of(self.live.object(), operation, &arguments);
         match self.live.submit(u32::from(session), operation, arguments) {
             Ok(taken) => {
                 self.given = taken.number;

@@ -36,6 +36,12 @@ pub const MOST_LINES: usize = 8_388_608;
 /// Where no more bytes are left for lines, a new epoch begins.
 pub const LEAST_LEFT: usize = 2_097_152;
 
+/// Unless so many bytes of lines were added behind the front: a new epoch brings no more room.
+pub const LEAST_ADDED: usize = 1_048_576;
+
+/// The lines of all calls that wait have at most so many bytes: so a call that may start has room.
+pub const MOST_OWING: usize = 6_291_456;
+
 /// Where no new epoch can begin, it is tried again behind so many calls.
 pub const CALLS_BETWEEN: u32 = 1_000;
 
@@ -386,8 +392,22 @@ impl Hosted {
 
     // Whether a new epoch is due: the numbers of this one, or the room of its journal, are nearly spent.
     fn is_spending(&self) -> bool {
-        let left = MOST_LINES.saturating_sub(self.added);
-        left <= LEAST_LEFT || self.live.numbers_left() <= 65_536 - EPOCH_CALLS
+        self.is_filling() || self.live.numbers_left() <= 65_536 - EPOCH_CALLS
+    }
+
+    // Whether few bytes are left beside what the calls that wait may need. Where few were added since the front, a new epoch
+    // would bring no room.
+    fn is_filling(&self) -> bool {
+        let taken = self.added.saturating_add(self.owing);
+        self.added >= LEAST_ADDED && MOST_LINES.saturating_sub(taken) <= LEAST_LEFT
+    }
+
+    // Whether a call would have to wait that needs, with all that wait, so many bytes for lines: more than may wait.
+    pub(crate) fn is_crowded(&self, operation: OpId, size: usize) -> bool {
+        if size <= MOST_OWING {
+            return false;
+        }
+        !self.live.counters().can_start(operation)
     }
 
     /// A call is asked for, or a new name has come.

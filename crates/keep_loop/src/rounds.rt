@@ -21,8 +21,10 @@ const MOST_TAKEN: u32 = 256;
 // A round hears no more once so many bytes of lines wait to be stored.
 const MOST_LINES: usize = 65_536;
 
-// So many rounds are made at the end, for those who take what they are owed slowly.
-const LAST_ROUNDS: u32 = 16;
+// So many rounds are made at the end, and so many ticks are waited for, for those who take what they are owed slowly.
+const LAST_ROUNDS: u32 = 65_536;
+
+const LAST_TICKS: u32 = 50;
 
 // A connection can be read or written again.
 fn ready<O: Served>(keep: &mut Keep<O>, who: u64) -> Result<(), AllocError>
@@ -212,17 +214,17 @@ fn part<O: Served, W: Outside>(keep: &mut Keep<O>, outside: &mut W) -> Result<()
     Ok(())
 }
 
-// Tells the object the time, where it is time for that.
-fn tick<O: Served, W: Outside>(keep: &mut Keep<O>, outside: &mut W) -> Result<(), Fault>
+// Tells the object the time, where it is time for that. `true`: it is.
+fn tick<O: Served, W: Outside>(keep: &mut Keep<O>, outside: &mut W) -> Result<bool, Fault>
     ensures ok { OnOk result (Keeps O.gives (W.seen outside.old) keep.old (W.seen outside.new) keep.new) }
     ensures err { OnErr result (Fails O.gives (W.seen outside.old) keep.old (W.seen outside.new)) }
 {
     match outside.tick() {
         Some(time) => {
             keep.noted(Note::Ticks(time))?;
-            Ok(())
+            Ok(true)
         }
-        None => Ok(()),
+        None => Ok(false),
     }
 }
 
@@ -438,7 +440,7 @@ fn listen<O: Served, W: Outside>(
     take(keep, outside)?;
     hear(keep, outside, piece)?;
     part(keep, outside)?;
-    tick(keep, outside)?;
+    let _is_time = tick(keep, outside)?;
     resume(keep, outside)?;
     Ok(())
 }
@@ -480,9 +482,13 @@ fn finish<O: Served, W: Outside>(keep: &mut Keep<O>, outside: &mut W) -> Result<
     ensures ok { OnOk result (Keeps O.gives (W.seen outside.old) keep.old (W.seen outside.new) keep.new) }
     ensures err { OnErr result (Fails O.gives (W.seen outside.old) keep.old (W.seen outside.new)) }
 {
+    let mut ticks: u32 = 0;
     for _round in 0..LAST_ROUNDS {
-        if !last_round(keep, outside)? {
+        if ticks >= LAST_TICKS || !last_round(keep, outside)? {
             return Ok(());
+        }
+        if tick(keep, outside)? {
+            ticks = ticks.saturating_add(1);
         }
     }
     Ok(())

@@ -12,7 +12,7 @@ use std::sync::atomic::{AtomicU64, Ordering};
 use std::thread;
 
 // After so many turns nobody comes any more.
-const MOST_TURNS: u64 = 100_000_000;
+const MOST_TURNS: u64 = 4_000_000_000;
 
 // Turns until the word has this value, and tells whether it had it in time.
 fn meets(word: &AtomicU64, value: u64) -> bool {

@@ -10,6 +10,9 @@ ghost use Rattle.post_core.specs.declared.post.Stage.TheVariants.{Gone, Hears};
 use std::alloc::{AllocError, Global};
 use std::collections::VecDeque;
 
+// A connection keeps room for so many bytes that it may be owed: one that is idle takes no more.
+const MOST_ROOM: usize = 3_072;
+
 /// Bytes.
 #[derive(Drop)]
 pub struct Text {
@@ -128,6 +131,7 @@ fn cut(places: &mut Vec<Place>, at: usize, n: usize)
     ensures stage { (c k : ℕ) → stage_in c (slice_get places.new.items k) ≡ stage_in c (slice_get places.old.items k) }
 {
     places[at].owed.drain(..n);
+    places[at].owed.shrink_to(MOST_ROOM);
 }
 
 // The one at a place is so far.
