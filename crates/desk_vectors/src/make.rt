@@ -5,7 +5,7 @@ use board_core::receipt::Receipt;
 use decl_read::read::read_objects;
 use desk_core::desk::Desk;
 use exclude_core::analyse::{Accepted, analyse};
-use hand_core::hand::{Hand, Stamp};
+use hand_core::hand::Hand;
 use hand_core::whole::put;
 use page_core::page_list::PageList;
 use page_core::pins::Pins;
@@ -48,15 +48,10 @@ pub fn grow(bytes: &mut Vec<u8>, more: &[u8], byte: u8, count: usize) -> bool {
     bytes.extend_from_slice(more).is_ok() && bytes.resize(count, byte).is_ok()
 }
 
-/// The pins of one part, in this file.
-pub fn pins_of(stamp: Stamp) -> Pins {
-    Pins::new(&[PageList::of(&[stamp])])
-}
-
 /// The pins of one part, in a file with these bytes.
 pub fn pinned<H: Hand>(rt: &impl Abort, hand: &mut H, bytes: &[u8]) -> Pins {
     match put(hand, bytes) {
-        Ok(stamp) => pins_of(stamp),
+        Ok(stamp) => Pins::new(&[PageList::of(&[stamp])]),
         Err(_) => panic!(rt; "no file"),
     }
 }

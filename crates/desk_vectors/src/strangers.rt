@@ -1,10 +1,12 @@
 //! Outcomes that are handed to a desk on which no such call runs.
 
-use crate::make::{Bytes, CELL, ZERO, desk_of, has_turn_of, look, outcome_of, pinned, pins_of};
+use crate::make::{Bytes, CELL, ZERO, desk_of, has_turn_of, look, outcome_of, pinned};
 use ask_core::answer::Stranger;
 use desk_core::desk::Desk;
 use device_core::memory::MemHand;
 use hand_core::hand::Stamp;
+use page_core::page_list::PageList;
+use page_core::pins::Pins;
 use run_core::outcome::Outcome;
 use std::alloc::Global;
 use std::process::Abort;
@@ -41,7 +43,8 @@ const OTHERS: [Called; 6] = [
 fn desk_for(rt: &impl Abort, alloc: Global, called: Called) -> Desk {
     let Called(object, number, more, _, _, _) = called;
     let len = more.saturating_add(8);
-    desk_of(rt, alloc, object, pins_of(Stamp { number, len }))
+    let list = PageList::of(&[Stamp { number, len }]);
+    desk_of(rt, alloc, object, Pins::new(&[list]))
 }
 
 // The outcome of a call on a desk of its own.
