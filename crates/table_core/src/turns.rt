@@ -143,19 +143,49 @@ impl Table {
         ensures { OnOk result (GoesOn self.old post.old self.new post.new) }
     {
         for _ in 0..u64::MAX {
-            let Some(ask) = self.clients.take(place) else {
-                return Ok(());
-            };
-            match ask {
-                Ok(Ask::Quit) => return self.say(place, Line::Bye, post),
-                Ok(Ask::Open(_, _)) => self.refuse(place, Refusal::Opened, post)?,
-                Ok(Ask::Answer(refusal)) => self.refuse(place, refusal, post)?,
-                Ok(Ask::Cancel(number)) => self.cancel(place, number, post)?,
-                Ok(Ask::Call(_, _, _)) => self.reject(place, SubmitFault::Gone, post)?,
-                Err(_) => self.reject(place, SubmitFault::Gone, post)?,
+            match self.clients.take(place) {
+                None => return Ok(()),
+                Some(ask) => {
+                    if !self.end_ask(place, ask, post)? {
+                        return Ok(());
+                    }
+                }
             }
         }
         Ok(())
+    }
+
+    // Answers a held line of the one at a place, which has left. `false`: no line behind it is answered.
+    fn end_ask(
+        &mut self,
+        place: usize,
+        ask: Result<Ask, AllocError>,
+        post: &mut Post,
+    ) -> Result<bool, AllocError>
+        ensures { OnOk result (GoesOn self.old post.old self.new post.new) }
+    {
+        match ask {
+            Ok(Ask::Quit) => {
+                self.say(place, Line::Bye, post)?;
+                Ok(false)
+            }
+            Ok(Ask::Open(_, _)) => {
+                self.refuse(place, Refusal::Opened, post)?;
+                Ok(true)
+            }
+            Ok(Ask::Answer(refusal)) => {
+                self.refuse(place, refusal, post)?;
+                Ok(true)
+            }
+            Ok(Ask::Cancel(number)) => {
+                self.cancel(place, number, post)?;
+                Ok(true)
+            }
+            Ok(Ask::Call(_, _, _)) | Err(_) => {
+                self.reject(place, SubmitFault::Gone, post)?;
+                Ok(true)
+            }
+        }
     }
 
     // All connections leave.
