@@ -13,6 +13,9 @@ pub mod Typed
 pub mod TypedOnce
 pub mod KindOnce
 pub mod PartKinds
+pub mod HoldForm
+pub mod HoldMap
+pub mod HoldOnce
 pub mod Touched
 pub mod FootprintLaws
 pub mod KindLaws

@@ -1,11 +1,12 @@
 -- Objects and operations without where they lie in memory.
-use Rattle.std.specs.Prelude.{ℕ, ◌+◌, ◌==◌, List, [], ◌∷◌, Option, Some, None, if◌then◌else◌}
+use Rattle.std.specs.Prelude.{ℕ, ◌+◌, ◌==◌, List, [], ◌∷◌, map, Option, Some, None, if◌then◌else◌}
 use Rattle.std.specs.Int.{bit_at}
 use Rattle.value_core.specs.declared.kind.Elem.{Elem}
 use Rattle.value_core.specs.declared.kind.Kind.{Kind}
 use Rattle.path_tree.specs.Path.{Path}
 use Rattle.decl_core.specs.Form.{Statements}
 use Rattle.decl_core.specs.Footprint.{named_in_all}
+use Rattle.decl_core.specs.HoldForm.{HoldForm, EveryForm, Signature, signature}
 
 -- an operation: what it is given, what it replies, what it does, and of each part of the object what it holds where
 -- the operation names it
@@ -16,12 +17,21 @@ pub record OperationForm : Type 0 where
   pub statements : Statements
   pub kinds : List (Option Kind)
 
+-- what an operation takes and replies
+abbrev pub signature_of : OperationForm → Signature
+signature_of o = signature (map (λ p. p.1) o.params) o.result
+
+abbrev pub signatures_of : List OperationForm → List Signature
+signatures_of operations = map signature_of operations
+
 -- an object
 pub record ObjectForm : Type 0 where
   pub name : List ℕ
   pub parts : List (List ℕ × Kind)
   pub paths : List Path
   pub operations : List OperationForm
+  pub holds : List HoldForm
+  pub everies : List EveryForm
 
 -- of each part what it holds, where its bit is set; the first of them has this number
 abbrev pub kinds_from : ℕ → ℕ → List (List ℕ × Kind) → List (Option Kind)

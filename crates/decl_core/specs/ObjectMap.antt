@@ -10,6 +10,7 @@ use Rattle.decl_core.specs.declared.object.Operation.{Operation}
 use Rattle.decl_core.specs.declared.object.Object.{Object}
 use Rattle.decl_core.specs.ObjectForm.{OperationForm, ObjectForm}
 use Rattle.decl_core.specs.View.{all_of}
+use Rattle.decl_core.specs.HoldMap.{holds_of, everies_of}
 
 abbrev pub param_of : Param → List ℕ × Elem
 param_of p = (p.name, p.kind)
@@ -40,6 +41,8 @@ object_of o =
       parts = parts_of o.parts.items;
       paths = o.paths.items;
       operations = operations_of o.operations.items;
+      holds = holds_of o.holds.items;
+      everies = everies_of o.everies.items;
     }
 
 abbrev pub objects_of : List Object → List ObjectForm

@@ -4,6 +4,7 @@
 
 pub mod expr;
 pub mod footprint;
+pub mod hold;
 pub mod id;
 mod kinds;
 pub mod laws;

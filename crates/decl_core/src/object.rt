@@ -7,8 +7,12 @@ ghost use Rattle.decl_core.specs.Typed.{IsWellTyped};
 ghost use Rattle.decl_core.specs.TypedOnce.{well_typed_once};
 ghost use Rattle.decl_core.specs.KindOnce.{is_kind_once};
 ghost use Rattle.decl_core.specs.PartKinds.{EachKindsOf, each_kinds_once};
+ghost use Rattle.decl_core.specs.HoldForm.{AreRules, signature};
+ghost use Rattle.decl_core.specs.HoldMap.{everies_of, holds_of};
+ghost use Rattle.decl_core.specs.HoldOnce.{rules_once};
 ghost use Rattle.std.specs.Arc.{arc_value};
 
+use crate::hold::{Every, Hold};
 use crate::stmt::Stmt;
 use path_tree::name::Name;
 use path_tree::tree::PathTree;
@@ -55,7 +59,8 @@ pub struct Operation {
             (all_of body.items) },
 }
 
-/// An object: parts, the operations on them, and the paths that say which operations may run when.
+/// An object: parts, the operations on them, the paths that say which operations may run when, and what is said of
+/// clients that are gone and of time.
 #[derive(Drop)]
 pub struct Object {
     /// Its name.
@@ -66,6 +71,10 @@ pub struct Object {
     pub paths: Vec<PathTree>,
     /// Its operations, by their numbers; at most 32.
     pub operations: Vec<Arc<Operation>>,
+    /// Which calls are held until others have ended, in order; at most 16.
+    pub holds: Vec<Hold>,
+    /// What is called again and again, in order; at most 4.
+    pub everies: Vec<Every>,
     ghost few: { length parts.items ≤ 16 },
     ghost few_paths: { length paths.items ≤ 16 },
     ghost few_operations: { length operations.items ≤ 32 },
@@ -73,4 +82,11 @@ pub struct Object {
     ghost of_parts: { EachKindsOf (map (λ p. p.kind) parts.items) (map (λ o. o.kinds.items)
         (map arc_value operations.items)) } by { each_kinds_once (map (λ p. p.kind) parts.items)
             (map (λ o. o.kinds.items) (map arc_value operations.items)) },
+    ghost few_holds: { length holds.items ≤ 16 },
+    ghost few_everies: { length everies.items ≤ 4 },
+    // each rule names operations of the object, whose parameters fit, and no operation stands twice in holds
+    ghost ruled: { AreRules (map (λ o. signature (map (λ p. p.kind) o.params.items) o.result)
+        (map arc_value operations.items)) (holds_of holds.items) (everies_of everies.items) } by { rules_once
+            (map (λ o. signature (map (λ p. p.kind) o.params.items) o.result) (map arc_value operations.items))
+            (holds_of holds.items) (everies_of everies.items) },
 }
