@@ -1,6 +1,7 @@
 -- Which calls are held until others have ended, and what is called again and again. An operation is its number.
 use Rattle.std.specs.Prelude.{◌≡◌, ◌≢◌, ℕ, ◌<◌, Bool, false, ◌==◌, List, [], ◌∷◌, ◌++◌, length, map, flat_map, slice_get}
-use Rattle.std.specs.Prelude.{Option, Some, None, All, AllPairs, list_any}
+use Rattle.std.specs.Prelude.{Option, Some, None, All, AllPairs}
+use Rattle.std.specs.List.{list_any}
 use Rattle.value_core.specs.declared.kind.Elem.{Elem}
 
 -- a call of this operation is held until a call of one of these has ended, by anybody or by who holds it

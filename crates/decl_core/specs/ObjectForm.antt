@@ -33,6 +33,11 @@ pub record ObjectForm : Type 0 where
   pub holds : List HoldForm
   pub everies : List EveryForm
 
+abbrev pub object_with : List ℕ → List (List ℕ × Kind) → List Path → List OperationForm → List HoldForm →
+    List EveryForm → ObjectForm
+object_with own parts paths operations holds everies =
+    record { name = own; parts = parts; paths = paths; operations = operations; holds = holds; everies = everies }
+
 -- of each part what it holds, where its bit is set; the first of them has this number
 abbrev pub kinds_from : ℕ → ℕ → List (List ℕ × Kind) → List (Option Kind)
 kinds_from reads place [] = []

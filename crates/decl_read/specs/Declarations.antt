@@ -1,12 +1,12 @@
 -- What declarations, an object and a file are, by the productions of their grammar.
 use Rattle.std.specs.Prelude.{◌≡◌, ℕ, suc, ◌<◌, ◌≤◌, ◌-◌, Bool, true, false, List, [], ◌∷◌, ◌++◌, length, map, drop}
-use Rattle.std.specs.Prelude.{is_some, ◌||◌, ◌&&◌, if◌then◌else◌, Some, None}
+use Rattle.std.specs.Prelude.{is_some, ◌==◌, ◌||◌, ◌&&◌, if◌then◌else◌, Some, None}
 use Rattle.path_tree.specs.declared.token.Symbol.{Symbol}
 use Rattle.path_tree.specs.declared.token.Symbol.TheVariants as symbols
 use Rattle.path_tree.specs.Path.{Path}
 use Rattle.path_tree.specs.Lexeme.{Lexeme, symbol, number, identifier, string, end_mark, same_symbol}
 use Rattle.path_tree.specs.Reading.{symbol_at}
-use Rattle.path_tree.specs.Known.{value_of}
+use Rattle.path_tree.specs.Known.{value_of, place_of}
 use Rattle.path_tree.specs.Grammar.{IsPathAt}
 use Rattle.value_core.specs.declared.kind.Elem.{Elem}
 use Rattle.value_core.specs.declared.kind.Elem.TheVariants as elem
@@ -19,7 +19,10 @@ use Rattle.body_read.specs.Scopes.{operation_names}
 use Rattle.body_read.specs.Reading.{Names, found_in, is_among, is_known}
 use Rattle.body_read.specs.Series.{IsSeries}
 use Rattle.body_read.specs.Statements.{IsStmts}
-use Rattle.decl_core.specs.ObjectForm.{OperationForm, ObjectForm, operation_with}
+use Rattle.decl_core.specs.ObjectForm.{OperationForm, ObjectForm, operation_with, object_with, signatures_of}
+use Rattle.decl_core.specs.HoldForm.{HoldForm, EveryForm, MayEnd, IsEvery, is_one_of, named_in, called_in}
+use Rattle.decl_read.specs.declared.words.Word.TheVariants as words
+use Rattle.decl_read.specs.Words.{word, word_at, begins_word}
 
 -- whether a symbol stands in front, and whether a name does
 abbrev pub begins : Symbol → List Lexeme → Bool
@@ -226,17 +229,72 @@ entry_names opening [] = []
 entry_names opening (w ∷ ws) =
     if is_object_word w then [] else name_behind opening w ++ entry_names (opening_after opening w) ws
 
--- object = "object" name ";" { consts } { path ";" } { parts } { entry } "end" ";"
+-- the names of these operations have this number at this name
+abbrev pub IsOperation : List OperationForm → List ℕ → ℕ → Type 0
+IsOperation operations bytes op = place_of (operation_names operations) bytes ≡ Some op
+
+-- an operation stands before: in holds, as the operation of this one, or among those that end it
+abbrev pub is_taken : List HoldForm → ℕ → List ℕ → ℕ → Bool
+is_taken holds op before undo = op == undo || is_one_of (named_in holds) undo || is_one_of before undo
+
+-- name  of an operation that may end the hold of this one, and that no hold names
+pub data IsUndo (operations : List OperationForm) (holds : List HoldForm) (op : ℕ) : List ℕ → List Lexeme → List ℕ →
+    List Lexeme → Type 0 where
+  undo : {before : List ℕ} {bytes : List ℕ} {u : ℕ} {rest : List Lexeme} → IsOperation operations bytes u →
+      is_taken holds op before u ≡ false → MayEnd (signatures_of operations) op u →
+      IsUndo operations holds op before (identifier bytes ∷ rest) (before ++ u ∷ []) rest
+
+-- "," name
+pub data IsNextUndo (operations : List OperationForm) (holds : List HoldForm) (op : ℕ) : List ℕ → List Lexeme →
+    List ℕ → List Lexeme → Type 0 where
+  next_undo : {before after : List ℕ} {ws rest : List Lexeme} → IsUndo operations holds op before ws after rest →
+      IsNextUndo operations holds op before (symbol symbols.Comma ∷ ws) after rest
+
+-- name { "," name }
+pub data IsUndos (operations : List OperationForm) (holds : List HoldForm) (op : ℕ) : List Lexeme → List ℕ →
+    List Lexeme → Type 0 where
+  undos : {one all : List ℕ} {ws vs rest : List Lexeme} → IsUndo operations holds op [] ws one vs →
+      IsSeries (IsNextUndo operations holds op) (begins symbols.Comma) 32 one vs all rest →
+      IsUndos operations holds op ws all rest
+
+-- [ "by" "any" ]
+pub data IsLoose : List Lexeme → Bool → List Lexeme → Type 0 where
+  strict : {ws : List Lexeme} → word_at words.By ws ≡ None → IsLoose ws false ws
+  loose : {rest : List Lexeme} → IsLoose (word words.By ∷ word words.Any ∷ rest) true rest
+
+-- hold = "hold" name "until" name { "," name } [ "by" "any" ] ";"
+pub data IsHoldItem (operations : List OperationForm) : List HoldForm → List Lexeme → List HoldForm → List Lexeme →
+    Type 0 where
+  a_hold : {before : List HoldForm} {own : List ℕ} {op : ℕ} {all : List ℕ} {any : Bool} {ws vs rest : List Lexeme} →
+      IsOperation operations own op → is_one_of (named_in before) op ≡ false →
+      IsUndos operations before op ws all vs → IsLoose vs any (symbol symbols.Semicolon ∷ rest) →
+      IsHoldItem operations before (word words.Hold ∷ identifier own ∷ word words.Until ∷ ws)
+      (before ++ record { op = op; until = all; by_any = any } ∷ []) rest
+
+-- every = "every" number "call" name ";"  a number from 1 to 86400, and a procedure that takes nothing, which ends no
+-- hold, and which is called once
+pub data IsEveryItem (operations : List OperationForm) (holds : List HoldForm) : List EveryForm → List Lexeme →
+    List EveryForm → List Lexeme → Type 0 where
+  an_every : {before : List EveryForm} {n : ℕ} {own : List ℕ} {op : ℕ} {rest : List Lexeme} → 1 ≤ n → n ≤ 86400 →
+      IsOperation operations own op → is_one_of (called_in before) op ≡ false →
+      IsEvery (signatures_of operations) holds (record { seconds = n; op = op }) →
+      IsEveryItem operations holds before (word words.Every ∷ number n ∷ word words.Call ∷ identifier own
+      ∷ symbol symbols.Semicolon ∷ rest) (before ++ record { seconds = n; op = op } ∷ []) rest
+
+-- object = "object" name ";" { consts } { path ";" } { parts } { entry } { hold } { every } "end" ";"
 pub data IsObject : List Lexeme → ObjectForm → List Lexeme → Type 0 where
   object : {bytes : List ℕ} {constants : List (List ℕ × ℕ)} {paths : List Path} {parts : List (List ℕ × Kind)}
-      {operations : List OperationForm} {ws us vs ys rest : List Lexeme} →
+      {operations : List OperationForm} {holds : List HoldForm} {everies : List EveryForm}
+      {ws us vs ys hs es rest : List Lexeme} →
       IsSeries IsConsts (begins symbols.Const) 16 [] ws constants us →
       IsSeries (IsPathItem constants (entry_names openings.Nothing ws)) (begins symbols.Path) 16 [] us paths vs →
       IsSeries (IsVar constants) (begins symbols.Var) 16 [] vs parts ys →
-      IsSeries (IsEntry constants parts) (begins symbols.Entry) 32 [] ys operations
+      IsSeries (IsEntry constants parts) (begins symbols.Entry) 32 [] ys operations hs →
+      IsSeries (IsHoldItem operations) (begins_word words.Hold) 16 [] hs holds es →
+      IsSeries (IsEveryItem operations holds) (begins_word words.Every) 4 [] es everies
       (symbol symbols.End ∷ symbol symbols.Semicolon ∷ rest) →
       IsObject (symbol symbols.Object ∷ identifier bytes ∷ symbol symbols.Semicolon ∷ ws)
-      (record { name = bytes; parts = parts; paths = paths; operations = operations }) rest
+      (object_with bytes parts paths operations holds everies) rest
 
 -- an object of another name than those before
 pub data IsNextObject : List ObjectForm → List Lexeme → List ObjectForm → List Lexeme → Type 0 where

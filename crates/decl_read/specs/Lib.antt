@@ -1,3 +1,4 @@
+pub mod Words
 pub mod DeclFaults
 pub mod Declarations
 pub mod DeclarationReading

@@ -7,21 +7,27 @@ use Rattle.path_tree.specs.Grammar.{IsPathAt}
 use Rattle.value_core.specs.declared.kind.Kind.{Kind}
 use Rattle.body_read.specs.Reading.{is_among}
 use Rattle.body_read.specs.Series.{IsSeries}
-use Rattle.decl_core.specs.ObjectForm.{OperationForm, ObjectForm}
-use Rattle.decl_read.specs.Declarations.{begins, IsConsts, IsPathItem, IsVar, IsEntry, IsFile}
+use Rattle.decl_core.specs.ObjectForm.{OperationForm, ObjectForm, object_with}
+use Rattle.decl_core.specs.HoldForm.{HoldForm, EveryForm}
+use Rattle.decl_read.specs.declared.words.Word.TheVariants as words
+use Rattle.decl_read.specs.Words.{begins_word}
+use Rattle.decl_read.specs.Declarations.{begins, IsConsts, IsPathItem, IsVar, IsEntry, IsHoldItem, IsEveryItem, IsFile}
 use Rattle.body_read.specs.Scopes.{operation_names}
 
 -- An object of the grammar, but that its paths may use the names of its operations.
 pub data IsObjectByOperations : List Lexeme → ObjectForm → List Lexeme → Type 0 where
   object_by : {bytes : List ℕ} {constants : List (List ℕ × ℕ)} {paths : List Path} {parts : List (List ℕ × Kind)}
-      {operations : List OperationForm} {ws us vs ys rest : List Lexeme} →
+      {operations : List OperationForm} {holds : List HoldForm} {everies : List EveryForm}
+      {ws us vs ys hs es rest : List Lexeme} →
       IsSeries IsConsts (begins symbols.Const) 16 [] ws constants us →
       IsSeries (IsPathItem constants (operation_names operations)) (begins symbols.Path) 16 [] us paths vs →
       IsSeries (IsVar constants) (begins symbols.Var) 16 [] vs parts ys →
-      IsSeries (IsEntry constants parts) (begins symbols.Entry) 32 [] ys operations
+      IsSeries (IsEntry constants parts) (begins symbols.Entry) 32 [] ys operations hs →
+      IsSeries (IsHoldItem operations) (begins_word words.Hold) 16 [] hs holds es →
+      IsSeries (IsEveryItem operations holds) (begins_word words.Every) 4 [] es everies
       (symbol symbols.End ∷ symbol symbols.Semicolon ∷ rest) →
       IsObjectByOperations (symbol symbols.Object ∷ identifier bytes ∷ symbol symbols.Semicolon ∷ ws)
-      (record { name = bytes; parts = parts; paths = paths; operations = operations }) rest
+      (object_with bytes parts paths operations holds everies) rest
 
 pub data IsNextByOperations : List ObjectForm → List Lexeme → List ObjectForm → List Lexeme → Type 0 where
   next_by : {before : List ObjectForm} {o : ObjectForm} {ws rest : List Lexeme} →

@@ -18,6 +18,10 @@ use Rattle.decl_core.specs.declared.object.Param.{Param}
 use Rattle.decl_core.specs.declared.object.Part.{Part}
 use Rattle.decl_core.specs.declared.object.Operation.{Operation}
 use Rattle.decl_core.specs.ObjectForm.{OperationForm}
+use Rattle.decl_core.specs.declared.hold.Hold.{Hold}
+use Rattle.decl_core.specs.declared.hold.Every.{Every}
+use Rattle.decl_core.specs.HoldForm.{HoldForm, EveryForm}
+use Rattle.decl_core.specs.HoldMap.{holds_of, everies_of}
 use Rattle.decl_core.specs.ObjectMap.{params_of, parts_of, operations_of}
 
 -- what is told where a path cannot be read
@@ -50,3 +54,12 @@ params_read x = (params_of x.0.items, lexemes x.1.now)
 
 abbrev pub operations_read : {Z : Type 0} → Vec (Arc Operation Z) × Bor (List Token) → List OperationForm × List Lexeme
 operations_read x = (operations_of x.0.items, lexemes x.1.now)
+
+abbrev pub numbers_read : Vec ℕ × Bor (List Token) → List ℕ × List Lexeme
+numbers_read x = (x.0.items, lexemes x.1.now)
+
+abbrev pub holds_read : Vec Hold × Bor (List Token) → List HoldForm × List Lexeme
+holds_read x = (holds_of x.0.items, lexemes x.1.now)
+
+abbrev pub everies_read : Vec Every × Bor (List Token) → List EveryForm × List Lexeme
+everies_read x = (everies_of x.0.items, lexemes x.1.now)

@@ -23,7 +23,7 @@ use std::alloc::Global;
 const MOST_CONSTANTS: usize = 16;
 
 /// A number that has to stand here, and the tokens behind it.
-fn number<'t>(tokens: &'t [Token]) -> Read<'t, u32>
+pub(crate) fn number<'t>(tokens: &'t [Token]) -> Read<'t, u32>
     ensures { Gives (λ x. (x.0, lexemes x.1.now)) result (number_at (lexemes tokens.now)) }
 {
     match tokens {

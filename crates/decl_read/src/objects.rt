@@ -14,7 +14,9 @@ use crate::catalog::Catalog;
 use crate::collect::operation_names;
 use crate::constants::constants;
 use crate::entry::entries;
+use crate::everies::everies;
 use crate::group::begins;
+use crate::holds::holds;
 use crate::parts::parts;
 use crate::paths::paths;
 use body_read::front::{after, behind, name, start_of};
@@ -39,6 +41,24 @@ fn contents<'t>(alloc: Global, own: &Name, tokens: &'t [Token]) -> Read<'t, Obje
     let (paths, rest) = paths(alloc, &constants, &names, Vec::new(alloc), 16, rest)?;
     let (parts, rest) = parts(alloc, &constants, Vec::new(alloc), 16, rest)?;
     let (operations, rest) = entries(alloc, &constants, &parts, Vec::new(alloc), 32, rest)?;
+    let (holds, rest) = holds(
+        alloc,
+        &constants,
+        &parts,
+        &operations,
+        Vec::new(alloc),
+        16,
+        rest,
+    )?;
+    let (everies, rest) = everies(
+        &constants,
+        &parts,
+        &operations,
+        &holds,
+        Vec::new(alloc),
+        4,
+        rest,
+    )?;
     let rest = behind(rest, Symbol::End)?;
     let rest = behind(rest, Symbol::Semicolon)?;
     let name = own.copy(alloc)?;
@@ -47,6 +67,8 @@ fn contents<'t>(alloc: Global, own: &Name, tokens: &'t [Token]) -> Read<'t, Obje
         parts,
         paths,
         operations,
+        holds,
+        everies,
     };
     Ok((object, rest))
 }

@@ -1,0 +1,131 @@
+//! What is called again and again.
+
+ghost use Rattle.std.specs.Prelude.{◌≡◌, ◌≤◌, ◌||◌, IfOk, length};
+ghost use Rattle.path_tree.specs.Lexeme.{lexemes};
+ghost use Rattle.body_read.specs.Reader.{Gives};
+ghost use Rattle.body_read.specs.Series.{series_at};
+ghost use Rattle.decl_core.specs.HoldForm.{is_one_of as is_one, called_in, ending_in};
+ghost use Rattle.decl_core.specs.HoldMap.{everies_of, holds_of};
+ghost use Rattle.decl_core.specs.ObjectMap.{operations_of};
+ghost use Rattle.decl_read.specs.Words.{begins_word as a_word_begins};
+ghost use Rattle.decl_read.specs.declared.words.Word.TheVariants.{Every as EveryWord};
+ghost use Rattle.decl_read.specs.DeclarationReading.{seconds_of, is_bare as is_bare_in, every_in};
+ghost use Rattle.decl_read.specs.Views.{everies_read};
+
+use crate::constants::number;
+use crate::holds::{is_one_of, operation};
+use crate::words::{Word, begins_word, behind_word};
+use body_read::front::{behind, start_of};
+use body_read::terms::Read;
+use body_read::text_fault::TextFault;
+use decl_core::hold::{Every, Hold};
+use decl_core::object::{Operation, Part};
+use path_tree::lookup::Constant;
+use path_tree::node::OpId;
+use path_tree::token::{Symbol, Token};
+use std::alloc::Global;
+use std::sync::Arc;
+
+/// The most seconds between two calls: a day.
+const MOST_SECONDS: u32 = 86_400;
+
+/// So many seconds, which are 1 to 86,400.
+fn allowed(n: u32, at: usize) -> Result<u32, TextFault>
+    ensures read { Gives (λ seconds. seconds) result (seconds_of n) }
+    ensures some { IfOk result (λ seconds. 1 ≤ seconds) }
+    ensures few { IfOk result (λ seconds. seconds ≤ 86400) }
+{
+    if n >= 1 && n <= MOST_SECONDS {
+        Ok(n)
+    } else {
+        Err(TextFault::Syntax(at))
+    }
+}
+
+/// Whether one of these holds is ended by an operation.
+#[tactic(auto, using(crate::proofs::HoldSteps::ending_step))]
+fn ends_one(holds: &[Hold], op: OpId) -> bool
+    ensures { result ≡ is_one (ending_in (holds_of holds.now)) op }
+{
+    match holds {
+        [] => false,
+        [hold, rest @ ..] => is_one_of(&hold.until, op) || ends_one(rest, op),
+    }
+}
+
+/// Whether one of these calls an operation.
+fn is_called(everies: &[Every], op: OpId) -> bool
+    ensures { result ≡ is_one (called_in (everies_of everies.now)) op }
+{
+    match everies {
+        [] => false,
+        [every, rest @ ..] => every.op == op || is_called(rest, op),
+    }
+}
+
+/// Whether an operation is a procedure that takes nothing.
+fn is_bare(operations: &[Arc<Operation>], op: OpId) -> bool
+    ensures { result ≡ is_bare_in (operations_of operations.now) op }
+{
+    match operations.get(usize::from(op)) {
+        None => false,
+        Some(operation) => operation.params.is_empty() && operation.result.is_none(),
+    }
+}
+
+/// What is called again and again, behind what was before.
+#[tactic(auto, unfolding(crate::specs::DeclarationReading::every_in))]
+fn every<'t>(
+    constants: &[Constant],
+    parts: &[Part],
+    operations: &[Arc<Operation>],
+    holds: &[Hold],
+    before: Vec<Every>,
+    tokens: &'t [Token],
+) -> Read<'t, Vec<Every>>
+    requires few_parts { length parts.now ≤ 16 }
+    requires few { length operations.now ≤ 32 }
+    ensures { Gives everies_read result (every_in (operations_of operations.now) (holds_of holds.now)
+        (everies_of before.items) (lexemes tokens.now)) }
+{
+    let mut all = before;
+    let opened = behind_word(tokens, Word::Every)?;
+    let (n, rest) = number(opened)?;
+    let seconds = allowed(n, start_of(opened))?;
+    let named = behind_word(rest, Word::Call)?;
+    let (op, rest) = operation(constants, parts, operations, named)?;
+    if ends_one(holds, op) || is_called(&all, op) {
+        return Err(TextFault::DuplicateName(start_of(named)));
+    }
+    if !is_bare(operations, op) {
+        return Err(TextFault::WrongType(start_of(named)));
+    }
+    let rest = behind(rest, Symbol::Semicolon)?;
+    all.push(Every { seconds, op })?;
+    Ok((all, rest))
+}
+
+/// What stands here that is called again and again, behind what was before; so many more at most.
+pub(crate) fn everies<'t>(
+    constants: &[Constant],
+    parts: &[Part],
+    operations: &[Arc<Operation>],
+    holds: &[Hold],
+    so_far: Vec<Every>,
+    left: u8,
+    tokens: &'t [Token],
+) -> Read<'t, Vec<Every>>
+    requires few_parts { length parts.now ≤ 16 }
+    requires few { length operations.now ≤ 32 }
+    ensures { Gives everies_read result (series_at (every_in (operations_of operations.now) (holds_of holds.now))
+        (a_word_begins EveryWord) left (everies_of so_far.items) (lexemes tokens.now)) }
+{
+    if !begins_word(tokens, Word::Every) {
+        return Ok((so_far, tokens));
+    }
+    if left == 0 {
+        return Err(TextFault::TooMany(start_of(tokens)));
+    }
+    let (so_far, rest) = every(constants, parts, operations, holds, so_far, tokens)?;
+    everies(constants, parts, operations, holds, so_far, left - 1, rest)
+}
