@@ -9,9 +9,11 @@ use Rattle.decl_read.specs.declared.collect.Opening.TheVariants as openings
 use Rattle.decl_core.specs.declared.object.Object.{Object}
 use Rattle.decl_core.specs.ObjectMap.{object_of, objects_of, object_names}
 use Rattle.body_read.specs.Reading.{is_among, name_at}
-use Rattle.decl_core.specs.ObjectForm.{ObjectForm}
+use Rattle.decl_core.specs.ObjectForm.{ObjectForm, object_with}
+use Rattle.decl_read.specs.declared.words.Word.TheVariants as words
+use Rattle.decl_read.specs.Words.{begins_word}
 use Rattle.body_read.specs.Series.{IsSeries, series_at}
-use Rattle.decl_read.specs.Declarations.{IsEntry, IsObject, object, IsNextObject, next_object, IsFile, file, begins, entry_names}
+use Rattle.decl_read.specs.Declarations.{IsEntry, IsHoldItem, IsEveryItem, IsObject, object, IsNextObject, next_object, IsFile, file, begins, entry_names}
 use Rattle.decl_read.specs.DeclarationReading.{contents_in, next_object_in, end_at, file_in}
 use Rattle.body_read.proofs.Exact.{Exact, bind_some, read_is, series_exact}
 use Rattle.decl_read.proofs.Fronts.{name_front, provided_is, is_false, along}
@@ -19,6 +21,7 @@ use Rattle.decl_read.proofs.ConstantsExact.{constants_exact}
 use Rattle.decl_read.proofs.PathItems.{paths_exact}
 use Rattle.decl_read.proofs.PartsExact.{parts_exact}
 use Rattle.decl_read.proofs.Entries.{entries_exact}
+use Rattle.decl_read.proofs.HoldsExact.{holds_exact, everies_exact}
 use Rattle.decl_read.proofs.Lengths.{behind_exact}
 
 module _ (most : ℕ) where
@@ -35,34 +38,49 @@ module _ (most : ℕ) where
       let q = bind_some _ _ (x, rest) c.2 in
       let p = bind_some _ _ (x, rest) q.2 in
       let o = bind_some _ _ (x, rest) p.2 in
-      let end = bind_some _ _ (x, rest) o.2 in
+      let hs = bind_some _ _ (x, rest) o.2 in
+      let es = bind_some _ _ (x, rest) hs.2 in
+      let end = bind_some _ _ (x, rest) es.2 in
       let last = bind_some _ _ (x, rest) end.2 in
-      let form : ObjectForm = record { name = bytes; parts = p.0.0; paths = q.0.0; operations = o.0.0 } in
+      let form : ObjectForm = object_with bytes p.0.0 q.0.0 o.0.0 hs.0.0 es.0.0 in
       let same = read_is (form, last.0) (x, rest) last.2 in
-      let closing : o.0.1 ≡ symbol symbols.End ∷ symbol symbols.Semicolon ∷ last.0 = symbol_found symbols.End o.0.1 end.0 end.1 ∙ ap (λ r. symbol symbols.End ∷ r) (symbol_found symbols.Semicolon end.0 last.0 last.1) in
+      let closing : es.0.1 ≡ symbol symbols.End ∷ symbol symbols.Semicolon ∷ last.0 = symbol_found symbols.End es.0.1 end.0 end.1 ∙ ap (λ r. symbol symbols.End ∷ r) (symbol_found symbols.Semicolon end.0 last.0 last.1) in
       let operations = (entries_exact most c.0.0 p.0.0 32 []).found p.0.1 o.0.0 o.0.1 o.1 in
+      let holds = (holds_exact most o.0.0 16 []).found o.0.1 hs.0.0 hs.0.1 hs.1 in
+      let everies = (everies_exact most o.0.0 hs.0.0 4 []).found hs.0.1 es.0.0 es.0.1 es.1 in
       record {
         is = along IsObject _ _ x form rest last.0 refl same.0 same.1
             (object ((constants_exact most 16 []).found ws c.0.0 c.0.1 c.1) ((paths_exact c.0.0 names most 16 []).found c.0.1 q.0.0 q.0.1 q.1) ((parts_exact most c.0.0 16 []).found q.0.1 p.0.0 p.0.1 p.1)
-            (subst (λ r. IsSeries (IsEntry c.0.0 p.0.0) (begins symbols.Entry) 32 [] p.0.1 o.0.0 r) closing operations));
+            operations holds (subst (λ r. IsSeries (IsEveryItem o.0.0 hs.0.0) (begins_word words.Every) 4 [] hs.0.1 es.0.0 r) closing everies));
         named = ap (λ (o : ObjectForm). o.name) (sym same.0);
       }
 
   object_shorter : (ws : List Lexeme) (x : ObjectForm) (rest : List Lexeme) → IsObject ws x rest → length rest ≤ length ws
-  object_shorter ws x rest (object {constants = constants} {paths = paths} {parts = parts} {operations = operations} {ws = inside} {us = us} {vs = vs} {ys = ys} cs qs ps os) =
+  object_shorter ws x rest (object {constants = constants} {paths = paths} {parts = parts} {operations = operations} {holds = holds} {everies = everies} {ws = inside} {us = us} {vs = vs} {ys = ys} {hs = zs} {es = ts} cs qs ps os hs es) =
       let a = (constants_exact most 16 []).shorter inside constants us cs in
       let b = (paths_exact constants (entry_names openings.Nothing inside) most 16 []).shorter us paths vs qs in
       let c = (parts_exact most constants 16 []).shorter vs parts ys ps in
-      let d = (entries_exact most constants parts 32 []).shorter ys operations (symbol symbols.End ∷ symbol symbols.Semicolon ∷ rest) os in
+      let d = (entries_exact most constants parts 32 []).shorter ys operations zs os in
+      let e = (holds_exact most operations 16 []).shorter zs holds ts hs in
+      let f = (everies_exact most operations holds 4 []).shorter ts everies (symbol symbols.End ∷ symbol symbols.Semicolon ∷ rest) es in
       omega arith
 
   contents_read : (bytes : List ℕ) (ws : List Lexeme) (x : ObjectForm) (rest : List Lexeme) → length ws < most → IsObject (symbol symbols.Object ∷ identifier bytes ∷ symbol symbols.Semicolon ∷ ws) x rest → contents_in most bytes ws ≡ Some (x, rest)
   unfolding contents_in
-  contents_read bytes ws x rest long (object {constants = constants} {paths = paths} {parts = parts} {operations = operations} {us = us} {vs = vs} {ys = ys} cs qs ps os) =
+  contents_read bytes ws x rest long (object {constants = constants} {paths = paths} {parts = parts} {operations = operations} {holds = holds} {everies = everies} {us = us} {vs = vs} {ys = ys} {hs = zs} {es = ts} cs qs ps os hs es) =
       let a = (constants_exact most 16 []).shorter ws constants us cs in
       let b = (paths_exact constants (entry_names openings.Nothing ws) most 16 []).shorter us paths vs qs in
       let c = (parts_exact most constants 16 []).shorter vs parts ys ps in
-      rw ((constants_exact most 16 []).read ws constants us long cs, (paths_exact constants (entry_names openings.Nothing ws) most 16 []).read us paths vs (omega arith) qs, (parts_exact most constants 16 []).read vs parts ys (omega arith) ps, (entries_exact most constants parts 32 []).read ys operations (symbol symbols.End ∷ symbol symbols.Semicolon ∷ rest) (omega arith) os) refl
+      let d = (entries_exact most constants parts 32 []).shorter ys operations zs os in
+      let e = (holds_exact most operations 16 []).shorter zs holds ts hs in
+      rw (
+        (constants_exact most 16 []).read ws constants us long cs,
+        (paths_exact constants (entry_names openings.Nothing ws) most 16 []).read us paths vs (omega arith) qs,
+        (parts_exact most constants 16 []).read vs parts ys (omega arith) ps,
+        (entries_exact most constants parts 32 []).read ys operations zs (omega arith) os,
+        (holds_exact most operations 16 []).read zs holds ts (omega arith) hs,
+        (everies_exact most operations holds 4 []).read ts everies (symbol symbols.End ∷ symbol symbols.Semicolon ∷ rest) (omega arith) es,
+      ) refl
 
   next_found : (before : List ObjectForm) (ws : List Lexeme) (x : List ObjectForm) (rest : List Lexeme) → next_object_in most before ws ≡ Some (x, rest) → IsNextObject before ws x rest
   unfolding next_object_in
@@ -86,8 +104,8 @@ module _ (most : ℕ) where
   read_inside before bytes ws o rest free read = rw (free, read) refl
 
   read_object : (before : List ObjectForm) (ws : List Lexeme) (o : ObjectForm) (rest : List Lexeme) → length ws < most → IsObject ws o rest → is_among (map (λ (o : ObjectForm). o.name) before) o.name ≡ false → next_object_in most before ws ≡ Some (before ++ o ∷ [], rest)
-  read_object before ws o rest long (object {bytes = bytes} {ws = us} cs qs ps os) free =
-      read_inside before bytes us o rest free (contents_read bytes us o rest (omega arith) (object cs qs ps os))
+  read_object before ws o rest long (object {bytes = bytes} {ws = us} cs qs ps os hs es) free =
+      read_inside before bytes us o rest free (contents_read bytes us o rest (omega arith) (object cs qs ps os hs es))
 
   next_read : (before : List ObjectForm) (ws : List Lexeme) (x : List ObjectForm) (rest : List Lexeme) → length ws < most → IsNextObject before ws x rest → next_object_in most before ws ≡ Some (x, rest)
   next_read before ws x rest long (next_object {o = o} is free) = read_object before ws o rest long is free

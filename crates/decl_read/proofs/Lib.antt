@@ -11,6 +11,11 @@ pub mod PartsExact
 pub mod ParamsExact
 pub mod Lengths
 pub mod Limits
+pub mod HoldSteps
+pub mod HoldsFit
+pub mod HoldsExact
+pub mod HoldRules
+pub mod SkippedHolds
 pub mod KnownParts
 pub mod NameCounts
 pub mod Files

@@ -11,9 +11,13 @@ use Rattle.value_core.specs.declared.kind.Kind.{Kind}
 use Rattle.body_read.specs.Reading.{Names}
 use Rattle.decl_core.specs.ObjectForm.{OperationForm, ObjectForm}
 use Rattle.body_read.specs.Series.{IsSeries, no_more, and_another}
-use Rattle.decl_read.specs.Declarations.{begins, IsConsts, IsPathItem, a_path, IsVar, with_params, names_within, names_in_function, IsEntry, a_procedure, a_function, IsObject, object, IsNextObject, next_object, IsFile, file}
+use Rattle.decl_read.specs.Declarations.{begins, IsConsts, IsPathItem, a_path, IsVar, with_params, names_within, names_in_function, IsEntry, a_procedure, a_function, IsHoldItem, IsEveryItem, IsObject, object, IsNextObject, next_object, IsFile, file}
 use Rattle.body_read.specs.Scopes.{operation_names}
 use Rattle.decl_core.specs.ObjectForm.{operation_with}
+use Rattle.decl_core.specs.HoldForm.{HoldForm, EveryForm}
+use Rattle.decl_read.specs.declared.words.Word.TheVariants as words
+use Rattle.decl_read.specs.Words.{begins_word}
+use Rattle.decl_read.proofs.SkippedHolds.{hold_skipped, every_skipped}
 use Rattle.decl_read.specs.ObjectLaws.{IsObjectByOperations, object_by, IsNextByOperations, next_by, IsFileByOperations, IsPathOver, EachOver, EachNamed}
 use Rattle.decl_read.proofs.SkippedTexts.{names_in}
 use Rattle.decl_read.proofs.SkippedStatements.{stmts_skipped}
@@ -45,25 +49,27 @@ series_keeps P IsItem begins keeps left s ws t rest (no_more is) p = p
 series_keeps P IsItem begins keeps (suc left) s ws t rest (and_another {t = u} {vs = vs} is one others) p = series_keeps P IsItem begins keeps left u vs t rest others (keeps s ws u vs one p)
 
 -- In an object behind which no entry is found, those that are found are its operations, whatever names its paths may use.
-names_same : (constants : List (List ℕ × ℕ)) (names : List (List ℕ)) (paths : List Path) (parts : List (List ℕ × Kind)) (operations : List OperationForm) (ws us vs ys rest : List Lexeme) →
+names_same : (constants : List (List ℕ × ℕ)) (names : List (List ℕ)) (paths : List Path) (parts : List (List ℕ × Kind)) (operations : List OperationForm) (holds : List HoldForm) (everies : List EveryForm) (ws us vs ys zs ts rest : List Lexeme) →
     IsSeries IsConsts (begins symbols.Const) 16 [] ws constants us → IsSeries (IsPathItem constants names) (begins symbols.Path) 16 [] us paths vs → IsSeries (IsVar constants) (begins symbols.Var) 16 [] vs parts ys →
-    IsSeries (IsEntry constants parts) (begins symbols.Entry) 32 [] ys operations (symbol symbols.End ∷ symbol symbols.Semicolon ∷ rest) → names_in rest ≡ [] → names_in ws ≡ operation_names operations
-names_same constants names paths parts operations ws us vs ys rest cs qs ps os none =
+    IsSeries (IsEntry constants parts) (begins symbols.Entry) 32 [] ys operations zs → IsSeries (IsHoldItem operations) (begins_word words.Hold) 16 [] zs holds ts →
+    IsSeries (IsEveryItem operations holds) (begins_word words.Every) 4 [] ts everies (symbol symbols.End ∷ symbol symbols.Semicolon ∷ rest) → names_in rest ≡ [] → names_in ws ≡ operation_names operations
+names_same constants names paths parts operations holds everies ws us vs ys zs ts rest cs qs ps os hs es none =
     series_skipped IsConsts (begins symbols.Const) consts_skipped 16 [] ws constants us cs
     ∙ series_skipped (IsPathItem constants names) (begins symbols.Path) (path_skipped constants names) 16 [] us paths vs qs
     ∙ series_skipped (IsVar constants) (begins symbols.Var) (var_skipped constants) 16 [] vs parts ys ps
-    ∙ series_adds operation_names (IsEntry constants parts) (begins symbols.Entry) (entry_adds constants parts) 32 [] ys operations (symbol symbols.End ∷ symbol symbols.Semicolon ∷ rest) os
-    ∙ ap (λ xs. operation_names operations ++ xs) none ∙ append-nil (operation_names operations)
+    ∙ series_adds operation_names (IsEntry constants parts) (begins symbols.Entry) (entry_adds constants parts) 32 [] ys operations zs os
+    ∙ ap (λ xs. operation_names operations ++ xs) (series_skipped (IsHoldItem operations) (begins_word words.Hold) (hold_skipped operations) 16 [] zs holds ts hs
+    ∙ series_skipped (IsEveryItem operations holds) (begins_word words.Every) (every_skipped operations holds) 4 [] ts everies (symbol symbols.End ∷ symbol symbols.Semicolon ∷ rest) es ∙ none) ∙ append-nil (operation_names operations)
 
 object_to : (ws : List Lexeme) (o : ObjectForm) (rest : List Lexeme) → IsObject ws o rest → names_in rest ≡ [] → IsObjectByOperations ws o rest
-object_to ws o rest (object {constants = constants} {paths = paths} {parts = parts} {operations = operations} {ws = ts} {us = us} {vs = vs} {ys = ys} cs qs ps os) none =
-    let same = names_same constants (names_in ts) paths parts operations ts us vs ys rest cs qs ps os none in
-    object_by cs (subst (λ names. IsSeries (IsPathItem constants names) (begins symbols.Path) 16 [] us paths vs) same qs) ps os
+object_to ws o rest (object {constants = constants} {paths = paths} {parts = parts} {operations = operations} {holds = holds} {everies = everies} {ws = ins} {us = us} {vs = vs} {ys = ys} {hs = zs} {es = ts} cs qs ps os hs es) none =
+    let same = names_same constants (names_in ins) paths parts operations holds everies ins us vs ys zs ts rest cs qs ps os hs es none in
+    object_by cs (subst (λ names. IsSeries (IsPathItem constants names) (begins symbols.Path) 16 [] us paths vs) same qs) ps os hs es
 
 object_from : (ws : List Lexeme) (o : ObjectForm) (rest : List Lexeme) → IsObjectByOperations ws o rest → names_in rest ≡ [] → IsObject ws o rest
-object_from ws o rest (object_by {constants = constants} {paths = paths} {parts = parts} {operations = operations} {ws = ts} {us = us} {vs = vs} {ys = ys} cs qs ps os) none =
-    let same = names_same constants (operation_names operations) paths parts operations ts us vs ys rest cs qs ps os none in
-    object cs (subst (λ names. IsSeries (IsPathItem constants names) (begins symbols.Path) 16 [] us paths vs) (sym same) qs) ps os
+object_from ws o rest (object_by {constants = constants} {paths = paths} {parts = parts} {operations = operations} {holds = holds} {everies = everies} {ws = ins} {us = us} {vs = vs} {ys = ys} {hs = zs} {es = ts} cs qs ps os hs es) none =
+    let same = names_same constants (operation_names operations) paths parts operations holds everies ins us vs ys zs ts rest cs qs ps os hs es none in
+    object cs (subst (λ names. IsSeries (IsPathItem constants names) (begins symbols.Path) 16 [] us paths vs) (sym same) qs) ps os hs es
 
 next_to : (before : List ObjectForm) (ws : List Lexeme) (after : List ObjectForm) (rest : List Lexeme) → IsNextObject before ws after rest → names_in rest ≡ [] → IsNextByOperations before ws after rest
 next_to before ws after rest (next_object {o = o} is new) none = next_by (object_to ws o rest is none) new
@@ -106,7 +112,7 @@ object_added [] o each is = (is, tt)
 object_added (x ∷ before) o each is = (each.0, object_added before o each.1 is)
 
 object_over : (ws : List Lexeme) (o : ObjectForm) (rest : List Lexeme) → IsObjectByOperations ws o rest → EachOver (operation_names o.operations) o.paths
-object_over ws o rest (object_by {constants = constants} {paths = paths} {operations = operations} {us = us} {vs = vs} cs qs ps os) =
+object_over ws o rest (object_by {constants = constants} {paths = paths} {operations = operations} {us = us} {vs = vs} cs qs ps os hs es) =
     series_keeps (EachOver (operation_names operations)) (IsPathItem constants (operation_names operations)) (begins symbols.Path) (path_over constants (operation_names operations)) 16 [] us paths vs qs tt
 
 next_named : (before : List ObjectForm) (ws : List Lexeme) (after : List ObjectForm) (rest : List Lexeme) → IsNextByOperations before ws after rest → EachNamed before → EachNamed after
