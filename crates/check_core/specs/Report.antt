@@ -1,6 +1,6 @@
 -- What a check of a source writes.
 use Rattle.std.specs.Prelude.{◌≡◌, ℕ, ◌+◌, ◌<◌, ◌≤◌, ◌⊎◌, Option, Some, None, List, [], ◌∷◌, ◌++◌, length, slice_get}
-use Rattle.std.specs.Prelude.{codes, decimal}
+use Rattle.std.specs.Prelude.{Bool, true, false, codes, decimal}
 use Rattle.value_core.specs.declared.kind.Kind.{Kind}
 use Rattle.path_tree.specs.declared.lex.fault.LexFault.{LexFault}
 use Rattle.path_tree.specs.declared.lex.fault.LexFault.TheVariants as lex_faults
@@ -11,6 +11,7 @@ use Rattle.decl_read.specs.declared.fault.DeclFault.{DeclFault}
 use Rattle.decl_read.specs.declared.fault.DeclFault.TheVariants as faults
 use Rattle.decl_read.specs.DeclFaults.{fault_number, fault_name, fault_place}
 use Rattle.decl_core.specs.ObjectForm.{OperationForm, ObjectForm}
+use Rattle.decl_core.specs.HoldForm.{HoldForm, EveryForm}
 use Rattle.decl_read.specs.Sources.{AreObjectsOf, lex_fault_told}
 use Rattle.exclude_core.specs.declared.certificate.Entry.{Entry}
 use Rattle.check_core.specs.declared.report.CheckEnd.{CheckEnd}
@@ -42,9 +43,41 @@ abbrev pub pair_lines : ObjectForm → List Entry → List ℕ
 pair_lines o [] = []
 pair_lines o (e ∷ es) = pair_line o e ++ pair_lines o es
 
--- object NAME accepted, and a line for each entry of the certificate
+-- the names of these operations, each behind a comma, and the first behind this
+abbrev pub names_behind : ObjectForm → List ℕ → List ℕ → List ℕ
+names_behind o first [] = []
+names_behind o first (op ∷ ops) =
+    first ++ operation_name (slice_get o.operations op) ++ names_behind o (codes ", ") ops
+
+abbrev pub loose_text : Bool → List ℕ
+loose_text true = codes " by any"
+loose_text false = []
+
+-- hold OP until A, B  or  hold OP until A, B by any
+abbrev pub hold_line : ObjectForm → HoldForm → List ℕ
+hold_line o h =
+    codes "hold " ++ operation_name (slice_get o.operations h.op) ++ names_behind o (codes " until ") h.until
+    ++ loose_text h.by_any ++ codes "\n"
+
+abbrev pub hold_lines : ObjectForm → List HoldForm → List ℕ
+hold_lines o [] = []
+hold_lines o (h ∷ holds) = hold_line o h ++ hold_lines o holds
+
+-- every S call OP
+abbrev pub every_line : ObjectForm → EveryForm → List ℕ
+every_line o e =
+    codes "every " ++ decimal e.seconds ++ codes " call " ++ operation_name (slice_get o.operations e.op) ++ codes "\n"
+
+abbrev pub every_lines : ObjectForm → List EveryForm → List ℕ
+every_lines o [] = []
+every_lines o (e ∷ everies) = every_line o e ++ every_lines o everies
+
+-- object NAME accepted, and a line for each entry of the certificate, for each hold, and for each operation that is
+-- called again and again
 abbrev pub accepted_lines : ObjectForm → List Entry → List ℕ
-accepted_lines o entries = codes "object " ++ o.name ++ codes " accepted\n" ++ pair_lines o entries
+accepted_lines o entries =
+    codes "object " ++ o.name ++ codes " accepted\n" ++ pair_lines o entries ++ hold_lines o o.holds
+    ++ every_lines o o.everies
 
 -- object NAME refused 1 Unseparated A B PART
 abbrev pub refused_line : ObjectForm → ℕ → ℕ → ℕ → List ℕ

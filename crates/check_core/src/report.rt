@@ -16,7 +16,9 @@ ghost use Rattle.exclude_core.specs.declared.certificate.Entry.{Entry};
 ghost use Rattle.check_core.specs.declared.report.CheckEnd.TheVariants.{Counted, Faulty};
 ghost use Rattle.check_core.specs.declared.report.CheckFault.TheVariants.{WriteFault, Memory};
 
-use crate::text::{fault_word, part_name, push_entries, push_pair, push_said};
+use crate::text::{
+    fault_word, part_name, push_entries, push_everies, push_holds, push_pair, push_said,
+};
 use decl_core::object::Object;
 use decl_read::fault::DeclFault;
 use decl_read::read::read_objects;
@@ -73,8 +75,8 @@ impl CheckFault {
     }
 }
 
-/// Adds the lines of an accepted object: `object NAME accepted`, and `pair A B path P node K` for each
-/// entry of its certificate.
+/// Adds the lines of an accepted object: `object NAME accepted`, `pair A B path P node K` for each entry of its
+/// certificate, `hold OP until A, B` for each hold (`by any` behind it where anybody may end it), and `every S call OP`.
 pub fn push_accepted(out: &mut Vec<u8>, accepted: &Accepted) -> Result<(), AllocError>
     ensures { OnOk result ((entries : List Entry) × IsFirstCertificate (object_of accepted.now) entries
         × IsExclusive (object_of accepted.now)
@@ -83,6 +85,8 @@ pub fn push_accepted(out: &mut Vec<u8>, accepted: &Accepted) -> Result<(), Alloc
     let object = accepted.object();
     push_said(out, object, b" accepted\n")?;
     push_entries(out, object, &accepted.certificate().entries)?;
+    push_holds(out, object, &object.holds)?;
+    push_everies(out, object, &object.everies)?;
     Ok(())
 }
 
