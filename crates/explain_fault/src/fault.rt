@@ -3,6 +3,7 @@
 use crate::in_path::{bad_byte_in_path, ends_in_path, expected};
 use crate::kinds::{ends_in_constants, no_sum};
 use crate::operations::{bare_declaration, no_entry};
+use crate::rules::of_rule;
 use crate::syntax::misplaced;
 use crate::wrong::{past_limit, unknown, wrong_kind};
 use decl_read::fault::DeclFault;
@@ -234,6 +235,9 @@ fn repeated(before: &[Token]) -> Said {
 
 // What is said of a fault of objects, at a token behind these.
 fn in_objects(fault: DeclFault, before: &[Token], here: &[Token]) -> Said {
+    if let Some(said) = of_rule(fault, before, here) {
+        return said;
+    }
     match fault {
         DeclFault::DuplicateName(_) => repeated(before),
         DeclFault::WrongType(_) => wrong_kind(before, here),

@@ -10,5 +10,6 @@ pub mod fault;
 mod in_path;
 mod kinds;
 mod operations;
+mod rules;
 mod syntax;
 mod wrong;
