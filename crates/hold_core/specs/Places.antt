@@ -1,0 +1,18 @@
+-- Places of what is held.
+use Rattle.std.specs.Prelude.{◌≡◌, ℕ, ◌+◌, List, Some, slice_get, take, drop}
+use Rattle.hold_core.specs.Held.{HeldCall, NoneOwn, NoneFits}
+
+-- the newest that fits and is of this session
+pub record IsNewestOwn (fits : HeldCall → Type 0) (session : ℕ) (held : List HeldCall) (k : ℕ) : Type 0 where
+  pub hold : HeldCall
+  pub there : slice_get held k ≡ Some hold
+  pub fit : fits hold
+  pub own : hold.session ≡ session
+  pub newest : NoneOwn fits session (drop (k + 1) held)
+
+-- the oldest that fits
+pub record IsOldest (fits : HeldCall → Type 0) (held : List HeldCall) (k : ℕ) : Type 0 where
+  pub hold : HeldCall
+  pub there : slice_get held k ≡ Some hold
+  pub fit : fits hold
+  pub oldest : NoneFits fits (take k held)

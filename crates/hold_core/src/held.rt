@@ -1,0 +1,226 @@
+//! What is held of an object.
+
+ghost use Rattle.std.specs.Prelude.{◌≡◌, ◌↔◌, ◌<◌, ◌++◌, ℕ, List, IsTrue, OnOk, MatchOption, false, length, drop, take};
+ghost use Rattle.value_core.specs.declared.datum.Datum.{Datum as ADatum};
+ghost use Rattle.decl_core.specs.HoldMap.{holds_of};
+ghost use Rattle.hold_core.specs.Held.{begun, begun_by, Fits, Gives, GivesOne, HoldsOwn, MayUndo, NoneFits};
+ghost use Rattle.hold_core.specs.Held.{hold_ended as hold_ended_in, hold_of_op as hold_of_op_in, is_loose as is_loose_in};
+ghost use Rattle.hold_core.specs.Held.{NoneOwn, reply_data};
+ghost use Rattle.hold_core.specs.Places.{IsNewestOwn, IsOldest};
+
+use apply_core::reply::Reply;
+use decl_core::hold::Hold;
+use path_tree::node::OpId;
+use std::alloc::{AllocError, Global};
+use std::marker::Model;
+use value_core::datum::Datum;
+
+/// A call that is held: its number, its session, the place of its hold in the object, and what it is held with.
+#[derive(Drop)]
+pub struct HeldCall {
+    number: u32,
+    session: u32,
+    rule: usize,
+    data: Vec<Datum>,
+}
+
+impl Model for HeldCall {
+    ghost use Rattle.hold_core.specs.Held.{HeldCall as AHeldCall};
+    ghost use Rattle.std.specs.Coded.{codes};
+
+    ghost Value = { AHeldCall };
+
+    ghost coded = { Prim.hlevel (codes) };
+
+    ghost view = { λ h. record { number = h.number; session = h.session; rule = h.rule; data = h.data.items } };
+}
+
+/// What is held of an object, the oldest first.
+#[derive(Drop)]
+pub struct Holds {
+    held: Vec<HeldCall>,
+}
+
+impl Model for Holds {
+    ghost use Rattle.std.specs.Prelude.{List};
+    ghost use Rattle.hold_core.specs.Held.{HeldCall as AHeldCall};
+    ghost use Rattle.std.specs.Coded.{codes};
+
+    ghost Value = { List AHeldCall };
+
+    ghost coded = { Prim.hlevel (codes) };
+
+    ghost view = { λ h. h.held.items };
+}
+
+/// A call that has ended: its number, its session, its operation and its arguments.
+#[derive(Clone, Copy)]
+pub struct EndedCall<'a> {
+    pub number: u32,
+    pub session: u32,
+    pub operation: OpId,
+    pub arguments: &'a [Datum],
+}
+
+// Whether two rows of data are the same.
+fn are_same(a: &[Datum], b: &[Datum]) -> bool
+    ensures { IsTrue result ↔ (a.now ≡ b.now) }
+{
+    match a {
+        [] => b.is_empty(),
+        [datum, rest @ ..] => match b {
+            [] => false,
+            [other, others @ ..] => datum.is_same(other) && are_same(rest, others),
+        },
+    }
+}
+
+// Whether a held call fits what a call was given that ends this hold.
+fn fits(held: &HeldCall, rule: usize, arguments: &[Datum]) -> bool
+    ensures { IsTrue result ↔ Fits rule arguments.now held.now }
+{
+    held.rule == rule && (arguments.is_empty() || are_same(&held.data, arguments))
+}
+
+// Whether an operation is among these.
+fn is_one_of(ops: &[OpId], op: OpId) -> bool {
+    match ops {
+        [] => false,
+        [first, rest @ ..] => *first == op || is_one_of(rest, op),
+    }
+}
+
+/// The hold of an operation, by its place among these.
+pub fn hold_of_op(holds: &[Hold], op: OpId) -> Option<usize>
+    ensures { result ≡ hold_of_op_in (holds_of holds.now) op }
+{
+    holds.iter().position(|hold| hold.op == op)
+}
+
+/// The hold that a call of an operation ends, by its place among these.
+pub fn hold_ended(holds: &[Hold], op: OpId) -> Option<usize>
+    ensures { result ≡ hold_ended_in (holds_of holds.now) op }
+{
+    holds.iter().position(|hold| is_one_of(&hold.until, op))
+}
+
+// The newest of these that fits and is of this session.
+fn newest_own(
+    held: &[HeldCall],
+    rule: usize,
+    session: u32,
+    arguments: &[Datum],
+) -> Option<usize>
+    ensures { MatchOption result (NoneOwn (Fits rule arguments.now) session held.now)
+        (λ k. IsNewestOwn (Fits rule arguments.now) session held.now k) }
+{
+    let mut left = held.len();
+    while left > 0 {
+        left -= 1;
+        if held[left].session == session && fits(&held[left], rule, arguments) {
+            return Some(left);
+        }
+    }
+    None
+}
+
+// The oldest of these that fits.
+fn oldest(held: &[HeldCall], rule: usize, arguments: &[Datum]) -> Option<usize>
+    ensures { MatchOption result (NoneFits (Fits rule arguments.now) held.now)
+        (λ k. IsOldest (Fits rule arguments.now) held.now k) }
+{
+    for place in 0..held.len() {
+        if fits(&held[place], rule, arguments) {
+            return Some(place);
+        }
+    }
+    None
+}
+
+impl Holds {
+    /// Nothing is held.
+    pub fn new(alloc: Global) -> Holds
+        ensures { result ≡ [] }
+    {
+        Holds {
+            held: Vec::new(alloc),
+        }
+    }
+
+    /// What is held, the oldest first.
+    pub fn all(&self) -> &[HeldCall]
+        ensures { result.now ≡ self.now }
+    {
+        &self.held
+    }
+
+    /// Whether a session may call an operation: where it ends a hold that not anybody may end, the session holds what it
+    /// would end.
+    pub fn may_undo(
+        &self,
+        holds: &[Hold],
+        session: u32,
+        operation: OpId,
+        arguments: &[Datum],
+    ) -> bool
+        ensures { IsTrue result ↔ MayUndo (holds_of holds.now) session operation arguments.now self.now }
+    {
+        match hold_ended(holds, operation) {
+            None => true,
+            Some(rule) => match holds.get(rule) {
+                None => true,
+                Some(hold) => {
+                    hold.by_any || newest_own(&self.held, rule, session, arguments).is_some()
+                }
+            },
+        }
+    }
+
+    // A call of this session has ended that ends this hold.
+    fn give(&mut self, rule: usize, session: u32, arguments: &[Datum])
+        ensures { GivesOne (Fits rule arguments.now) session self.old self.new }
+    {
+        match newest_own(&self.held, rule, session, arguments) {
+            Some(place) => {
+                self.held.remove(place);
+            }
+            None => if let Some(place) = oldest(&self.held, rule, arguments) {
+                self.held.remove(place);
+            },
+        }
+    }
+
+    /// A call has ended with this reply. The error is that memory was refused, and nothing changes.
+    pub fn end(
+        &mut self,
+        alloc: Global,
+        holds: &[Hold],
+        call: EndedCall<'_>,
+        reply: &Reply,
+    ) -> Result<(), AllocError>
+    {
+        let begins = match (hold_of_op(holds, call.operation), reply) {
+            (Some(rule), Reply::Done(value)) => {
+                let mut data = call.arguments.to_vec(alloc)?;
+                if let Some(datum) = value {
+                    data.push(*datum)?;
+                }
+                Some(HeldCall {
+                    number: call.number,
+                    session: call.session,
+                    rule,
+                    data,
+                })
+            }
+            _ => None,
+        };
+        self.held.reserve(1)?;
+        if let Some(rule) = hold_ended(holds, call.operation) {
+            self.give(rule, call.session, call.arguments);
+        }
+        if let Some(held) = begins {
+            self.held.push(held)?;
+        }
+        Ok(())
+    }
+}

@@ -1,0 +1,14 @@
+//! Laws of what is held, over the definitions alone.
+
+ghost use Rattle.hold_core.specs.Laws.{EachGivenOnce, NeverMoreGiven};
+
+/// Where not anybody may end a hold, and each session ended only what it held, what was given back and what is held are
+/// together what was taken.
+pub fn each_given_once()
+    ensures { EachGivenOnce }
+{}
+
+/// So never more is given back than was taken.
+pub fn never_more_given()
+    ensures { NeverMoreGiven }
+{}
