@@ -12,7 +12,7 @@ pub record HeldCall : Type 0 where
   pub number : ℕ
   pub session : ℕ
   pub rule : ℕ
-  pub data : List Datum
+  pub values : List Datum
 
 -- what a call replied, as data
 abbrev pub reply_data : Reply → List Datum
@@ -36,7 +36,7 @@ hold_ended holds op = position (λ h. is_one_of h.until op) holds
 abbrev pub begun_by : Option ℕ → Called → Reply → List HeldCall
 begun_by None c reply = []
 begun_by (Some r) c (Done d) =
-    record { number = c.number; session = c.session; rule = r; data = held_data c (Done d) } ∷ []
+    record { number = c.number; session = c.session; rule = r; values = held_data c (Done d) } ∷ []
 begun_by (Some r) c (Refused word) = []
 begun_by (Some r) c (Failed failure) = []
 
@@ -47,7 +47,7 @@ begun holds c reply = begun_by (hold_of_op holds c.operation) c reply
 -- is what the call is held with
 pub record Fits (r : ℕ) (arguments : List Datum) (h : HeldCall) : Type 0 where
   pub rule : h.rule ≡ r
-  pub data : arguments ≢ [] → h.data ≡ arguments
+  pub values : arguments ≢ [] → h.values ≡ arguments
 
 -- of these none fits and is of this session
 abbrev pub NoneOwn : (HeldCall → Type 0) → ℕ → List HeldCall → Type 0

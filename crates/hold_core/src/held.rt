@@ -21,7 +21,7 @@ pub struct HeldCall {
     number: u32,
     session: u32,
     rule: usize,
-    data: Vec<Datum>,
+    values: Vec<Datum>,
 }
 
 impl Model for HeldCall {
@@ -32,7 +32,7 @@ impl Model for HeldCall {
 
     ghost coded = { Prim.hlevel (codes) };
 
-    ghost view = { λ h. record { number = h.number; session = h.session; rule = h.rule; data = h.data.items } };
+    ghost view = { λ h. record { number = h.number; session = h.session; rule = h.rule; values = h.values.items } };
 }
 
 /// What is held of an object, the oldest first.
@@ -79,7 +79,7 @@ fn are_same(a: &[Datum], b: &[Datum]) -> bool
 fn fits(held: &HeldCall, rule: usize, arguments: &[Datum]) -> bool
     ensures { IsTrue result ↔ Fits rule arguments.now held.now }
 {
-    held.rule == rule && (arguments.is_empty() || are_same(&held.data, arguments))
+    held.rule == rule && (arguments.is_empty() || are_same(&held.values, arguments))
 }
 
 // Whether an operation is among these.
@@ -105,12 +105,7 @@ pub fn hold_ended(holds: &[Hold], op: OpId) -> Option<usize>
 }
 
 // The newest of these that fits and is of this session.
-fn newest_own(
-    held: &[HeldCall],
-    rule: usize,
-    session: u32,
-    arguments: &[Datum],
-) -> Option<usize>
+fn newest_own(held: &[HeldCall], rule: usize, session: u32, arguments: &[Datum]) -> Option<usize>
     ensures { MatchOption result (NoneOwn (Fits rule arguments.now) session held.now)
         (λ k. IsNewestOwn (Fits rule arguments.now) session held.now k) }
 {
@@ -197,19 +192,18 @@ impl Holds {
         holds: &[Hold],
         call: EndedCall<'_>,
         reply: &Reply,
-    ) -> Result<(), AllocError>
-    {
+    ) -> Result<(), AllocError> {
         let begins = match (hold_of_op(holds, call.operation), reply) {
             (Some(rule), Reply::Done(value)) => {
-                let mut data = call.arguments.to_vec(alloc)?;
+                let mut values = call.arguments.to_vec(alloc)?;
                 if let Some(datum) = value {
-                    data.push(*datum)?;
+                    values.push(*datum)?;
                 }
                 Some(HeldCall {
                     number: call.number,
                     session: call.session,
                     rule,
-                    data,
+                    values,
                 })
             }
             _ => None,
