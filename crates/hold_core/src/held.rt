@@ -1,10 +1,12 @@
 //! What is held of an object.
 
-ghost use Rattle.std.specs.Prelude.{◌≡◌, ◌↔◌, ◌<◌, ◌++◌, ℕ, List, IsTrue, OnOk, MatchOption, false, length, drop, take};
-ghost use Rattle.value_core.specs.declared.datum.Datum.{Datum as ADatum};
+ghost use Rattle.std.specs.Prelude.{◌≡◌, ◌↔◌, ◌++◌, ℕ, List, [], ◌∷◌, IsTrue, IsErr, IfOk, OnOk, MatchOption, length, drop, take, ◌≤◌};
+ghost use Rattle.apply_core.specs.declared.reply.Reply.TheVariants.{Done};
+ghost use Rattle.decl_core.specs.HoldForm.{is_one_of as is_among};
 ghost use Rattle.decl_core.specs.HoldMap.{holds_of};
-ghost use Rattle.hold_core.specs.Held.{begun, begun_by, Fits, Gives, GivesOne, HoldsOwn, MayUndo, NoneFits};
-ghost use Rattle.hold_core.specs.Held.{hold_ended as hold_ended_in, hold_of_op as hold_of_op_in, is_loose as is_loose_in};
+ghost use Rattle.hold_core.specs.Held.{HeldCall as AHeldCall, begun, Fits, Gives, GivesOne, MayUndo, NoneFits};
+ghost use Rattle.hold_core.specs.Held.{hold_ended as hold_ended_in, hold_of_op as hold_of_op_in};
+ghost use Rattle.hold_core.specs.Views.{called_of};
 ghost use Rattle.hold_core.specs.Held.{NoneOwn, reply_data};
 ghost use Rattle.hold_core.specs.Places.{IsNewestOwn, IsOldest};
 
@@ -83,7 +85,9 @@ fn fits(held: &HeldCall, rule: usize, arguments: &[Datum]) -> bool
 }
 
 // Whether an operation is among these.
-fn is_one_of(ops: &[OpId], op: OpId) -> bool {
+fn is_one_of(ops: &[OpId], op: OpId) -> bool
+    ensures { result ≡ is_among ops.now op }
+{
     match ops {
         [] => false,
         [first, rest @ ..] => *first == op || is_one_of(rest, op),
@@ -132,6 +136,52 @@ fn oldest(held: &[HeldCall], rule: usize, arguments: &[Datum]) -> Option<usize>
     None
 }
 
+// What a call holds from its end on.
+fn begins(
+    alloc: Global,
+    holds: &[Hold],
+    call: EndedCall<'_>,
+    reply: &Reply,
+) -> Result<Option<HeldCall>, AllocError>
+    ensures { IfOk result (λ found. MatchOption found (begun (holds_of holds.now) (called_of call) reply.now ≡ [])
+        (λ h. begun (holds_of holds.now) (called_of call) reply.now ≡ h ∷ [])) }
+{
+    let Some(rule) = hold_of_op(holds, call.operation) else {
+        return Ok(None);
+    };
+    match reply {
+        Reply::Done(value) => {
+            let values = values_of(alloc, call.arguments, *value)?;
+            Ok(Some(HeldCall {
+                number: call.number,
+                session: call.session,
+                rule,
+                values,
+            }))
+        }
+        Reply::Refused(_) => Ok(None),
+        Reply::Failed(_) => Ok(None),
+    }
+}
+
+// What a done call is held with.
+fn values_of(
+    alloc: Global,
+    arguments: &[Datum],
+    reply: Option<Datum>,
+) -> Result<Vec<Datum>, AllocError>
+    ensures { IfOk result (λ v. v.items ≡ arguments.now ++ reply_data (Done reply)) }
+{
+    let mut values = arguments.to_vec(alloc)?;
+    match reply {
+        None => Ok(values),
+        Some(datum) => {
+            values.push(datum)?;
+            Ok(values)
+        }
+    }
+}
+
 impl Holds {
     /// Nothing is held.
     pub fn new(alloc: Global) -> Holds
@@ -171,17 +221,19 @@ impl Holds {
         }
     }
 
-    // A call of this session has ended that ends this hold.
-    fn give(&mut self, rule: usize, session: u32, arguments: &[Datum])
-        ensures { GivesOne (Fits rule arguments.now) session self.old self.new }
+    // A call of this session has ended that ends this hold, where so many were held.
+    fn give(&mut self, count: usize, rule: usize, session: u32, arguments: &[Datum])
+        requires { count ≤ length self.old }
+        ensures { (left : List AHeldCall) × GivesOne (Fits rule arguments.now) session (take count self.old) left
+            × (self.new ≡ left ++ drop count self.old) }
     {
-        match newest_own(&self.held, rule, session, arguments) {
-            Some(place) => {
-                self.held.remove(place);
-            }
-            None => if let Some(place) = oldest(&self.held, rule, arguments) {
-                self.held.remove(place);
-            },
+        let (was, _) = self.held.split_at(count);
+        let ended = match newest_own(was, rule, session, arguments) {
+            Some(place) => Some(place),
+            None => oldest(was, rule, arguments),
+        };
+        if let Some(place) = ended {
+            self.held.remove(place);
         }
     }
 
@@ -192,28 +244,18 @@ impl Holds {
         holds: &[Hold],
         call: EndedCall<'_>,
         reply: &Reply,
-    ) -> Result<(), AllocError> {
-        let begins = match (hold_of_op(holds, call.operation), reply) {
-            (Some(rule), Reply::Done(value)) => {
-                let mut values = call.arguments.to_vec(alloc)?;
-                if let Some(datum) = value {
-                    values.push(*datum)?;
-                }
-                Some(HeldCall {
-                    number: call.number,
-                    session: call.session,
-                    rule,
-                    values,
-                })
-            }
-            _ => None,
-        };
-        self.held.reserve(1)?;
-        if let Some(rule) = hold_ended(holds, call.operation) {
-            self.give(rule, call.session, call.arguments);
-        }
-        if let Some(held) = begins {
+    ) -> Result<(), AllocError>
+        ensures ended { OnOk result ((left : List AHeldCall)
+            × Gives (holds_of holds.now) (called_of call) self.old left
+            × (self.new ≡ left ++ begun (holds_of holds.now) (called_of call) reply.now)) }
+        ensures kept { IsErr result → self.new ≡ self.old }
+    {
+        let count = self.held.len();
+        if let Some(held) = begins(alloc, holds, call, reply)? {
             self.held.push(held)?;
+        }
+        if let Some(rule) = hold_ended(holds, call.operation) {
+            self.give(count, rule, call.session, call.arguments);
         }
         Ok(())
     }
