@@ -1,6 +1,6 @@
 -- What is read of holds, and of what is called again and again, keeps what an object asks of them.
-use Rattle.std.proofs.Common.{◌≡◌, ℕ, zero, suc, ◌+◌, ◌<◌, ◌≤◌, Bool, true, false, ◌||◌, List, [], ◌∷◌, ◌++◌, length, Some, map, refl, sym, ap, subst, ◌∙◌, append_assoc, append-nil, arith}
-use Rattle.std.specs.Prelude.{◌==◌, ◌≢◌, All, AllPairs, get_or, flat_map}
+use Rattle.std.proofs.Common.{◌≡◌, ℕ, zero, suc, ◌+◌, ◌<◌, ◌≤◌, Bool, true, false, ◌||◌, List, [], ◌∷◌, ◌++◌, length, Some, map, refl, sym, ap, subst, ◌∙◌, append_assoc, append-nil, get_or, inl, inr, arith}
+use Rattle.std.specs.Prelude.{◌==◌, ◌≢◌, All}
 use Rattle.std.specs.declared.sync.Arc.{Arc}
 use Rattle.std.specs.Arc.{arc_value}
 use Rattle.std.proofs.lemmas.Bool.Decides.{eqb_tells}
@@ -37,12 +37,12 @@ series_few size IsItem begins adds (suc left) s ws t rest (and_another {t = u} {
     omega (arith, adds s ws u vs one, series_few size IsItem begins adds left u vs t rest others)
 
 -- what stands nowhere differs from each
+true_false : (b : Bool) → b ≡ true → b ≡ false → ⊥
+true_false true t f = absurd cc
+true_false false t f = absurd cc
+
 other_than : (x u : ℕ) → x == u ≡ false → x ≢ u
-other_than x u h = λ e. absurd (by (x == u) h (elim (eqb_tells x u) [ inl p ↦ p.0 | inr p ↦ absurd (p.1 e) ]))
-  where
-    by : (b : Bool) → b ≡ false → b ≡ true → ⊥
-    by true f t = absurd cc
-    by false f t = absurd cc
+other_than x u h e = elim (eqb_tells x u) [ inl p ↦ true_false (x == u) p.0 h | inr p ↦ p.1 e ]
 
 differs : (xs : List ℕ) (u : ℕ) → is_one_of xs u ≡ false → (k d : ℕ) → k < length xs → get_or xs k d ≢ u
 differs [] u h k d within = absurd (omega arith)
@@ -69,10 +69,10 @@ module _ (operations : List OperationForm) where
 
   undo_keeps : (holds : List HoldForm) (op : ℕ) (before : List ℕ) (ws : List Lexeme) (after : List ℕ) (rest : List Lexeme) → Ends holds op before → IsUndo operations holds op before ws after rest → Ends holds op after
   undo_keeps holds op before ws after rest given (undo {u = u} is free ends) =
-      let a = neither_is (op == u) (is_one_of (named_in holds) u || is_one_of before u) free in
-      let b = neither_is (is_one_of (named_in holds) u) (is_one_of before u) a.1 in
-      let inside : is_one_of (op ∷ before) u ≡ false = rw (a.0, b.1) refl in
-      let new = in_neither (named_in holds) (op ∷ before) u b.0 inside in
+      let a = neither_is (op == u || is_one_of (named_in holds) u) (is_one_of before u) free in
+      let b = neither_is (op == u) (is_one_of (named_in holds) u) a.0 in
+      let inside : is_one_of (op ∷ before) u ≡ false = rw (b.0, a.1) refl in
+      let new = in_neither (named_in holds) (op ∷ before) u b.1 inside in
       (All-push (MayEnd (signatures_of operations) op) before u given.0 ends, subst AllDiffer (append_assoc (named_in holds) (op ∷ before) (u ∷ [])) (differ_more (named_in holds ++ op ∷ before) u given.1 new))
 
   next_keeps : (holds : List HoldForm) (op : ℕ) (before : List ℕ) (ws : List Lexeme) (after : List ℕ) (rest : List Lexeme) → Ends holds op before → IsNextUndo operations holds op before ws after rest → Ends holds op after
@@ -151,3 +151,14 @@ rules_read operations held_before holds before everies ws vs us rest no_hold non
     let all = series_keeps (Called forms (holds_of holds)) (IsEveryItem forms (holds_of holds)) (begins_word words.Every) (every_keeps forms (holds_of holds)) 4 (everies_of before) us (everies_of everies) rest quiet called in
     let rules : AreRules (signatures_of forms) (holds_of holds) (everies_of everies) = record { each_hold = held.0; apart = held.1; each_every = all.0; everies_apart = all.1 } in
     subst (λ sorts. AreRules sorts (holds_of holds) (everies_of everies)) (same_signatures operations) rules
+
+-- the same, where they were lent
+pub rules_of : {Z : Type 0} (operations there other : List (Arc Operation Z)) (held_before holds lent : List Hold) (before everies : List Every) (ws vs us rest : List Lexeme) → there ≡ operations → other ≡ operations → lent ≡ holds → held_before ≡ [] → before ≡ [] →
+    series_at (hold_in (operations_of there)) (begins_word words.Hold) 16 (holds_of held_before) ws ≡ Some (holds_of holds, vs) →
+    series_at (every_in (operations_of other) (holds_of lent)) (begins_word words.Every) 4 (everies_of before) us ≡ Some (everies_of everies, rest) →
+    AreRules (map signature_by (map arc_value operations)) (holds_of holds) (everies_of everies)
+rules_of operations there other held_before holds lent before everies ws vs us rest same again kept no_hold none h e =
+    rules_read operations held_before holds before everies ws vs us rest no_hold none
+    (subst (λ xs. series_at (hold_in (operations_of xs)) (begins_word words.Hold) 16 (holds_of held_before) ws ≡ Some (holds_of holds, vs)) same h)
+    (subst (λ xs. series_at (every_in (operations_of operations) (holds_of xs)) (begins_word words.Every) 4 (everies_of before) us ≡ Some (everies_of everies, rest)) kept
+    (subst (λ xs. series_at (every_in (operations_of xs) (holds_of lent)) (begins_word words.Every) 4 (everies_of before) us ≡ Some (everies_of everies, rest)) again e))

@@ -12,8 +12,12 @@ use Rattle.decl_core.specs.ObjectForm.{signatures_of, signature_of}
 use Rattle.decl_core.specs.ObjectMap.{operation_of, operations_of, params_of}
 use Rattle.decl_core.specs.HoldForm.{HoldForm, Signature, signature, is_one_of, named_in, ending_in}
 
-pub named_step : (h : HoldForm) (holds : List HoldForm) (op : ℕ) → is_one_of (named_in (h ∷ holds)) op ≡ (h.op == op || (is_one_of h.until op || is_one_of (named_in holds) op))
-named_step h holds op = ap (λ b. h.op == op || b) (list_any-append (λ o. o == op) h.until (named_in holds))
+or_assoc : (x y z : Bool) → (x || (y || z)) ≡ (x || y || z)
+or_assoc true y z = refl
+or_assoc false y z = refl
+
+pub named_step : (h : HoldForm) (holds : List HoldForm) (op : ℕ) → is_one_of (named_in (h ∷ holds)) op ≡ (h.op == op || is_one_of h.until op || is_one_of (named_in holds) op)
+named_step h holds op = ap (λ b. h.op == op || b) (list_any-append (λ o. o == op) h.until (named_in holds)) ∙ or_assoc (h.op == op) (is_one_of h.until op) (is_one_of (named_in holds) op)
 
 pub ending_step : (h : HoldForm) (holds : List HoldForm) (op : ℕ) → is_one_of (ending_in (h ∷ holds)) op ≡ (is_one_of h.until op || is_one_of (ending_in holds) op)
 ending_step h holds op = list_any-append (λ o. o == op) h.until (ending_in holds)

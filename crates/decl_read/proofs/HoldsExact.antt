@@ -88,12 +88,12 @@ module _ (most : ℕ) (operations : List OperationForm) where
         let free = is_false (is_taken holds op before q.0.0) (provided_is (not (is_taken holds op before q.0.0)) q.0.0 new.0 new.1).0 in
         let ends = (provided_is (may_end operations op q.0.0) new.0 fits.0 fits.1).0 in
         along (IsUndo operations holds op before) ws _ x _ rest _ o.stands same.0 same.1
-        (undo o.is free (end_found (signatures_of operations) op q.0.0 (slice_get (signatures_of operations) op) (slice_get (signatures_of operations) q.0.0) refl refl ends))
+        (undo o.is free (end_found operations op q.0.0 (slice_get operations op) (slice_get operations q.0.0) refl refl ends))
 
     undo_read : (before : List ℕ) (ws : List Lexeme) (x : List ℕ) (rest : List Lexeme) → IsUndo operations holds op before ws x rest → undo_in operations holds op before ws ≡ Some (x, rest)
     unfolding undo_in
     undo_read before ws x rest (undo {bytes = bytes} {u = u} is free ends) =
-        let test : may_end operations op u ≡ true = end_read (signatures_of operations) op u (slice_get (signatures_of operations) op) (slice_get (signatures_of operations) u) known refl refl ends in
+        let test : may_end operations op u ≡ true = end_read operations op u (slice_get operations op) (slice_get operations u) known refl refl ends in
         rw (operation_read operations bytes u rest is, free, test) refl
 
     undo_shorter : (before : List ℕ) (ws : List Lexeme) (x : List ℕ) (rest : List Lexeme) → IsUndo operations holds op before ws x rest → length rest ≤ length ws
@@ -226,7 +226,7 @@ module _ (most : ℕ) (operations : List OperationForm) where
         let both = both_are (nat_le 1 n.0.0) (nat_le n.0.0 86400) within.0 in
         let tested = provided_is (not (is_one_of (ending_in holds) q.0.0 || is_one_of (called_in before) q.0.0)) q.0.0 new.0 new.1 in
         let free = neither_is (is_one_of (ending_in holds) q.0.0) (is_one_of (called_in before) q.0.0) (is_false _ tested.0) in
-        let fits = bare_found (slice_get (signatures_of operations) q.0.0) (provided_is (is_bare operations q.0.0) new.0 bare.0 bare.1).0 in
+        let fits = bare_found operations q.0.0 (slice_get operations q.0.0) refl (provided_is (is_bare operations q.0.0) new.0 bare.0 bare.1).0 in
         let first : EveryForm = record { seconds = n.0.0; op = q.0.0 } in
         let counted : before ++ first ∷ [] ≡ x = ap (λ k. let f : EveryForm = record { seconds = k; op = q.0.0 } in before ++ f ∷ []) within.1 ∙ same.0 in
         along (IsEveryItem operations holds before) ws _ x _ rest _
@@ -237,7 +237,7 @@ module _ (most : ℕ) (operations : List OperationForm) where
     every_read : (before : List EveryForm) (ws : List Lexeme) (x : List EveryForm) (rest : List Lexeme) → IsEveryItem operations holds before ws x rest → every_in operations holds before ws ≡ Some (x, rest)
     unfolding every_in
     every_read before ws x rest (an_every {n = n} {own = own} {op = op} low high is free fits) =
-        let test : is_bare operations op ≡ true = bare_read (slice_get (signatures_of operations) op) fits.bare in
+        let test : is_bare operations op ≡ true = bare_read operations op (slice_get operations op) refl fits.bare in
         rw (
           word_read words.Every (number_lexeme n ∷ word words.Call ∷ identifier own ∷ symbol symbols.Semicolon ∷ rest),
           is_at_most 1 n low,

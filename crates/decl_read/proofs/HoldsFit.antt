@@ -1,9 +1,10 @@
 -- Whether an operation may end a hold of another one, and whether it is a procedure that takes nothing, as tests.
 use Rattle.std.proofs.Common.{◌≡◌, ℕ, ◌<◌, Bool, true, false, ◌||◌, ◌&&◌, List, [], ◌∷◌, ◌++◌, length, Option, Some, None, refl, sym, ap, subst, ◌∙◌}
-use Rattle.std.specs.Prelude.{◌≢◌, slice_get}
-use Rattle.std.proofs.lemmas.Option.{slice_get-get_or, slice_get_within, none-some, same_Some}
+use Rattle.std.specs.Prelude.{◌≢◌, slice_get, option_map}
+use Rattle.std.proofs.lemmas.Option.{slice_get-get_or, slice_get_within, slice_get-map, none-some, same_Some}
 use Rattle.value_core.specs.declared.kind.Elem.{Elem}
 use Rattle.value_core.specs.declared.kind.Elem.TheVariants as elem
+use Rattle.decl_core.specs.ObjectForm.{OperationForm, signature_of, signatures_of}
 use Rattle.decl_core.specs.HoldForm.{Signature, signature, reply_sorts, Fits, MayEnd}
 use Rattle.decl_read.specs.DeclarationReading.{same_elem, is_one_sort, takes_held, takes_none, replies_none, may_end_by, is_bare_by}
 use Rattle.decl_read.proofs.Fronts.{both_are}
@@ -49,23 +50,34 @@ when_fits : (ts hs : List Elem) (r : Option Elem) → (ts ≢ [] → ts ≡ hs +
 when_fits [] hs r f = refl
 when_fits (t ∷ ts) hs r f = subst (λ xs. takes_held xs hs r ≡ true) (sym (f (not_none t ts))) (held_self hs r)
 
-pub end_found : (operations : List Signature) (op undo : ℕ) (a b : Option Signature) → slice_get operations op ≡ a → slice_get operations undo ≡ b → may_end_by a b ≡ true → MayEnd operations op undo
+-- the signature of an operation at a place
+sort_at : (operations : List OperationForm) (k : ℕ) (o : Option OperationForm) → slice_get operations k ≡ o → slice_get (signatures_of operations) k ≡ option_map signature_of o
+sort_at operations k o e = slice_get-map signature_of operations k ∙ ap (option_map signature_of) e
+
+pub end_found : (operations : List OperationForm) (op undo : ℕ) (a b : Option OperationForm) → slice_get operations op ≡ a → slice_get operations undo ≡ b → may_end_by a b ≡ true → MayEnd (signatures_of operations) op undo
 end_found operations op undo None b e f h = absurd cc
 end_found operations op undo (Some x) None e f h = absurd cc
 end_found operations op undo (Some x) (Some y) e f h =
-    let fits : Fits x y = fits_when y.takes x.takes x.replies h in
+    let s : Signature = signature_of x in
+    let t : Signature = signature_of y in
+    let fits : Fits s t = fits_when t.takes s.takes s.replies h in
+    let at = sort_at operations op (Some x) e in
+    let behind = sort_at operations undo (Some y) f in
     record {
-      known = slice_get_within operations undo y f;
-      fits = λ p q ep eq. subst (λ z. Fits z q) (same_Some x p (sym e ∙ ep)) (subst (λ z. Fits x z) (same_Some y q (sym f ∙ eq)) fits);
+      known = slice_get_within (signatures_of operations) undo t behind;
+      fits = λ p q ep eq. subst (λ z. Fits z q) (same_Some s p (sym at ∙ ep)) (subst (λ z. Fits s z) (same_Some t q (sym behind ∙ eq)) fits);
     }
 
-there : (operations : List Signature) (k : ℕ) → k < length operations → slice_get operations k ≡ None → ⊥
-there operations k within none = none-some _ (sym none ∙ slice_get-get_or operations k (signature [] None) within)
+there : (sorts : List Signature) (k : ℕ) → k < length sorts → slice_get sorts k ≡ None → ⊥
+there sorts k within none = none-some _ (sym none ∙ slice_get-get_or sorts k (signature [] None) within)
 
-pub end_read : (operations : List Signature) (op undo : ℕ) (a b : Option Signature) → op < length operations → slice_get operations op ≡ a → slice_get operations undo ≡ b → MayEnd operations op undo → may_end_by a b ≡ true
-end_read operations op undo None b within e f is = absurd (there operations op within e)
-end_read operations op undo (Some x) None within e f is = absurd (there operations undo is.known f)
-end_read operations op undo (Some x) (Some y) within e f is = when_fits y.takes x.takes x.replies (is.fits x y e f)
+pub end_read : (operations : List OperationForm) (op undo : ℕ) (a b : Option OperationForm) → op < length (signatures_of operations) → slice_get operations op ≡ a → slice_get operations undo ≡ b → MayEnd (signatures_of operations) op undo → may_end_by a b ≡ true
+end_read operations op undo None b within e f is = absurd (there (signatures_of operations) op within (sort_at operations op None e))
+end_read operations op undo (Some x) None within e f is = absurd (there (signatures_of operations) undo is.known (sort_at operations undo None f))
+end_read operations op undo (Some x) (Some y) within e f is =
+    let s : Signature = signature_of x in
+    let t : Signature = signature_of y in
+    when_fits t.takes s.takes s.replies (is.fits s t (sort_at operations op (Some x) e) (sort_at operations undo (Some y) f))
 
 none_taken : (ts : List Elem) → takes_none ts ≡ true → ts ≡ []
 none_taken [] h = refl
@@ -75,11 +87,16 @@ none_replied : (r : Option Elem) → replies_none r ≡ true → r ≡ None
 none_replied None h = refl
 none_replied (Some e) h = absurd cc
 
-pub bare_found : (o : Option Signature) → is_bare_by o ≡ true → o ≡ Some (signature [] None)
-bare_found None h = absurd cc
-bare_found (Some s) h =
+pub bare_found : (operations : List OperationForm) (op : ℕ) (o : Option OperationForm) → slice_get operations op ≡ o → is_bare_by o ≡ true → slice_get (signatures_of operations) op ≡ Some (signature [] None)
+bare_found operations op None e h = absurd cc
+bare_found operations op (Some x) e h =
+    let s : Signature = signature_of x in
     let b = both_are (takes_none s.takes) (replies_none s.replies) h in
-    ap (λ takes. Some (signature takes s.replies)) (none_taken s.takes b.0) ∙ ap (λ r. Some (signature [] r)) (none_replied s.replies b.1)
+    sort_at operations op (Some x) e ∙ ap (λ takes. Some (signature takes s.replies)) (none_taken s.takes b.0) ∙ ap (λ r. Some (signature [] r)) (none_replied s.replies b.1)
 
-pub bare_read : (o : Option Signature) → o ≡ Some (signature [] None) → is_bare_by o ≡ true
-bare_read o e = ap is_bare_by e
+bare_sort : (s : Signature) → s ≡ signature [] None → (takes_none s.takes && replies_none s.replies) ≡ true
+bare_sort s e = ap (λ (x : Signature). takes_none x.takes && replies_none x.replies) e
+
+pub bare_read : (operations : List OperationForm) (op : ℕ) (o : Option OperationForm) → slice_get operations op ≡ o → slice_get (signatures_of operations) op ≡ Some (signature [] None) → is_bare_by o ≡ true
+bare_read operations op None e is = absurd (none-some (signature [] None) (sym (sort_at operations op None e) ∙ is))
+bare_read operations op (Some x) e is = bare_sort (signature_of x) (same_Some (signature_of x) (signature [] None) (sym (sort_at operations op (Some x) e) ∙ is))

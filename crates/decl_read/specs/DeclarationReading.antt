@@ -20,7 +20,7 @@ use Rattle.decl_core.specs.ObjectForm.{OperationForm, ObjectForm}
 use Rattle.decl_read.specs.Declarations.{begins, begins_name, each_with, names_of_parts, with_params, is_parameter}
 use Rattle.decl_read.specs.Declarations.{names_before, names_within, names_in_function, entry_names}
 use Rattle.decl_read.specs.Declarations.{is_taken}
-use Rattle.decl_core.specs.ObjectForm.{operation_with, object_with, signatures_of}
+use Rattle.decl_core.specs.ObjectForm.{operation_with, object_with, signature_of}
 use Rattle.decl_core.specs.HoldForm.{HoldForm, EveryForm, Signature, is_one_of, named_in, ending_in, called_in}
 use Rattle.body_read.specs.Scopes.{operation_names}
 use Rattle.decl_read.specs.declared.words.Word.TheVariants as words
@@ -279,15 +279,18 @@ abbrev pub replies_none : Option Elem → Bool
 replies_none None = true
 replies_none (Some e) = false
 
-abbrev pub may_end_by : Option Signature → Option Signature → Bool
+-- what an operation takes fits for what ends a hold of another one
+abbrev pub ends_by : Signature → Signature → Bool
+ends_by h u = takes_none u.takes || takes_held u.takes h.takes h.replies
+
+abbrev pub may_end_by : Option OperationForm → Option OperationForm → Bool
 may_end_by None u = false
 may_end_by (Some h) None = false
-may_end_by (Some h) (Some u) = takes_none u.takes || takes_held u.takes h.takes h.replies
+may_end_by (Some h) (Some u) = ends_by (signature_of h) (signature_of u)
 
 -- an operation may end a hold of another one
 abbrev pub may_end : List OperationForm → ℕ → ℕ → Bool
-may_end operations op undo =
-    may_end_by (slice_get (signatures_of operations) op) (slice_get (signatures_of operations) undo)
+may_end operations op undo = may_end_by (slice_get operations op) (slice_get operations undo)
 
 -- an operation that ends a hold, behind those before
 unfoldable pub undo_in : List OperationForm → List HoldForm → ℕ → List ℕ → Reader (List ℕ)
@@ -331,13 +334,13 @@ hold_in operations before ws = do
 abbrev pub seconds_of : ℕ → Option ℕ
 seconds_of n = provided (nat_le 1 n && nat_le n 86400) n
 
-abbrev pub is_bare_by : Option Signature → Bool
+abbrev pub is_bare_by : Option OperationForm → Bool
 is_bare_by None = false
-is_bare_by (Some s) = takes_none s.takes && replies_none s.replies
+is_bare_by (Some o) = takes_none (signature_of o).takes && replies_none o.result
 
 -- an operation is a procedure that takes nothing
 abbrev pub is_bare : List OperationForm → ℕ → Bool
-is_bare operations op = is_bare_by (slice_get (signatures_of operations) op)
+is_bare operations op = is_bare_by (slice_get operations op)
 
 -- what is called again and again, behind what was before
 unfoldable pub every_in : List OperationForm → List HoldForm → List EveryForm → Reader (List EveryForm)

@@ -10,10 +10,11 @@ ghost use Rattle.decl_core.specs.ObjectMap.{operations_of};
 ghost use Rattle.decl_read.specs.Words.{begins_word as a_word_begins};
 ghost use Rattle.decl_read.specs.declared.words.Word.TheVariants.{Every as EveryWord};
 ghost use Rattle.decl_read.specs.DeclarationReading.{seconds_of, is_bare as is_bare_in, every_in};
+ghost use Rattle.decl_read.specs.DeclarationReading.{replies_none as replies_none_of};
 ghost use Rattle.decl_read.specs.Views.{everies_read};
 
 use crate::constants::number;
-use crate::holds::{is_one_of, operation};
+use crate::holds::{is_one_of, operation, takes_none};
 use crate::words::{Word, begins_word, behind_word};
 use body_read::front::{behind, start_of};
 use body_read::terms::Read;
@@ -25,6 +26,7 @@ use path_tree::node::OpId;
 use path_tree::token::{Symbol, Token};
 use std::alloc::Global;
 use std::sync::Arc;
+use value_core::kind::Elem;
 
 /// The most seconds between two calls: a day.
 const MOST_SECONDS: u32 = 86_400;
@@ -63,13 +65,23 @@ fn is_called(everies: &[Every], op: OpId) -> bool
     }
 }
 
+/// Whether nothing is replied.
+fn replies_none(reply: Option<Elem>) -> bool
+    ensures { result ≡ replies_none_of reply }
+{
+    match reply {
+        None => true,
+        Some(_) => false,
+    }
+}
+
 /// Whether an operation is a procedure that takes nothing.
 fn is_bare(operations: &[Arc<Operation>], op: OpId) -> bool
     ensures { result ≡ is_bare_in (operations_of operations.now) op }
 {
     match operations.get(usize::from(op)) {
         None => false,
-        Some(operation) => operation.params.is_empty() && operation.result.is_none(),
+        Some(operation) => takes_none(&operation.params) && replies_none(operation.result),
     }
 }
 

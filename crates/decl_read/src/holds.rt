@@ -7,13 +7,16 @@ ghost use Rattle.path_tree.specs.Known.{place_of as place_of_name};
 ghost use Rattle.body_read.specs.Reader.{Gives};
 ghost use Rattle.body_read.specs.Scopes.{operation_names};
 ghost use Rattle.body_read.specs.Series.{series_at};
-ghost use Rattle.decl_core.specs.HoldForm.{is_one_of as is_one, named_in, reply_sorts};
+ghost use Rattle.decl_core.specs.HoldForm.{is_one_of as is_one, named_in};
 ghost use Rattle.decl_core.specs.HoldMap.{holds_of};
-ghost use Rattle.decl_core.specs.ObjectMap.{operations_of};
+ghost use Rattle.decl_core.specs.ObjectForm.{signature_of};
+ghost use Rattle.decl_core.specs.ObjectMap.{operation_of, operations_of, params_of};
 ghost use Rattle.decl_read.specs.Declarations.{begins as begins_with, is_taken as is_taken_in};
 ghost use Rattle.decl_read.specs.Words.{begins_word as a_word_begins};
 ghost use Rattle.decl_read.specs.declared.words.Word.TheVariants.{Hold as HoldWord};
-ghost use Rattle.decl_read.specs.DeclarationReading.{operation_at, may_end as may_end_in, takes_held as takes_held_by};
+ghost use Rattle.decl_read.specs.DeclarationReading.{operation_at, may_end as may_end_in, ends_by, same_elem};
+ghost use Rattle.decl_read.specs.DeclarationReading.{takes_held as takes_held_by, takes_none as takes_none_of};
+ghost use Rattle.decl_read.specs.DeclarationReading.{is_one_sort as is_one_sort_of};
 ghost use Rattle.decl_read.specs.DeclarationReading.{undo_in, next_undo_in, undos_in, loose_in, loose_by, hold_in};
 ghost use Rattle.decl_read.specs.Views.{holds_read, numbers_read};
 
@@ -100,21 +103,66 @@ fn is_named(holds: &[Hold], op: OpId) -> bool
 
 /// Whether what an operation takes is what another one took, and behind that what it replied.
 fn takes_held(undo: &[Param], held: &[Param], reply: Option<Elem>) -> bool
-    ensures { result ≡ takes_held_by (map (λ p. p.kind) undo.now) (map (λ p. p.kind) held.now) reply }
+    ensures { result ≡ takes_held_by (map (λ p. p.1) (params_of undo.now)) (map (λ p. p.1) (params_of held.now)) reply }
 {
     match held {
         [] => match reply {
-            None => undo.is_empty(),
-            Some(kind) => match undo {
-                [only] => only.kind == kind,
-                _ => false,
-            },
+            None => takes_none(undo),
+            Some(kind) => is_one_sort(undo, kind),
         },
         [param, rest @ ..] => match undo {
             [] => false,
-            [other, others @ ..] => other.kind == param.kind && takes_held(others, rest, reply),
+            [other, others @ ..] => {
+                is_same_sort(other.kind, param.kind) && takes_held(others, rest, reply)
+            }
         },
     }
+}
+
+/// Whether two sorts are the same.
+fn is_same_sort(a: Elem, b: Elem) -> bool
+    ensures { result ≡ same_elem a b }
+{
+    match a {
+        Elem::Integer => match b {
+            Elem::Integer => true,
+            Elem::Text => false,
+        },
+        Elem::Text => match b {
+            Elem::Integer => false,
+            Elem::Text => true,
+        },
+    }
+}
+
+/// Whether these are one parameter of this sort.
+fn is_one_sort(params: &[Param], kind: Elem) -> bool
+    ensures { result ≡ is_one_sort_of (map (λ p. p.1) (params_of params.now)) kind }
+{
+    match params {
+        [] => false,
+        [param, rest @ ..] => match rest {
+            [] => is_same_sort(param.kind, kind),
+            [_, ..] => false,
+        },
+    }
+}
+
+/// Whether there are no parameters.
+pub(crate) fn takes_none(params: &[Param]) -> bool
+    ensures { result ≡ takes_none_of (map (λ p. p.1) (params_of params.now)) }
+{
+    match params {
+        [] => true,
+        [_, ..] => false,
+    }
+}
+
+/// Whether what an operation takes fits for what ends a hold of another one.
+fn ends(held: &Operation, undo: &Operation) -> bool
+    ensures { result ≡ ends_by (signature_of (operation_of held.now)) (signature_of (operation_of undo.now)) }
+{
+    takes_none(&undo.params) || takes_held(&undo.params, &held.params, held.result)
 }
 
 /// Whether an operation may end a hold of another one.
@@ -125,8 +173,7 @@ fn may_end(operations: &[Arc<Operation>], op: OpId, undo: OpId) -> bool
         None => false,
         Some(held) => match operations.get(usize::from(undo)) {
             None => false,
-            Some(ends) => ends.params.is_empty()
-                || takes_held(&ends.params, &held.params, held.result),
+            Some(undone) => ends(held, undone),
         },
     }
 }
