@@ -1,17 +1,20 @@
 //! What is held of an object.
 
-ghost use Rattle.std.specs.Prelude.{◌≡◌, ◌↔◌, ◌++◌, ℕ, List, [], ◌∷◌, IsTrue, IsErr, IfOk, OnOk, MatchOption, length, drop, take, ◌≤◌};
+ghost use Rattle.std.specs.Prelude.{◌≡◌, ◌↔◌, ◌++◌, ℕ, List, [], ◌∷◌, IsTrue, IsErr, IfOk, IfSome, OnOk, MatchOption, length, drop, take, ◌≤◌};
 ghost use Rattle.apply_core.specs.declared.reply.Reply.TheVariants.{Done};
 ghost use Rattle.decl_core.specs.HoldForm.{is_one_of as is_among};
 ghost use Rattle.decl_core.specs.HoldMap.{holds_of};
 ghost use Rattle.hold_core.specs.Held.{HeldCall as AHeldCall, begun, Fits, Gives, GivesOne, MayUndo, NoneFits};
 ghost use Rattle.hold_core.specs.Held.{hold_ended as hold_ended_in, hold_of_op as hold_of_op_in};
+ghost use Rattle.decl_core.specs.ObjectMap.{object_of, operation_of};
+ghost use Rattle.hold_core.specs.Undo.{given_to, IsUndoOf};
 ghost use Rattle.hold_core.specs.Views.{called_of};
 ghost use Rattle.hold_core.specs.Held.{NoneOwn, reply_data};
 ghost use Rattle.hold_core.specs.Places.{IsNewestOwn, IsOldest};
 
 use apply_core::reply::Reply;
 use decl_core::hold::Hold;
+use decl_core::object::{Object, Operation};
 use path_tree::node::OpId;
 use std::alloc::{AllocError, Global};
 use std::marker::Model;
@@ -258,5 +261,32 @@ impl Holds {
             self.give(count, rule, call.session, call.arguments);
         }
         Ok(())
+    }
+}
+
+/// What is to be called for a session that holds this and is gone: the first operation that ends its hold, with what it
+/// is held with, or with nothing where that operation takes nothing. `None`: the object has no such hold.
+pub fn undo_of<'a>(object: &Object, held: &'a HeldCall) -> Option<(OpId, &'a [Datum])>
+    ensures { IfSome result (λ u. IsUndoOf (object_of object.now) held.now u.0 u.1.now) }
+{
+    match object.holds.get(held.rule) {
+        None => None,
+        Some(hold) => match hold.until.first() {
+            None => None,
+            Some(op) => match object.operations.get(usize::from(*op)) {
+                None => None,
+                Some(operation) => Some((*op, given(operation, &held.values))),
+            },
+        },
+    }
+}
+
+// What an operation is given: nothing, where it takes nothing.
+fn given<'a>(operation: &Operation, values: &'a [Datum]) -> &'a [Datum]
+    ensures { result.now ≡ given_to (operation_of operation.now) values.now }
+{
+    match operation.params.as_slice() {
+        [] => &[],
+        [_, ..] => values,
     }
 }
