@@ -52,16 +52,16 @@ fn told_behind(fault: TextFault) -> DeclFault
 /// Reads the objects of a source, in order of declaration, each under its name. A source has at most
 /// 65,536 bytes and at most 16 objects.
 ///
-/// The whole source is made into tokens first, and `Lex` tells what `lex` tells. Then one pass from left
-/// to right tells its first fault, with the byte where it stands: `Path` what a path is refused for;
-/// `Syntax` a token that the grammar does not have there, a size outside 1 to 1024, seconds outside 1 to
-/// 86,400, or a word of `refuse` that is not 1 to 16 lower-case letters; `DuplicateName` the second of two names that have to differ;
-/// `WrongType` a known name of another kind than its place asks, an operation whose parameters do not fit
-/// its place in a hold, or the first token of an expression of the wrong kind; `UnknownName` a name that is not known there; `TooMany` the first token past a limit:
-/// the name of the 17th object, part or constant, of the 33rd operation or of the 9th parameter, the word
-/// `path` of the 17th path, `hold` of the 17th hold or `every` of the fifth, or the token that opens a 33rd level of statements or of expressions. Of two
-/// faults at one token the one that stands first in this list is told. `Memory` comes where the growth
-/// was refused. A refused source leaves nothing.
+/// The whole source is made into tokens first, and `Lex` tells what `lex` tells. Then one pass from left to right
+/// tells its first fault, with the byte where it stands: `Path` what a path is refused for; `Syntax` a token that
+/// the grammar does not have there, a size outside 1 to 1024, seconds outside 1 to 86,400, or a word of `refuse`
+/// that is not 1 to 16 lower-case letters; `DuplicateName` the second of two names that have to differ; `WrongType`
+/// a known name of another kind than its place asks, an operation whose parameters do not fit its place in a hold,
+/// or the first token of an expression of the wrong kind; `UnknownName` a name that is not known there; `TooMany`
+/// the first token past a limit: the name of the 17th object, part or constant, of the 33rd operation or of the 9th
+/// parameter, the word `path` of the 17th path, `hold` of the 17th hold or `every` of the fifth, or the token that
+/// opens a 33rd level of statements or of expressions. Of two faults at one token the one that stands first in this
+/// list is told. `Memory` comes where the growth was refused. A refused source leaves nothing.
 pub fn read_objects(alloc: Global, source: &[u8]) -> Result<IndexMap<Name, Object>, DeclFault>
     // What is read are the objects of a file of the grammar, in order, each under its name.
     ensures found { IfOk result (λ m. AreObjectsOf source.now (objects_of (values_of m.entries))) }
