@@ -1,9 +1,9 @@
 -- What is said of holds has one proof at most, so an object can keep it beside its fields.
-use Rattle.std.specs.Prelude.{◌≡◌, ℕ, List, Option}
+use Rattle.std.specs.Prelude.{◌≡◌, ℕ, List}
 use denote.Struct.Props.{props}
 use Rattle.value_core.specs.declared.kind.Elem.{Elem}
 use Rattle.decl_core.specs.KindOnce.{elem_set}
-use Rattle.decl_core.specs.HoldForm.{HoldForm, EveryForm, Signature, Fits, MayEnd, IsHold, IsEvery, AreRules}
+use Rattle.decl_core.specs.HoldForm.{HoldForm, EveryForm, Signature, MayEnd, IsHold, IsEvery, AreRules}
 
 takes_once : (a b : List Elem) → IsProp (a ≡ b)
 takes_once a b = hlevel (props, elem_set)
