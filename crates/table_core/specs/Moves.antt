@@ -1,6 +1,7 @@
 -- What a turn of a table gives.
 use Rattle.std.specs.Prelude.{◌≡◌, ℕ, List, length, slice_get, slice_set, Some, true, false}
 use Rattle.past_core.specs.declared.past.PastEvent.{PastEvent}
+use Rattle.hosted_core.specs.Fronts.{IsNextFront}
 use Rattle.hosted_core.specs.Scene.{Scene}
 use Rattle.hosted_core.specs.Steps.{Steps, IsFollowed}
 use Rattle.post_core.specs.Texts.{to}
@@ -20,6 +21,10 @@ pub record Begins (old : List Scene) (journal : ℕ) (new : List Scene) : Type 0
   pub there : slice_get old journal ≡ Some before
   pub followed : IsFollowed before past after
   pub left : new ≡ slice_set old journal after
+
+-- a text is the front of the next epoch of the object at this place
+abbrev pub IsFrontAt : List Scene → ℕ → List ℕ → Type 0
+IsFrontAt scenes journal front = (s : Scene) × (slice_get scenes journal ≡ Some s) × IsNextFront s front
 
 -- what is asked of a table gives this
 abbrev pub Gives : List Scene → Asked → List (ℕ × List ℕ) → List (ℕ × List ℕ) → List Scene → Type 0

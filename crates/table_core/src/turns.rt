@@ -1,6 +1,7 @@
 //! What a turn does: the lines of connections, one after the other, and what is noted.
 
-ghost use Rattle.std.specs.Prelude.{◌≡◌, [], OnOk, IfOk};
+ghost use Rattle.std.specs.Prelude.{◌≡◌, [], IsTrue, OnOk, IfOk};
+ghost use Rattle.hosted_core.specs.Fronts.{IsNextFront};
 ghost use Rattle.post_core.specs.Posts.{Tells};
 ghost use Rattle.table_core.specs.Along.{GoesOn, Keeps};
 
@@ -273,7 +274,9 @@ impl Table {
 }
 
 // Writes the front of the next epoch of an object, where one can begin.
-fn writes_next(object: &Hosted, front: &mut Vec<u8>) -> bool {
+fn writes_next(object: &Hosted, front: &mut Vec<u8>) -> bool
+    ensures { IsTrue result → IsNextFront object.now front.new.items }
+{
     match object.write_next(front) {
         Ok(is_written) => is_written,
         Err(_) => false,
@@ -289,11 +292,11 @@ fn without_cr(line: &[u8]) -> &[u8] {
 }
 
 impl Served for Table {
-    ghost use Rattle.table_core.specs.Moves.{Gives};
+    ghost use Rattle.table_core.specs.Moves.{Gives, IsFrontAt};
 
     ghost gives = { Gives };
 
-    ghost fronts = { λ scenes journal front. Unit {0} };
+    ghost fronts = { IsFrontAt };
 
     fn hear(
         &mut self,
