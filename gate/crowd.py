@@ -385,7 +385,10 @@ def are_right(server, crowd):
     """Judges all answers, and what the objects hold then. It answers how many calls were answered."""
     clients = crowd.clients
     for it in clients:
-        opened = server.says(f"open {it.object} as {it.name}")[0]
+        opened = "no InUse"
+        while opened == "no InUse":
+            # (its connection before may not have been seen to end)
+            opened = server.says(f"open {it.object} as {it.name}")[0]
         check(opened, f"opened {it.object} next {it.key}", f"what {it.name} is told")
         keys = [done.key for done in it.done]
         check(keys, sorted(keys), f"the order of the calls of {it.name}")
