@@ -1,6 +1,6 @@
-"""Closes an object of examples/clients/pathclient.py from another thread, at each moment of a call.
+"""Closes an object of clients/python from another thread, at each moment of a call.
 
-A moment is a line of pathclient.py that the thread of the call is about to run. A trace holds it there, the object is
+A moment is a line of the library that the thread of the call is about to run. A trace holds it there, the object is
 closed by another thread, and then it goes on: so each order of the two is tried, and none is left to luck. Moments at
 which a thread waits in the system (a connection that is not made, a server that takes nothing) have a server that holds
 at that step, and the object is closed when the system says that the thread waits.
@@ -16,7 +16,7 @@ import threading
 import time
 
 TOP = pathlib.Path(__file__).resolve().parent.parent
-sys.path.append(str(TOP / "examples" / "clients"))
+sys.path.append(str(TOP / "clients" / "python"))
 import pathclient  # noqa: E402
 from pathclient import Cancelled, Lost, Object  # noqa: E402
 

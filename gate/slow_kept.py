@@ -27,6 +27,16 @@ class Number:
         return None if self.life.base is None else self.life.base + self.place
 
 
+class OneOf:
+    """A word that is one of these: which, hangs on numbers that no client was told."""
+
+    def __init__(self, *words):
+        self.words, self.word = words, words[0]
+
+    def __str__(self):
+        return self.word
+
+
 class Life:
     """What was told of an object since the server began: so many numbers, behind `base`, which is known once one was
     told; it is `after` at least, and no more than 65,536 further for each start behind which none was told."""
@@ -233,6 +243,8 @@ class Slow:
             self.ended([found.speaker])
             return
         hall.note_greatest()
+        if hall.life.base is None and hall.greatest < number <= hall.greatest + UNTOLD * hall.life.starts:
+            return speaker.tell("cancel", number, OneOf("Ended", "Unknown"))
         is_told = 1 <= number <= hall.greatest
         speaker.tell("cancel", number, "Ended" if is_told else "Unknown")
 

@@ -64,6 +64,21 @@ def stands_on(lines, program=PROGRAM):
     return [*repository.below(lines, program), program]
 
 
+def of_kit(lines, folder, program=PROGRAM):
+    """The crates of the kit in this folder that a program stands on, each with those that it uses."""
+    waiting, found = ["std", "core"], {}
+    for crate in stands_on(lines, program):
+        waiting += [it for it in lines[crate].partition(":")[2].replace(",", " ").split() if it not in lines]
+    # (grows while it is read)
+    for name in waiting:
+        if name not in found:
+            needed(folder, f"rlibs/{name}.rlib/format")
+            told = (folder / f"rlibs/{name}.rlib/format").read_text(encoding="utf-8").splitlines()
+            found[name] = [it.removeprefix("dep ") for it in told if it.startswith("dep ")]
+            waiting += found[name]
+    return found
+
+
 def digest(top, of_kit):
     """The sha256 of all that a proof of the program reads: the kit's name, HANDLES, and of each crate of the program
     its line in crates.txt and its files."""

@@ -1,9 +1,11 @@
 /* Calls operations of an object that `pathserve serve` serves, and prints how each call ended.
  *
  * usage: client PLACE OBJECT CALL ..    (a CALL is an operation with its arguments, as in "put 7")
+ *        client PLACE OBJECT -          (the calls are read from standard input, one a line)
  * build: cc -o client client.c
  *
- * PLACE is a port of this machine, or the path of a socket, with a slash in it.
+ * PLACE is a port of this machine, or the path of a socket, with a slash in it. With `-` it says `opened` on standard
+ * error when the object is open.
  * Exit statuses: 0 each call was answered; 1 the object was not opened; 2 usage; 3 there is no server, or it was gone
  * before the last answer.
  */
@@ -68,8 +70,42 @@ static int connected(const char *place)
     return connect(connection, (struct sockaddr *)&at_port, sizeof at_port) == 0 ? connection : -1;
 }
 
+/* Whether the line is the last one of the call whose number stands behind `accepted `. */
+static int ends_call(const char *number)
+{
+    static const char *const kinds[] = {"done ", "refused ", "failed ", "cancelled "};
+    size_t k, length = strlen(number);
+
+    for (k = 0; k < sizeof kinds / sizeof *kinds; k++)
+        if (strncmp(line, kinds[k], strlen(kinds[k])) == 0) {
+            const char *rest = line + strlen(kinds[k]);
+            return strncmp(rest, number, length) == 0 && (rest[length] == ' ' || rest[length] == '\n');
+        }
+    return 0;
+}
+
+/* Calls, and prints how the call ended. */
+static void call(FILE *to, FILE *from, const char *text)
+{
+    char number[32];
+
+    sent = text;
+    ask(to, from, "call", text);
+    if (sscanf(line, "accepted %31[0-9]", number) == 1) {
+        /* The call waits until the paths admit it; then comes its last line. */
+        hear(from);
+        if (!ends_call(number))
+            gone("the server wrote something else", "");
+    } else if (strncmp(line, "no ", 3) != 0)
+        gone("the server wrote something else", "");
+    printf("%s: %s", text, line);
+    fflush(stdout);
+    sent = NULL;
+}
+
 int main(int count, char **words)
 {
+    static char text[4096];
     int connection;
     FILE *to, *from;
     int k;
@@ -92,16 +128,15 @@ int main(int count, char **words)
         fputs(line, stderr);
         return 1;
     }
-    for (k = 3; k < count; k++) {
-        sent = words[k];
-        ask(to, from, "call", words[k]);
-        /* The call waits until the paths admit it; then comes its last line. */
-        if (strncmp(line, "accepted ", 9) == 0)
-            hear(from);
-        printf("%s: %s", words[k], line);
-        fflush(stdout);
-    }
-    sent = NULL;
+    if (count == 4 && strcmp(words[3], "-") == 0) {
+        fputs("opened\n", stderr);
+        while (fgets(text, sizeof text, stdin)) {
+            text[strcspn(text, "\n")] = 0;
+            call(to, from, text);
+        }
+    } else
+        for (k = 3; k < count; k++)
+            call(to, from, words[k]);
     ask(to, from, "quit", "");
     return 0;
 }

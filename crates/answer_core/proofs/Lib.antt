@@ -5,3 +5,4 @@ pub mod Lineless
 pub mod Audits
 pub mod Hints
 pub mod Words
+pub mod StuckChecks

@@ -1,5 +1,5 @@
 -- What the program ends with: its exit status, and what it tells where it has no answer.
-use Rattle.std.specs.Prelude.{◌≡◌, ◌⊎◌, ◌==◌, ℕ, ⊤, if◌then◌else◌, List, Option, Some, None, Result, Ok, Err, codes}
+use Rattle.std.specs.Prelude.{◌≡◌, ◌⊎◌, ◌==◌, ℕ, Bool, ⊤, if◌then◌else◌, List, Option, Some, None, Result, Ok, Err, codes}
 use Rattle.std.specs.IoError.{error_kind}
 use Rattle.std.specs.declared.io.Error.{Error as IoError}
 use Rattle.std.specs.declared.io.ErrorKind.{ErrorKind as IoKind}
@@ -28,6 +28,10 @@ paths_status (ends.Stopped line) = 1
 abbrev pub check_status : CheckEnd → ℕ
 check_status (check_ends.Counted objects refused) = if refused == 0 then 0 else 1
 check_status check_ends.Faulty = 1
+
+-- `check --stuck`: 1 also where an operation is lost
+abbrev pub stuck_status : CheckEnd → Bool → ℕ
+stuck_status end lost = if lost then 1 else check_status end
 
 -- `run`, where there is an object to run on: 0 where each line was answered, 1 where a bad line ended the script
 abbrev pub script_status : ScriptEnd → ℕ

@@ -33,7 +33,7 @@ fn status_of_paths(end: PathsEnd) -> u8
     }
 }
 
-fn status_of_check(end: CheckEnd) -> u8
+pub(crate) fn status_of_check(end: CheckEnd) -> u8
     ensures { result ≡ check_status end }
 {
     match end {

@@ -11,3 +11,4 @@ pub mod failure;
 pub mod laws;
 pub mod script;
 pub mod source;
+pub mod stuck;

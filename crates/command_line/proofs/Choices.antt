@@ -2,7 +2,7 @@
 use Rattle.std.proofs.Common.{◌≡◌, ◌++◌, Bool, true, false, List, [], ◌∷◌, Some, None, codes}
 use Rattle.std.specs.Prelude.{⊤}
 use Rattle.clap.specs.Walk.{Rule, Text}
-use Rattle.command_line.specs.Forms.{Verb, paths, check, run, audit, serve, keep, Given, IsNumber, has_sessions, has_stop, has_keeping}
+use Rattle.command_line.specs.Forms.{Verb, paths, check, run, audit, serve, keep, Given, IsNumber, has_sessions, has_stop, has_stuck, has_keeping}
 use Rattle.command_line.proofs.Levels.{sessions_built, at_once_built, sync_built, traces_built, past_built}
 
 pub data Choice : Type 0 where
@@ -117,3 +117,12 @@ by_stop P a b paths has = absurd (clash has)
 by_stop P a b check has = absurd (clash has)
 by_stop P a b run has = absurd (clash has)
 by_stop P a b audit has = absurd (clash has)
+
+-- what holds of the subcommand that has `--stuck`
+pub by_stuck : (P : Verb → Type 0) → P check → (v : Verb) → has_stuck v ≡ true → P v
+by_stuck P a check has = a
+by_stuck P a paths has = absurd (clash has)
+by_stuck P a run has = absurd (clash has)
+by_stuck P a audit has = absurd (clash has)
+by_stuck P a serve has = absurd (clash has)
+by_stuck P a keep has = absurd (clash has)

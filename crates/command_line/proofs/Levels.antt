@@ -143,6 +143,7 @@ pub record Place (v : Verb) (words : List Text) : Type 0 where
   pub no_explain : bytes_eq name (codes "explain") ≡ false
   pub no_silence : bytes_eq name (codes "no-explain") ≡ false
   pub no_stop : bytes_eq name (codes "stop-with-input") ≡ false
+  pub no_stuck : bytes_eq name (codes "stuck") ≡ false
   pub no_sessions : bytes_eq name (codes "sessions") ≡ false
   pub no_at_once : bytes_eq name (codes "at-once") ≡ false
   pub no_sync : bytes_eq name (codes "sync") ≡ false
@@ -182,6 +183,7 @@ place check [] = inl (record {
   no_explain = refl;
   no_silence = refl;
   no_stop = refl;
+  no_stuck = refl;
   no_sessions = refl;
   no_at_once = refl;
   no_sync = refl;
@@ -205,6 +207,7 @@ place run [] = inl (record {
   no_explain = refl;
   no_silence = refl;
   no_stop = refl;
+  no_stuck = refl;
   no_sessions = refl;
   no_at_once = refl;
   no_sync = refl;
@@ -225,6 +228,7 @@ place run (a ∷ []) = inl (record {
   no_explain = refl;
   no_silence = refl;
   no_stop = refl;
+  no_stuck = refl;
   no_sessions = refl;
   no_at_once = refl;
   no_sync = refl;
@@ -247,6 +251,7 @@ place audit [] = inl (record {
   no_explain = refl;
   no_silence = refl;
   no_stop = refl;
+  no_stuck = refl;
   no_sessions = refl;
   no_at_once = refl;
   no_sync = refl;
@@ -267,6 +272,7 @@ place audit (a ∷ []) = inl (record {
   no_explain = refl;
   no_silence = refl;
   no_stop = refl;
+  no_stuck = refl;
   no_sessions = refl;
   no_at_once = refl;
   no_sync = refl;
@@ -289,6 +295,7 @@ place serve [] = inl (record {
   no_explain = refl;
   no_silence = refl;
   no_stop = refl;
+  no_stuck = refl;
   no_sessions = refl;
   no_at_once = refl;
   no_sync = refl;
@@ -309,6 +316,7 @@ place serve (a ∷ []) = inl (record {
   no_explain = refl;
   no_silence = refl;
   no_stop = refl;
+  no_stuck = refl;
   no_sessions = refl;
   no_at_once = refl;
   no_sync = refl;
@@ -329,6 +337,7 @@ place serve (a ∷ b ∷ []) = inl (record {
   no_explain = refl;
   no_silence = refl;
   no_stop = refl;
+  no_stuck = refl;
   no_sessions = refl;
   no_at_once = refl;
   no_sync = refl;
@@ -350,6 +359,7 @@ place keep [] = inl (record {
   no_explain = refl;
   no_silence = refl;
   no_stop = refl;
+  no_stuck = refl;
   no_sessions = refl;
   no_at_once = refl;
   no_sync = refl;
@@ -370,6 +380,7 @@ place keep (a ∷ []) = inl (record {
   no_explain = refl;
   no_silence = refl;
   no_stop = refl;
+  no_stuck = refl;
   no_sessions = refl;
   no_at_once = refl;
   no_sync = refl;
@@ -390,6 +401,7 @@ place keep (a ∷ b ∷ []) = inl (record {
   no_explain = refl;
   no_silence = refl;
   no_stop = refl;
+  no_stuck = refl;
   no_sessions = refl;
   no_at_once = refl;
   no_sync = refl;
@@ -412,16 +424,19 @@ explain_rule explain silence more =
 abbrev pub stop_rule : Bool → Option Rule → Option Rule
 stop_rule stop more = cond (stop || false) (Some (flag (codes "stop-with-input"))) more
 
-abbrev pub long_rule : Verb → Bool → Bool → Bool → Bool → Bool → Bool → Bool → Bool → Option Rule → Option Rule
-long_rule paths explain silence stop sessions at_once sync traces past more = more
-long_rule serve explain silence stop sessions at_once sync traces past more =
+abbrev pub stuck_rule : Bool → Option Rule → Option Rule
+stuck_rule stuck more = cond (stuck || false) (Some (flag (codes "stuck"))) more
+
+abbrev pub long_rule : Verb → Bool → Bool → Bool → Bool → Bool → Bool → Bool → Bool → Bool → Option Rule → Option Rule
+long_rule paths explain silence stop stuck sessions at_once sync traces past more = more
+long_rule serve explain silence stop stuck sessions at_once sync traces past more =
     cond (sessions || false) (Some sessions_built) (stop_rule stop (explain_rule explain silence more))
-long_rule keep explain silence stop sessions at_once sync traces past more =
+long_rule keep explain silence stop stuck sessions at_once sync traces past more =
     cond (at_once || false) (Some at_once_built) (cond (sync || false) (Some sync_built) (cond (traces || false) (Some traces_built) (cond (past || false) (Some past_built)
     (stop_rule stop (explain_rule explain silence more)))))
-long_rule check explain silence stop sessions at_once sync traces past more = explain_rule explain silence more
-long_rule run explain silence stop sessions at_once sync traces past more = explain_rule explain silence more
-long_rule audit explain silence stop sessions at_once sync traces past more = explain_rule explain silence more
+long_rule check explain silence stop stuck sessions at_once sync traces past more = stuck_rule stuck (explain_rule explain silence more)
+long_rule run explain silence stop stuck sessions at_once sync traces past more = explain_rule explain silence more
+long_rule audit explain silence stop stuck sessions at_once sync traces past more = explain_rule explain silence more
 
 abbrev pub shown_by : Text → Option Rule
 shown_by name = shown_rule (bytes_eq (codes "help") name) (bytes_eq (codes "version") name)
@@ -430,7 +445,7 @@ abbrev pub shown_short : ℕ → Option Rule
 shown_short x = shown_rule (104 == x) (86 == x)
 
 pub long_is : (v : Verb) (name : Text) → arg_by_long (rules v) name
-    ≡ long_rule v (bytes_eq (codes "explain") name) (bytes_eq (codes "no-explain") name) (bytes_eq (codes "stop-with-input") name) (bytes_eq (codes "sessions") name)
+    ≡ long_rule v (bytes_eq (codes "explain") name) (bytes_eq (codes "no-explain") name) (bytes_eq (codes "stop-with-input") name) (bytes_eq (codes "stuck") name) (bytes_eq (codes "sessions") name)
     (bytes_eq (codes "at-once") name) (bytes_eq (codes "sync") name) (bytes_eq (codes "traces") name) (bytes_eq (codes "past") name) (shown_by name)
 long_is paths name = refl
 long_is check name = refl

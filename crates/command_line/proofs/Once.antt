@@ -66,11 +66,12 @@ same_made : (v : Verb) (g h : Given) (rows : List Row) (p q : Request) → Holds
 same_made paths g h rows requests.Paths requests.Paths a b m n = tt
 same_made paths g h rows requests.Paths q a b m n = absurd n
 same_made paths g h rows p q a b m n = absurd m
-same_made check g h rows (requests.Check file explain) (requests.Check file2 explain2) a b m n = (
+same_made check g h rows (requests.Check file explain asked) (requests.Check file2 explain2 asked2) a b m n = (
   same_at 0 (file.now ∷ []) (a.0 ∷ []) (file2.now ∷ []) (b.0 ∷ []) (sym m.0 ∙ a.1) (sym n.0 ∙ b.1) (same_first rows (codes "FILE") a.0 b.0 a.2 b.2),
-  m.1 ∙ same_explain g h rows a.3 b.3 ∙ sym n.1,
+  m.1 ∙ same_explain g h rows a.4 b.4 ∙ sym n.1,
+  sym m.2 ∙ bools g.stuck h.stuck (same_one rows (codes "stuck") _ _ a.3 b.3) ∙ n.2,
 )
-same_made check g h rows (requests.Check file explain) q a b m n = absurd n
+same_made check g h rows (requests.Check file explain asked) q a b m n = absurd n
 same_made check g h rows p q a b m n = absurd m
 same_made run g h rows (requests.Run file script explain) (requests.Run file2 script2 explain2) a b m n =
     let first = same_first rows (codes "FILE") a.0 b.0 a.3 b.3 in

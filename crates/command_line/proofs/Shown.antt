@@ -10,14 +10,14 @@ use Rattle.clap.specs.declared.error.kind.ErrorKind.TheVariants as kinds
 use Rattle.clap.specs.declared.error.kind.ErrorKind.TheVariants.{OutOfMemory}
 use Rattle.clap.specs.Faults.{fault_of, level_fault, turn_fault, walk_fault, built_fault}
 use Rattle.clap.proofs.WalkLemmas.{both}
-use Rattle.command_line.specs.Forms.{Verb, paths, check, run, audit, serve, keep, name_of, Given, nothing, is_bare, Gives, ends, word, explain, silence, stop, sessions, joined, at_once, at_once_joined, sync, sync_joined, traces, traces_joined, past, past_joined, hyphens as ends_flags, Topic, help, version, word_for, kind_for, has_no_hyphens, Shows, of_program, of_verb}
+use Rattle.command_line.specs.Forms.{Verb, paths, check, run, audit, serve, keep, name_of, Given, nothing, is_bare, Gives, ends, word, explain, silence, stop, stuck, sessions, joined, at_once, at_once_joined, sync, sync_joined, traces, traces_joined, past, past_joined, hyphens as ends_flags, Topic, help, version, word_for, kind_for, has_no_hyphens, Shows, of_program, of_verb}
 use Rattle.command_line.specs.Commands.{program}
 use Rattle.command_line.proofs.Turns.{long_turn, neither, some_fault}
 use Rattle.command_line.proofs.Levels.{rules, leaf, top, whole, place_after, place, flag}
 use Rattle.command_line.proofs.Choices.{Choice, of_sessions, of_at_once, of_sync, of_traces, of_past, id_of, word_of, joined_of, built_of, has_choice, Open, Allows}
 use Rattle.command_line.proofs.Rows.{seen}
 use Rattle.command_line.proofs.Steps.{held, at, rows_now, settle, flag_seen, Stands, flag_use, choice_use}
-use Rattle.command_line.proofs.Walks.{word_turn, word_after, word_stands, none_left, explain_turn, explain_after, explain_stands, silence_turn, silence_after, silence_stands, stop_turn, stop_after, stop_stands}
+use Rattle.command_line.proofs.Walks.{word_turn, word_after, word_stands, none_left, explain_turn, explain_after, explain_stands, silence_turn, silence_after, silence_stands, stop_turn, stop_after, stop_stands, stuck_turn, stuck_after, stuck_stands}
 use Rattle.command_line.proofs.Walks.{waits, spaced_turn, spaced_after, given_turn, given_after, given_stands, joined_turn, joined_after, joined_stands, no_choice_row}
 use Rattle.command_line.proofs.Whole.{nothing_stands, start, names, verb_walks, whole_is}
 
@@ -128,6 +128,14 @@ module _ (t : Topic) (more : List Text) where
       ∙ neither _ _ (neither _ _ st.valid (flag_use (codes "stop-with-input") (rows_now v rows q) none)) refl)
       (ap (λ x. walked (rules v) [] (at true (place_after g.words) (held rows q)) x) is ∙ stop_after (place_after g.words) rows q v has)
       (shown_walk v true (record g { stops = true }) ws after rest refl (later w ws clean) (used (flag (codes "stop-with-input")) [] (rows_now v rows q)) None (stop_stands v g rows q st off))
+  shown_walk v free g front after (stuck x y w ws is has off rest) opened clean rows q st =
+      let none : seen (codes "stuck") (rows_now v rows q) ≡ None = st.holds.stuck ∙ ap (flag_seen (codes "stuck")) off in
+      goes_on v (at true (place_after g.words) (held rows q)) w (ws ++ word_for t ∷ more)
+      (at true (place_after g.words) (held (used (flag (codes "stuck")) [] (rows_now v rows q)) None)) (kind_for t ∷ [])
+      (ap (λ x. turn_fault (leaf v) [] (at true (place_after g.words) (held rows q)) x) is ∙ stuck_turn (place_after g.words) rows q v has
+      ∙ neither _ _ (neither _ _ st.valid (flag_use (codes "stuck") (rows_now v rows q) none)) refl)
+      (ap (λ x. walked (rules v) [] (at true (place_after g.words) (held rows q)) x) is ∙ stuck_after (place_after g.words) rows q v has)
+      (shown_walk v true (record g { stuck = true }) ws after rest refl (later w ws clean) (used (flag (codes "stuck")) [] (rows_now v rows q)) None (stuck_stands v g rows q st off))
   shown_walk v free g front after (sessions x y w n ws is plain has off number rest) opened clean rows q st =
       spaced_goes_on of_sessions v g w n (ws ++ word_for t ∷ more) has rows q st (kind_for t ∷ []) is plain
       (shown_walk v true (record g { sessions = Some n }) ws after rest refl (later n ws (later w (n ∷ ws) clean)) (rows_now v rows q) (Some (id_of of_sessions, n ∷ [])) (given_stands of_sessions v has g rows q n st off number))

@@ -43,6 +43,7 @@ pub record Holding (v : Verb) (g : Given) (rows : List Row) : Type 0 where
   pub explains : seen (codes "explain") rows ≡ flag_seen (codes "explain") g.explains
   pub silent : seen (codes "no-explain") rows ≡ flag_seen (codes "no-explain") g.silent
   pub stops : seen (codes "stop-with-input") rows ≡ flag_seen (codes "stop-with-input") g.stops
+  pub stuck : seen (codes "stuck") rows ≡ flag_seen (codes "stuck") g.stuck
   pub sessions : seen (codes "sessions") rows ≡ option_map (text_row (codes "sessions")) g.sessions
   pub at_once : seen (codes "at-once") rows ≡ option_map (text_row (codes "at-once")) g.at_once
   pub sync : seen (codes "sync") rows ≡ option_map (text_row (codes "sync")) g.sync
@@ -203,6 +204,7 @@ module _ (v : Verb) (g : Given) (rows : List Row) (h : Holding v g rows) where
     explains = seen_new (codes "explain") (flag_row (codes "explain")) rows refl (h.explains ∙ ap (flag_seen (codes "explain")) off);
     silent = seen_other (codes "no-explain") (flag_row (codes "explain")) rows refl ∙ h.silent;
     stops = seen_other (codes "stop-with-input") (flag_row (codes "explain")) rows refl ∙ h.stops;
+    stuck = seen_other (codes "stuck") (flag_row (codes "explain")) rows refl ∙ h.stuck;
     sessions = seen_other (codes "sessions") (flag_row (codes "explain")) rows refl ∙ h.sessions;
     at_once = seen_other (codes "at-once") (flag_row (codes "explain")) rows refl ∙ h.at_once;
     sync = seen_other (codes "sync") (flag_row (codes "explain")) rows refl ∙ h.sync;
@@ -219,6 +221,7 @@ module _ (v : Verb) (g : Given) (rows : List Row) (h : Holding v g rows) where
     explains = seen_other (codes "explain") (flag_row (codes "no-explain")) rows refl ∙ h.explains;
     silent = seen_new (codes "no-explain") (flag_row (codes "no-explain")) rows refl (h.silent ∙ ap (flag_seen (codes "no-explain")) off);
     stops = seen_other (codes "stop-with-input") (flag_row (codes "no-explain")) rows refl ∙ h.stops;
+    stuck = seen_other (codes "stuck") (flag_row (codes "no-explain")) rows refl ∙ h.stuck;
     sessions = seen_other (codes "sessions") (flag_row (codes "no-explain")) rows refl ∙ h.sessions;
     at_once = seen_other (codes "at-once") (flag_row (codes "no-explain")) rows refl ∙ h.at_once;
     sync = seen_other (codes "sync") (flag_row (codes "no-explain")) rows refl ∙ h.sync;
@@ -235,11 +238,29 @@ module _ (v : Verb) (g : Given) (rows : List Row) (h : Holding v g rows) where
     explains = seen_other (codes "explain") (flag_row (codes "stop-with-input")) rows refl ∙ h.explains;
     silent = seen_other (codes "no-explain") (flag_row (codes "stop-with-input")) rows refl ∙ h.silent;
     stops = seen_new (codes "stop-with-input") (flag_row (codes "stop-with-input")) rows refl (h.stops ∙ ap (flag_seen (codes "stop-with-input")) off);
+    stuck = seen_other (codes "stuck") (flag_row (codes "stop-with-input")) rows refl ∙ h.stuck;
     sessions = seen_other (codes "sessions") (flag_row (codes "stop-with-input")) rows refl ∙ h.sessions;
     at_once = seen_other (codes "at-once") (flag_row (codes "stop-with-input")) rows refl ∙ h.at_once;
     sync = seen_other (codes "sync") (flag_row (codes "stop-with-input")) rows refl ∙ h.sync;
     traces = seen_other (codes "traces") (flag_row (codes "stop-with-input")) rows refl ∙ h.traces;
     past = seen_other (codes "past") (flag_row (codes "stop-with-input")) rows refl ∙ h.past;
+    number = h.number;
+    most = h.most;
+    megabytes = h.megabytes;
+  }
+
+  pub holds_stuck : g.stuck ≡ false → Holding v (record g { stuck = true }) (rows ++ flag_row (codes "stuck") ∷ [])
+  holds_stuck off = record {
+    places = places_kept (place_names v) g.words rows (flag_row (codes "stuck")) (others (codes "stuck") refl refl refl refl refl v) h.places;
+    explains = seen_other (codes "explain") (flag_row (codes "stuck")) rows refl ∙ h.explains;
+    silent = seen_other (codes "no-explain") (flag_row (codes "stuck")) rows refl ∙ h.silent;
+    stops = seen_other (codes "stop-with-input") (flag_row (codes "stuck")) rows refl ∙ h.stops;
+    stuck = seen_new (codes "stuck") (flag_row (codes "stuck")) rows refl (h.stuck ∙ ap (flag_seen (codes "stuck")) off);
+    sessions = seen_other (codes "sessions") (flag_row (codes "stuck")) rows refl ∙ h.sessions;
+    at_once = seen_other (codes "at-once") (flag_row (codes "stuck")) rows refl ∙ h.at_once;
+    sync = seen_other (codes "sync") (flag_row (codes "stuck")) rows refl ∙ h.sync;
+    traces = seen_other (codes "traces") (flag_row (codes "stuck")) rows refl ∙ h.traces;
+    past = seen_other (codes "past") (flag_row (codes "stuck")) rows refl ∙ h.past;
     number = h.number;
     most = h.most;
     megabytes = h.megabytes;
@@ -254,6 +275,7 @@ module _ (v : Verb) (g : Given) (rows : List Row) (h : Holding v g rows) where
     explains = seen_other (codes "explain") (text_row (codes "sessions") n) rows refl ∙ h.explains;
     silent = seen_other (codes "no-explain") (text_row (codes "sessions") n) rows refl ∙ h.silent;
     stops = seen_other (codes "stop-with-input") (text_row (codes "sessions") n) rows refl ∙ h.stops;
+    stuck = seen_other (codes "stuck") (text_row (codes "sessions") n) rows refl ∙ h.stuck;
     sessions = seen_new (codes "sessions") (text_row (codes "sessions") n) rows refl (h.sessions ∙ ap (option_map (text_row (codes "sessions"))) off);
     at_once = seen_other (codes "at-once") (text_row (codes "sessions") n) rows refl ∙ h.at_once;
     sync = seen_other (codes "sync") (text_row (codes "sessions") n) rows refl ∙ h.sync;
@@ -268,6 +290,7 @@ module _ (v : Verb) (g : Given) (rows : List Row) (h : Holding v g rows) where
     explains = seen_other (codes "explain") (text_row (codes "at-once") n) rows refl ∙ h.explains;
     silent = seen_other (codes "no-explain") (text_row (codes "at-once") n) rows refl ∙ h.silent;
     stops = seen_other (codes "stop-with-input") (text_row (codes "at-once") n) rows refl ∙ h.stops;
+    stuck = seen_other (codes "stuck") (text_row (codes "at-once") n) rows refl ∙ h.stuck;
     sessions = seen_other (codes "sessions") (text_row (codes "at-once") n) rows refl ∙ h.sessions;
     at_once = seen_new (codes "at-once") (text_row (codes "at-once") n) rows refl (h.at_once ∙ ap (option_map (text_row (codes "at-once"))) off);
     sync = seen_other (codes "sync") (text_row (codes "at-once") n) rows refl ∙ h.sync;
@@ -282,6 +305,7 @@ module _ (v : Verb) (g : Given) (rows : List Row) (h : Holding v g rows) where
     explains = seen_other (codes "explain") (text_row (codes "sync") n) rows refl ∙ h.explains;
     silent = seen_other (codes "no-explain") (text_row (codes "sync") n) rows refl ∙ h.silent;
     stops = seen_other (codes "stop-with-input") (text_row (codes "sync") n) rows refl ∙ h.stops;
+    stuck = seen_other (codes "stuck") (text_row (codes "sync") n) rows refl ∙ h.stuck;
     sessions = seen_other (codes "sessions") (text_row (codes "sync") n) rows refl ∙ h.sessions;
     at_once = seen_other (codes "at-once") (text_row (codes "sync") n) rows refl ∙ h.at_once;
     sync = seen_new (codes "sync") (text_row (codes "sync") n) rows refl (h.sync ∙ ap (option_map (text_row (codes "sync"))) off);
@@ -296,6 +320,7 @@ module _ (v : Verb) (g : Given) (rows : List Row) (h : Holding v g rows) where
     explains = seen_other (codes "explain") (text_row (codes "traces") n) rows refl ∙ h.explains;
     silent = seen_other (codes "no-explain") (text_row (codes "traces") n) rows refl ∙ h.silent;
     stops = seen_other (codes "stop-with-input") (text_row (codes "traces") n) rows refl ∙ h.stops;
+    stuck = seen_other (codes "stuck") (text_row (codes "traces") n) rows refl ∙ h.stuck;
     sessions = seen_other (codes "sessions") (text_row (codes "traces") n) rows refl ∙ h.sessions;
     at_once = seen_other (codes "at-once") (text_row (codes "traces") n) rows refl ∙ h.at_once;
     sync = seen_other (codes "sync") (text_row (codes "traces") n) rows refl ∙ h.sync;
@@ -310,6 +335,7 @@ module _ (v : Verb) (g : Given) (rows : List Row) (h : Holding v g rows) where
     explains = more_other (codes "past") (n ∷ []) (codes "explain") rows refl ∙ h.explains;
     silent = more_other (codes "past") (n ∷ []) (codes "no-explain") rows refl ∙ h.silent;
     stops = more_other (codes "past") (n ∷ []) (codes "stop-with-input") rows refl ∙ h.stops;
+    stuck = more_other (codes "past") (n ∷ []) (codes "stuck") rows refl ∙ h.stuck;
     sessions = more_other (codes "past") (n ∷ []) (codes "sessions") rows refl ∙ h.sessions;
     at_once = more_other (codes "past") (n ∷ []) (codes "at-once") rows refl ∙ h.at_once;
     sync = more_other (codes "past") (n ∷ []) (codes "sync") rows refl ∙ h.sync;
@@ -326,6 +352,7 @@ module _ (v : Verb) (g : Given) (rows : List Row) (h : Holding v g rows) where
     explains = seen_other (codes "explain") (text_row p.name w) rows p.no_explain ∙ h.explains;
     silent = seen_other (codes "no-explain") (text_row p.name w) rows p.no_silence ∙ h.silent;
     stops = seen_other (codes "stop-with-input") (text_row p.name w) rows p.no_stop ∙ h.stops;
+    stuck = seen_other (codes "stuck") (text_row p.name w) rows p.no_stuck ∙ h.stuck;
     sessions = seen_other (codes "sessions") (text_row p.name w) rows p.no_sessions ∙ h.sessions;
     at_once = seen_other (codes "at-once") (text_row p.name w) rows p.no_at_once ∙ h.at_once;
     sync = seen_other (codes "sync") (text_row p.name w) rows p.no_sync ∙ h.sync;

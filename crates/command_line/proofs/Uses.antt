@@ -4,9 +4,9 @@ use Rattle.std.proofs.lemmas.Slice.Eq.{bytes_eq-Decides}
 use Rattle.clap.specs.Walk.{Held, Rule, Text, arg_by_long, settled}
 use Rattle.clap.specs.Kinds.{Kinds as Faults}
 use Rattle.clap.specs.Faults.{long_fault, settle_fault, short_fault, react_fault, use_fault}
-use Rattle.command_line.specs.Forms.{Verb, paths, check, run, audit, serve, keep, has_explain, has_stop}
+use Rattle.command_line.specs.Forms.{Verb, paths, check, run, audit, serve, keep, has_explain, has_stop, has_stuck}
 use Rattle.command_line.proofs.Turns.{some_fault, first_of, then_of}
-use Rattle.command_line.proofs.Levels.{rules, flag, sessions_built, at_once_built, sync_built, traces_built, past_built, help_built, version_built, explain_rule, stop_rule, shown_rule, shown_by, long_rule, long_is}
+use Rattle.command_line.proofs.Levels.{rules, flag, sessions_built, at_once_built, sync_built, traces_built, past_built, help_built, version_built, explain_rule, stop_rule, stuck_rule, shown_rule, shown_by, long_rule, long_is}
 use Rattle.command_line.proofs.Choices.{Choice, of_sessions, of_at_once, of_sync, of_traces, of_past, id_of, built_of, has_choice}
 
 module _ (c : List Rule) (h : Held) where
@@ -31,6 +31,7 @@ module _ (c : List Rule) (h : Held) where
     is_explain : has_explain v ≡ true → name ≡ codes "explain" → o ≡ None → settle_fault c false h ≡ [] → use_fault false (flag (codes "explain")) [] (settled c h).rows ≡ [] → Passes v name o
     is_silence : has_explain v ≡ true → name ≡ codes "no-explain" → o ≡ None → settle_fault c false h ≡ [] → use_fault false (flag (codes "no-explain")) [] (settled c h).rows ≡ [] → Passes v name o
     is_stop : has_stop v ≡ true → name ≡ codes "stop-with-input" → o ≡ None → settle_fault c false h ≡ [] → use_fault false (flag (codes "stop-with-input")) [] (settled c h).rows ≡ [] → Passes v name o
+    is_stuck : has_stuck v ≡ true → name ≡ codes "stuck" → o ≡ None → settle_fault c false h ≡ [] → use_fault false (flag (codes "stuck")) [] (settled c h).rows ≡ [] → Passes v name o
     is_joined : (x : Choice) (n : Text) → has_choice x v ≡ true → name ≡ id_of x → o ≡ Some n → settle_fault c false h ≡ [] → use_fault false (built_of x) (n ∷ []) (settled c h).rows ≡ []
         → Passes v name o
     is_spaced : (x : Choice) → has_choice x v ≡ true → name ≡ id_of x → o ≡ None → settle_fault c false h ≡ [] → Passes v name o
@@ -77,6 +78,14 @@ module _ (c : List Rule) (h : Held) where
           let got = flag_case (codes "stop-with-input") o e in
           is_stop most (named name (codes "stop-with-input") is) got.0 got.1 got.2
 
+      by_stuck : has_explain v ≡ true → has_stuck v ≡ true → (s x y : Bool) → bytes_eq (codes "stuck") name ≡ s → bytes_eq (codes "explain") name ≡ x → bytes_eq (codes "no-explain") name ≡ y
+          → long_fault c false (stuck_rule s (explain_rule x y more)) o h ≡ []
+          → Passes v name o
+      by_stuck has most false x y is also third e = by_explain has x y also third e
+      by_stuck has most true x y is also third e =
+          let got = flag_case (codes "stuck") o e in
+          is_stuck most (named name (codes "stuck") is) got.0 got.1 got.2
+
       by_serve : has_explain v ≡ true → has_stop v ≡ true → has_choice of_sessions v ≡ true
           → (n s x y : Bool) → bytes_eq (codes "sessions") name ≡ n → bytes_eq (codes "stop-with-input") name ≡ s → bytes_eq (codes "explain") name ≡ x → bytes_eq (codes "no-explain") name ≡ y
           → long_fault c false (cond (n || false) (Some sessions_built) (stop_rule s (explain_rule x y more))) o h ≡ []
@@ -122,11 +131,11 @@ passes v h name o e = go v (sym (ap (λ r. long_fault (rules v) false r o h) (lo
     fails : (v : Verb) → long_fault (rules v) false (shown_by name) o h ≡ [] → ⊥
     fails v e = by_shown (rules v) h v name o (bytes_eq (codes "help") name) (bytes_eq (codes "version") name) e
 
-    go : (v : Verb) → long_fault (rules v) false (long_rule v (bytes_eq (codes "explain") name) (bytes_eq (codes "no-explain") name) (bytes_eq (codes "stop-with-input") name) (bytes_eq (codes "sessions") name) (bytes_eq (codes "at-once") name)
+    go : (v : Verb) → long_fault (rules v) false (long_rule v (bytes_eq (codes "explain") name) (bytes_eq (codes "no-explain") name) (bytes_eq (codes "stop-with-input") name) (bytes_eq (codes "stuck") name) (bytes_eq (codes "sessions") name) (bytes_eq (codes "at-once") name)
         (bytes_eq (codes "sync") name) (bytes_eq (codes "traces") name) (bytes_eq (codes "past") name) (shown_by name)) o h ≡ []
         → Passes (rules v) h v name o
     go paths e = absurd (fails paths e)
-    go check e = by_explain (rules check) h check name o (shown_by name) (fails check) refl (bytes_eq (codes "explain") name) (bytes_eq (codes "no-explain") name) refl refl e
+    go check e = by_stuck (rules check) h check name o (shown_by name) (fails check) refl refl (bytes_eq (codes "stuck") name) (bytes_eq (codes "explain") name) (bytes_eq (codes "no-explain") name) refl refl refl e
     go run e = by_explain (rules run) h run name o (shown_by name) (fails run) refl (bytes_eq (codes "explain") name) (bytes_eq (codes "no-explain") name) refl refl e
     go audit e = by_explain (rules audit) h audit name o (shown_by name) (fails audit) refl (bytes_eq (codes "explain") name) (bytes_eq (codes "no-explain") name) refl refl e
     go serve e = by_serve (rules serve) h serve name o (shown_by name) (fails serve) refl refl refl (bytes_eq (codes "sessions") name) (bytes_eq (codes "stop-with-input") name) (bytes_eq (codes "explain") name)

@@ -11,14 +11,14 @@ use Rattle.clap.specs.Faults.{positional_fault, settle_fault, short_fault, step_
 use Rattle.clap.specs.declared.builder.value_parser.Reading.TheVariants.{AsWritten}
 use Rattle.clap.specs.declared.parser.matches.ValueSource.TheVariants.{CommandLine}
 use Rattle.clap.proofs.LexerLemmas.{name_and_value-at}
-use Rattle.command_line.specs.Forms.{Verb, paths, check, run, audit, serve, keep, has_explain, has_stop, is_bare, Given, Takes, Gives, ends, word, explain, silence, stop, sessions, joined, at_once, at_once_joined, sync, sync_joined, traces, traces_joined, past, past_joined, hyphens as ends_flags}
-use Rattle.command_line.proofs.Choices.{Choice, of_sessions, of_at_once, of_sync, of_traces, of_past, id_of, word_of, joined_of, built_of, has_choice, Open, choose, Allows, by_choice, by_stop}
+use Rattle.command_line.specs.Forms.{Verb, paths, check, run, audit, serve, keep, has_explain, has_stop, has_stuck, is_bare, Given, Takes, Gives, ends, word, explain, silence, stop, stuck, sessions, joined, at_once, at_once_joined, sync, sync_joined, traces, traces_joined, past, past_joined, hyphens as ends_flags}
+use Rattle.command_line.proofs.Choices.{Choice, of_sessions, of_at_once, of_sync, of_traces, of_past, id_of, word_of, joined_of, built_of, has_choice, Open, choose, Allows, by_choice, by_stop, by_stuck}
 use Rattle.command_line.proofs.Rows.{seen, row_with, used_new}
 use Rattle.command_line.proofs.Sorts.{bare, hyphens, long, short, kind, bare_word, dashes, Cut, whole, parts, cut, sessions_lacks, at_once_lacks, sync_lacks, traces_lacks, past_lacks}
 use Rattle.command_line.proofs.Turns.{some_fault, first_of, then_of, neither, stands, bare_fault, bare_after, long_first, long_turn, long_after, short_first, bundle_first, value_fault, value_after}
 use Rattle.command_line.proofs.Levels.{rules, leaf, place_rule, place_after, text_row, Place, place, flag, short_is}
-use Rattle.command_line.proofs.Steps.{held, at, rows_now, settle, flag_seen, Holding, Stands, and_false, or_false, word_use, word_accepted, choice_use, choice_used, flag_use, flag_used, not_given, Fresh, rows_with, opens, fresh, holds_explain, holds_silence, holds_stop, holds_choice, holds_word}
-use Rattle.command_line.proofs.Uses.{Passes, is_explain, is_silence, is_stop, is_joined, is_spaced, passes, short_fails}
+use Rattle.command_line.proofs.Steps.{held, at, rows_now, settle, flag_seen, Holding, Stands, and_false, or_false, word_use, word_accepted, choice_use, choice_used, flag_use, flag_used, not_given, Fresh, rows_with, opens, fresh, holds_explain, holds_silence, holds_stop, holds_stuck, holds_choice, holds_word}
+use Rattle.command_line.proofs.Uses.{Passes, is_explain, is_silence, is_stop, is_stuck, is_joined, is_spaced, passes, short_fails}
 
 abbrev pub end_of : Verb → Walk → List Text → Held
 end_of v w ws = (fold (walked (rules v) []) w ws).held
@@ -194,6 +194,17 @@ module _ (k : ℕ) (rows : List Row) (q : Option (Text × List Text)) where
         (long_after (leaf serve) [] k (held rows q) idle (codes "--stop-with-input") refl refl (codes "stop-with-input", None) refl)
         (long_after (leaf keep) [] k (held rows q) idle (codes "--stop-with-input") refl refl (codes "stop-with-input", None) refl) v has
 
+  module _ (v : Verb) (has : has_stuck v ≡ true) where
+    pub stuck_turn : turn_fault (leaf v) [] (at true k (held rows q)) (codes "--stuck")
+        ≡ or_else (or_else (settle v rows q) (use_fault false (flag (codes "stuck")) [] (rows_now v rows q))) []
+    stuck_turn = by_stuck (λ v. turn_fault (leaf v) [] (at true k (held rows q)) (codes "--stuck")
+        ≡ or_else (or_else (settle v rows q) (use_fault false (flag (codes "stuck")) [] (rows_now v rows q))) [])
+        (long_turn (leaf check) [] k (held rows q) idle (codes "--stuck") refl refl (codes "stuck", None) refl) v has
+
+    pub stuck_after : walked (rules v) [] (at true k (held rows q)) (codes "--stuck") ≡ at true k (held (used (flag (codes "stuck")) [] (rows_now v rows q)) None)
+    stuck_after = by_stuck (λ v. walked (rules v) [] (at true k (held rows q)) (codes "--stuck") ≡ at true k (held (used (flag (codes "stuck")) [] (rows_now v rows q)) None))
+        (long_after (leaf check) [] k (held rows q) idle (codes "--stuck") refl refl (codes "stuck", None) refl) v has
+
   -- the option that waits for its value
   abbrev pub waits : Choice → Verb → Walk
   waits o v = record { held = held (rows_now v rows q) (Some (id_of o, [])); waiting = option (id_of o); position = k; is_trailing = false; stopped = None }
@@ -300,6 +311,15 @@ stop_stands v g rows q st off =
       valid = refl;
       holds = subst (Holding v (record g { stops = true })) (sym (used_new (codes "stop-with-input") AsWritten (codes "true" ∷ []) (rows_now v rows q) none))
           (holds_stop v g (rows_now v rows q) st.holds off);
+    }
+
+pub stuck_stands : (v : Verb) (g : Given) (rows : List Row) (q : Option (Text × List Text)) → Stands v g rows q → g.stuck ≡ false
+    → Stands v (record g { stuck = true }) (used (flag (codes "stuck")) [] (rows_now v rows q)) None
+stuck_stands v g rows q st off =
+    let none : seen (codes "stuck") (rows_now v rows q) ≡ None = st.holds.stuck ∙ ap (flag_seen (codes "stuck")) off in record {
+      valid = refl;
+      holds = subst (Holding v (record g { stuck = true })) (sym (used_new (codes "stuck") AsWritten (codes "true" ∷ []) (rows_now v rows q) none))
+          (holds_stuck v g (rows_now v rows q) st.holds off);
     }
 
 module _ (o : Choice) (v : Verb) (has : has_choice o v ≡ true) (g : Given) (rows : List Row) (q : Option (Text × List Text)) (n : Text) (st : Stands v g rows q) (off : Open o g) (is : Allows o n) where
@@ -412,6 +432,13 @@ completes v free g ws after (stop x y w more is has off rest) rows q st =
     ∙ neither _ _ (neither _ _ st.valid (flag_use (codes "stop-with-input") (rows_now v rows q) none)) refl)
     (ap (λ x. walked (rules v) [] (at true (place_after g.words) (held rows q)) x) is ∙ stop_after (place_after g.words) rows q v has)
     (completes v true (record g { stops = true }) more after rest (used (flag (codes "stop-with-input")) [] (rows_now v rows q)) None (stop_stands v g rows q st off))
+completes v free g ws after (stuck x y w more is has off rest) rows q st =
+    let none : seen (codes "stuck") (rows_now v rows q) ≡ None = st.holds.stuck ∙ ap (flag_seen (codes "stuck")) off in
+    one_more v (at true (place_after g.words) (held rows q)) (at true (place_after g.words) (held (used (flag (codes "stuck")) [] (rows_now v rows q)) None)) w more after
+    (ap (λ x. turn_fault (leaf v) [] (at true (place_after g.words) (held rows q)) x) is ∙ stuck_turn (place_after g.words) rows q v has
+    ∙ neither _ _ (neither _ _ st.valid (flag_use (codes "stuck") (rows_now v rows q) none)) refl)
+    (ap (λ x. walked (rules v) [] (at true (place_after g.words) (held rows q)) x) is ∙ stuck_after (place_after g.words) rows q v has)
+    (completes v true (record g { stuck = true }) more after rest (used (flag (codes "stuck")) [] (rows_now v rows q)) None (stuck_stands v g rows q st off))
 completes v free g ws after (sessions x y w n more is plain has off number rest) rows q st =
     spaced_more of_sessions v g w n more after has off number rows q st is plain
     (completes v true (record g { sessions = Some n }) more after rest (rows_now v rows q) (Some (id_of of_sessions, n ∷ [])) (given_stands of_sessions v has g rows q n st off number))
@@ -476,6 +503,7 @@ pub settle_of : (v : Verb) (rows : List Row) (q : Option (Text × List Text)) (n
 settle_of v rows q name o (is_explain has is none ok works) = ok
 settle_of v rows q name o (is_silence has is none ok works) = ok
 settle_of v rows q name o (is_stop has is none ok works) = ok
+settle_of v rows q name o (is_stuck has is none ok works) = ok
 settle_of v rows q name o (is_joined x n has is none ok works) = ok
 settle_of v rows q name o (is_spaced x has is none ok) = ok
 
@@ -570,6 +598,15 @@ module _ (v : Verb) (g : Given) (rows : List Row) (q : Option (Text × List Text
       let later = follows true (at true (place_after g.words) (held (used (flag (codes "stop-with-input")) [] (rows_now v rows q)) None)) w ws goes e in
       let found = rest true (record g { stops = true }) (used (flag (codes "stop-with-input")) [] (rows_now v rows q)) None (stop_stands v g rows q st off) later in
       (found.0, stop g found.0 w ws is has off found.1, ended_back (here true) _ w ws found.0 goes found.2)
+
+  sound_stuck : (w : Text) (ws : List Text) → w ≡ codes "--stuck" → has_stuck v ≡ true → use_fault false (flag (codes "stuck")) [] (rows_now v rows q) ≡ []
+      → tail_fault v (here true) (w ∷ ws) ≡ [] → Rest v ws → Sound v true g (w ∷ ws) rows q
+  sound_stuck w ws is has works e rest =
+      let off = not_given v g (rows_now v rows q) st.holds (codes "stuck") g.stuck st.holds.stuck (flag_used (codes "stuck") (rows_now v rows q) works) in
+      let goes = ap (λ x. walked (rules v) [] (here true) x) is ∙ stuck_after (place_after g.words) rows q v has in
+      let later = follows true (at true (place_after g.words) (held (used (flag (codes "stuck")) [] (rows_now v rows q)) None)) w ws goes e in
+      let found = rest true (record g { stuck = true }) (used (flag (codes "stuck")) [] (rows_now v rows q)) None (stuck_stands v g rows q st off) later in
+      (found.0, stuck g found.0 w ws is has off found.1, ended_back (here true) _ w ws found.0 goes found.2)
 
   -- words that give an option, with its value, give what they say
   gives_joined : (o : Choice) (w n : Text) (ws : List Text) (after : Given) → w ≡ joined_of o n → has_choice o v ≡ true → Open o g → Allows o n → Gives v true (choose o n g) ws after
@@ -675,6 +712,7 @@ module _ (v : Verb) (g : Given) (rows : List Row) (q : Option (Text × List Text
       alone name o is_name is_none (is_explain has_it named none ok works) = sound_explain w ws (is ∙ ap (λ (x : Text). 45 ∷ 45 ∷ x) (is_name ∙ named)) has_it works e rest
       alone name o is_name is_none (is_silence has_it named none ok works) = sound_silence w ws (is ∙ ap (λ (x : Text). 45 ∷ 45 ∷ x) (is_name ∙ named)) has_it works e rest
       alone name o is_name is_none (is_stop has_it named none ok works) = sound_stop w ws (is ∙ ap (λ (x : Text). 45 ∷ 45 ∷ x) (is_name ∙ named)) has_it works e rest
+      alone name o is_name is_none (is_stuck has_it named none ok works) = sound_stuck w ws (is ∙ ap (λ (x : Text). 45 ∷ 45 ∷ x) (is_name ∙ named)) has_it works e rest
       alone name o is_name is_none (is_joined x n has_it named some ok works) = absurd (nothing (is_none ∙ some))
         where
           nothing : None ≡ Some n → ⊥
@@ -691,6 +729,10 @@ module _ (v : Verb) (g : Given) (rows : List Row) (q : Option (Text × List Text
           nothing : Some sign_text ≡ None → ⊥
           nothing x = cc
       paired name sign_text o is_cut is_value (is_stop has_it named none ok works) = absurd (nothing (is_value ∙ none))
+        where
+          nothing : Some sign_text ≡ None → ⊥
+          nothing x = cc
+      paired name sign_text o is_cut is_value (is_stuck has_it named none ok works) = absurd (nothing (is_value ∙ none))
         where
           nothing : Some sign_text ≡ None → ⊥
           nothing x = cc

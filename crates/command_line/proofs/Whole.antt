@@ -197,7 +197,7 @@ holds_all paths g [] R e places h none = (tt, tt)
 holds_all paths g (a ∷ more) R e places h none = absurd places
 holds_all check g [] R e places h none = absurd (lacks_this _ _ (missing_last check R FILE refl places.0) none)
 holds_all check g (a ∷ []) R e places h none =
-    (tt, (a, e, word_last check R FILE a places.0, (flag_last check R (codes "explain") g.explains refl h.explains, flag_last check R (codes "no-explain") g.silent refl h.silent)))
+    (tt, (a, e, word_last check R FILE a places.0, flag_last check R (codes "stuck") g.stuck refl h.stuck, (flag_last check R (codes "explain") g.explains refl h.explains, flag_last check R (codes "no-explain") g.silent refl h.silent)))
 holds_all check g (a ∷ b ∷ more) R e places h none = absurd places.1
 holds_all run g [] R e places h none = absurd (lacks_this _ _ (missing_last run R FILE refl places.0) none)
 holds_all run g (a ∷ []) R e places h none = absurd (lacks_this _ _ (missing_last run R (codes "SCRIPT") refl places.1.0) (lacks_later _ _ none))
@@ -295,7 +295,7 @@ full_lacks_none keep (a ∷ b ∷ c ∷ d ∷ more) R places full = absurd full
 pub nothing_stands : (v : Verb) → Stands v nothing [] None
 nothing_stands v = record {
   valid = refl;
-  holds = record { places = none_placed v; explains = refl; silent = refl; stops = refl; sessions = refl; at_once = refl; sync = refl; traces = refl; past = refl; number = λ n e. absurd (none_some n e); most = λ n e. absurd (none_some n e); megabytes = λ n e. absurd (none_some n e) };
+  holds = record { places = none_placed v; explains = refl; silent = refl; stops = refl; stuck = refl; sessions = refl; at_once = refl; sync = refl; traces = refl; past = refl; number = λ n e. absurd (none_some n e); most = λ n e. absurd (none_some n e); megabytes = λ n e. absurd (none_some n e) };
 }
   where
     none_some : (n : Text) → None ≡ Some n → ⊥
@@ -568,7 +568,7 @@ line_sound (p ∷ rest) e =
 
 pub full_from : (v : Verb) (g : Given) (q : Request) → Makes v g q → IsFull v g.words
 full_from paths g q m = tt
-full_from check g (requests.Check file when) m = subst (IsFull check) (sym m.0) tt
+full_from check g (requests.Check file when asked) m = subst (IsFull check) (sym m.0) tt
 full_from check g q m = absurd m
 full_from run g (requests.Run file script when) m = subst (IsFull run) (sym m.0) tt
 full_from run g q m = absurd m

@@ -66,7 +66,7 @@ explain_rules = flag_rule (codes "explain") ∷ flag_rule (codes "no-explain") �
 -- the arguments of a subcommand
 abbrev pub own_rules : Verb → List Rule
 own_rules paths = []
-own_rules check = required_rule (codes "FILE") ∷ explain_rules
+own_rules check = required_rule (codes "FILE") ∷ flag_rule (codes "stuck") ∷ explain_rules
 own_rules run = required_rule (codes "FILE") ∷ required_rule (codes "SCRIPT") ∷ explain_rules
 own_rules audit = required_rule (codes "FILE") ∷ required_rule (codes "TRACE") ∷ explain_rules
 own_rules serve =
@@ -109,7 +109,7 @@ past_in rows = unwrap_or (all_of (codes "past") rows) []
 abbrev pub Holds : Verb → Given → List Row → Type 0
 Holds paths g rows = ⊤
 Holds check g rows = (file : Text) × (g.words ≡ file ∷ []) × (first_of (codes "FILE") rows ≡ Some file)
-    × HoldsExplain g rows
+    × (one_of (codes "stuck") rows ≡ Some (bool_text g.stuck)) × HoldsExplain g rows
 Holds run g rows = (file script : Text) × (g.words ≡ file ∷ script ∷ []) × (first_of (codes "FILE") rows ≡ Some file)
     × (first_of (codes "SCRIPT") rows ≡ Some script) × HoldsExplain g rows
 Holds audit g rows = (file trace : Text) × (g.words ≡ file ∷ trace ∷ []) × (first_of (codes "FILE") rows ≡ Some file)

@@ -46,6 +46,11 @@ has_stop serve = true
 has_stop keep = true
 has_stop v = false
 
+-- which have the flag `--stuck`
+abbrev pub has_stuck : Verb → Bool
+has_stuck check = true
+has_stuck v = false
+
 -- which have the option `--sessions`
 abbrev pub has_sessions : Verb → Bool
 has_sessions serve = true
@@ -93,6 +98,7 @@ pub record Given : Type 0 where
   pub explains : Bool
   pub silent : Bool
   pub stops : Bool
+  pub stuck : Bool
   pub sessions : Option Text
   pub at_once : Option Text
   pub sync : Option Text
@@ -105,6 +111,7 @@ nothing = record {
   explains = false;
   silent = false;
   stops = false;
+  stuck = false;
   sessions = None;
   at_once = None;
   sync = None;
@@ -128,6 +135,9 @@ pub data Gives (v : Verb) : Bool → Given → List Text → Given → Type 0 wh
   stop : (g after : Given) (w : Text) (ws : List Text) → w ≡ codes "--stop-with-input" → has_stop v ≡ true →
       g.stops ≡ false
       → Gives v true (record g { stops = true }) ws after → Gives v true g (w ∷ ws) after
+  stuck : (g after : Given) (w : Text) (ws : List Text) → w ≡ codes "--stuck" → has_stuck v ≡ true →
+      g.stuck ≡ false
+      → Gives v true (record g { stuck = true }) ws after → Gives v true g (w ∷ ws) after
   sessions : (g after : Given) (w n : Text) (ws : List Text) → w ≡ codes "--sessions" → is_bare n ≡ true →
       has_sessions v ≡ true → g.sessions ≡ None → IsNumber 1 64 n
       → Gives v true (record g { sessions = Some n }) ws after → Gives v true g (w ∷ n ∷ ws) after
@@ -203,7 +213,8 @@ IsAddressOf w (addresses.Path p) = (has_slash w ≡ true) × (p.now ≡ w)
 -- the table: what a subcommand asks for with all that it was given
 abbrev pub Makes : Verb → Given → Request → Type 0
 Makes paths g requests.Paths = ⊤
-Makes check g (requests.Check file when) = (g.words ≡ file.now ∷ []) × (when ≡ explain_of g.explains g.silent)
+Makes check g (requests.Check file when asked) =
+    (g.words ≡ file.now ∷ []) × (when ≡ explain_of g.explains g.silent) × (g.stuck ≡ asked)
 Makes run g (requests.Run file script when) =
     (g.words ≡ file.now ∷ script.now ∷ []) × (when ≡ explain_of g.explains g.silent)
 Makes audit g (requests.Audit file trace when) =

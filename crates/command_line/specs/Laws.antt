@@ -15,7 +15,8 @@ IsSameAddress a b = ⊥
 -- two requests are one: they name the same, spelled alike
 abbrev pub IsSame : Request → Request → Type 0
 IsSame requests.Paths requests.Paths = ⊤
-IsSame (requests.Check file explain) (requests.Check file2 explain2) = (file.now ≡ file2.now) × (explain ≡ explain2)
+IsSame (requests.Check file explain asked) (requests.Check file2 explain2 asked2) =
+    (file.now ≡ file2.now) × (explain ≡ explain2) × (asked ≡ asked2)
 IsSame (requests.Run file script explain) (requests.Run file2 script2 explain2) =
     (file.now ≡ file2.now) × (script.now ≡ script2.now) × (explain ≡ explain2)
 IsSame (requests.Audit file trace explain) (requests.Audit file2 trace2 explain2) =

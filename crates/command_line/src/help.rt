@@ -59,6 +59,10 @@ pub const CHECK: &str = "Checks objects: do their paths keep apart what must not
 /// What the argument of `check` is.
 pub const CHECK_FILE: &str = "The file with the objects, one after the other, at most 65536 bytes";
 
+/// What the flag `--stuck` of `check` does.
+pub const CHECK_STUCK: &str =
+    "Also says what can be lost, what waits for what, and what can get stuck";
+
 /// What the flag `--explain` of `check`, `serve` and `keep` does.
 pub const EXPLAIN: &str = "Explains on standard error why something is refused";
 
@@ -92,14 +96,21 @@ Example: `box.pp` holds one object, in which a write excludes each other call.
   pair set get path 1 node 0
   1 objects, 0 refused
 
+With `--stuck` also, behind the lines of each accepted object: of each operation
+`start OP always` where whatever was called it can still come to start, `never`,
+or `lost after K OP ..` with the calls after which it never starts again; `wait
+OP for OP ..` for each node of a path at which it can wait while nothing runs,
+and whose finish lets it go; and whether the object can get stuck, `stuck never`
+or `stuck after K OP ..`. What is not decided is `unknown`, with the reason.
+
 With `--explain`, and where standard error is a terminal, standard error gets,
 for a fault of the file and for each object that is refused, FILE:LINE:COLUMN, a
 sentence, the line with a caret under the place, and what would help. Columns
 count bytes, from 1. Elsewhere it gets the line `--explain tells more`, and with
 `--no-explain` nothing. Nothing else changes.
 
-Exit status: 0 no object is refused, 1 one is, or the file is no file of
-objects.";
+Exit status: 0 no object is refused, 1 one is, the file is no file of objects,
+or with `--stuck` an operation of an accepted object can be lost.";
 
 /// What `run` does.
 pub const RUN: &str = "Runs a script of calls on an object of a file, step by step";

@@ -38,8 +38,9 @@ pub enum Explain {
 pub enum Request<'a> {
     /// `pathserve paths`.
     Paths,
-    /// `pathserve check FILE`, with the path of the file, and when a refusal is explained.
-    Check(&'a str, Explain),
+    /// `pathserve check FILE`, with the path of the file, when a refusal is explained, and whether it is asked what can
+    /// get stuck.
+    Check(&'a str, Explain, bool),
     /// `pathserve run FILE SCRIPT`, with the paths of the two, and when a refusal of the source, and a line of the
     /// script, are explained.
     Run(&'a str, &'a str, Explain),
@@ -180,6 +181,17 @@ fn stop_flag<'a>(alloc: Global) -> Arg<'a>
         .help(help::SERVE_STOP)
 }
 
+// The flag `--stuck`.
+fn stuck_flag<'a>(alloc: Global) -> Arg<'a>
+    ensures rule { rule_of result ≡ flag_rule (codes "stuck") }
+    ensures local { result.global ≡ false }
+{
+    Arg::new(alloc, "stuck")
+        .long("stuck")
+        .action(ArgAction::SetTrue)
+        .help(help::CHECK_STUCK)
+}
+
 // `pathserve paths`.
 fn paths_command<'a>(alloc: Global) -> Command<'a>
     ensures { (app_of result ≡ app_for paths) × ((out-Command result).has_globals ≡ false) }
@@ -197,6 +209,7 @@ fn check_command<'a>(alloc: Global) -> Result<Command<'a>, AllocError>
         .about(help::CHECK)
         .after_help(help::CHECK_MORE)
         .arg(required(alloc, "FILE", help::CHECK_FILE))?
+        .arg(stuck_flag(alloc))?
         .arg(explain_flag(alloc, help::EXPLAIN))?
         .arg(silence_flag(alloc))
 }
@@ -390,7 +403,11 @@ fn check_request<'a>(check: &ArgMatches<'a>) -> Request<'a>
     requires { (g : Given) × Holds check_verb g (rows_of (found_of check.now)) }
     ensures { (g : Given) → Holds check_verb g (rows_of (found_of check.now)) → Makes check_verb g result }
 {
-    Request::Check(word_of(check, "FILE"), explain_in(check))
+    Request::Check(
+        word_of(check, "FILE"),
+        explain_in(check),
+        check.get_flag("stuck"),
+    )
 }
 
 // What the words of `run` ask for.

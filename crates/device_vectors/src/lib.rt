@@ -1,5 +1,6 @@
-//! What every hand and every shelf does, and what theirs are told of folders, over the public calls of `device_core`
-//! and `ahead_core`. Above each test stands the edit of `wrong-by-test/` that it catches, or what no case can show.
+//! What every hand and every shelf does, what theirs are told of folders, and what journals and their files do, over the
+//! public calls of `device_core`, `ahead_core` and `journal_core`. Above each test stands the edit of `wrong-by-test/`
+//! that it catches, or what no case can show.
 #![tactic(auto)]
 
 #[cfg(test)]
@@ -8,6 +9,8 @@ mod folder;
 mod hand_calls;
 #[cfg(test)]
 mod hands;
+#[cfg(test)]
+mod journals;
 #[cfg(test)]
 mod numbers;
 #[cfg(test)]

@@ -20,5 +20,3 @@ pub mod keys;
 pub mod laws;
 mod roll;
 pub mod seats;
-#[cfg(test)]
-mod tests;

@@ -3,8 +3,8 @@ use Rattle.std.proofs.Common.{◌≡◌, ℕ, suc, ◌+◌, ◌-◌, ◌^◌, Li
 use Rattle.std.specs.Prelude.{min}
 use Rattle.trace_core.specs.Events.{Called}
 use Rattle.past_core.specs.declared.past.PastEvent.{PastEvent}
-use Rattle.live_core.specs.Epochs.{IsBegun, numbered_from}
-use Rattle.live_core.specs.Hall.{Hall}
+use Rattle.live_core.specs.Epochs.{IsBegun, numbered_from, told_behind}
+use Rattle.live_core.specs.Hall.{Hall, Told, IsHeld}
 use Rattle.guest_core.specs.Seats.{renewed}
 use Rattle.hosted_core.specs.Scene.{Scene, told_of, next_base, next_epoch}
 use Rattle.hosted_core.specs.Steps.{IsFollowed}
@@ -15,7 +15,7 @@ length_numbered n (c ∷ calls) = ap suc (length_numbered (n + 1) calls)
 
 -- the next epoch has begun
 pub followed : (v now new : Scene) (h : Hall) (past : List PastEvent) (carried : List ℕ) (base : ℕ) → v ≡ now → IsBegun v.hall past h →
-    carried ≡ map (λ (c : Called). told_of now c.number) now.hall.waiting → base ≡ next_base now →
+    ((t : Told) → IsHeld v.hall t → IsHeld h (told_behind past v.hall.contents)) → carried ≡ map (λ (c : Called). told_of now c.number) now.hall.waiting → base ≡ next_base now →
     new ≡ record v {
       hall = h;
       guests = record v.guests { seats = map renewed v.guests.seats };
@@ -24,8 +24,9 @@ pub followed : (v now new : Scene) (h : Hall) (past : List PastEvent) (carried :
       given = min (length h.waiting) (2 ^ 32 - 1);
       epoch = next_epoch (record v { hall = h });
     } → IsFollowed now past new
-followed v now new h past carried base same begun told based is = subst (λ (s : Scene). IsFollowed s past new) same (record {
+followed v now new h past carried base same begun held told based is = subst (λ (s : Scene). IsFollowed s past new) same (record {
   begun = subst (λ (s : Scene). IsBegun v.hall past s.hall) (sym is) begun;
+  held = λ t was. subst (λ (s : Scene). IsHeld s.hall (told_behind past v.hall.contents)) (sym is) (held t was);
   carried = ap (λ (s : Scene). s.carried) is ∙ told ∙ ap (λ (s : Scene). map (λ (c : Called). told_of s c.number) s.hall.waiting) (sym same);
   guests = ap (λ (s : Scene). s.guests) is;
   base = ap (λ (s : Scene). s.base) is ∙ based ∙ ap next_base (sym same);

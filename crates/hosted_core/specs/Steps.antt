@@ -5,7 +5,8 @@ use Rattle.decl_core.specs.ObjectMap.{object_of}
 use Rattle.trace_core.specs.Events.{Called}
 use Rattle.past_core.specs.declared.past.PastEvent.{PastEvent}
 use Rattle.live_core.specs.declared.live.Taken.{Taken}
-use Rattle.live_core.specs.Epochs.{IsBegun}
+use Rattle.live_core.specs.Epochs.{IsBegun, told_behind}
+use Rattle.live_core.specs.Hall.{Told, IsHeld}
 use Rattle.live_core.specs.Lines.{all_lines}
 use Rattle.guest_core.specs.declared.guests.Entered.{Entered}
 use Rattle.guest_core.specs.declared.guests.EnterFault.{EnterFault}
@@ -44,10 +45,11 @@ pub data Steps : Scene → List ℕ → Scene → Type 0 where
   goes_on : {old mid new : Scene} {lines added : List ℕ} → Steps old lines mid → Steps mid added new →
       Steps old (lines ++ added) new
 
--- an epoch more has begun: the calls that wait are told by the numbers that they had, and the numbers of forgotten names
--- are free
+-- an epoch more has begun, in which nothing has happened: the calls that wait are told by the numbers that they had, and
+-- the numbers of forgotten names are free
 pub record IsFollowed (old : Scene) (past : List PastEvent) (new : Scene) : Type 0 where
   pub begun : IsBegun old.hall past new.hall
+  pub held : (t : Told) → IsHeld old.hall t → IsHeld new.hall (told_behind past old.hall.contents)
   pub carried : new.carried ≡ map (λ (c : Called). told_of old c.number) old.hall.waiting
   pub guests : new.guests ≡ record old.guests { seats = map renewed old.guests.seats }
   pub base : new.base ≡ next_base old

@@ -15,7 +15,7 @@ use word_core::line::{push_data_line, push_line};
 use word_core::word::Written;
 
 // The name of the operation at a place of the object; no bytes where there is none.
-fn name_of(object: &Object, operation: OpId) -> &[u8]
+pub(crate) fn name_of(object: &Object, operation: OpId) -> &[u8]
     ensures { result.now ≡ operation_name (object_of object.now) operation }
 {
     match object.operations.get(operation as usize) {

@@ -1,16 +1,21 @@
 //! An object that is served, with its clients.
 
-ghost use Rattle.std.specs.Prelude.{◌≡◌, ◌≢◌, ℕ, [], true, false, IfOk, IfSome, IfNone, Some, slice_get};
+ghost use Rattle.std.specs.Prelude.{◌≡◌, ◌≢◌, ℕ, [], true, false, IsTrue, IfOk, IfSome, IfNone, Some, slice_get};
+ghost use Rattle.decl_core.specs.ObjectMap.{object_of};
 ghost use Rattle.trace_core.specs.Events.{Called};
+ghost use Rattle.trace_core.specs.Text.{operation_name};
 ghost use Rattle.guest_core.specs.declared.guest.Guest.{Guest as AGuest};
 ghost use Rattle.guest_core.specs.declared.seats.Seat.TheVariants.{Nameless};
 ghost use Rattle.guest_core.specs.Entering.{Leaves};
 ghost use Rattle.guest_core.specs.Guests.{with_seat, IsNamed, HasNoName};
 ghost use Rattle.guest_core.specs.Seats.{IsLeastFree, NoneIsFree};
 ghost use Rattle.live_core.specs.Hall.{Every};
+ghost use Rattle.guest_core.specs.Keys.{asks};
+ghost use Rattle.hosted_core.specs.Keys.{WaitsAs, SaysWaits, SaysKept, SaysKey, Says};
 ghost use Rattle.hosted_core.specs.Scene.{told_of, with_guests};
 
 use crate::calls::most_of;
+use crate::event::name_of;
 use crate::size::{MOST_NAME, most_told};
 use apply_core::fits::arguments_fit;
 use apply_core::reply::Reply;
@@ -127,18 +132,30 @@ impl Model for Hosted {
     ghost view = { scene_of };
 }
 
+// Whether the operation at a place of an object has this name.
+fn is_named(object: &Object, operation: OpId, name: &Name) -> bool
+    ensures { IsTrue result → operation_name (object_of object.now) operation ≡ name.now }
+{
+    name_of(object, operation) == name.as_bytes()
+}
+
 // The place of the operation of this name in an object.
-fn operation_for(object: &Object, name: &Name) -> Option<OpId> {
+fn operation_for(object: &Object, name: &Name) -> Option<OpId>
+    ensures { IfSome result (λ place. operation_name (object_of object.now) place ≡ name.now) }
+{
     for place in 0..object.operations.len() {
-        if object.operations[place].name.as_bytes() == name.as_bytes() {
-            return Some(place as OpId);
+        let operation = OpId::try_from(place).ok()?;
+        if is_named(object, operation, name) {
+            return Some(operation);
         }
     }
     None
 }
 
 // The call of this number among those that wait.
-fn numbered(waiting: &[Call], number: u32) -> Option<&Call> {
+fn numbered(waiting: &[Call], number: u32) -> Option<&Call>
+    ensures { IfSome result (λ c. (k : ℕ) × (slice_get waiting.now k ≡ Some c.now) × (c.now.number ≡ number)) }
+{
     for call in waiting {
         if call.number() == number {
             return Some(call);
@@ -213,7 +230,9 @@ impl Hosted {
     }
 
     /// The name of the object.
-    pub fn name(&self) -> &Name {
+    pub fn name(&self) -> &Name
+        ensures { result.now ≡ self.now.hall.object.name }
+    {
         &self.live.object().name
     }
 
@@ -230,7 +249,9 @@ impl Hosted {
     }
 
     /// The place of the operation of this name.
-    pub fn operation(&self, name: &Name) -> Option<OpId> {
+    pub fn operation(&self, name: &Name) -> Option<OpId>
+        ensures { IfSome result (λ place. operation_name (object_of self.now.hall.object) place ≡ name.now) }
+    {
         operation_for(self.live.object(), name)
     }
 
@@ -254,7 +275,9 @@ impl Hosted {
     }
 
     // The number in this epoch of the call of which this number was told.
-    fn number_of(&self, told: u64) -> Option<u32> {
+    fn number_of(&self, told: u64) -> Option<u32>
+        ensures { IfSome result (λ number. told_of self.now number ≡ told) }
+    {
         for place in 0..self.carried.len() {
             if self.carried[place] == told {
                 return u32::try_from(place.saturating_add(1)).ok();
@@ -268,7 +291,9 @@ impl Hosted {
     }
 
     /// The session of the waiting call of which this number was told, or what became of it.
-    pub fn waits_as(&self, told: u64) -> Result<u32, Cancelled> {
+    pub fn waits_as(&self, told: u64) -> Result<u32, Cancelled>
+        ensures { IfOk result (λ session. WaitsAs self.now session told) }
+    {
         if told == 0 || told > self.base.saturating_add(u64::from(self.given)) {
             return Err(Cancelled::Unknown);
         }
@@ -302,7 +327,10 @@ impl Hosted {
     }
 
     // What a key says of a call of a session that has a name.
-    fn judged(&self, session: u16, key: u64, operation: OpId, arguments: &[Datum]) -> Keyed {
+    fn judged(&self, session: u16, key: u64, operation: OpId, arguments: &[Datum]) -> Keyed
+        ensures { SaysKey self.now session key (asks operation arguments.now) result }
+    {
+        let _is_named = self.has_name(session);
         match self.guests.judge(session, key, operation, arguments) {
             Judged::New => Keyed::New,
             Judged::Waits => self.waits(session),
@@ -313,7 +341,9 @@ impl Hosted {
     }
 
     // The call of a session waits.
-    fn waits(&self, session: u16) -> Keyed {
+    fn waits(&self, session: u16) -> Keyed
+        ensures { SaysWaits self.now session result }
+    {
         match self.waiting_of(session) {
             Some(call) => Keyed::Waits(self.told(call.number())),
             None => Keyed::Refused(KeyedFault::BadKey),
@@ -321,7 +351,9 @@ impl Hosted {
     }
 
     // What became of the call at a place among the last ones of a session.
-    fn kept(&self, session: u16, place: usize) -> Keyed {
+    fn kept(&self, session: u16, place: usize) -> Keyed
+        ensures { SaysKept self.now session place result }
+    {
         let Some(guest) = self.guests.guest(session) else {
             return Keyed::Refused(KeyedFault::BadKey);
         };
@@ -343,7 +375,9 @@ impl Hosted {
         key: u64,
         operation: Option<OpId>,
         arguments: &[Datum],
-    ) -> Keyed {
+    ) -> Keyed
+        ensures { Says self.now session calls key operation arguments.now result }
+    {
         match session {
             Some(session) => self.judged(session, key, operation.unwrap_or(OpId::MAX), arguments),
             None => {

@@ -15,5 +15,3 @@ pub mod journal;
 pub mod memory;
 pub mod round;
 pub mod run;
-#[cfg(test)]
-mod tests;

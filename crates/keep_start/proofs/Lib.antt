@@ -1,2 +1,3 @@
 mod Calls
 pub mod Going
+pub mod Saving

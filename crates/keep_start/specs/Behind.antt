@@ -37,7 +37,7 @@ pub record BeginsBehind (object : Object) (h : House) (lines : List ℕ) (limits
 
 -- Why none has: the lines are refused; or something was recovered of them, and no short past was found.
 abbrev pub BeginsNot : Object → House → List ℕ → NotBegun → Type 0
-BeginsNot object h lines (Refused fault) = Refuses (object_of object) lines fault
+BeginsNot object h lines (Refused fault) = Refuses (object_of object) h lines fault
 BeginsNot object h lines NoPast = (came : Recovered) × IsRecovered (object_of object) h lines came
 BeginsNot object h lines Uncounted = ⊥
 BeginsNot object h lines (Damaged part) = ⊥

@@ -6,5 +6,6 @@
 //! when it ends.
 #![tactic(auto)]
 
-pub mod save;
+pub mod ending;
+mod save;
 pub mod start;

@@ -11,7 +11,7 @@ use std::alloc::{AllocError, Global};
 use value_core::encode::encode;
 use value_core::value::Value;
 
-/// The name of a part on a shelf, `OBJECT.PART`.
+// The name of a part on a shelf, `OBJECT.PART`.
 pub(crate) fn key_of(alloc: Global, object: &Name, part: &Name) -> Result<Vec<u8>, AllocError>
     ensures { IfOk result (λ key. key.items ≡ part_key object.now part.now) }
 {
@@ -22,9 +22,9 @@ pub(crate) fn key_of(alloc: Global, object: &Name, part: &Name) -> Result<Vec<u8
     Ok(key)
 }
 
-/// Stores the value of a part under the part's name, spelled in the second format. After a failure either that or what was
-/// there before is there.
-pub fn save_value<S: Shelf>(
+// Stores the value of a part under the part's name, spelled in the second format. After a failure either that or what was
+// there before is there.
+pub(crate) fn save_value<S: Shelf>(
     alloc: Global,
     object: &Name,
     part: &Name,

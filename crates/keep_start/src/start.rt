@@ -159,7 +159,7 @@ pub fn begin_first(
     limits: Limits,
 ) -> Result<Hosted, NotBegun>
     ensures contents { IfOk result (λ h. h.hall.contents ≡ values.items) }
-    ensures begins { IfOk result (λ h. BeginsFirst object done.now values.items limits h) }
+    ensures begins { IfOk result (λ h. BeginsFirst object done.now values.items names limits h) }
 {
     let source = source_of(&object);
     let operations = object.operations.len() as OpId;

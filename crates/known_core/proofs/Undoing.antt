@@ -2,7 +2,6 @@
 use Rattle.std.proofs.Common.{◌≡◌, ℕ, ◌<◌, map, get_or, subst, List, [], ◌∷◌, ◌++◌, length, slice_set, refl, sym, ap, ◌∙◌, get_or-set_same, set-set}
 use Rattle.std.proofs.lemmas.List.{set-get_or, length-map, nil_from_length}
 use Rattle.value_core.specs.Contents.{Contents, kind_of}
-use Rattle.decl_core.specs.Meaning.{part_at}
 use Rattle.value_core.specs.declared.undo.Undo.{Undo}
 use Rattle.value_core.specs.Undo.{back}
 use Rattle.known_core.specs.Log.{step_back, taken_back}

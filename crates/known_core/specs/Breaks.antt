@@ -6,6 +6,8 @@ use Rattle.value_core.specs.declared.refusal.GrowFault.TheVariants as grow_fault
 use Rattle.value_core.specs.Contents.{Contents}
 use Rattle.value_core.specs.Words.{word_of}
 use Rattle.decl_core.specs.Meaning.{Changed, Reply, refused}
+use Rattle.apply_core.specs.declared.reply.Reply.{Reply as Told}
+use Rattle.apply_core.specs.declared.reply.Reply.TheVariants as replies
 use Rattle.known_core.specs.declared.eval.Break.{Break}
 use Rattle.known_core.specs.declared.eval.Break.TheVariants as breaks
 use Rattle.known_core.specs.declared.act.Stop.{Stop}
@@ -59,3 +61,8 @@ abbrev pub StopsAs : Stop → WholeStop → Type 0
 StopsAs (stops.Refused w) whole = whole ≡ whole_stops.Refused w
 StopsAs (stops.Needs p i) whole = ⊥
 StopsAs stops.Memory whole = whole ≡ whole_stops.Memory
+
+-- a body that was refused replies so
+abbrev pub RepliesTo : WholeStop → Told → Type 0
+RepliesTo (whole_stops.Refused w) reply = reply ≡ replies.Refused w
+RepliesTo whole_stops.Memory reply = ⊥

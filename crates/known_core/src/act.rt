@@ -1,6 +1,6 @@
 //! Statements, done on the values of parts.
 
-ghost use Rattle.std.specs.Prelude.{◌≡◌, ◌<◌, length, map, Option};
+ghost use Rattle.std.specs.Prelude.{◌≡◌, ◌<◌, length, map, Option, Err};
 ghost use Rattle.std.specs.Result.{IsErrOf};
 ghost use Rattle.value_core.specs.declared.datum.Datum.{Datum};
 ghost use Rattle.value_core.specs.Contents.{kind_of};
@@ -11,6 +11,7 @@ ghost use Rattle.text_core.specs.Plain.{IsText};
 ghost use Rattle.value_core.specs.Words.{word_of};
 ghost use Rattle.decl_core.specs.Form.{set_element as set_element_form, set_result as set_result_form};
 ghost use Rattle.decl_core.specs.Form.{append as append_form, store as store_form, erase as erase_form};
+ghost use Rattle.decl_core.specs.Form.{an_integer, a_text};
 ghost use Rattle.decl_core.specs.View.{integers_of, texts_of, form_of, statement_of, all_of};
 ghost use Rattle.decl_core.specs.Meaning.{part_at};
 ghost use Rattle.known_core.specs.Partly.{◌>>>◌, if_known, with_contents, after_known, all_known};
@@ -20,11 +21,12 @@ ghost use Rattle.known_core.specs.Log.{taken_back};
 ghost use Rattle.known_core.specs.Breaks.{stop_of, stop_for, changing, Leaves};
 ghost use Rattle.known_core.specs.declared.act.Stop.TheVariants.{Refused, Memory};
 
-use crate::eval::{Break, datum, holds, integer, text};
+use crate::eval::{Break, holds, integer, text};
 use crate::pages::Pages;
 use decl_core::expr::{Expr, IntegerExpr, TextExpr};
 use decl_core::id::PartId;
 use decl_core::stmt::Stmt;
+use decl_core::word::RefusalWord;
 use std::alloc::AllocError;
 use text_core::text::Text;
 use value_core::datum::Datum;
@@ -205,7 +207,53 @@ fn erase(
     Ok(())
 }
 
-// `v[i] := e`
+// `v[i] := e`, where e is an integer.
+fn set_integer(
+    part: PartId,
+    index: &IntegerExpr,
+    e: &IntegerExpr,
+    args: &[Datum],
+    parts: &mut Vec<Value>,
+    known: &Pages,
+    log: &mut Vec<(PartId, Undo)>,
+) -> Result<(), Stop>
+    requires fits { StatementFits (map kind_of parts.old.items) (set_element_form part (integers_of index.now)
+        (an_integer (integers_of e.now))) }
+    ensures left { (reply : Option Datum) →
+        Leaves result (after_known (known_by known.now) args.now (set_element_form part (integers_of index.now)
+        (an_integer (integers_of e.now))) (changing parts.old.items reply)) (changing parts.new.items reply) }
+    ensures kinds { map kind_of parts.new.items ≡ map kind_of parts.old.items }
+    ensures back { taken_back log.new.items parts.new.items ≡ taken_back log.old.items parts.old.items }
+{
+    let index = integer(index, args, parts, known)?;
+    let n = integer(e, args, parts, known)?;
+    set(parts, part, index, Datum::Integer(n), known, log)
+}
+
+// `v[i] := e`, where e is a text.
+fn set_text(
+    part: PartId,
+    index: &IntegerExpr,
+    e: &TextExpr,
+    args: &[Datum],
+    parts: &mut Vec<Value>,
+    known: &Pages,
+    log: &mut Vec<(PartId, Undo)>,
+) -> Result<(), Stop>
+    requires fits { StatementFits (map kind_of parts.old.items) (set_element_form part (integers_of index.now)
+        (a_text (texts_of e.now))) }
+    ensures left { (reply : Option Datum) →
+        Leaves result (after_known (known_by known.now) args.now (set_element_form part (integers_of index.now)
+        (a_text (texts_of e.now))) (changing parts.old.items reply)) (changing parts.new.items reply) }
+    ensures kinds { map kind_of parts.new.items ≡ map kind_of parts.old.items }
+    ensures back { taken_back log.new.items parts.new.items ≡ taken_back log.old.items parts.old.items }
+{
+    let place = integer(index, args, parts, known)?;
+    let text = text(e, args, parts, known)?;
+    set(parts, part, place, Datum::Text(text), known, log)
+}
+
+// `v[i] := e`. Each sort has a function of its own, since a function clears all its data before it begins.
 fn do_set_element(
     part: PartId,
     index: &IntegerExpr,
@@ -223,9 +271,50 @@ fn do_set_element(
     ensures kinds { map kind_of parts.new.items ≡ map kind_of parts.old.items }
     ensures back { taken_back log.new.items parts.new.items ≡ taken_back log.old.items parts.old.items }
 {
-    let index = integer(index, args, parts, known)?;
-    let datum = datum(e, args, parts, known)?;
-    set(parts, part, index, datum, known, log)
+    match e {
+        Expr::Integer(e) => set_integer(part, index, e, args, parts, known, log),
+        Expr::Text(e) => set_text(part, index, e, args, parts, known, log),
+    }
+}
+
+// `append(q, e)`, where e is an integer.
+fn append_integer(
+    part: PartId,
+    e: &IntegerExpr,
+    args: &[Datum],
+    parts: &mut Vec<Value>,
+    known: &Pages,
+    log: &mut Vec<(PartId, Undo)>,
+) -> Result<(), Stop>
+    requires fits { StatementFits (map kind_of parts.old.items) (append_form part (an_integer (integers_of e.now))) }
+    ensures left { (reply : Option Datum) →
+        Leaves result (after_known (known_by known.now) args.now (append_form part (an_integer (integers_of e.now)))
+        (changing parts.old.items reply)) (changing parts.new.items reply) }
+    ensures kinds { map kind_of parts.new.items ≡ map kind_of parts.old.items }
+    ensures back { taken_back log.new.items parts.new.items ≡ taken_back log.old.items parts.old.items }
+{
+    let n = integer(e, args, parts, known)?;
+    append(parts, part, Datum::Integer(n), log)
+}
+
+// `append(q, e)`, where e is a text.
+fn append_text(
+    part: PartId,
+    e: &TextExpr,
+    args: &[Datum],
+    parts: &mut Vec<Value>,
+    known: &Pages,
+    log: &mut Vec<(PartId, Undo)>,
+) -> Result<(), Stop>
+    requires fits { StatementFits (map kind_of parts.old.items) (append_form part (a_text (texts_of e.now))) }
+    ensures left { (reply : Option Datum) →
+        Leaves result (after_known (known_by known.now) args.now (append_form part (a_text (texts_of e.now)))
+        (changing parts.old.items reply)) (changing parts.new.items reply) }
+    ensures kinds { map kind_of parts.new.items ≡ map kind_of parts.old.items }
+    ensures back { taken_back log.new.items parts.new.items ≡ taken_back log.old.items parts.old.items }
+{
+    let text = text(e, args, parts, known)?;
+    append(parts, part, Datum::Text(text), log)
 }
 
 // `append(q, e)`
@@ -244,8 +333,56 @@ fn do_append(
     ensures kinds { map kind_of parts.new.items ≡ map kind_of parts.old.items }
     ensures back { taken_back log.new.items parts.new.items ≡ taken_back log.old.items parts.old.items }
 {
-    let datum = datum(e, args, parts, known)?;
-    append(parts, part, datum, log)
+    match e {
+        Expr::Integer(e) => append_integer(part, e, args, parts, known, log),
+        Expr::Text(e) => append_text(part, e, args, parts, known, log),
+    }
+}
+
+// `store(t, k, e)`, where e is an integer.
+fn store_integer(
+    part: PartId,
+    key: &TextExpr,
+    e: &IntegerExpr,
+    args: &[Datum],
+    parts: &mut Vec<Value>,
+    known: &Pages,
+    log: &mut Vec<(PartId, Undo)>,
+) -> Result<(), Stop>
+    requires fits { StatementFits (map kind_of parts.old.items) (store_form part (texts_of key.now)
+        (an_integer (integers_of e.now))) }
+    ensures left { (reply : Option Datum) →
+        Leaves result (after_known (known_by known.now) args.now (store_form part (texts_of key.now)
+        (an_integer (integers_of e.now))) (changing parts.old.items reply)) (changing parts.new.items reply) }
+    ensures kinds { map kind_of parts.new.items ≡ map kind_of parts.old.items }
+    ensures back { taken_back log.new.items parts.new.items ≡ taken_back log.old.items parts.old.items }
+{
+    let key = text(key, args, parts, known)?;
+    let n = integer(e, args, parts, known)?;
+    store(parts, part, key, Datum::Integer(n), log)
+}
+
+// `store(t, k, e)`, where e is a text.
+fn store_text(
+    part: PartId,
+    key: &TextExpr,
+    e: &TextExpr,
+    args: &[Datum],
+    parts: &mut Vec<Value>,
+    known: &Pages,
+    log: &mut Vec<(PartId, Undo)>,
+) -> Result<(), Stop>
+    requires fits { StatementFits (map kind_of parts.old.items) (store_form part (texts_of key.now)
+        (a_text (texts_of e.now))) }
+    ensures left { (reply : Option Datum) →
+        Leaves result (after_known (known_by known.now) args.now (store_form part (texts_of key.now)
+        (a_text (texts_of e.now))) (changing parts.old.items reply)) (changing parts.new.items reply) }
+    ensures kinds { map kind_of parts.new.items ≡ map kind_of parts.old.items }
+    ensures back { taken_back log.new.items parts.new.items ≡ taken_back log.old.items parts.old.items }
+{
+    let key = text(key, args, parts, known)?;
+    let text = text(e, args, parts, known)?;
+    store(parts, part, key, Datum::Text(text), log)
 }
 
 // `store(t, k, e)`
@@ -265,9 +402,10 @@ fn do_store(
     ensures kinds { map kind_of parts.new.items ≡ map kind_of parts.old.items }
     ensures back { taken_back log.new.items parts.new.items ≡ taken_back log.old.items parts.old.items }
 {
-    let key = text(key, args, parts, known)?;
-    let datum = datum(e, args, parts, known)?;
-    store(parts, part, key, datum, log)
+    match e {
+        Expr::Integer(e) => store_integer(part, key, e, args, parts, known, log),
+        Expr::Text(e) => store_text(part, key, e, args, parts, known, log),
+    }
 }
 
 // `erase(t, k)`
@@ -290,6 +428,44 @@ fn do_erase(
     erase(parts, part, key, log)
 }
 
+// `f := e`, where f is the function itself, and e is an integer.
+fn reply_integer(
+    e: &IntegerExpr,
+    args: &[Datum],
+    parts: &[Value],
+    known: &Pages,
+    reply: &mut Option<Datum>,
+) -> Result<(), Stop>
+    requires fits { StatementFits (map kind_of parts.now) (set_result_form (an_integer (integers_of e.now))) }
+    ensures left { Leaves result
+        (after_known (known_by known.now) args.now (set_result_form (an_integer (integers_of e.now)))
+        (changing parts.now reply.old)) (changing parts.now reply.new) }
+    ensures memory { IsErrOf result Stop.Memory → ⊥ }
+{
+    let n = integer(e, args, parts, known)?;
+    *reply = Some(Datum::Integer(n));
+    Ok(())
+}
+
+// `f := e`, where f is the function itself, and e is a text.
+fn reply_text(
+    e: &TextExpr,
+    args: &[Datum],
+    parts: &[Value],
+    known: &Pages,
+    reply: &mut Option<Datum>,
+) -> Result<(), Stop>
+    requires fits { StatementFits (map kind_of parts.now) (set_result_form (a_text (texts_of e.now))) }
+    ensures left { Leaves result
+        (after_known (known_by known.now) args.now (set_result_form (a_text (texts_of e.now)))
+        (changing parts.now reply.old)) (changing parts.now reply.new) }
+    ensures memory { IsErrOf result Stop.Memory → ⊥ }
+{
+    let text = text(e, args, parts, known)?;
+    *reply = Some(Datum::Text(text));
+    Ok(())
+}
+
 // `f := e`, where f is the function itself
 fn do_set_result(
     e: &Expr,
@@ -304,9 +480,17 @@ fn do_set_result(
         (changing parts.now reply.new) }
     ensures memory { IsErrOf result Stop.Memory → ⊥ }
 {
-    let datum = datum(e, args, parts, known)?;
-    *reply = Some(datum);
-    Ok(())
+    match e {
+        Expr::Integer(e) => reply_integer(e, args, parts, known, reply),
+        Expr::Text(e) => reply_text(e, args, parts, known, reply),
+    }
+}
+
+// `refuse('w')`
+fn do_refuse(word: &RefusalWord) -> Result<(), Stop>
+    ensures { result ≡ Err (Refused word.now) }
+{
+    Err(Stop::Refused(word_text(word.letters())))
 }
 
 // Does a statement; `reply` is what the function is to reply. A statement that stops may leave
@@ -342,7 +526,7 @@ fn act(
         } else {
             act(t, args, parts, known, reply, log)
         },
-        Stmt::Refuse(word) => Err(Stop::Refused(word_text(word.letters()))),
+        Stmt::Refuse(word) => do_refuse(word),
     }
 }
 
@@ -364,7 +548,10 @@ pub(crate) fn act_all(
     ensures memory { IsErrOf result Stop.Memory → 0 < length (map kind_of parts.old.items) }
 {
     for s in all {
-        act(s, args, parts, known, reply, log)?;
+        match act(s, args, parts, known, reply, log) {
+            Ok(()) => {}
+            Err(stop) => return Err(stop),
+        }
     }
     Ok(())
 }

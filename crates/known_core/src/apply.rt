@@ -6,14 +6,13 @@ ghost use Rattle.decl_core.specs.Bodies.{body_of};
 ghost use Rattle.decl_core.specs.Meaning.{apply_body};
 ghost use Rattle.apply_core.specs.Fits.{ArgumentsFit, HoldsReads};
 ghost use Rattle.apply_core.specs.Replies.{ReplyTells};
-ghost use Rattle.known_core.specs.declared.whole.WholeStop.TheVariants.{Refused};
+ghost use Rattle.known_core.specs.Breaks.{RepliesTo};
 
 use crate::log::undo_all;
 use crate::whole::{WholeStop, evaluate_whole};
 use apply_core::reply::Reply;
 use decl_core::object::Operation;
 use std::alloc::{AllocError, Global};
-use text_core::text::Text;
 use value_core::datum::Datum;
 use value_core::value::Value;
 
@@ -38,22 +37,22 @@ pub fn apply_all(
     ensures kinds { map kind_of parts.new.items ≡ map kind_of parts.old.items }
 {
     let mut log = Vec::new(alloc);
-    match evaluate_whole(operation, args, parts, &mut log) {
-        Ok(reply) => Ok(Reply::Done(reply)),
+    let mut reply = None;
+    match evaluate_whole(operation, args, parts, &mut reply, &mut log) {
+        Ok(()) => Ok(Reply::Done(reply)),
         Err(stop) => {
             undo_all(log, parts);
-            let word = word_by(stop)?;
-            Ok(Reply::Refused(word))
+            refusal(stop)
         }
     }
 }
 
-// The word by which a body was refused.
-fn word_by(stop: WholeStop) -> Result<Text, AllocError>
-    ensures { IfOk result (λ word. stop ≡ Refused word) }
+// What is replied where a body was refused.
+fn refusal(stop: WholeStop) -> Result<Reply, AllocError>
+    ensures { IfOk result (λ reply. RepliesTo stop reply) }
 {
     match stop {
-        WholeStop::Refused(word) => Ok(word),
+        WholeStop::Refused(word) => Ok(Reply::Refused(word)),
         WholeStop::Memory => Err(AllocError),
     }
 }

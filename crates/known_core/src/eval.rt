@@ -1,26 +1,24 @@
 //! Expressions and conditions, evaluated on what is known of the values of parts.
 
-ghost use Rattle.std.specs.Prelude.{◌≡◌, ◌<◌, length, map, IfOk};
+ghost use Rattle.std.specs.Prelude.{◌≡◌, ◌<◌, length, map, Ok};
 ghost use Rattle.value_core.specs.Contents.{kind_of};
 ghost use Rattle.value_core.specs.Meaning.{oldest_of};
-ghost use Rattle.value_core.specs.Datum.{elem_of};
-ghost use Rattle.decl_core.specs.Form.{element, oldest, under, integer_from as taken_integer, an_integer, a_text};
+ghost use Rattle.decl_core.specs.Form.{element, oldest, under, integer_from as taken_integer};
 ghost use Rattle.decl_core.specs.Form.{same_texts, other_texts, has};
-ghost use Rattle.decl_core.specs.View.{from_of, integers_of, texts_of, form_of, condition_of};
-ghost use Rattle.decl_core.specs.Sorts.{sort_of_form};
+ghost use Rattle.decl_core.specs.View.{from_of, integers_of, texts_of, condition_of};
 ghost use Rattle.decl_core.specs.Meaning.{part_at, argument_at, integer_in as in_integer, text_in as in_text};
 ghost use Rattle.decl_core.specs.Meaning.{compares as related};
-ghost use Rattle.known_core.specs.Partly.{worded, if_known as where_known};
-ghost use Rattle.known_core.specs.Partly.{datum_known, integer_known, text_known, value_known, holds_known};
+ghost use Rattle.known_core.specs.Partly.{◌>>>◌, worded, if_known as where_known};
+ghost use Rattle.known_core.specs.Partly.{datum_known, integer_known, text_known, holds_known};
 ghost use Rattle.known_core.specs.Masks.{known_by};
 ghost use Rattle.known_core.specs.Breaks.{given};
 ghost use Rattle.known_core.specs.declared.eval.Break.TheVariants.{Refused};
-ghost use Rattle.apply_core.specs.Fitting.{kind_at, FromFits, IntegersFit, TextsFit, SignedFits, TermsFit, FormFits};
+ghost use Rattle.apply_core.specs.Fitting.{kind_at, FromFits, IntegersFit, TextsFit, SignedFits, TermsFit};
 ghost use Rattle.apply_core.specs.Fitting.{ConditionFits};
 ghost use Rattle.known_core.specs.Sums.{seeing, with_signed, with_terms};
 
 use crate::pages::Pages;
-use decl_core::expr::{Expr, IntegerExpr, Signed, Source, TextExpr};
+use decl_core::expr::{IntegerExpr, Signed, Source, TextExpr};
 use decl_core::id::{ParamId, PartId};
 use decl_core::stmt::{Cond, Relation};
 use text_core::text::Text;
@@ -76,13 +74,23 @@ fn argument(args: &[Datum], param: ParamId) -> Datum
     }
 }
 
-// What stands where an integer is due.
-fn integer_in(datum: Datum) -> u32
-    ensures { result ≡ in_integer datum }
+// What stands where an integer is due. A datum has room for a kilobyte, so it is lent.
+fn integer_in(datum: &Datum) -> u32
+    ensures { result ≡ in_integer datum.now }
 {
     match datum {
-        Datum::Integer(n) => n,
+        Datum::Integer(n) => *n,
         Datum::Text(_) => 0,
+    }
+}
+
+// The argument for a parameter that is an integer.
+fn integer_argument(args: &[Datum], param: ParamId) -> u32
+    ensures { result ≡ in_integer (argument_at args.now param) }
+{
+    match args.get(param as usize) {
+        Some(datum) => integer_in(datum),
+        None => 0,
     }
 }
 
@@ -155,7 +163,55 @@ fn from(source: &Source, args: &[Datum], parts: &[Value], known: &Pages) -> Resu
     }
 }
 
-// The integer that is taken from there.
+// The element of an array of integers at an index.
+#[cycle(evaluating)]
+fn integer_element(
+    part: PartId,
+    index: &IntegerExpr,
+    args: &[Datum],
+    parts: &[Value],
+    known: &Pages,
+) -> Result<u32, Break>
+    requires fits { FromFits (map kind_of parts.now) (element part (integers_of index.now)) }
+    ensures { integer_known (known_by known.now) (seeing args.now parts.now)
+        (taken_integer (element part (integers_of index.now))) ≡ given result }
+{
+    let index = integer(index, args, parts, known)?;
+    let element = value_of(parts, part).element(index)?;
+    if !known.has(part, index) {
+        return Err(Break::Needs(part, index));
+    }
+    Ok(integer_in(&element))
+}
+
+// The oldest element of a queue of integers.
+fn integer_oldest(part: PartId, parts: &[Value]) -> Result<u32, Break>
+    requires fits { FromFits (map kind_of parts.now) (oldest part) }
+    ensures { (worded (oldest_of (part_at parts.now part)) >>> λ d. Ok (in_integer d)) ≡ given result }
+{
+    let datum = value_of(parts, part).first()?;
+    Ok(integer_in(&datum))
+}
+
+// The integer under a key of a table.
+#[cycle(evaluating)]
+fn integer_under(
+    part: PartId,
+    key: &TextExpr,
+    args: &[Datum],
+    parts: &[Value],
+    known: &Pages,
+) -> Result<u32, Break>
+    requires fits { FromFits (map kind_of parts.now) (under part (texts_of key.now)) }
+    ensures { integer_known (known_by known.now) (seeing args.now parts.now)
+        (taken_integer (under part (texts_of key.now))) ≡ given result }
+{
+    let key = text(key, args, parts, known)?;
+    let datum = value_of(parts, part).lookup(&key)?;
+    Ok(integer_in(&datum))
+}
+
+// The integer that is taken from there, each form in a function of its own.
 #[cycle(evaluating)]
 fn integer_from(
     source: &Source,
@@ -167,8 +223,12 @@ fn integer_from(
     ensures { integer_known (known_by known.now) (seeing args.now parts.now) (taken_integer (from_of source.now))
         ≡ given result }
 {
-    let datum = from(source, args, parts, known)?;
-    Ok(integer_in(datum))
+    match source {
+        Source::Parameter(param) => Ok(integer_argument(args, *param)),
+        Source::Element(part, index) => integer_element(*part, index, args, parts, known),
+        Source::First(part) => integer_oldest(*part, parts),
+        Source::Lookup(part, key) => integer_under(*part, key, args, parts, known),
+    }
 }
 
 // The value of an expression that is an integer.
@@ -255,50 +315,6 @@ pub(crate) fn text(
             let datum = from(source, args, parts, known)?;
             Ok(text_in(datum))
         }
-    }
-}
-
-// The value of an expression that is an integer, as a datum.
-fn integer_datum(
-    e: &IntegerExpr,
-    args: &[Datum],
-    parts: &[Value],
-    known: &Pages,
-) -> Result<Datum, Break>
-    requires fits { IntegersFit (map kind_of parts.now) (integers_of e.now) }
-    ensures value { value_known (known_by known.now) (seeing args.now parts.now) (an_integer (integers_of e.now))
-        ≡ given result }
-    ensures sort { IfOk result (λ d. elem_of d ≡ sort_of_form (an_integer (integers_of e.now))) }
-{
-    let n = integer(e, args, parts, known)?;
-    Ok(Datum::Integer(n))
-}
-
-// The value of an expression that is a text, as a datum.
-fn text_datum(e: &TextExpr, args: &[Datum], parts: &[Value], known: &Pages) -> Result<Datum, Break>
-    requires fits { TextsFit (map kind_of parts.now) (texts_of e.now) }
-    ensures value { value_known (known_by known.now) (seeing args.now parts.now) (a_text (texts_of e.now))
-        ≡ given result }
-    ensures sort { IfOk result (λ d. elem_of d ≡ sort_of_form (a_text (texts_of e.now))) }
-{
-    let text = text(e, args, parts, known)?;
-    Ok(Datum::Text(text))
-}
-
-// The value of an expression.
-pub(crate) fn datum(
-    e: &Expr,
-    args: &[Datum],
-    parts: &[Value],
-    known: &Pages,
-) -> Result<Datum, Break>
-    requires fits { FormFits (map kind_of parts.now) (form_of e.now) }
-    ensures value { value_known (known_by known.now) (seeing args.now parts.now) (form_of e.now) ≡ given result }
-    ensures sort { IfOk result (λ d. elem_of d ≡ sort_of_form (form_of e.now)) }
-{
-    match e {
-        Expr::Integer(e) => integer_datum(e, args, parts, known),
-        Expr::Text(e) => text_datum(e, args, parts, known),
     }
 }
 

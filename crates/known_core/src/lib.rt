@@ -16,4 +16,4 @@ pub mod evaluate;
 pub mod laws;
 mod log;
 pub mod pages;
-pub mod whole;
+mod whole;

@@ -11,7 +11,7 @@ ghost use Rattle.known_core.specs.Breaks.{WholeTells, StopsAs};
 ghost use Rattle.known_core.specs.declared.act.Stop.TheVariants.{Needs};
 
 use crate::act::Stop;
-use crate::evaluate::evaluate;
+use crate::evaluate::evaluate_into;
 use crate::pages::Pages;
 use decl_core::id::PartId;
 use decl_core::object::Operation;
@@ -20,27 +20,29 @@ use value_core::datum::Datum;
 use value_core::undo::Undo;
 use value_core::value::Value;
 
-/// Why a body on whole values stopped.
+// Why a body on whole values stopped.
 #[derive(Clone, Copy)]
-pub enum WholeStop {
-    /// It was refused by this word.
+pub(crate) enum WholeStop {
+    // It was refused by this word.
     Refused(Text),
-    /// Memory was refused.
+    // Memory was refused.
     Memory,
 }
 
-/// Does the body of an operation on values, in place: that of part p stands at place p, where the operation reads it.
-/// All of them is known, so that it is done or refused. A body that ends otherwise leaves them changed in part.
-pub fn evaluate_whole(
+// Does the body of an operation on values, in place: that of part p stands at place p, where the operation reads it.
+// All of them is known, so that it is done or refused. A body that ends otherwise leaves them changed in part. The
+// reply is written where the caller keeps it, since that has room for a kilobyte.
+pub(crate) fn evaluate_whole(
     operation: &Operation,
     args: &[Datum],
     parts: &mut Vec<Value>,
+    reply: &mut Option<Datum>,
     log: &mut Vec<(PartId, Undo)>,
-) -> Result<Option<Datum>, WholeStop>
+) -> Result<(), WholeStop>
     requires fits { ArgumentsFit operation.now args.now }
     requires held { HoldsReads operation.now parts.old.items }
-    ensures done { IfOk result (λ reply. apply_body (body_of operation.now) args.now parts.old.items
-        ≡ (done reply, parts.new.items)) }
+    ensures done { IfOk result (λ _. apply_body (body_of operation.now) args.now parts.old.items
+        ≡ (done reply.new, parts.new.items)) }
     ensures stopped { IfErr result (λ stop.
         WholeTells (apply_body (body_of operation.now) args.now parts.old.items).0 stop) }
     ensures kinds { map kind_of parts.new.items ≡ map kind_of parts.old.items }
@@ -48,8 +50,8 @@ pub fn evaluate_whole(
     // Only a body that changes a part takes memory.
     ensures memory { IsErrOf result WholeStop.Memory → 0 < length parts.old.items }
 {
-    match evaluate(operation, args, parts, &Pages::full(), log) {
-        Ok(reply) => Ok(reply),
+    match evaluate_into(operation, args, parts, &Pages::full(), reply, log) {
+        Ok(()) => Ok(()),
         Err(stop) => Err(needing_nothing(stop, parts)),
     }
 }

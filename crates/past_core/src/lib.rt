@@ -12,6 +12,4 @@
 
 pub mod finder;
 pub mod past;
-#[cfg(test)]
-mod tests;
 mod walk;

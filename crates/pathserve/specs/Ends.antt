@@ -1,9 +1,12 @@
--- How the program ends that has served.
-use Rattle.std.specs.Prelude.{ℕ, Result, Ok, Err}
+-- How the program ends that has served, or was to keep objects.
+use Rattle.std.specs.Prelude.{◌≡◌, ℕ, ⊤, Result, Ok, Err}
+use Rattle.clap.specs.Values.{kind_of}
+use Rattle.clap.specs.declared.error.kind.ErrorKind.TheVariants as kinds
 use Rattle.line_core.specs.declared.machine.LinesFault.{LinesFault}
 use Rattle.answer_core.specs.Status.{paths_failure}
 use Rattle.answer_core.specs.declared.failure.Failure.{Failure}
 use Rattle.answer_core.specs.declared.failure.Failure.TheVariants.{ReadFault}
+use Rattle.answer_core.specs.declared.failure.Failure.TheVariants as failures
 use Rattle.serve_core.specs.declared.serve.ServeEnd.{ServeEnd}
 use Rattle.serve_core.specs.declared.serve.ServeEnd.TheVariants.{Whole, Refused, Unopened}
 
@@ -18,3 +21,11 @@ serve_status Unopened = Err ReadFault
 abbrev pub status_of_end : Result ServeEnd LinesFault → Result ℕ Failure
 status_of_end (Ok end) = serve_status end
 status_of_end (Err fault) = Err (paths_failure fault)
+
+-- what `keep` ends with that could not read what was done before: a want of memory, with status 4, or a mistake in a
+-- value of `--past`, with status 2
+abbrev pub IsUntold : Failure → Type 0
+IsUntold (failures.Usage error) = kind_of error ≡ kinds.ValueValidation
+IsUntold failures.ReadFault = ⊥
+IsUntold failures.WriteFault = ⊥
+IsUntold failures.Memory = ⊤

@@ -1,5 +1,9 @@
 //! `pathserve keep`: objects in memory, over journals in a folder.
 
+ghost use Rattle.std.specs.Prelude.{◌≡◌, IfOk, OnOk};
+ghost use Rattle.hand_core.specs.Papers.{Papers};
+ghost use Rattle.keep_start.specs.Ending.{ObjectsAreSaved};
+
 use answer_core::answer::{ACCEPTED, REFUSED};
 use answer_core::failure::Failure;
 use audit_core::verdict::Fault as TraceFault;
@@ -9,13 +13,14 @@ use decl_core::object::Object;
 use device_core::dir_shelf::DirShelf;
 use exclude_core::analyse::Accepted;
 use hand_core::hand::HandFault;
+use hand_core::shelf::Shelf;
 use hosted_core::hosted::{Hosted, MOST_LINES};
 use journal_core::device::DeviceError;
 use journal_core::folder::FolderFile;
 use journal_core::journal::recover as lines_of;
-use keep_core::open::{push_damaged, push_part};
+use keep_core::open::push_damaged;
 use keep_loop::{Fault, Limits as LoopLimits, run};
-use keep_start::save::save_value;
+use keep_start::ending::save_objects;
 use keep_start::start::{NotBegun, begin_behind, begin_first, opening_of, push_calls};
 use line_core::write_whole;
 use live_core::call::Limits;
@@ -362,10 +367,8 @@ fn serve_kept<W: Write, E: Write>(
     };
     match run(alloc, table, limits, &mut wires, u64::MAX) {
         Ok(table) => {
-            let saved = save_all(rt, &table, asked.folder, error);
-            let told = tell_entries(alloc, &table, writer);
-            saved?;
-            told
+            let mut shelf = DirShelf::new(*rt, asked.folder)?;
+            end_objects(alloc, table.objects(), &mut shelf, writer, error)
         }
         Err(Fault::Memory) => Err(Failure::Memory),
         Err(Fault::Journal(_)) => Err(Failure::WriteFault),
@@ -389,54 +392,11 @@ fn tell_place<W: Write>(alloc: Global, asked: Keeping<'_>, writer: &mut W) -> Re
     say(writer, line.as_bytes())
 }
 
-// `OBJECT.PART not saved`.
-fn tell_unsaved<E: Write>(
-    alloc: Global,
-    object: &Object,
-    part: usize,
-    error: &mut E,
-) -> Result<(), AllocError> {
-    let mut line = Vec::new(alloc);
-    push_part(&mut line, object, part)?;
-    line.extend_from_slice(b" not saved\n")?;
-    let _ = write_whole(error, &line);
-    Ok(())
-}
-
-// Saves the parts of each object, as `serve` does, for people and for another folder: here they are read from the
-// journals alone. What is wrong with one of them keeps no other one from being saved.
-fn save_all<E: Write>(
-    rt: &HostRuntime,
-    table: &Table,
-    folder: &str,
-    error: &mut E,
-) -> Result<(), Failure> {
-    let alloc = rt.alloc();
-    let mut shelf = DirShelf::new(*rt, folder)?;
-    let mut ended = Ok(());
-    for hosted in table.objects() {
-        let object = hosted.live().object();
-        let values = hosted.live().contents();
-        for place in 0..object.parts.len() {
-            let Some(value) = values.get(place) else {
-                break;
-            };
-            let name = &object.parts[place].name;
-            if let Err(fault) = save_value(alloc, &object.name, name, value, &mut shelf) {
-                tell_unsaved(alloc, object, place, error)?;
-                ended = Err(match fault {
-                    HandFault::Device => Failure::WriteFault,
-                    HandFault::Memory => Failure::Memory,
-                });
-            }
-        }
-    }
-    ended
-}
-
 // `NAME entries K` for each object, in order: so many calls of it finished since the server began.
-fn tell_entries<W: Write>(alloc: Global, table: &Table, writer: &mut W) -> Result<u8, Failure> {
-    for hosted in table.objects() {
+fn tell_entries<W: Write>(alloc: Global, objects: &[Hosted], writer: &mut W) -> Result<u8, Failure>
+    ensures { IfOk result (λ status. status ≡ 0) }
+{
+    for hosted in objects {
         let entries = hosted.entries();
         let mut line = hosted.name().as_bytes().to_vec(alloc)?;
         let told = format!(in alloc; " entries {entries}\n")?;
@@ -444,6 +404,29 @@ fn tell_entries<W: Write>(alloc: Global, table: &Table, writer: &mut W) -> Resul
         say(writer, &line)?;
     }
     Ok(ACCEPTED)
+}
+
+// Ends objects that were served: their parts are saved, for people and for another folder (here they are read from the
+// journals alone), and `NAME entries K` is said of each. The status is 0, and only where each part is saved and each line
+// is said.
+fn end_objects<S: Shelf, W: Write, E: Write>(
+    alloc: Global,
+    objects: &[Hosted],
+    shelf: &mut S,
+    writer: &mut W,
+    error: &mut E,
+) -> Result<u8, Failure>
+    ensures status { IfOk result (λ status. status ≡ 0) }
+    ensures saved { OnOk result ((papers : Papers) → S.holds shelf.new papers → (before : Papers)
+        × S.holds shelf.old before × ObjectsAreSaved objects.now before papers) }
+{
+    let saved = save_objects(alloc, objects, shelf, error);
+    let told = tell_entries(alloc, objects, writer);
+    match saved {
+        Ok(()) => told,
+        Err(HandFault::Device) => Err(Failure::WriteFault),
+        Err(HandFault::Memory) => Err(Failure::Memory),
+    }
 }
 
 /// Whether a folder has a journal of an object that is kept: a file `NAME.journal` that is not empty. The error is that of

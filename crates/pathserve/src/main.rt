@@ -18,6 +18,7 @@
 
 mod keep;
 mod lack;
+mod pasts;
 mod serve;
 mod socket;
 
@@ -28,10 +29,9 @@ use answer_core::explanation::{Telling, explained, explained_audit, explained_ru
 use answer_core::failure::{Failure, exit_status, words_end};
 use answer_core::script::answer_script;
 use answer_core::source::read_source;
-use command_line::past::{MEANS, Past, past_in};
-use command_line::request::{
-    Address, Explain, Keeping, Request, Serving, past_error, pasts_of, request_of,
-};
+use answer_core::stuck::check_stuck;
+use command_line::past::Past;
+use command_line::request::{Address, Explain, Keeping, Request, Serving, request_of};
 use exclude_core::analyse::Accepted;
 use explain_line::files::Files;
 use explain_line::kept::Kept;
@@ -42,6 +42,7 @@ use lack::{Lack, Lacking, Need, tell_lack};
 use line_core::write_whole;
 use mio::net::{TcpListener as PortListener, UnixListener as PathListener};
 use mio_core::stream::Listener as Ears;
+use pasts::pasts_in;
 use serve::{Source, place_of, serve_objects};
 use serve_core::gate::{Gate, Listener};
 use serve_core::serve::Place;
@@ -382,20 +383,32 @@ fn run_paths(rt: &HostRuntime) -> Result<u8, Failure> {
 }
 
 // `pathserve check`.
-fn run_check(rt: &HostRuntime, path: &str, when: Explain) -> Result<u8, Failure> {
+fn run_check(rt: &HostRuntime, path: &str, when: Explain, stuck: bool) -> Result<u8, Failure> {
     let file = match open_file(rt, path) {
         Ok(file) => file,
         Err(lacking) => return Err(told(rt, lacking, path)),
     };
     let mut kept = Kept::new(rt.alloc(), file, 0);
-    let ended = check_source(
-        rt.alloc(),
-        &mut kept,
-        &mut io::writer(rt),
-        telling_of(rt, when),
-        path,
-        &mut rt.stderr(),
-    );
+    let telling = telling_of(rt, when);
+    let ended = if stuck {
+        check_stuck(
+            rt.alloc(),
+            &mut kept,
+            &mut io::writer(rt),
+            telling,
+            path,
+            &mut rt.stderr(),
+        )
+    } else {
+        check_source(
+            rt.alloc(),
+            &mut kept,
+            &mut io::writer(rt),
+            telling,
+            path,
+            &mut rt.stderr(),
+        )
+    };
     told_unread(rt, ended, Need::File, path, &kept)
 }
 
@@ -557,28 +570,9 @@ fn keep_source(
     }
 }
 
-// What the words of a command line tell of what was done before a first start.
-fn pasts_in<'a>(rt: &HostRuntime, words: &'a [&'a str]) -> Result<Vec<Past<'a>>, Failure> {
-    let alloc = rt.alloc();
-    let told = match pasts_of(alloc, words) {
-        Ok(told) => told,
-        Err(error) => return Err(Failure::Usage(error)),
-    };
-    let mut pasts = Vec::new(alloc);
-    for word in &told {
-        let Some(past) = past_in(word) else {
-            return Err(Failure::Usage(past_error(alloc, word, MEANS)?));
-        };
-        if pasts.push(past).is_err() {
-            return Err(Failure::Memory);
-        }
-    }
-    Ok(pasts)
-}
-
 // `pathserve keep`.
 fn run_keep(rt: &HostRuntime, asked: Keeping<'_>, words: &[&str]) -> Result<u8, Failure> {
-    let pasts = pasts_in(rt, words)?;
+    let pasts = pasts_in(rt.alloc(), words)?;
     let source = match source_at(rt, asked.file) {
         Ok(source) => source,
         Err(lacking) => return Err(told(rt, lacking, asked.file)),
@@ -625,7 +619,7 @@ fn run_audit(rt: &HostRuntime, files: Files<'_>, when: Explain) -> Result<u8, Fa
 fn run(rt: &HostRuntime, request: Request<'_>) -> Result<u8, Failure> {
     match request {
         Request::Paths => run_paths(rt),
-        Request::Check(path, when) => run_check(rt, path, when),
+        Request::Check(path, when, stuck) => run_check(rt, path, when, stuck),
         Request::Run(source, text, when) => run_script(rt, Files { source, text }, when),
         Request::Audit(source, text, when) => run_audit(rt, Files { source, text }, when),
         // `prepare` has them.

@@ -1,15 +1,19 @@
 -- Clients that come, and calls of them that are remembered.
 use Rattle.std.proofs.Common.{◌≡◌, ℕ, List, ◌∷◌, ◌++◌, Bool, false}
-use Rattle.std.specs.Prelude.{Option, Ok}
+use Rattle.std.specs.Prelude.{Option, Result, Ok, Err}
 use Rattle.apply_core.specs.declared.reply.Reply.{Reply}
 use Rattle.front_core.specs.declared.front.Client.{Client}
 use Rattle.front_core.specs.declared.front.KeptCall.{KeptCall}
 use Rattle.guest_core.specs.declared.guest.Guest.{Guest}
+use Rattle.guest_core.specs.declared.keys.AskFault.{AskFault}
 use Rattle.guest_core.specs.declared.kept.Asked.{Asked}
 use Rattle.guest_core.specs.Guests.{Guests, IsNamed, HasNoName, with_keys}
 use Rattle.guest_core.specs.Keys.{Keys, Ends}
 use Rattle.guest_core.specs.Steps.{asked, Does}
 use Rattle.recover_core.specs.Clients.{Remembers, Opens, OpenAll}
+
+pub refused_none : {fault : AskFault} → ◌≡◌ {A = Result (Unit {0}) AskFault} (Err fault) (Ok tt) → ⊥
+refused_none is = cc
 
 -- a call was asked, and has ended so
 pub remembers : (old mid new : Guests) (session : ℕ) (call : Asked) (told : ℕ) (reply : Option Reply) (so : Bool) → Does old (asked session call (Ok tt)) mid →

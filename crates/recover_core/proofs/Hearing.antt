@@ -10,7 +10,9 @@ use Rattle.audit_core.specs.View.{told_view}
 use Rattle.front_core.specs.Front.{Opening}
 use Rattle.guest_core.specs.Guests.{Guests}
 use Rattle.replay_core.specs.declared.replay.Note.{Note}
+use Rattle.replay_core.specs.declared.replay.Replay.{Replay}
 use Rattle.replay_core.specs.declared.replay.Note.TheVariants as notes
+use Rattle.replay_core.specs.Said.{Says, Asked, a_start}
 use Rattle.replay_core.specs.Steps.{Step, ran, cancelled, named, Heard, nothing_heard, ended_in}
 use Rattle.replay_core.specs.Tells.{Tells, Tell, start_told, end_told, cancel_told, name_told}
 use Rattle.replay_core.specs.Sound.{IsCut, IsFirstFault}
@@ -22,7 +24,8 @@ use Rattle.recover_core.specs.declared.playing.Refused.{Refused}
 use Rattle.recover_core.specs.declared.playing.Refused.TheVariants.{Faulty, Odd}
 use Rattle.recover_core.specs.Lines.{IsLine, AreLines, joined}
 use Rattle.recover_core.specs.Clients.{Makes, MakeAll}
-use Rattle.recover_core.specs.Playing.{begun_by, TakesNote, Counts, IsRest, PlayStands, StepsOn, PlaysSo, PlayedTo, IsRefusedAt}
+use Rattle.recover_core.specs.Odd.{CannotCome, IsOdd, IsOddNote}
+use Rattle.recover_core.specs.Playing.{begun_by, TakesNote, Counts, IsRest, PlayStands, StepsOn, PlaysSo, PlayedTo, IsContradiction, IsRefusedAt}
 use Rattle.recover_core.proofs.Cutting.{joined_more, lines_more, take_front}
 
 some_none : {X : Type 0} {x : X} → ◌≡◌ {A = Option X} (Some x) None → ⊥
@@ -44,6 +47,13 @@ rests_so o f heard line after step (start_told says is few) same = absurd (longe
 rests_so o f heard line after step (end_told says runs is) same = (refl, (step, same))
 rests_so o f heard line after step (cancel_told says is) same = (is.rests, (step, same))
 rests_so o f heard line after step (name_told says rests is spelled) same = (rests, (step, same))
+
+-- a line behind which a call runs tells that it started
+start_said : (o : ObjectForm) (f : Opening) (heard : Heard) (line : List ℕ) (after : Heard) → Tells o (begun_by f) heard line after → StepsOn false heard after → (asked : Asked) × Says line (a_start asked)
+start_said o f heard line after (start_told {asked = asked} says is few) on = (asked, says)
+start_said o f heard line after (end_told says runs is) on = absurd (on.1 refl)
+start_said o f heard line after (cancel_told says is) on = absurd (on.1 is.rests)
+start_said o f heard line after (name_told says rests is spelled) on = absurd (on.1 rests)
 
 -- a step more, by a line of which so much is known
 step_more : (o : ObjectForm) (f : Opening) (now : ℕ) (opened : Guests) (heard : Heard) (line : List ℕ) (old new : Playing) (after : Heard) (step : Step) → PlayStands o f now opened old heard →
@@ -87,6 +97,19 @@ module _ (r : Result Bool AllocError) (base now : ℕ) (carried : List CarriedCa
   pub took_name : (session : ℕ) (name : List ℕ) → note ≡ notes.Named session name → IfOk r (λ yes. IsTrue yes → (b : ℕ) (c : List CarriedCall) → Makes b c now old (named session name) new) → IfOk r Taken
   took_name session name is = if_ok r (λ b h yes. subst (λ x. TakesNote base carried now old x new) (sym is) (h yes base carried))
 
+module _ (r : Result Bool AllocError) (base : ℕ) (carried : List CarriedCall) (old : Guests) (note : Note) where
+  abbrev Odd_note : Bool → Type 0
+  Odd_note b = b ≡ false → IsOddNote base carried old note
+
+  pub odd_ran : (k : Known) (t : ToldReply) → note ≡ notes.Ran k t → IfOk r (λ yes. yes ≡ false → IsOdd base carried old (ran (known_call k) (told_view t))) → IfOk r Odd_note
+  odd_ran k t is = if_ok r (λ b h no. subst (IsOddNote base carried old) (sym is) (h no))
+
+  pub odd_cancelled : (k : Known) → note ≡ notes.Cancelled k → IfOk r (λ yes. yes ≡ false → IsOdd base carried old (cancelled (known_call k))) → IfOk r Odd_note
+  odd_cancelled k is = if_ok r (λ b h no. subst (IsOddNote base carried old) (sym is) (h no))
+
+  pub odd_name : (session : ℕ) (name : List ℕ) → note ≡ notes.Named session name → IfOk r (λ yes. yes ≡ false → CannotCome old session) → IfOk r Odd_note
+  odd_name session name is = if_ok r (λ b h no. subst (IsOddNote base carried old) (sym is) (h no))
+
 -- a line was heard, and its clients were told of it
 pub note_taken : (o : ObjectForm) (f : Opening) (now : ℕ) (opened : Guests) (heard : Heard) (line : List ℕ) (old new : Playing) (note : Note) (count : ℕ) (rests : Bool) → PlayStands o f now opened old heard →
     (after : Heard) × Tells o (begun_by f) heard line after × IsNote heard note after × Stands o (begun_by f) new.replay after →
@@ -118,6 +141,42 @@ note_taken o f now opened heard line old new (notes.Named session name) count re
     subst (λ b. PlaysSo o f now opened heard line (Ok b) new) (sym is)
     (step_more o f now opened heard line old new h.0 (named session name) p h.1 (ap (λ (x : Heard). x.steps) h.2) h.3
     (old.guests, p.clients, taken o f now opened heard old (notes.Named session name) new.guests p takes) (omega (arith, ended, counts, p.ended)) numbers second)
+
+-- what a note tells does not fit the clients, in the words of the front
+odd_note : (o : ObjectForm) (f : Opening) (now : ℕ) (opened : Guests) (heard : Heard) (old : Playing) (note : Note) → PlayStands o f now opened old heard → IsOddNote old.numbers.base old.numbers.carried.items old.guests note → IsOddNote f.base f.carried old.guests note
+odd_note o f now opened heard old note p odd = subst (λ b. IsOddNote b f.carried old.guests note) p.base (subst (λ c. IsOddNote old.numbers.base c old.guests note) p.carried odd)
+
+-- a line was heard, and what it told does not fit the clients
+pub note_odd : (o : ObjectForm) (f : Opening) (now : ℕ) (opened : Guests) (heard : Heard) (line : List ℕ) (old : Playing) (replay : Replay) (note : Note) → PlayStands o f now opened old heard →
+    (after : Heard) × Tells o (begun_by f) heard line after × IsNote heard note after × Stands o (begun_by f) replay after → IsOddNote old.numbers.base old.numbers.carried.items old.guests note → IsContradiction o f now opened heard line
+note_odd o f now opened heard line old replay notes.Began p h odd = absurd odd
+note_odd o f now opened heard line old replay (notes.Ran known reply) p h odd = record {
+  after = h.0;
+  told = h.1;
+  step = ran (known_call known) (told_view reply);
+  steps = ap (λ (x : Heard). x.steps) h.2;
+  clients = old.guests;
+  made = p.clients;
+  odd = odd_note o f now opened heard old (notes.Ran known reply) p odd;
+}
+note_odd o f now opened heard line old replay (notes.Cancelled known) p h odd = record {
+  after = h.0;
+  told = h.1;
+  step = cancelled (known_call known);
+  steps = ap (λ (x : Heard). x.steps) h.2;
+  clients = old.guests;
+  made = p.clients;
+  odd = odd_note o f now opened heard old (notes.Cancelled known) p odd;
+}
+note_odd o f now opened heard line old replay (notes.Named session name) p h odd = record {
+  after = h.0;
+  told = h.1;
+  step = named session name;
+  steps = ap (λ (x : Heard). x.steps) h.2;
+  clients = old.guests;
+  made = p.clients;
+  odd = odd_note o f now opened heard old (notes.Named session name) p odd;
+}
 
 -- all lines
 
@@ -191,7 +250,7 @@ module _ (o : ObjectForm) (f : Opening) (now : ℕ) (opened : Guests) (behind re
         told = tell_more o f nothing_heard s.before line s.heard h.0 s.told h.1;
         stands = h.3;
         kept = s.before;
-        kept_so = inr (line, refl);
+        kept_so = (let started = start_said o f s.heard line h.0 h.1 h.2 in inr (line, started.0, started.1, refl));
         resting = λ none. absurd (h.2.1 none);
         kept_told = subst (Tell o (begun_by f) nothing_heard s.before) (sym same) s.told;
         mark_is = marks ∙ s.mark_is ∙ ap (λ ls. length (joined ls)) (s.resting h.2.0);
@@ -224,8 +283,19 @@ follow_end o f now opened behind rest p number mark s none = record {
 
 -- a line with a fault
 pub follow_fault : (o : ObjectForm) (f : Opening) (now : ℕ) (opened : Guests) (behind rest line tail : List ℕ) (old new : Playing) (number mark next : ℕ) (refused : Refused) → Follows o f now opened behind rest old number mark → IsLine line → rest ≡ line ++ 10 ∷ tail →
-    ((heard : Heard) → PlayStands o f now opened old heard → PlaysSo o f now opened heard line (Err refused) new) → next ≡ number + 1 → IsRefusedAt o f behind next refused
-follow_fault o f now opened behind rest line tail old new number mark next Odd s is cut hears counted = tt
+    ((heard : Heard) → PlayStands o f now opened old heard → PlaysSo o f now opened heard line (Err refused) new) → next ≡ number + 1 → IsRefusedAt o f now opened behind next refused
+follow_fault o f now opened behind rest line tail old new number mark next Odd s is cut hears counted = record {
+  before = s.before;
+  line = line;
+  rest = tail;
+  each = lines_more s.before line s.each is;
+  cut = s.cut ∙ ap (λ t. joined s.before ++ t) cut ∙ joined_more s.before line tail;
+  counted = omega (arith, counted, s.counted);
+  heard = s.heard;
+  told = s.told;
+  sound = stands_sound o (begun_by f) old.replay s.heard s.stands.stands;
+  contradicts = hears s.heard s.stands;
+}
 follow_fault o f now opened behind rest line tail old new number mark next (Faulty fault) s is cut hears counted =
     let first : IsFirstFault o (begun_by f) (s.before ++ line ∷ []) next fault = record {
       before = s.before;

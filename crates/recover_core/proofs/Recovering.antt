@@ -1,5 +1,5 @@
 -- What an epoch came to, from what was played.
-use Rattle.std.proofs.Common.{◌≡◌, ℕ, ◌+◌, List, sym, ap, ◌∙◌, subst}
+use Rattle.std.proofs.Common.{◌≡◌, inr, ℕ, ◌+◌, List, sym, ap, ◌∙◌, subst}
 use Rattle.std.specs.Prelude.{Result, Ok, Err, IfOk}
 use Rattle.decl_core.specs.ObjectForm.{ObjectForm}
 use Rattle.front_core.specs.Front.{Opening}
@@ -45,6 +45,7 @@ is_behind o h f opened bytes mark behind p r s counted opens comes guests length
 }
 
 -- a line that was not taken
-pub refused_so : (o : ObjectForm) (f : Opening) (lines number line : ℕ) (behind : List ℕ) (refused : Refused) → IsRefusedAt o f behind number refused → line ≡ lines + number → RefusesBehind o f lines behind (told_of line refused)
-refused_so o f lines number line behind (Faulty fault) is at = (number, at, is)
-refused_so o f lines number line behind Odd is at = tt
+pub refused_so : (o : ObjectForm) (h : House) (f : Opening) (opened : Guests) (lines number line : ℕ) (behind : List ℕ) (refused : Refused) → AreCounted 0 f.carried → OpenAll h.now (nobody h) f.clients f.kept opened →
+    IsRefusedAt o f h.now opened behind number refused → line ≡ lines + number → RefusesBehind o h f lines behind (told_of line refused)
+refused_so o h f opened lines number line behind (Faulty fault) counted opens is at = (number, at, is)
+refused_so o h f opened lines number line behind Odd counted opens is at = inr (opened, record { counted = counted; opens = opens }, (number, at, is))

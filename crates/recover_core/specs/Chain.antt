@@ -21,17 +21,25 @@ abbrev pub AreNumbered : ℕ → ℕ → ℕ → ℕ → Type 0
 AreNumbered base greatest next carried =
     (base + greatest ≤ next + carried) × (next + carried ≤ (base + greatest) + 65536)
 
--- a kept line is of this call
+-- a kept line says of a call what was asked, told and replied
 pub record IsSameCall (k : KeptCall) (c : Kept) : Type 0 where
   pub asked : asks k.operation k.arguments ≡ c.asked
   pub told : k.told ≡ c.told
   pub reply : reply_in k.answer ≡ c.reply
 
--- kept lines, the oldest call first, are of these calls, the newest first
-abbrev pub AreSameCalls : List KeptCall → List Kept → Type 0
-AreSameCalls [] kept = kept ≡ []
-AreSameCalls (k ∷ calls) kept =
-    (others : List Kept) × (last : Kept) × (kept ≡ others ++ last ∷ []) × IsSameCall k last × AreSameCalls calls others
+-- A kept line is of this call of a client, behind which so many calls of it are kept: it has the client's session and the
+-- call's key, the last key that the client has used less so many.
+pub record IsLineFor (client : Client) (behind : ℕ) (k : KeptCall) (c : Kept) : Type 0 where
+  pub session : k.session ≡ client.session
+  pub key : k.key + behind ≡ client.keys
+  pub same : IsSameCall k c
+
+-- kept lines, the oldest call first, are of these calls of a client, the newest first
+abbrev pub AreLinesFor : Client → List KeptCall → List Kept → Type 0
+AreLinesFor client [] kept = kept ≡ []
+AreLinesFor client (k ∷ calls) kept =
+    (others : List Kept) × (last : Kept) × (kept ≡ others ++ last ∷ []) × IsLineFor client (length others) k last
+    × AreLinesFor client calls others
 
 -- the client of this line was known, with this session and this next key; these of its calls are kept
 pub record IsKnown (v : Guests) (c : Client) (kept : List Kept) : Type 0 where
@@ -47,7 +55,7 @@ abbrev pub AreKnown : Guests → List Client → List KeptCall → Type 0
 AreKnown v [] kept = kept ≡ []
 AreKnown v (c ∷ clients) kept =
     (mine : List KeptCall) × (more : List KeptCall) × (calls : List Kept) × (kept ≡ mine ++ more)
-    × IsKnown v c calls × AreSameCalls mine calls × AreKnown v clients more
+    × IsKnown v c calls × AreLinesFor c mine calls × AreKnown v clients more
 
 -- An epoch that begins so may follow one that came to this.
 pub record Follows (o : ObjectForm) (r : Recovered) (f : Opening) : Type 0 where

@@ -1,5 +1,5 @@
 -- An epoch and its clients, up to some line.
-use Rattle.std.specs.Prelude.{◌≡◌, ℕ, Bool, true, false, List, ◌∷◌, ◌++◌, length, None, Result, Ok, Err}
+use Rattle.std.specs.Prelude.{◌≡◌, ℕ, Bool, true, false, List, ◌∷◌, ◌+◌, [], ◌++◌, length, None, Result, Ok, Err}
 use Rattle.decl_core.specs.ObjectForm.{ObjectForm}
 use Rattle.audit_core.specs.View.{told_view}
 use Rattle.audit_core.specs.declared.verdict.Fault.{Fault}
@@ -19,6 +19,7 @@ use Rattle.recover_core.specs.declared.playing.Refused.TheVariants.{Faulty, Odd}
 use Rattle.recover_core.specs.Lines.{IsLine, AreLines, joined}
 use Rattle.recover_core.specs.Carried.{calls_of}
 use Rattle.recover_core.specs.Clients.{Makes, MakeAll}
+use Rattle.recover_core.specs.Odd.{IsOdd}
 
 -- the epoch that a front begins
 abbrev pub begun_by : Opening → Begun
@@ -61,17 +62,28 @@ abbrev pub StepsOn : Bool → Heard → Heard → Type 0
 StepsOn true heard after = (after.running ≡ None) × ((step : Step) × (after.steps ≡ step ∷ heard.steps))
 StepsOn false heard after = (heard.running ≡ None) × (after.running ≡ None → ⊥) × (after.steps ≡ heard.steps)
 
+-- A line has its place and tells a step, and this does not fit the clients, who are those of the front and what the steps
+-- before it made of them.
+pub record IsContradiction (o : ObjectForm) (f : Opening) (now : ℕ) (opened : Guests) (heard : Heard) (line : List ℕ) : Type 0 where
+  pub after : Heard
+  pub told : Tells o (begun_by f) heard line after
+  pub step : Step
+  pub steps : after.steps ≡ step ∷ heard.steps
+  pub clients : Guests
+  pub made : MakeAll f.base f.carried now opened heard.steps clients
+  pub odd : IsOdd f.base f.carried clients step
+
 -- why a line is not taken
-abbrev pub IsRefusal : ObjectForm → Opening → Heard → List ℕ → Refused → Type 0
-IsRefusal o f heard line (Faulty fault) = IsFault o (begun_by f) heard line fault
-IsRefusal o f heard line Odd = Unit {0}
+abbrev pub IsRefusal : ObjectForm → Opening → ℕ → Guests → Heard → List ℕ → Refused → Type 0
+IsRefusal o f now opened heard line (Faulty fault) = IsFault o (begun_by f) heard line fault
+IsRefusal o f now opened heard line Odd = IsContradiction o f now opened heard line
 
 -- what was found in a line
 abbrev pub PlaysSo : ObjectForm → Opening → ℕ → Guests → Heard → List ℕ → Result Bool Refused → Playing → Type 0
 PlaysSo o f now opened heard line (Ok rests) new =
     (after : Heard) × Tells o (begun_by f) heard line after × StepsOn rests heard after
     × PlayStands o f now opened new after
-PlaysSo o f now opened heard line (Err refused) new = IsRefusal o f heard line refused
+PlaysSo o f now opened heard line (Err refused) new = IsRefusal o f now opened heard line refused
 
 abbrev pub Plays : ObjectForm → List ℕ → Playing → Result Bool Refused → Playing → Type 0
 Plays o line old found new = (f : Opening) (now : ℕ) (opened : Guests) (heard : Heard) →
@@ -100,14 +112,27 @@ pub record IsFaultyAt (o : ObjectForm) (f : Opening) (behind : List ℕ) (number
   pub unsound : (more : List (List ℕ)) (heard : Heard) → Tell o (begun_by f) nothing_heard (lines ++ more) heard →
       IsSound o (begun_by f) heard → ⊥
 
+-- The line of this number contradicts those before it, which have their places and are sound.
+pub record IsContradictedAt (o : ObjectForm) (f : Opening) (now : ℕ) (opened : Guests) (behind : List ℕ) (number : ℕ) : Type 0 where
+  pub before : List (List ℕ)
+  pub line : List ℕ
+  pub rest : List ℕ
+  pub each : AreLines (before ++ line ∷ [])
+  pub cut : behind ≡ joined (before ++ line ∷ []) ++ rest
+  pub counted : number ≡ length before + 1
+  pub heard : Heard
+  pub told : Tell o (begun_by f) nothing_heard before heard
+  pub sound : IsSound o (begun_by f) heard
+  pub contradicts : IsContradiction o f now opened heard line
+
 -- why the line of this number is not taken
-abbrev pub IsRefusedAt : ObjectForm → Opening → List ℕ → ℕ → Refused → Type 0
-IsRefusedAt o f behind number (Faulty fault) = IsFaultyAt o f behind number fault
-IsRefusedAt o f behind number Odd = Unit {0}
+abbrev pub IsRefusedAt : ObjectForm → Opening → ℕ → Guests → List ℕ → ℕ → Refused → Type 0
+IsRefusedAt o f now opened behind number (Faulty fault) = IsFaultyAt o f behind number fault
+IsRefusedAt o f now opened behind number Odd = IsContradictedAt o f now opened behind number
 
 -- what was found in all lines
 abbrev pub PlaysAll : ObjectForm → List ℕ → Playing → Result ℕ (ℕ × Refused) → Playing → Type 0
 PlaysAll o behind old (Ok mark) new = (f : Opening) (now : ℕ) (opened : Guests) →
     PlayStands o f now opened old nothing_heard → PlayedTo o f now opened behind mark new
 PlaysAll o behind old (Err refused) new = (f : Opening) (now : ℕ) (opened : Guests) →
-    PlayStands o f now opened old nothing_heard → IsRefusedAt o f behind refused.0 refused.1
+    PlayStands o f now opened old nothing_heard → IsRefusedAt o f now opened behind refused.0 refused.1

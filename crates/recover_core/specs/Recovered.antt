@@ -1,5 +1,5 @@
 -- What is recovered of the text of a journal.
-use Rattle.std.specs.Prelude.{◌≡◌, ◌≢◌, ℕ, ◌+◌, List, [], ◌++◌, length, None, Result, MatchResult}
+use Rattle.std.specs.Prelude.{◌≡◌, ◌≢◌, ◌⊎◌, ℕ, ◌+◌, List, [], ◌++◌, length, None, Result, MatchResult}
 use Rattle.path_tree.specs.Trace.{running_calls}
 use Rattle.path_count.specs.Stands.{StandsFor}
 use Rattle.decl_core.specs.ObjectForm.{ObjectForm}
@@ -21,7 +21,7 @@ use Rattle.recover_core.specs.declared.playing.Refused.TheVariants.{Faulty, Odd}
 use Rattle.recover_core.specs.Lines.{IsLine, AreLines, joined}
 use Rattle.recover_core.specs.Carried.{AreCounted}
 use Rattle.recover_core.specs.Clients.{OpenAll, MakeAll}
-use Rattle.recover_core.specs.Playing.{begun_by, PlayStands, IsFaultyAt}
+use Rattle.recover_core.specs.Playing.{begun_by, PlayStands, IsFaultyAt, IsContradictedAt}
 
 -- no client has come
 abbrev pub nobody : House → Guests
@@ -59,13 +59,26 @@ pub record IsBehind (o : ObjectForm) (h : House) (f : Opening) (bytes : ℕ) (be
   pub source_is : r.source ≡ f.source
   pub base_is : r.base ≡ f.base
 
--- why nothing is recovered of lines behind a front of so many lines
-abbrev pub RefusesBehind : ObjectForm → Opening → ℕ → List ℕ → RecoverFault → Type 0
-RefusesBehind o f lines behind (faults.Front line) = ⊥
-RefusesBehind o f lines behind faults.Changed = behind ≢ []
-RefusesBehind o f lines behind (faults.Contradicts line) = Unit {0}
-RefusesBehind o f lines behind faults.Past = Unit {0}
-RefusesBehind o f lines behind (faults.Line line fault) =
+-- Lines of a front contradict each other: those of calls that wait have not the numbers of their places; or there are
+-- lines of clients or of kept calls, and one of these does not fit those before it (of which no more is said).
+abbrev pub IsOddFront : Opening → Type 0
+IsOddFront f = (AreCounted 0 f.carried → ⊥) ⊎ ((f.clients ≢ []) ⊎ (f.kept ≢ []))
+
+-- each line of a front has its place, and these are the clients that it tells
+pub record HasOpened (h : House) (f : Opening) (opened : Guests) : Type 0 where
+  pub counted : AreCounted 0 f.carried
+  pub opens : OpenAll h.now (nobody h) f.clients f.kept opened
+
+-- Why nothing is recovered of lines behind a front of so many lines. The first that applies is told: a past does not fit
+-- only where all lines of its front fit each other, and a line behind a front is refused only there.
+abbrev pub RefusesBehind : ObjectForm → House → Opening → ℕ → List ℕ → RecoverFault → Type 0
+RefusesBehind o h f lines behind (faults.Front line) = ⊥
+RefusesBehind o h f lines behind faults.Changed = behind ≢ []
+RefusesBehind o h f lines behind (faults.Contradicts line) = IsOddFront f
+    ⊎ ((opened : Guests) × HasOpened h f opened
+    × ((number : ℕ) × (line ≡ lines + number) × IsContradictedAt o f h.now opened behind number))
+RefusesBehind o h f lines behind faults.Past = (opened : Guests) × HasOpened h f opened
+RefusesBehind o h f lines behind (faults.Line line fault) =
     (number : ℕ) × (line ≡ lines + number) × IsFaultyAt o f behind number fault
 
 -- what is told of a line that is not taken
@@ -78,4 +91,4 @@ abbrev pub PlaysBehind : ObjectForm → Playing → Head → FrontSize → List 
 PlaysBehind o p head size behind found = (f : Opening) (h : House) (opened : Guests) →
     PlayStands o f h.now opened p nothing_heard → AreCounted 0 f.carried → OpenAll h.now (nobody h) f.clients f.kept opened →
     head.epoch ≡ f.epoch → head.source ≡ f.source → head.base ≡ f.base →
-    MatchResult found (IsBehind o h f size.bytes behind) (RefusesBehind o f size.lines behind)
+    MatchResult found (IsBehind o h f size.bytes behind) (RefusesBehind o h f size.lines behind)

@@ -6,7 +6,7 @@ ghost use Rattle.front_core.specs.Front.{opening_of};
 ghost use Rattle.front_core.specs.Past.{events_in};
 ghost use Rattle.past_core.specs.Found.{LeavesSame};
 ghost use Rattle.recover_core.specs.Clients.{reply_in};
-ghost use Rattle.recover_core.specs.Chain.{IsSameCall, AreSameCalls, IsKnown, AreKnown, AreNumbered, Follows, Differs};
+ghost use Rattle.recover_core.specs.Chain.{IsSameCall, IsLineFor, AreLinesFor, IsKnown, AreKnown, AreNumbered, Follows, Differs};
 
 use crate::recover::Recovered;
 use decl_core::object::Object;
@@ -32,7 +32,8 @@ pub enum ChainFault {
     Past,
     /// A number may be told again, or numbers are left out that no call can have had.
     Numbers,
-    /// A client was not known, has another session or another next key, or its kept calls are others.
+    /// A client was not known, has another session or another next key, or its kept calls are others or have another
+    /// session or key.
     Clients,
 }
 
@@ -101,7 +102,7 @@ fn are_numbered(base: u64, greatest: u32, next: u64, carried: usize) -> bool
     last <= first && first <= last + 65_536
 }
 
-// Whether a call was kept so.
+// Whether a line says of a call what was asked, told and replied.
 fn is_same_call(call: &KeptCall, kept: &Kept) -> bool
     ensures { IsTrue result ↔ IsSameCall call.now kept.now }
 {
@@ -121,15 +122,43 @@ fn is_same_answer(answer: &Answer, kept: &Kept) -> bool
     }
 }
 
-// Whether these calls, the oldest first, are those that are kept, the newest first.
-fn are_same_calls(calls: &[KeptCall], kept: &[Kept]) -> bool
-    ensures { IsTrue result ↔ AreSameCalls calls.now kept.now }
+// Whether this is the key so many before the last one.
+fn is_before(key: u64, many: usize, last: u64) -> bool
+    ensures { IsTrue result ↔ (key + many ≡ last) }
+{
+    key.checked_add(many as u64) == Some(last)
+}
+
+// Whether a line has the session of a client, and the last key that this has used less so many.
+fn has_key(client: &Client, behind: usize, call: &KeptCall) -> bool
+    ensures { IsTrue result ↔ (call.now.session ≡ client.now.session)
+        × (call.now.key + behind ≡ client.now.keys) }
+{
+    if call.session != client.session {
+        return false;
+    }
+    is_before(call.key, behind, client.keys)
+}
+
+// Whether a line is of this call of a client, behind which so many calls of it are kept.
+fn is_line_for(client: &Client, behind: usize, call: &KeptCall, kept: &Kept) -> bool
+    ensures { IsTrue result ↔ IsLineFor client.now behind call.now kept.now }
+{
+    has_key(client, behind, call) && is_same_call(call, kept)
+}
+
+// Whether these lines, the oldest call first, are of the calls of a client that are kept, the newest first.
+fn are_lines_for(client: &Client, calls: &[KeptCall], kept: &[Kept]) -> bool
+    ensures { IsTrue result ↔ AreLinesFor client.now calls.now kept.now }
 {
     match calls {
         [] => is_none(kept),
         [call, calls @ ..] => match kept.split_last() {
             None => false,
-            Some((last, others)) => is_same_call(call, last) && are_same_calls(calls, others),
+            Some((last, others)) => {
+                is_line_for(client, others.len(), call, last)
+                    && are_lines_for(client, calls, others)
+            }
         },
     }
 }
@@ -171,7 +200,7 @@ fn are_known(guests: &Guests, clients: &[Client], kept: &[KeptCall]) -> bool
             return false;
         }
         let (mine, others) = kept_left.split_at(known.len());
-        if !are_same_calls(mine, known) {
+        if !are_lines_for(client, mine, known) {
             return false;
         }
         clients_left = more;
@@ -183,7 +212,8 @@ fn are_known(guests: &Guests, clients: &[Client], kept: &[KeptCall]) -> bool
 /// Whether an epoch that begins with this front may follow one that came to this: it is the next one; its values are
 /// those; its past leaves what the paths have counted; no number that was told is told again, and none is left out but
 /// such as calls can have had of which no line tells; and its clients were known, with the same sessions, keys and kept
-/// calls. A client may have been forgotten, and a waiting call may be gone.
+/// calls, each of these with the session of its client and with its own key. A client may have been forgotten, and a
+/// waiting call may be gone.
 ///
 /// `None`: it may. The error is that memory was refused.
 pub fn follows(

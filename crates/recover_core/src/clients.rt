@@ -1,11 +1,12 @@
 //! The clients of an object, as lines tell them.
 
-ghost use Rattle.std.specs.Prelude.{◌≡◌, ◌+◌, ◌≤◌, ℕ, length, List, ◌∷◌, IsTrue, IfOk, IfSome, IfNone, Some, None, Ok, true};
+ghost use Rattle.std.specs.Prelude.{◌≡◌, ◌≢◌, ◌⊎◌, ◌+◌, ◌<◌, ◌≤◌, ℕ, length, List, [], ◌∷◌, IsTrue, IfOk, IfSome, IfNone, Some, None, Ok, true, false};
 ghost use Rattle.guest_core.specs.Guests.{Guests as AllGuests, IsNamed, guest_of};
 ghost use Rattle.guest_core.specs.Keys.{asks};
 ghost use Rattle.front_core.specs.declared.front.KeptCall.{KeptCall as KeptCall_of};
 ghost use Rattle.guest_core.specs.Steps.{asked, ended, admitted, Does};
 ghost use Rattle.recover_core.specs.Clients.{Remembers, HasNext, Recalls, Opens, OpenAll};
+ghost use Rattle.recover_core.specs.Odd.{IsHeldUp, CannotCome};
 
 use apply_core::reply::Reply;
 use front_core::front::{Answer, Client, KeptCall};
@@ -34,13 +35,15 @@ fn ask(
     operation: OpId,
     arguments: &[Datum],
 ) -> Result<bool, AllocError>
-    ensures { IfOk result (λ yes. IsTrue yes →
+    ensures yes { IfOk result (λ yes. IsTrue yes →
         Does guests.old (asked session (asks operation arguments.now) (Ok tt)) guests.new) }
+    ensures no { IfOk result (λ yes. yes ≡ false → IsHeldUp guests.old session) }
 {
     match guests.ask(session, operation, arguments) {
         Ok(()) => Ok(true),
+        Err(AskFault::SessionBusy) => Ok(false),
+        Err(AskFault::KeysSpent) => Ok(false),
         Err(AskFault::Memory) => Err(AllocError),
-        Err(_) => Ok(false),
     }
 }
 
@@ -55,8 +58,9 @@ pub(crate) fn remember_ended(
     told: u64,
     reply: &Reply,
 ) -> Result<bool, AllocError>
-    ensures { IfOk result (λ yes. IsTrue yes →
+    ensures yes { IfOk result (λ yes. IsTrue yes →
         Remembers guests.old session (asks operation arguments.now) told (Some reply.now) guests.new) }
+    ensures no { IfOk result (λ yes. yes ≡ false → IsHeldUp guests.old session) }
 {
     if !ask(guests, session, operation, arguments)? {
         return Ok(false);
@@ -75,8 +79,9 @@ pub(crate) fn remember_cancelled(
     arguments: &[Datum],
     told: u64,
 ) -> Result<bool, AllocError>
-    ensures { IfOk result (λ yes. IsTrue yes →
+    ensures yes { IfOk result (λ yes. IsTrue yes →
         Remembers guests.old session (asks operation arguments.now) told None guests.new) }
+    ensures no { IfOk result (λ yes. yes ≡ false → IsHeldUp guests.old session) }
 {
     if !ask(guests, session, operation, arguments)? {
         return Ok(false);
@@ -94,13 +99,16 @@ pub(crate) fn admit(
     first: u64,
     away: u64,
 ) -> Result<bool, AllocError>
-    ensures { IfOk result (λ yes. IsTrue yes →
+    ensures yes { IfOk result (λ yes. IsTrue yes →
         Does guests.old (admitted (guest_of name.now session (Some away) first) (Ok tt)) guests.new) }
+    ensures no { IfOk result (λ yes. yes ≡ false → 0 < first → CannotCome guests.old session) }
 {
     match guests.admit(name, session, first, away) {
         Ok(()) => Ok(true),
+        Err(AdmitFault::BadKey) => Ok(false),
+        Err(AdmitFault::Taken) => Ok(false),
+        Err(AdmitFault::Full) => Ok(false),
         Err(AdmitFault::Memory) => Err(AllocError),
-        Err(_) => Ok(false),
     }
 }
 
@@ -238,7 +246,8 @@ pub(crate) fn open_all(
     clients: &[Client],
     kept: &[KeptCall],
 ) -> Result<Option<Odd>, AllocError>
-    ensures { IfOk result (λ odd. IfNone odd (OpenAll now guests.old clients.now kept.now guests.new)) }
+    ensures none { IfOk result (λ odd. IfNone odd (OpenAll now guests.old clients.now kept.now guests.new)) }
+    ensures some { IfOk result (λ odd. IfSome odd (λ _. (clients.now ≢ []) ⊎ (kept.now ≢ []))) }
 {
     let mut clients_left = clients;
     let mut kept_left = kept;

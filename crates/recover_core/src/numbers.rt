@@ -1,6 +1,6 @@
 //! The numbers that clients are told.
 
-ghost use Rattle.std.specs.Prelude.{◌≡◌, ◌+◌, ◌-◌, ◌↔◌, IsTrue, IfOk, IfSome, slice_get};
+ghost use Rattle.std.specs.Prelude.{◌≡◌, ◌+◌, ◌-◌, ◌<◌, ◌≤◌, ◌^◌, ◌↔◌, IsTrue, IfOk, IfSome, IfNone, slice_get};
 ghost use Rattle.replay_core.specs.Carried.{carried_calls};
 ghost use Rattle.recover_core.specs.Carried.{calls_of, AreCounted, told_by};
 
@@ -21,7 +21,8 @@ pub(crate) struct Numbers {
 impl Numbers {
     // The number that the client of a call was told. `None`: it has more than 64 bits.
     pub(crate) fn told(&self, number: u32) -> Option<u64>
-        ensures { IfSome result (λ told. told ≡ told_by self.now.base self.now.carried.items number) }
+        ensures some { IfSome result (λ told. told ≡ told_by self.now.base self.now.carried.items number) }
+        ensures none { IfNone result (2 ^ 64 ≤ told_by self.now.base self.now.carried.items number) }
     {
         match self.carried.get((number as usize).saturating_sub(1)) {
             Some(call) => Some(call.told),
@@ -61,7 +62,8 @@ pub(crate) fn carried_of(alloc: Global, calls: &[CarriedCall]) -> Result<Vec<Car
 // How many of these calls are left from the first that has not the number of its place, counted from 1: 0 where each
 // has it.
 pub(crate) fn uncounted(calls: &[CarriedCall]) -> usize
-    ensures { result ≡ 0 → AreCounted 0 calls.now }
+    ensures none { result ≡ 0 → AreCounted 0 calls.now }
+    ensures some { 0 < result → AreCounted 0 calls.now → ⊥ }
 {
     let mut rest = calls;
     let mut number: usize = 0;

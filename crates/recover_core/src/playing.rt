@@ -1,11 +1,12 @@
 //! The lines behind a front, played.
 
-ghost use Rattle.std.specs.Prelude.{◌≡◌, ◌+◌, ◌≤◌, ◌<◌, ◌^◌, IsTrue, List, ℕ, IfOk, IfErr, cond, length};
+ghost use Rattle.std.specs.Prelude.{◌≡◌, ◌+◌, ◌≤◌, ◌<◌, ◌^◌, IsTrue, List, ℕ, IfOk, IfErr, cond, length, false};
 ghost use Rattle.audit_core.specs.View.{told_view};
 ghost use Rattle.decl_core.specs.ObjectMap.{object_of};
 ghost use Rattle.replay_core.specs.Steps.{ran, cancelled, named};
 ghost use Rattle.replay_core.specs.Stands.{known_call};
 ghost use Rattle.recover_core.specs.Clients.{Makes};
+ghost use Rattle.recover_core.specs.Odd.{IsOdd, CannotCome, IsOddNote};
 ghost use Rattle.front_core.specs.declared.front.CarriedCall.{CarriedCall as CarriedCall_of};
 ghost use Rattle.recover_core.specs.Playing.{TakesNote, Counts, IsRest, PlaysAll};
 
@@ -62,9 +63,11 @@ fn take_ran(
     known: &Known,
     told: &ToldReply,
 ) -> Result<bool, AllocError>
-    ensures { IfOk result (λ yes. IsTrue yes → (now : ℕ) →
+    ensures yes { IfOk result (λ yes. IsTrue yes → (now : ℕ) →
         Makes numbers.now.base numbers.now.carried.items now guests.old
         (ran (known_call known.now) (told_view told.now)) guests.new) }
+    ensures no { IfOk result (λ yes. yes ≡ false → IsOdd numbers.now.base numbers.now.carried.items guests.old
+        (ran (known_call known.now) (told_view told.now))) }
 {
     let Ok(session) = u16::try_from(known.call.session) else {
         return Ok(false);
@@ -85,9 +88,11 @@ fn take_ran(
 
 // A call that was cancelled is remembered, where its client has a name. False: as of one that ended.
 fn take_cancelled(guests: &mut Guests, numbers: &Numbers, known: &Known) -> Result<bool, AllocError>
-    ensures { IfOk result (λ yes. IsTrue yes → (now : ℕ) →
+    ensures yes { IfOk result (λ yes. IsTrue yes → (now : ℕ) →
         Makes numbers.now.base numbers.now.carried.items now guests.old (cancelled (known_call known.now))
         guests.new) }
+    ensures no { IfOk result (λ yes. yes ≡ false → IsOdd numbers.now.base numbers.now.carried.items guests.old
+        (cancelled (known_call known.now))) }
 {
     let Ok(session) = u16::try_from(known.call.session) else {
         return Ok(false);
@@ -106,8 +111,9 @@ fn take_cancelled(guests: &mut Guests, numbers: &Numbers, known: &Known) -> Resu
 
 // A session gets a name. False: its number is not free, or there are as many names as may be.
 fn take_name(guests: &mut Guests, now: u64, session: u32, name: &Name) -> Result<bool, AllocError>
-    ensures { IfOk result (λ yes. IsTrue yes → (base : ℕ) (carried : List CarriedCall_of) →
+    ensures yes { IfOk result (λ yes. IsTrue yes → (base : ℕ) (carried : List CarriedCall_of) →
         Makes base carried now guests.old (named session name.now) guests.new) }
+    ensures no { IfOk result (λ yes. yes ≡ false → CannotCome guests.old session) }
 {
     let Ok(session) = u16::try_from(session) else {
         return Ok(false);
@@ -117,8 +123,10 @@ fn take_name(guests: &mut Guests, now: u64, session: u32, name: &Name) -> Result
 
 // What a line told is told to the clients. False: it contradicts what was told of them before.
 fn take(guests: &mut Guests, numbers: &Numbers, now: u64, note: &Note) -> Result<bool, AllocError>
-    ensures { IfOk result (λ yes. IsTrue yes →
+    ensures yes { IfOk result (λ yes. IsTrue yes →
         TakesNote numbers.now.base numbers.now.carried.items now guests.old note.now guests.new) }
+    ensures no { IfOk result (λ yes. yes ≡ false →
+        IsOddNote numbers.now.base numbers.now.carried.items guests.old note.now) }
 {
     match note {
         Note::Began => Ok(true),

@@ -9,7 +9,7 @@ ghost use Rattle.replay_core.specs.Steps.{Heard, nothing_heard};
 ghost use Rattle.recover_core.specs.Carried.{AreCounted};
 ghost use Rattle.recover_core.specs.Clients.{OpenAll};
 ghost use Rattle.recover_core.specs.Playing.{PlayStands};
-ghost use Rattle.recover_core.specs.Recovered.{ComesTo, IsBehind, RefusesBehind, PlaysBehind, told_of};
+ghost use Rattle.recover_core.specs.Recovered.{ComesTo, IsBehind, IsOddFront, RefusesBehind, PlaysBehind, told_of};
 
 use crate::clients::{Odd, open_all};
 use crate::numbers::{Numbers, carried_of, uncounted};
@@ -91,8 +91,9 @@ fn open(
     now: u64,
     front: &Front,
 ) -> Result<Option<Odd>, AllocError>
-    ensures { IfOk result (λ odd. IfNone odd (AreCounted 0 front.now.carried.items
+    ensures none { IfOk result (λ odd. IfNone odd (AreCounted 0 front.now.carried.items
         × OpenAll now guests.old front.now.clients.items front.now.kept.items guests.new)) }
+    ensures some { IfOk result (λ odd. IfSome odd (λ _. IsOddFront (opening_of front.now))) }
 {
     let left = uncounted(&front.carried);
     if left > 0 {
@@ -219,7 +220,7 @@ pub fn recover_behind(
     requires bytes { size.bytes + length behind.now < 2 ^ 64 }
     ensures { IfOk result (λ found. MatchResult found
         (IsBehind (object_of object.now) house (opening_of front) size.bytes behind.now)
-        (RefusesBehind (object_of object.now) (opening_of front) size.lines behind.now)) }
+        (RefusesBehind (object_of object.now) house (opening_of front) size.lines behind.now)) }
 {
     if !behind.is_empty() && front.source != source_of(object) {
         return Ok(Err(RecoverFault::Changed));

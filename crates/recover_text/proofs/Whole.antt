@@ -78,21 +78,21 @@ module _ (o : ObjectForm) (h : House) (f : Opening) (text before behind : List �
         whole = whole_rest (front_text o f ++ joined is.lines) is.rest (no_end is.rest is.open_end) (ap whole (sym all) ∙ ended ∙ all);
       }
 
-  refused_so : (fault : RecoverFault) → RefusesBehind o f lines behind fault → Refuses o text fault
-  refused_so fault is = inr (f, behind, rows, cut, subst (λ n. RefusesBehind o f n behind fault) lines_is is)
+  refused_so : (fault : RecoverFault) → RefusesBehind o h f lines behind fault → Refuses o h text fault
+  refused_so fault is = inr (f, behind, rows, cut, subst (λ n. RefusesBehind o h f n behind fault) lines_is is)
 
-  found_so : (found : Result Recovered RecoverFault) → MatchResult found (IsBehind o h f bytes behind) (RefusesBehind o f lines behind) → MatchResult found (IsRead o h text f) (Refuses o text)
+  found_so : (found : Result Recovered RecoverFault) → MatchResult found (IsBehind o h f bytes behind) (RefusesBehind o h f lines behind) → MatchResult found (IsRead o h text f) (Refuses o h text)
   found_so (Ok r) is = recovered_so r is
   found_so (Err fault) is = refused_so fault is
 
   -- what was found behind the front is what was found in the text
-  pub found_in : {E : Type 0} (result : Result (Result Recovered RecoverFault) E) → IfOk result (λ found. MatchResult found (IsBehind o h f bytes behind) (RefusesBehind o f lines behind)) →
-      IfOk result (λ found. MatchResult found (IsRead o h text f) (Refuses o text))
+  pub found_in : {E : Type 0} (result : Result (Result Recovered RecoverFault) E) → IfOk result (λ found. MatchResult found (IsBehind o h f bytes behind) (RefusesBehind o h f lines behind)) →
+      IfOk result (λ found. MatchResult found (IsRead o h text f) (Refuses o h text))
   found_in result = if_ok result found_so
 
 -- what was read with a front is recovered
-pub recovered_by : {E : Type 0} (o : ObjectForm) (h : House) (text : List ℕ) (f : Opening) (result : Result (Result Recovered RecoverFault) E) → IfOk result (λ found. MatchResult found (IsRead o h text f) (Refuses o text)) →
-    IfOk result (λ found. MatchResult found (IsRecovered o h text) (Refuses o text))
+pub recovered_by : {E : Type 0} (o : ObjectForm) (h : House) (text : List ℕ) (f : Opening) (result : Result (Result Recovered RecoverFault) E) → IfOk result (λ found. MatchResult found (IsRead o h text f) (Refuses o h text)) →
+    IfOk result (λ found. MatchResult found (IsRecovered o h text) (Refuses o h text))
 recovered_by o h text f (Ok (Ok r)) is = (f, is)
 recovered_by o h text f (Ok (Err fault)) is = is
 recovered_by o h text f (Err e) is = tt

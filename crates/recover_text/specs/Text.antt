@@ -23,10 +23,10 @@ abbrev pub IsRecovered : ObjectForm → House → List ℕ → Recovered → Typ
 IsRecovered o h text r = (f : Opening) × IsRead o h text f r
 
 -- why nothing is recovered of a text
-abbrev pub Refuses : ObjectForm → List ℕ → RecoverFault → Type 0
-Refuses o text fault = ((line : ℕ) × (fault ≡ faults.Front line))
+abbrev pub Refuses : ObjectForm → House → List ℕ → RecoverFault → Type 0
+Refuses o h text fault = ((line : ℕ) × (fault ≡ faults.Front line))
     ⊎ ((f : Opening) × (behind : List ℕ) × HasRows o f × (text ≡ front_text o f ++ behind)
-    × RefusesBehind o f (line_ends (front_text o f)) behind fault)
+    × RefusesBehind o h f (line_ends (front_text o f)) behind fault)
 
 -- a text begins with a front of this epoch
 abbrev pub BeginsEpoch : ObjectForm → List ℕ → ℕ → Type 0

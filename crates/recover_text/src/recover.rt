@@ -38,7 +38,7 @@ pub(crate) fn recover_front(
     requires ended { whole_of text.now ≡ text.now }
     ensures { IfOk result (λ found. MatchResult found
         (IsRead (object_of object.now) house text.now (opening_of front))
-        (Refuses (object_of object.now) text.now)) }
+        (Refuses (object_of object.now) house text.now)) }
 {
     let (before, behind) = text.split_at(bytes);
     let size = FrontSize {
@@ -60,7 +60,7 @@ pub fn recover(
 ) -> Result<Result<Recovered, RecoverFault>, AllocError>
     ensures { IfOk result (λ found. MatchResult found
         (IsRecovered (object_of object.now) house (recovered text.now))
-        (Refuses (object_of object.now) (recovered text.now))) }
+        (Refuses (object_of object.now) house (recovered text.now))) }
 {
     let text = whole(text);
     match read_front(alloc, object, text)? {

@@ -7,6 +7,7 @@ use Rattle.path_tree.specs.Satisfies.{SatisfiesAll}
 use Rattle.decl_core.specs.ObjectForm.{ObjectForm}
 use Rattle.apply_core.proofs.Histories.{legal_by_one}
 use Rattle.trace_core.specs.Events.{Called, end_of, history_of}
+use Rattle.replay_core.specs.Said.{Says, Asked, a_start}
 use Rattle.replay_core.specs.Steps.{Step, Begun, Heard, nothing_heard, happened_of, trace_by}
 use Rattle.replay_core.specs.Tells.{Tells, Tell, start_told, end_told, cancel_told, name_told}
 use Rattle.replay_core.specs.Sound.{IsSound, IsPlayed, with_running}
@@ -64,20 +65,28 @@ last_of o e first after line c (end_told says was same) runs = absurd (some_none
 last_of o e first after line c (cancel_told says is) runs = absurd (some_none (sym is.rests ∙ runs))
 last_of o e first after line c (name_told says rests is spelled) runs = absurd (some_none (sym rests ∙ runs))
 
+-- a line behind which a call runs tells that it started
+start_said : (o : ObjectForm) (e : Begun) (first after : Heard) (line : List ℕ) (c : Called) → Tells o e first line after → after.running ≡ Some c → (asked : Asked) × Says line (a_start asked)
+start_said o e first after line c (start_told {asked = asked} says is few) runs = (asked, says)
+start_said o e first after line c (end_told says was same) runs = absurd (some_none runs)
+start_said o e first after line c (cancel_told says is) runs = absurd (some_none (sym is.rests ∙ runs))
+start_said o e first after line c (name_told says rests is spelled) runs = absurd (some_none (sym rests ∙ runs))
+
 -- all but the last of these lines
 record AllButOne (o : ObjectForm) (e : Begun) (first after : Heard) (all : List (List ℕ)) : Type 0 where
   pub kept : List (List ℕ)
   pub last : List ℕ
+  pub started : (asked : Asked) × Says last (a_start asked)
   pub cut_so : all ≡ kept ++ last ∷ []
   pub told : Tell o e first kept (record { steps = after.steps; running = None })
 
 but_one : (o : ObjectForm) (e : Begun) (first after : Heard) (line : List ℕ) (more : List (List ℕ)) (c : Called) → Tell o e first (line ∷ more) after → after.running ≡ Some c → AllButOne o e first after (line ∷ more)
 but_one o e first after line [] c told runs =
     let one : Tells o e first line after = subst (Tells o e first line) (sym told.2) told.1 in
-    record { kept = []; last = line; cut_so = refl; told = last_of o e first after line c one runs }
+    record { kept = []; last = line; started = start_said o e first after line c one runs; cut_so = refl; told = last_of o e first after line c one runs }
 but_one o e first after line (l ∷ more) c told runs =
     let rest = but_one o e told.0 after l more c told.2 runs in
-    record { kept = line ∷ rest.kept; last = rest.last; cut_so = ap (λ ls. line ∷ ls) rest.cut_so; told = (told.0, told.1, rest.told) }
+    record { kept = line ∷ rest.kept; last = rest.last; started = rest.started; cut_so = ap (λ ls. line ∷ ls) rest.cut_so; told = (told.0, told.1, rest.told) }
 
 played_by : (o : ObjectForm) (e : Begun) (all : List (List ℕ)) (heard : Heard) (running : Option Called) → heard.running ≡ running → Tell o e nothing_heard all heard → IsSound o e (record { steps = heard.steps; running = None }) →
     IsPlayed o e all (record { steps = heard.steps; running = None })
@@ -91,7 +100,7 @@ played_by o e all heard None is told sound = record {
 played_by o e [] heard (Some c) is told sound = absurd (some_none (sym (ap (λ (h : Heard). h.running) told) ∙ is))
 played_by o e (line ∷ more) heard (Some c) is told sound =
     let one = but_one o e nothing_heard heard line more c told is in
-    record { kept = one.kept; cut = inr (one.last, one.cut_so); told = one.told; rests = refl; sound = sound }
+    record { kept = one.kept; cut = inr (one.last, one.started.0, one.started.1, one.cut_so); told = one.told; rests = refl; sound = sound }
 
 rested_sound : (o : ObjectForm) (e : Begun) (heard : Heard) → IsSound o e heard → IsSound o e (record { steps = heard.steps; running = None })
 rested_sound o e heard s = record { satisfied = rests_satisfied o.paths (trace_by e heard.steps) heard.running s.satisfied; legal = s.legal }

@@ -9,7 +9,7 @@ use Rattle.trace_core.specs.Events.{Called, call_of, history_of, body_at}
 use Rattle.audit_core.specs.Counting.{RefusesFirst}
 use Rattle.audit_core.specs.declared.verdict.Fault.{Fault}
 use Rattle.audit_core.specs.declared.verdict.Fault.TheVariants as faults
-use Rattle.replay_core.specs.Said.{Says, an_end}
+use Rattle.replay_core.specs.Said.{Says, Asked, a_start, an_end}
 use Rattle.replay_core.specs.Steps.{Begun, Heard, ran, nothing_heard, happened_of, trace_by, contents_by}
 use Rattle.replay_core.specs.Tells.{Tells, Tell}
 
@@ -23,9 +23,10 @@ pub record IsSound (o : ObjectForm) (e : Begun) (heard : Heard) : Type 0 where
   pub satisfied : SatisfiesAll o.paths (with_running heard.running (trace_by e heard.steps))
   pub legal : IsLegal (history_of o (happened_of heard.steps)) e.opening
 
--- all of these lines, or all but the last one
+-- all of these lines, or all but the last one, which tells that a call started
 abbrev pub IsCut : List (List ℕ) → List (List ℕ) → Type 0
-IsCut all kept = (all ≡ kept) ⊎ ((line : List ℕ) × (all ≡ kept ++ line ∷ []))
+IsCut all kept =
+    (all ≡ kept) ⊎ ((line : List ℕ) × (asked : Asked) × Says line (a_start asked) × (all ≡ kept ++ line ∷ []))
 
 -- lines that were told and are sound, up to the last one at which no call runs
 pub record IsPlayed (o : ObjectForm) (e : Begun) (all : List (List ℕ)) (heard : Heard) : Type 0 where

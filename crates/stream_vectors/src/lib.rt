@@ -19,6 +19,8 @@ mod kept_clients;
 #[cfg(test)]
 mod kept_epochs;
 #[cfg(test)]
+mod pasts;
+#[cfg(test)]
 mod played;
 #[cfg(test)]
 mod trees;

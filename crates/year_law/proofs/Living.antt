@@ -137,14 +137,14 @@ module _ (o : ObjectForm) (e : Begun) (first all : List Line) (a b : List Step) 
 
   by_cut : (ks kf w : List Line) → all ≡ ks ++ w → IsCut all kf → Tell o e nothing_heard ks (HeardOf a) → Tell o e nothing_heard kf (HeardOf b) → GoesOn a b
   by_cut ks kf w is (inl whole) was now = further ks kf w (sym whole ∙ is) was now
-  by_cut ks kf [] is (inr (last, cut)) was now = shorter ks kf last (sym (append-nil ks) ∙ sym is ∙ cut) was now
-  by_cut ks kf (x ∷ w) is (inr (last, cut)) was now =
+  by_cut ks kf [] is (inr (last, asked, says, cut)) was now = shorter ks kf last (sym (append-nil ks) ∙ sym is ∙ cut) was now
+  by_cut ks kf (x ∷ w) is (inr (last, asked, says, cut)) was now =
       let on = before_last ks kf x last w (sym is ∙ cut) in further ks kf on.0 on.1 was now
 
   -- the cut of the first lines
   by_both : (ks kf rest : List Line) → all ≡ first ++ rest → IsCut first ks → IsCut all kf → Tell o e nothing_heard ks (HeardOf a) → Tell o e nothing_heard kf (HeardOf b) → GoesOn a b
   by_both ks kf rest is (inl whole) cut was now = by_cut ks kf rest (is ∙ ap (λ l. l ++ rest) whole) cut was now
-  by_both ks kf rest is (inr (last, short)) cut was now =
+  by_both ks kf rest is (inr (last, asked, says, short)) cut was now =
       by_cut ks kf (last ∷ rest) (is ∙ ap (λ l. l ++ rest) short ∙ append_assoc ks (last ∷ []) rest) cut was now
 
 pub found_goes_on : FoundGoesOn

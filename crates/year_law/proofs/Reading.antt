@@ -19,7 +19,10 @@ use Rattle.recover_text.specs.Epochs as chains
 use Rattle.recover_text.specs.declared.epochs.Epochs.{Epochs}
 use Rattle.year_law.specs.Year.{Epoch, IsEpoch, Follows, AreEpochs, all_events}
 use Rattle.year_law.specs.Read.{IsReadOf, ReadIsEpoch, AreReadOf, TextsAreEpochs}
+use Rattle.year_law.specs.Keys.{ReadEpoch, texts_of, epochs_of, AreKnownOn, TextsTellKeys}
 use Rattle.year_law.proofs.Sound.{epochs_are_sound}
+use Rattle.year_law.proofs.Keyed.{keys_stand_once}
+use Rattle.year_law.proofs.Within.{within}
 
 -- the numbers of what lines told
 
@@ -112,14 +115,14 @@ positive_later base most (ended c reply ∷ happened) t n p = positive_later bas
 
 -- what texts tell, the newest first, of which the last one came to this
 record Told (o : ObjectForm) (text : List ℕ) (texts : List (List ℕ)) (all : Epochs) : Type 0 where
-  now : Epoch
-  earlier : List Epoch
-  came : Recovered
-  last : all.last ≡ Some came
-  is : IsReadOf o text came now
-  others : AreReadOf o texts earlier
-  epochs : AreEpochs o now earlier
-  positive : Positive (all_events now earlier)
+  now : ReadEpoch o
+  earlier : List (ReadEpoch o)
+  last : all.last ≡ Some now.came
+  text_is : now.text ≡ text
+  texts_are : texts_of o earlier ≡ texts
+  epochs : AreEpochs o now.epoch (epochs_of o earlier)
+  known : AreKnownOn o now earlier
+  positive : Positive (all_events now.epoch (epochs_of o earlier))
 
 abbrev epoch_with : (o : ObjectForm) (text : List ℕ) (before all : Epochs) → chains.IsNext o text before all → ℕ → Epoch
 epoch_with o text before all is base = record {
@@ -145,13 +148,13 @@ told_first o text before all is =
     let e = epoch_with o text before all is 0 in
     let epoch = read_is_epoch o text is.came e r in
     record {
-      now = e;
+      now = record { text = text; came = is.came; epoch = e; is = r };
       earlier = [];
-      came = is.came;
       last = is.last;
-      is = r;
-      others = tt;
+      text_is = refl;
+      texts_are = refl;
       epochs = epoch;
+      known = tt;
       positive = positive_on epoch.most e.told.happened e.told.past epoch.numbers (positive_past e.told.past (before_of (begun_by is.front).past));
     }
 
@@ -160,33 +163,56 @@ may_follow o last came f is may = subst (λ l. chains.MayFollow o l f) is may
 
 told_next : (o : ObjectForm) (text other : List ℕ) (texts_before : List (List ℕ)) (before all : Epochs) → Told o other texts_before before → chains.IsNext o text before all → Told o text (other ∷ texts_before) all
 told_next o text other texts_before before all t is =
-    let b = bounded (all_events t.now t.earlier) t.positive in
+    let d = t.now in
+    let happened = all_events d.epoch (epochs_of o t.earlier) in
+    let b = bounded happened t.positive in
     let r = read_with o text before all is b.0 in
     let e = epoch_with o text before all is b.0 in
     let epoch = read_is_epoch o text is.came e r in
-    let follows = read_follows o other text t.came is.came t.now e t.is r (may_follow o before.last t.came is.front t.last is.follows) in
+    let may = may_follow o before.last d.came is.front t.last is.follows in
+    let follows = read_follows o d.text text d.came is.came d.epoch e d.is r may in
     record {
-      now = e;
-      earlier = t.now ∷ t.earlier;
-      came = is.came;
+      now = record { text = text; came = is.came; epoch = e; is = r };
+      earlier = d ∷ t.earlier;
       last = is.last;
-      is = r;
-      others = ((t.came, t.is), t.others);
+      text_is = refl;
+      texts_are = ap (λ l. l ∷ texts_of o t.earlier) t.text_is ∙ ap (λ l. other ∷ l) t.texts_are;
       epochs = (epoch, follows, b.1, t.epochs);
-      positive = positive_later b.0 epoch.most e.told.happened (all_events t.now t.earlier) epoch.numbers t.positive;
+      known = (may.clients, t.known);
+      positive = positive_later b.0 epoch.most e.told.happened happened epoch.numbers t.positive;
     }
 
 told_all : (o : ObjectForm) (text : List ℕ) (texts_before : List (List ℕ)) (all : Epochs) → chains.AreEpochs o (text ∷ texts_before) all → Told o text texts_before all
 told_all o text [] all (before, none, is) = told_first o text before all is
 told_all o text (other ∷ texts_before) all (before, more, is) = told_next o text other texts_before before all (told_all o other texts_before before more) is
 
+are_read : (o : ObjectForm) (all : List (ReadEpoch o)) → AreReadOf o (texts_of o all) (epochs_of o all)
+are_read o [] = tt
+are_read o (e ∷ all) = ((e.came, e.is), are_read o all)
+
 pub texts_are_epochs : TextsAreEpochs
 texts_are_epochs o text texts_before all are =
+    let t = told_all o text texts_before all are in
+    let texts_are = ap (λ l. l ∷ texts_of o t.earlier) t.text_is ∙ ap (λ l. text ∷ l) t.texts_are in
+    record {
+      last = t.now.epoch;
+      earlier = epochs_of o t.earlier;
+      told = subst (λ l. AreReadOf o l (t.now.epoch ∷ epochs_of o t.earlier)) texts_are (are_read o (t.now ∷ t.earlier));
+      epochs = t.epochs;
+      sound = epochs_are_sound o t.now.epoch (epochs_of o t.earlier) t.epochs;
+    }
+
+-- and keys stand in their history once
+pub texts_tell_keys : TextsTellKeys
+texts_tell_keys o text texts_before all are =
     let t = told_all o text texts_before all are in
     record {
       last = t.now;
       earlier = t.earlier;
-      told = ((t.came, t.is), t.others);
+      told = ap (λ l. l ∷ texts_of o t.earlier) t.text_is ∙ ap (λ l. text ∷ l) t.texts_are;
       epochs = t.epochs;
-      sound = epochs_are_sound o t.now t.earlier t.epochs;
+      sound = epochs_are_sound o t.now.epoch (epochs_of o t.earlier) t.epochs;
+      known = t.known;
+      within = within o t.now t.earlier;
+      keyed = keys_stand_once o t.now t.earlier t.known;
     }

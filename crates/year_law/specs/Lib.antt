@@ -1,3 +1,4 @@
 pub mod Year
 pub mod Read
 pub mod Lives
+pub mod Keys

@@ -1,6 +1,6 @@
 -- One life behind another: what a crash left of a journal, and what a start makes of it.
 use Rattle.std.specs.Prelude.{◌≡◌, ℕ, List, ◌++◌}
-use Rattle.journal_core.specs.Journal.{recovered, IsBetween}
+use Rattle.journal_core.specs.Journal.{IsBetween}
 use Rattle.decl_core.specs.declared.object.Object.{Object}
 use Rattle.decl_core.specs.ObjectForm.{ObjectForm}
 use Rattle.decl_core.specs.ObjectMap.{object_of}

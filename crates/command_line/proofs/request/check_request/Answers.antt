@@ -1,6 +1,6 @@
 use Rattle.std.proofs.Common.{◌∙◌, ℕ, List, [], ◌∷◌, ap, codes}
 use Rattle.clap.specs.Matches.{found_of}
-use Rattle.command_line.proofs.Found.{has_text, text_is}
+use Rattle.command_line.proofs.Found.{flag_is, has_text, text_is}
 use Rattle.command_line.proofs.request.check_request.Goals as goal
 
 pub word_of-requires : goal.word_of-requires
@@ -10,5 +10,6 @@ pub returns : goal.returns
 returns c = λ g h.
     let f = found_of c.args.check.now in (
       h.1 ∙ ap (λ (t : List ℕ). t ∷ []) (text_is f (codes "FILE") h.0 _ h.2 c.word_of.ensures),
-      c.explain_in.ensures g h.3,
+      c.explain_in.ensures g h.4,
+      flag_is f (codes "stuck") g.stuck c.get_flag.result h.3 c.get_flag.ensures.value c.get_flag.ensures.other,
     )

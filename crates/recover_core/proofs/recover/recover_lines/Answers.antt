@@ -22,5 +22,5 @@ pub returns-in-Err : goal.returns-in-Err
 returns-in-Err c = λ f h opened p counted opens epoch source base.
     let o = object_of c.args.object.now in
     let refused = rw c.in-Err.is at c.in_ok-mark.ensures.played in
-    subst (RefusesBehind o f c.args.size.lines c.args.behind.now) (sym c.fault_of.ensures)
-    (refused_so o f c.args.size.lines c.in-Err.number (c.args.size.lines + c.in-Err.number) c.args.behind.now c.in-Err.refused (refused f h.now opened p) refl)
+    subst (RefusesBehind o h f c.args.size.lines c.args.behind.now) (sym c.fault_of.ensures)
+    (refused_so o h f opened c.args.size.lines c.in-Err.number (c.args.size.lines + c.in-Err.number) c.args.behind.now c.in-Err.refused counted opens (refused f h.now opened p) refl)

@@ -1,0 +1,181 @@
+//! What the steps of a schedule answer, as they come about.
+
+ghost use Rattle.std.specs.Prelude.{◌≤◌, ◌<◌, length, IfSome};
+
+use crate::steps::{Call, How, Step};
+use keep_loop::Read;
+use std::alloc::AllocError;
+
+/// A schedule, and how far it is.
+#[derive(Drop)]
+pub struct Plan {
+    steps: Vec<Step>,
+    // So many have come about.
+    there: usize,
+    // Of so many of them it was told who can be read or written.
+    told: usize,
+    // The numbers of the connections that were taken, in order.
+    taken: Vec<u64>,
+}
+
+// What a step answers.
+#[derive(Clone, Copy)]
+pub struct Answer {
+    pub how: How,
+    pub at: usize,
+    pub number: usize,
+}
+
+impl Plan {
+    pub fn new(steps: Vec<Step>, taken: Vec<u64>) -> Plan {
+        Plan {
+            steps,
+            there: 0,
+            told: 0,
+            taken,
+        }
+    }
+
+    // Whether the step at a place has come about, and answers this.
+    fn answers(&self, at: usize, call: Call, place: usize) -> bool {
+        match self.steps.get(at) {
+            Some(step) => step.call == call && step.place == place && !step.is_done,
+            None => false,
+        }
+    }
+
+    // The first step that answers this.
+    fn find(&self, call: Call, place: usize) -> Option<usize> {
+        for at in 0..self.there {
+            if self.answers(at, call, place) {
+                return Some(at);
+            }
+        }
+        None
+    }
+
+    /// What the first step says that answers this, which it does once.
+    pub fn answer(&mut self, call: Call, place: usize) -> Option<Answer> {
+        let at = self.find(call, place)?;
+        let step = self.steps.get_mut(at)?;
+        step.is_done = true;
+        Some(Answer {
+            how: step.how,
+            at,
+            number: step.number,
+        })
+    }
+
+    /// Whether a step says that this fails, or does not.
+    pub fn refuses(&mut self, call: Call, place: usize) -> Option<How> {
+        let answer = self.answer(call, place)?;
+        Some(answer.how)
+    }
+
+    // The place of a connection.
+    fn place_of(&self, who: u64) -> Option<usize> {
+        self.taken.iter().position(|taken| *taken == who)
+    }
+
+    /// All steps come about up to the next one that waits.
+    pub fn go_on(&mut self) {
+        for at in self.there..self.steps.len() {
+            self.there = at + 1;
+            if self.answers(at, Call::Wait, 0) {
+                return;
+            }
+        }
+    }
+
+    // The connection of a step that tells of one.
+    fn who_at(&self, at: usize) -> Option<u64> {
+        let step = self.steps.get(at)?;
+        match step.call {
+            Call::Read | Call::Write => Some(*self.taken.get(step.place)?),
+            _ => None,
+        }
+    }
+
+    /// The connection of the next step that was not told of.
+    pub fn next(&mut self) -> Option<u64> {
+        for at in self.told..self.there {
+            self.told = at + 1;
+            if let Some(who) = self.who_at(at) {
+                return Some(who);
+            }
+        }
+        None
+    }
+
+    /// Whether a connection comes. What came of it before is told of from now on.
+    pub fn comes(&mut self, who: u64) -> bool {
+        let Some(Answer { how: How::Goes, .. }) = self.answer(Call::Accept, 0) else {
+            return false;
+        };
+        self.told = 0;
+        self.taken.push(who).is_ok()
+    }
+
+    /// Reads once, in place of what is in `piece`.
+    pub fn read(&mut self, who: u64, piece: &mut Vec<u8>) -> Result<Read, AllocError> {
+        piece.clear();
+        let Some(place) = self.place_of(who) else {
+            return Ok(Read::Broken);
+        };
+        let Some(answer) = self.answer(Call::Read, place) else {
+            return Ok(Read::NoMore);
+        };
+        match answer.how {
+            How::Ends => return Ok(Read::Ended),
+            How::Fails => return Ok(Read::Broken),
+            How::Goes => {}
+        }
+        if let Some(step) = self.steps.get(answer.at) {
+            piece.extend_from_slice(&step.bytes)?;
+        }
+        match self.find(Call::Read, place) {
+            Some(_) => Ok(Read::More),
+            None => Ok(Read::NoMore),
+        }
+    }
+
+    /// How many bytes a write of so many takes, or `None` where it is refused.
+    pub fn write(&mut self, who: u64, most: usize) -> Option<usize>
+        ensures { IfSome result (λ n. n ≤ most) }
+    {
+        let place = self.place_of(who)?;
+        match self.answer(Call::Write, place) {
+            None => Some(most),
+            Some(answer) => match answer.how {
+                How::Goes => Some(answer.number.min(most)),
+                How::Ends | How::Fails => None,
+            },
+        }
+    }
+
+    // Whether the step at a place says that a connection sends no more.
+    fn ends_at(&self, at: usize, place: usize) -> bool {
+        match self.steps.get(at) {
+            Some(step) => step.how != How::Goes && self.answers(at, Call::Read, place),
+            None => false,
+        }
+    }
+
+    /// Whether a connection sends no more.
+    pub fn is_over(&self, who: u64) -> bool {
+        let Some(place) = self.place_of(who) else {
+            return true;
+        };
+        for at in 0..self.there {
+            if self.ends_at(at, place) {
+                return true;
+            }
+        }
+        false
+    }
+
+    /// Whether the server is to end.
+    pub fn ends(&mut self) -> bool {
+        self.answer(Call::End, 0).is_some() || self.there >= self.steps.len()
+    }
+}

@@ -1,0 +1,112 @@
+//! Pasts that are played, and the short ones that are found in their place.
+
+use crate::fakes::only_object;
+use past_core::finder::short_past;
+use past_core::past::PastEvent::{self, End, Start};
+use past_core::past::counters_behind;
+use path_tree::tree::PathTree;
+use std::alloc::{AllocError, Global};
+
+// Each has the operations a and b, which are 0 and 1.
+const SLOTS: &[u8] = b"object slots; path 3:(a; b) end;
+  entry procedure a; begin end; entry procedure b; begin end; end;
+";
+
+const READERS: &[u8] = b"object readers; path 1:([a], b) end;
+  entry procedure a; begin end; entry procedure b; begin end; end;
+";
+
+const BURST: &[u8] = b"object burst; path [a; b] end;
+  entry procedure a; begin end; entry procedure b; begin end; end;
+";
+
+const FREE: &[u8] = b"object free; path a, b end;
+  entry procedure a; begin end; entry procedure b; begin end; end;
+";
+
+// Events that happen so many times, and others behind them; and how many the short past has that stands for all.
+#[derive(Drop)]
+struct Row {
+    object: &'static [u8],
+    often: &'static [PastEvent],
+    times: u32,
+    behind: &'static [PastEvent],
+    short: usize,
+}
+
+const ROWS: &[Row] = &[
+    Row {
+        object: SLOTS,
+        often: &[Start(0), End(0), Start(1), End(1)],
+        times: 500,
+        behind: &[Start(0), End(0)],
+        short: 2,
+    },
+    Row {
+        object: READERS,
+        often: &[Start(0), Start(0), End(0), End(0)],
+        times: 500,
+        behind: &[Start(1), End(1)],
+        short: 0,
+    },
+    Row {
+        object: BURST,
+        often: &[Start(0), End(0), Start(0), End(0)],
+        times: 500,
+        behind: &[Start(1), End(1)],
+        short: 1_998,
+    },
+    Row {
+        object: FREE,
+        often: &[Start(0), Start(1), End(1), End(0)],
+        times: 500,
+        behind: &[Start(1), End(1)],
+        short: 0,
+    },
+    // As many calls as may start in a past.
+    Row {
+        object: FREE,
+        often: &[Start(0), End(0)],
+        times: 65_535,
+        behind: &[Start(1), End(1)],
+        short: 0,
+    },
+];
+
+// The events of a row.
+fn long_past(alloc: Global, row: &Row) -> Result<Vec<PastEvent>, AllocError> {
+    let mut long = Vec::new(alloc);
+    for _ in 0..row.times {
+        long.extend_from_slice(row.often)?;
+    }
+    long.extend_from_slice(row.behind)?;
+    Ok(long)
+}
+
+// Whether a past is played, and a short one of so many events found in its place.
+fn is_found(
+    alloc: Global,
+    paths: &[PathTree],
+    long: &[PastEvent],
+    short: usize,
+) -> Result<bool, AllocError> {
+    let Some(counters) = counters_behind(alloc, paths, 2, long)? else {
+        return Ok(false);
+    };
+    match short_past(alloc, paths, 2, long, &counters)? {
+        Some(found) => Ok(found.len() == short),
+        None => Ok(false),
+    }
+}
+
+// Catches `long_past_stands_for_itself`, `finish_is_no_turn`, `burst_ends_with_each_call` and `no_past_is_played`.
+#[test]
+fn a_short_past_stands_for_a_long_one(rt: HostRuntime) {
+    let alloc = rt.alloc();
+    for row in ROWS {
+        let object = only_object(&rt, alloc, row.object);
+        let long = long_past(alloc, row).expect(&rt, "memory");
+        let is_found = is_found(alloc, &object.paths, &long, row.short);
+        assert!(rt; is_found.expect(&rt, "memory"));
+    }
+}

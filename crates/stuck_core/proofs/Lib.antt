@@ -1,0 +1,4 @@
+pub mod Forms
+pub mod Going
+pub mod Held
+pub mod Kept

@@ -1,0 +1,49 @@
+// Drives the client for Node: gate/try_client says how.
+import readline from "node:readline";
+import { CallError, connect, Expired, Failed, Lost, NoServer, Refused, Rejected, Cancelled, read, written } from "../../clients/node/pathclient.mjs";
+
+const WORDS = [[Refused, "refused"], [Failed, "failed"], [Cancelled, "cancelled"], [Rejected, "no"], [NoServer, "no server"], [Expired, "expired"],
+  [Lost, "lost"]];
+const say = (line) => process.stdout.write(`${line}\n`);
+const done = (reply) => (reply === undefined ? "done" : `done ${written(reply)}`);
+
+function told(error) {
+  if (!(error instanceof CallError)) throw error;
+  const [, word] = WORDS.find(([kind]) => error instanceof kind);
+  return ["refused", "failed", "no"].includes(word) ? `${word} ${error.word}` : word;
+}
+
+function call(it, line) {
+  const [, within, operation, rest] = /^call (\d+) (\S+) ?(.*)$/.exec(line);
+  const args = (rest.match(/'(?:[^']|'')*'|\d+/g) ?? []).map(read);
+  return it.call(operation, args, { within: Number(within) || undefined }).then(done, told);
+}
+
+let it;
+let ahead = [], left = 0;
+say("can values within name ahead");
+for await (const line of readline.createInterface({ input: process.stdin })) {
+  const [word, ...words] = line.split(" ");
+  if (left) {
+    ahead.push(call(it, line));
+    left -= 1;
+    if (!left) for (const answer of ahead.splice(0)) say(await answer);
+  } else if (word === "open") {
+    await it?.close();
+    it = undefined;
+    const [place, name, wait, client] = words;
+    try {
+      it = await connect(place.includes("/") ? place : Number(place), name, { wait: Number(wait), client: client === "-" ? undefined : client });
+      say("opened");
+    } catch (error) {
+      say(told(error));
+    }
+  } else if (word === "call") say(await call(it, line));
+  else if (word === "ahead") left = Number(words[0]);
+  else {
+    await it.close();
+    it = undefined;
+    say("closed");
+  }
+}
+await it?.close();

@@ -1,0 +1,105 @@
+#!/usr/bin/env python3
+"""Drives the client for Python, by threads or, with the word `aio`, by asyncio: gate/try_client says how."""
+import asyncio
+import pathlib
+import re
+import sys
+
+sys.path.insert(0, str(pathlib.Path(__file__).resolve().parents[2] / "clients" / "python"))
+from pathclient import Cancelled, Expired, Failed, Lost, NoServer, Object, Refused, Rejected, read, written  # noqa: E402
+from pathclient import aio  # noqa: E402
+
+WORDS = {Refused: "refused", Failed: "failed", Cancelled: "cancelled", Rejected: "no", NoServer: "no server", Expired: "expired",
+         Lost: "lost"}
+WITH_WORD = (Refused, Failed, Rejected)
+
+
+def told(came):
+    """What came of a call, as a line."""
+    if isinstance(came, Exception):
+        kind = next((it for it in WORDS if isinstance(came, it)), None)
+        if kind is None:
+            raise came
+        return f"{WORDS[kind]} {came.word}" if kind in WITH_WORD else WORDS[kind]
+    return "done" if came is None else f"done {written(came)}"
+
+
+def called(line):
+    """The words of a `call`: its time, its operation and its arguments."""
+    _, time, operation, rest = (line + " ").split(" ", 3)
+    arguments = [read(it) for it in re.findall(r"'(?:[^']|'')*'|\d+", rest)]
+    return int(time) / 1000 or None, (operation, *arguments)
+
+
+def opened(words):
+    """The place, the name, and the rest of an `open`."""
+    place, name, wait, client = words
+    options = {"wait": int(wait) / 1000, "client": None if client == "-" else client}
+    return place if "/" in place else int(place), name, options
+
+
+def say(line):
+    print(line, flush=True)
+
+
+def by_threads():
+    it = None
+    for line in map(str.rstrip, sys.stdin):
+        word, *words = line.split(" ")
+        try:
+            if word == "open":
+                if it is not None:
+                    it.close()
+                    it = None
+                place, name, options = opened(words)
+                it = Object(place, name, **options)
+                say("opened")
+            elif word == "call":
+                within, call = called(line)
+                say(told(it.call(*call, within=within)))
+            elif word == "ahead":
+                for came in it.ahead(*[called(sys.stdin.readline().rstrip())[1] for _ in range(int(words[0]))]):
+                    say(told(came))
+            elif word == "close":
+                it.close()
+                it = None
+                say("closed")
+        except Exception as error:  # what it raises is what is asked for
+            say(told(error))
+
+
+async def by_tasks():
+    it, loop = None, asyncio.get_running_loop()
+    while line := (await loop.run_in_executor(None, sys.stdin.readline)).rstrip():
+        word, *words = line.split(" ")
+        try:
+            if word == "open":
+                if it is not None:
+                    await it.close()
+                place, name, options = opened(words)
+                it = aio.connect(place, name, **options)
+                await it.open()
+                say("opened")
+            elif word == "call":
+                within, call = called(line)
+                say(told(await it.call(*call, within=within)))
+            elif word == "ahead":
+                lines = [await loop.run_in_executor(None, sys.stdin.readline) for _ in range(int(words[0]))]
+                calls = [it.call(*called(more.rstrip())[1]) for more in lines]
+                for came in await asyncio.gather(*calls, return_exceptions=True):
+                    say(told(came))
+            elif word == "close":
+                await it.close()
+                say("closed")
+        except Exception as error:  # what it raises is what is asked for
+            say(told(error))
+    if it is not None:
+        await it.close()
+
+
+if __name__ == "__main__":
+    say("can values within name ahead")
+    if sys.argv[1:] == ["aio"]:
+        asyncio.run(by_tasks())
+    else:
+        by_threads()
