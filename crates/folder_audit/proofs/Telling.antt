@@ -7,7 +7,7 @@ use Rattle.folder_audit.specs.Said.{GoesOn}
 
 -- an epoch more
 pub next : (o : ObjectForm) (text : List ℕ) (old new : Epochs) → IsNext o text old new → GoesOn o old new
-next o text old new is = λ texts are. (text ∷ texts, (old, (are, is)))
+next o text old new is = λ texts are. (text ∷ texts, (old, are, is))
 
 -- and those behind it
 pub further : (o : ObjectForm) (a b c : Epochs) → GoesOn o a b → GoesOn o b c → GoesOn o a c
