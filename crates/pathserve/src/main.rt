@@ -16,6 +16,7 @@
 //! where it has no answer. What stands here hands them the command line and the streams.
 #![tactic(auto)]
 
+mod ending;
 mod keep;
 mod lack;
 mod pasts;
@@ -32,6 +33,7 @@ use answer_core::source::read_source;
 use answer_core::stuck::check_stuck;
 use command_line::past::Past;
 use command_line::request::{Address, Explain, Keeping, Request, Serving, request_of};
+use ending::{KeepEnd, status_of_keep};
 use exclude_core::analyse::Accepted;
 use explain_line::files::Files;
 use explain_line::kept::Kept;
@@ -365,7 +367,10 @@ fn prepare(rt: &HostRuntime) -> Result<Prepared, Failure> {
     let words: Vec<&str> = words.iter().map(|word| word.as_str()).collect(rt.alloc())?;
     let ended = match request_of(rt.alloc(), words.as_slice()) {
         Ok(Request::Serve(asked)) => return prepare_server(rt, asked),
-        Ok(Request::Keep(asked)) => run_keep(rt, asked, words.as_slice()),
+        Ok(Request::Keep(asked)) => match run_keep(rt, asked, words.as_slice()) {
+            Ok(end) => Ok(status_of_keep(&end)),
+            Err(failure) => Err(failure),
+        },
         Ok(request) => run(rt, request),
         Err(error) => words_end(error, &mut io::writer(rt)),
     };
@@ -544,7 +549,7 @@ fn keep_source(
     asked: Keeping<'_>,
     pasts: &[Past<'_>],
     ears: Ears,
-) -> Result<u8, Failure> {
+) -> Result<KeepEnd, Failure> {
     match judge(rt.alloc(), source)? {
         Judged::Ready(objects) => keep_objects(
             rt,
@@ -565,13 +570,14 @@ fn keep_source(
                 source,
                 None,
                 &mut rt.stderr(),
-            )
+            )?;
+            Ok(KeepEnd::Refused)
         }
     }
 }
 
 // `pathserve keep`.
-fn run_keep(rt: &HostRuntime, asked: Keeping<'_>, words: &[&str]) -> Result<u8, Failure> {
+fn run_keep(rt: &HostRuntime, asked: Keeping<'_>, words: &[&str]) -> Result<KeepEnd, Failure> {
     let pasts = pasts_in(rt.alloc(), words)?;
     let source = match source_at(rt, asked.file) {
         Ok(source) => source,
