@@ -3,9 +3,9 @@ use Rattle.std.proofs.Common.{◌≡◌, ℕ, ◌<◌, ◌≤◌, ◌+◌, List,
 use Rattle.std.proofs.lemmas.Bool.{eqb-false}
 use Rattle.std.specs.Prelude.{Bool, true, false, Option, if◌then◌else◌, ◌==◌, IfSome}
 use Rattle.std.proofs.lemmas.List.{append-nil, append_cancel_left, length-append, nil_from_length}
-use Rattle.post_core.specs.Texts.{Begins, text_at}
-use Rattle.post_core.specs.Turns.{Turn, Gives, Runs, heard_of, notes_by, added_by, said_to}
-use Rattle.keep_loop.specs.Seen.{Happened, Grows, Always, ended_in, came_from, notes_in, added_in, stored_in, kept_in}
+use Rattle.post_core.specs.Texts.{text_at}
+use Rattle.post_core.specs.Turns.{Turn, Gives, Runs, heard_of, notes_by, added_by}
+use Rattle.keep_loop.specs.Seen.{Happened, Grows, Always, ended_in, came_from, added_in, stored_in, kept_in}
 use Rattle.keep_loop.specs.Seen.Happened.{Stored}
 use Rattle.keep_loop.specs.Cuts.{IsCut}
 use Rattle.keep_loop.specs.Stands.{Stands, Rests, IsHonest, HasEnded, Honest, Good, Rested, Ended, Ends, EndsRested, Settles, Fails, FailsRested}

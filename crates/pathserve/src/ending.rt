@@ -54,7 +54,11 @@ pub fn say<W: Write>(writer: &mut W, line: &[u8]) -> Result<(), Failure> {
 }
 
 // `NAME entries K` for each object, in order: so many calls of it finished since the server began.
-fn tell_entries<W: Write>(alloc: Global, objects: &[Hosted], writer: &mut W) -> Result<(), Failure> {
+fn tell_entries<W: Write>(
+    alloc: Global,
+    objects: &[Hosted],
+    writer: &mut W,
+) -> Result<(), Failure> {
     for hosted in objects {
         let entries = hosted.entries();
         let mut line = hosted.name().as_bytes().to_vec(alloc)?;
