@@ -36,11 +36,11 @@ pub enum KeepEnd {
 }
 
 /// The exit status: 0 where each object ended well, else 1.
-pub fn status_of_keep(end: &KeepEnd) -> u8
-    ensures { result ≡ keep_status end.now }
+pub fn status_of_keep(end: KeepEnd) -> u8
+    ensures { result ≡ keep_status end }
 {
     match end {
-        KeepEnd::Whole(_) => ACCEPTED,
+        KeepEnd::Whole(Ended { made: () }) => ACCEPTED,
         KeepEnd::Refused => REFUSED,
     }
 }

@@ -16,6 +16,10 @@
 //! where it has no answer. What stands here hands them the command line and the streams.
 #![tactic(auto)]
 
+ghost use Rattle.std.specs.Prelude.{◌≡◌};
+ghost use Rattle.std.specs.Process.{exit_status as code};
+ghost use Rattle.answer_core.specs.Status.{exit_status_of};
+
 mod ending;
 mod keep;
 mod lack;
@@ -124,7 +128,14 @@ fn main(rt: HostRuntime) -> ExitCode {
     if let Err(failure) = &ended {
         let _ = eprint!(rt; "{failure}");
     }
-    ExitCode::from(exit_status(&ended))
+    code_of(&ended)
+}
+
+// What the process ends with.
+fn code_of(ended: &Result<u8, Failure>) -> ExitCode
+    ensures { code result ≡ exit_status_of ended.now }
+{
+    ExitCode::from(exit_status(ended))
 }
 
 // Opens a folder, if it is one.
@@ -368,7 +379,7 @@ fn prepare(rt: &HostRuntime) -> Result<Prepared, Failure> {
     let ended = match request_of(rt.alloc(), words.as_slice()) {
         Ok(Request::Serve(asked)) => return prepare_server(rt, asked),
         Ok(Request::Keep(asked)) => match run_keep(rt, asked, words.as_slice()) {
-            Ok(end) => Ok(status_of_keep(&end)),
+            Ok(end) => Ok(status_of_keep(end)),
             Err(failure) => Err(failure),
         },
         Ok(request) => run(rt, request),
@@ -628,7 +639,7 @@ fn run(rt: &HostRuntime, request: Request<'_>) -> Result<u8, Failure> {
         Request::Check(path, when, stuck) => run_check(rt, path, when, stuck),
         Request::Run(source, text, when) => run_script(rt, Files { source, text }, when),
         Request::Audit(source, text, when) => run_audit(rt, Files { source, text }, when),
-        // `prepare` has them.
-        Request::Keep(_) | Request::Serve(_) => Ok(0),
+        // `prepare` has them: they do not come here.
+        Request::Keep(_) | Request::Serve(_) => Ok(REFUSED),
     }
 }
