@@ -1,0 +1,5 @@
+pub mod Asked
+pub mod Deeds
+pub mod Moves
+pub mod State
+pub mod Turns
