@@ -452,6 +452,7 @@ impl Table {
 // Whether it is asked to end.
 fn quits(ask: &Result<Ask, AllocError>) -> bool
     ensures yes { result ≡ true → ask.now ≡ Ok asks.Quit }
+    ensures no { result ≡ false → ask.now ≡ Ok asks.Quit → ⊥ }
 {
     match ask {
         Ok(Ask::Quit) => true,

@@ -90,7 +90,7 @@ pub data EndsHeld (place : ℕ) : State → Texts → Texts → State → Type 0
   quits : {old mid new : State} {said added : Texts} → TakesLine place (Ok asks.Quit) old mid →
       EndsAsk place (Ok asks.Quit) mid said added new → EndsHeld place old said added new
   goes_on : {old mid after new : State} {said added more further : Texts} (asked : Result Ask AllocError) →
-      TakesLine place asked old mid → EndsAsk place asked mid said added after →
+      (asked ≡ Ok asks.Quit → ⊥) → TakesLine place asked old mid → EndsAsk place asked mid said added after →
       EndsHeld place after more further new → EndsHeld place old (said ++ more) (added ++ further) new
 
 -- no call of the session waits

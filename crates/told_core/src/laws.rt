@@ -1,6 +1,6 @@
 //! The laws, each a function without a body whose contract it is.
 
-ghost use Rattle.told_core.specs.Laws.{TurnsMove, RunsMove, CancelledIsAsked};
+ghost use Rattle.told_core.specs.Laws.{TurnsMove, CancelledIsAsked};
 
 /// Each turn moves the objects by steps, and the lines that it adds are those of these steps.
 pub fn turns_move()
