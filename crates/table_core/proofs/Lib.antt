@@ -1,2 +1,4 @@
-pub mod Moving
-pub mod Stepping
+pub mod Bringing
+pub mod Objects
+pub mod Peers
+pub mod Telling

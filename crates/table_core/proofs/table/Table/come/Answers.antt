@@ -1,7 +1,0 @@
-use Rattle.table_core.proofs.Moving.{adds_by}
-use Rattle.table_core.proofs.table.Table.come.Goals as goal
-
-pub returns : goal.returns
-returns c =
-    adds_by c.self.inside.objects.items c.args.self.now c.enter_at.new.objects.items c.args.at c.enter_at.new.line.items c.deref.result.now c.args.post.now c.add.new.self
-    c.self.view_is c.in_ok-entered.ensures c.deref.ensures.value c.in_ok-add.ensures

@@ -1,5 +1,0 @@
-use Rattle.table_core.specs.Along.{GoesOn}
-use Rattle.table_core.proofs.table.Table.go_on.Given as goal
-
-abbrev pub invariant-loop : goal.invariant-loop
-invariant-loop l = GoesOn l.fn.self l.fn.post l.self l.post
