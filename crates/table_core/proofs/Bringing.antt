@@ -10,7 +10,7 @@ use Rattle.told_core.specs.State.{Peer, State, told_to, one_text, who_in}
 use Rattle.told_core.specs.Deeds.{Texts, Deed, Nothing, OnlyTold, Then}
 use Rattle.told_core.specs.Asked.{IsRefusal, IsRefused}
 use Rattle.told_core.specs.Turns.{GoesOn}
-use Rattle.told_core.specs.Turns.GoesOn as more
+use Rattle.told_core.specs.Turns.GoesOn.{rests, does}
 use Rattle.table_core.specs.Brings.{Brings, Continues}
 use Rattle.table_core.proofs.Telling.{tells_none, tells_then}
 
@@ -70,11 +70,11 @@ refuses a b old new place line is brings = brings_as (OnlyTold place (line_text 
 -- held lines are done behind others
 goes_then : (a b c : State) (said added more_said more_added : Texts) → GoesOn a said added b → GoesOn b more_said more_added c →
     GoesOn a (said ++ more_said) (added ++ more_added) c
-goes_then a b c said added more_said more_added more.rests two = two
-goes_then a b c said added more_said more_added (more.does {mid = mid} {after = after} {said = s} {added = t} {more = u} {further = v} place asked idle takes heeds later) two =
+goes_then a b c said added more_said more_added rests two = two
+goes_then a b c said added more_said more_added (does mid after s t u v place asked idle takes heeds later) two =
     subst (λ l. GoesOn a l _ c) (sym (append_assoc s u more_said))
     (subst (λ l. GoesOn a _ l c) (sym (append_assoc t v more_added))
-    (more.does {mid = mid} {after = after} {said = s} {added = t} {more = u ++ more_said} {further = v ++ more_added} place asked idle takes heeds (goes_then after b c u v more_said more_added later two)))
+    (does mid after s t (u ++ more_said) (v ++ more_added) place asked idle takes heeds (goes_then after b c u v more_said more_added later two)))
 
 pub continues_by : (a b : Post) (old new : State) → Brings GoesOn a old b new → Continues a old b new
 continues_by a b old new brings p first so = record {
@@ -85,7 +85,7 @@ continues_by a b old new brings p first so = record {
 }
 
 pub goes_nowhere : (a : Post) (s : State) → Brings GoesOn a s a s
-goes_nowhere a s = record { said = []; added = []; tells = tells_none a; is = more.rests }
+goes_nowhere a s = record { said = []; added = []; tells = tells_none a; is = rests }
 
 pub continued : (a b : Post) (old new : State) → Continues a old b new → Brings GoesOn a old b new
 continued a b old new goes = goes a old (goes_nowhere a old)

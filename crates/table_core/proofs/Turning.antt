@@ -24,9 +24,9 @@ use Rattle.told_core.specs.State.{Peer, State, change, changed, comer, holding, 
 use Rattle.told_core.specs.Deeds.{Texts, Deed, Nothing, OnlyTold, Then}
 use Rattle.told_core.specs.Asked.{AnswersCancel, Heeds, Goes}
 use Rattle.told_core.specs.Turns.{IsIdle, HearsLine, HearsLast, HearsAt, TakesLine, GoesOn, EndsAsk, EndsHeld, Withdraws, WithdrawsAt, Leaves, LeavesIf, Comes, IfHere, AllLeave, Notes, place_of}
-use Rattle.told_core.specs.Turns.HearsLine as line
-use Rattle.told_core.specs.Turns.GoesOn as more
-use Rattle.told_core.specs.Turns.EndsHeld as held
+use Rattle.told_core.specs.Turns.HearsLine.{does, cancels, holds, refuses}
+use Rattle.told_core.specs.Turns.GoesOn.{rests, does as does_more}
+use Rattle.told_core.specs.Turns.EndsHeld.{all, quits, goes_on}
 use Rattle.table_core.specs.Brings.{Brings, Continues, EndsSome}
 use Rattle.table_core.specs.Moves.{Gives}
 use Rattle.table_core.specs.Seen.{seen, state_of}
@@ -41,19 +41,19 @@ pub line_done : (a b : Post) (old new : State) (place : ℕ) (line : List ℕ) (
     Brings (HearsLine place line is_whole) a old b new
 line_done a b old new place text is_whole is_open asked idle open asks brings =
     brings_as (Heeds place asked) (HearsLine place text is_whole) a b old new
-    (λ said added is. line.does idle asked (subst (λ o. IfOk asked (Asks o is_whole text)) open asks) is) brings
+    (λ said added is. does idle asked (subst (λ o. IfOk asked (Asks o is_whole text)) open asks) is) brings
 
 pub line_cancels : (a b : Post) (old new : State) (place told : ℕ) (text : List ℕ) (is_whole : Bool) → (IsIdle old place → ⊥) → is_whole ≡ true →
     Reads cancel_in (λ n. n) text (Some told) → Brings (AnswersCancel place told) a old b new → Brings (HearsLine place text is_whole) a old b new
 line_cancels a b old new place told text is_whole busy whole reads brings =
-    brings_as (AnswersCancel place told) (HearsLine place text is_whole) a b old new (λ said added is. line.cancels busy whole told reads is) brings
+    brings_as (AnswersCancel place told) (HearsLine place text is_whole) a b old new (λ said added is. cancels busy whole told reads is) brings
 
 pub line_held : (a : Post) (objects : List _) (old new : Clients) (place : ℕ) (text : List ℕ) (is_whole : Bool) → (IsIdle (state_of objects old) place → ⊥) →
     peers_of new ≡ change (peers_of old) place (holding text is_whole) → Brings (HearsLine place text is_whole) a (state_of objects old) a (state_of objects new)
 line_held a objects old new place text is_whole busy peers =
     subst (λ (s : State). Brings (HearsLine place text is_whole) a (state_of objects old) a s)
     (sym (peers_are objects new (change (peers_of old) place (holding text is_whole)) peers))
-    (record { said = []; added = []; tells = tells_none a; is = line.holds busy })
+    (record { said = []; added = []; tells = tells_none a; is = holds busy })
 
 pub line_refused : (a b : Post) (objects : List _) (old mid : Clients) (new : State) (place : ℕ) (text : List ℕ) (is_whole : Bool) →
     (IsIdle (state_of objects old) place → ⊥) → peers_of mid ≡ peers_of old →
@@ -61,7 +61,7 @@ pub line_refused : (a b : Post) (objects : List _) (old mid : Clients) (new : St
     Brings (HearsLine place text is_whole) a (state_of objects old) b new
 line_refused a b objects old mid new place text is_whole busy same brings =
     brings_as (OnlyTold place (line_text (lines.Unsubmitted faults.Memory))) (HearsLine place text is_whole) a b (state_of objects old) new
-    (λ said added is. line.refuses busy is)
+    (λ said added is. refuses busy is)
     (subst (λ (s : State). Brings (OnlyTold place (line_text (lines.Unsubmitted faults.Memory))) a s b new) (peers_are objects mid (peers_of old) same) brings)
 
 -- the next held line is done
@@ -72,7 +72,7 @@ goes_by a b old mid new place asked idle takes brings = continues_by a b old new
   added = brings.added;
   tells = brings.tells;
   is = subst (λ l. GoesOn old l brings.added new) (append-nil brings.said)
-      (subst (λ l. GoesOn old (brings.said ++ []) l new) (append-nil brings.added) (more.does place asked idle takes brings.is more.rests));
+      (subst (λ l. GoesOn old (brings.said ++ []) l new) (append-nil brings.added) (does_more mid new brings.said brings.added [] [] place asked idle takes brings.is rests));
 })
 
 -- the same is seen
@@ -91,14 +91,14 @@ ends_more a b old mid new place asked other takes brings = record {
   said = brings.said;
   added = brings.added;
   tells = brings.tells;
-  more = λ further_said further last later. held.goes_on asked other takes brings.is later;
+  more = λ further_said further last later. goes_on mid new brings.said brings.added further_said further asked other takes brings.is later;
 }
 
 pub ends_last : (a b : Post) (old mid new : State) (place : ℕ) (asked : Result Ask AllocError) → asked ≡ Ok asks.Quit → TakesLine place asked old mid →
     Brings (EndsAsk place asked) a mid b new → Brings (EndsHeld place) a old b new
 ends_last a b old mid new place asked is takes brings =
     brings_from brings.said brings.added brings.tells
-    (held.quits (subst (λ (r : Result Ask AllocError). TakesLine place r old mid) is takes)
+    (quits mid (subst (λ (r : Result Ask AllocError). TakesLine place r old mid) is takes)
     (subst (λ (r : Result Ask AllocError). EndsAsk place r mid brings.said brings.added new) is brings.is))
   where
     brings_from : (said added : Texts) → Tells a b said added → EndsHeld place old said added new → Brings (EndsHeld place) a old b new
@@ -108,14 +108,14 @@ pub ends_none : (a : Post) (objects : List _) (old new : Clients) (place : ℕ) 
     Brings (EndsHeld place) a (state_of objects old) a (state_of objects new)
 ends_none a objects old new place none same =
     subst (λ (s : State). Brings (EndsHeld place) a (state_of objects old) a s) (sym (peers_are objects new (peers_of old) same))
-    (record { said = []; added = []; tells = tells_none a; is = held.all none })
+    (record { said = []; added = []; tells = tells_none a; is = all none })
 
 pub some_then_all : (a b c : Post) (old mid new : State) (place : ℕ) → EndsSome place a old b mid → Brings (EndsHeld place) b mid c new → Brings (EndsHeld place) a old c new
-some_then_all a b c old mid new place some all = record {
-  said = some.said ++ all.said;
-  added = some.added ++ all.added;
-  tells = tells_then a b c some.said all.said some.added all.added some.tells all.tells;
-  is = some.more all.said all.added new all.is;
+some_then_all a b c old mid new place some rest = record {
+  said = some.said ++ rest.said;
+  added = some.added ++ rest.added;
+  tells = tells_then a b c some.said rest.said some.added rest.added some.tells rest.tells;
+  is = some.more rest.said rest.added new rest.is;
 }
 
 pub some_then : (a b c : Post) (old mid new : State) (place : ℕ) → EndsSome place a old b mid → EndsSome place b mid c new → EndsSome place a old c new
@@ -176,8 +176,8 @@ pub all_none : (a : Post) (s : State) → Brings (AllLeave zero) a s a s
 all_none a s = brings_none a s
 
 pub all_more : (a b c : Post) (old mid new : State) (n : ℕ) → Brings (AllLeave n) a old b mid → Brings (LeavesIf n) b mid c new → Brings (AllLeave (n + 1)) a old c new
-all_more a b c old mid new n all one =
-    subst (λ k. Brings (AllLeave k) a old c new) (let e : suc n ≡ n + 1 = omega arith in e) (brings_then (AllLeave n) (LeavesIf n) a b c old mid new all one)
+all_more a b c old mid new n before one =
+    subst (λ k. Brings (AllLeave k) a old c new) (let e : suc n ≡ n + 1 = omega arith in e) (brings_then (AllLeave n) (LeavesIf n) a b c old mid new before one)
 
 -- nobody is there
 pub not_here : (a : Post) (s : State) (who : ℕ) (deed : ℕ → Deed) → (who_at s (place_of s who) ≡ Some who → ⊥) → Brings (IfHere who deed) a s a s

@@ -7,6 +7,9 @@ use Rattle.live_core.specs.declared.call.Ran.{Ran}
 use Rattle.client_core.specs.declared.ask.Ask.{Ask}
 use Rattle.client_core.specs.declared.ask.Ask.TheVariants as asks
 use Rattle.client_core.specs.declared.client.Opened.{Opened}
+use Rattle.decl_core.specs.ObjectMap.{object_of}
+use Rattle.live_core.specs.Lines.{all_lines}
+use Rattle.hosted_core.specs.Lines.{entered_lines}
 use Rattle.hosted_core.specs.Scene.{Scene}
 use Rattle.hosted_core.specs.Steps.{Step, Steps, does, comes, gets_number, leaves, calls, cancels}
 use Rattle.told_core.specs.State.{State}
@@ -53,7 +56,7 @@ opens_bare_moves place name old new said added is = by_keeping (OpensBare place 
 opens_as_moves : (place : ℕ) (name client : List ℕ) → MovesBy (OpensAs place name client)
 opens_as_moves place name client old new said added is =
     subst (λ (a : Texts). Moves old.objects a new.objects) (sym is.lines)
-    (subst (λ (s : State). Moves old.objects _ s.objects) (sym is.left)
+    (subst (λ (s : State). Moves old.objects ((is.at, entered_lines client (Ok is.entered)) ∷ []) s.objects) (sym is.left)
     (moves_one old.objects is.at is.object _ _ is.there (does (comes client is.now (Ok is.entered) is.guests is.enters))))
 
 opens_moves : (place : ℕ) (name : List ℕ) (client : Option (List ℕ)) → MovesBy (Opens place name client)
@@ -77,7 +80,7 @@ submits_moves : (place : ℕ) (seat : Opened) (operation : ℕ) (arguments : Lis
 submits_moves place seat operation arguments old new said added is =
     let same = (all_end_keeps seat.object is.after is.taken.ran.items _ new is.ended [] is.ends).0 in
     subst (λ (a : Texts). Moves old.objects a new.objects) (sym is.lines)
-    (subst (λ (l : List Scene). Moves old.objects _ l) (sym same)
+    (subst (λ (l : List Scene). Moves old.objects ((seat.object, all_lines (object_of is.before.hall.object) is.taken.ran.items) ∷ []) l) (sym same)
     (moves_one old.objects seat.object is.before is.after _ is.there (does (calls seat.session operation arguments is.taken is.does))))
 
 gets_moves : (place : ℕ) (old : State) (opened seat : Opened) (new : State) → GetsNumber place old opened seat new → Moves old.objects [] new.objects
@@ -114,7 +117,7 @@ pub lets_go_moves : (at session number : ℕ) → MovesBy (LetsGo at session num
 lets_go_moves at session number old new said added is =
     let same = (ends_keeps at session _ _ new said [] is.ends).0 in
     subst (λ (a : Texts). Moves old.objects a new.objects) (sym is.lines)
-    (subst (λ (l : List Scene). Moves old.objects _ l) (sym same)
+    (subst (λ (l : List Scene). Moves old.objects ((at, is.line) ∷ []) l) (sym same)
     (moves_one old.objects at is.object is.after _ is.there (does (cancels session number is.line is.cancels))))
 
 pub cancel_moves : (place told : ℕ) → MovesBy (AnswersCancel place told)

@@ -15,8 +15,10 @@ use Rattle.told_core.specs.Deeds.{Texts, Deed, Nothing, OnlyTold, Then}
 use Rattle.told_core.specs.Asked.{Goes}
 use Rattle.told_core.specs.Laws.{TurnsMove}
 use Rattle.told_core.specs.Moves.{Moves}
-use Rattle.told_core.specs.Turns.{HearsLine, does, cancels, holds, refuses, HearsLast, HearsAt, TakesLine, GoesOn, rests, EndsAsk, EndsHeld, all, quits, goes_on, Withdraws, WithdrawsAt, Leaves, LeavesIf, Comes, IfHere, AllLeave, Notes, Gives, place_of}
-use Rattle.told_core.specs.Turns.GoesOn as more
+use Rattle.told_core.specs.Turns.HearsLine.{does, cancels, holds, refuses}
+use Rattle.told_core.specs.Turns.GoesOn.{rests, does as does_more}
+use Rattle.told_core.specs.Turns.EndsHeld.{all, quits, goes_on}
+use Rattle.told_core.specs.Turns.{HearsLine, HearsLast, HearsAt, TakesLine, GoesOn, EndsAsk, EndsHeld, Withdraws, WithdrawsAt, Leaves, LeavesIf, Comes, IfHere, AllLeave, Notes, Gives, place_of}
 use Rattle.told_core.proofs.Moving.{moves_none, moves_then}
 use Rattle.told_core.proofs.Doing.{MovesBy, Keeps, by_keeping, nothing_keeps, told_keeps, then_moves, heeds_moves, cancel_moves, lets_go_moves, goes_moves}
 
@@ -48,8 +50,8 @@ from_same : (old mid new : State) (added : Texts) → mid.objects ≡ old.object
 from_same old mid new added same moves = subst (λ (l : List _). Moves l added new.objects) same moves
 
 goes_on_moves : MovesBy GoesOn
-goes_on_moves old new said added more.rests = moves_none old.objects
-goes_on_moves old new said added (more.does {mid = mid} {after = after} {said = one} {added = first} {more = two} {further = further} place asked idle takes heeds later) =
+goes_on_moves old new said added rests = moves_none old.objects
+goes_on_moves old new said added (does_more mid after one first two further place asked idle takes heeds later) =
     moves_then old.objects after.objects new.objects first further
     (from_same old mid after first (takes_same place asked old mid takes) (heeds_moves place asked mid after one first heeds))
     (goes_on_moves after new two further later)
@@ -64,9 +66,9 @@ ends_ask_moves place (Err e) = told_moves place _
 
 held_moves : (place : ℕ) → MovesBy (EndsHeld place)
 held_moves place old new said added (all none) = moves_none old.objects
-held_moves place old new said added (quits {mid = mid} takes is) =
+held_moves place old new said added (quits mid takes is) =
     from_same old mid new added (takes_same place (Ok asks.Quit) old mid takes) (ends_ask_moves place (Ok asks.Quit) mid new said added is)
-held_moves place old new said added (goes_on {mid = mid} {after = after} {said = one} {added = first} {more = two} {further = further} asked other takes is later) =
+held_moves place old new said added (goes_on mid after one first two further asked other takes is later) =
     moves_then old.objects after.objects new.objects first further
     (from_same old mid after first (takes_same place asked old mid takes) (ends_ask_moves place asked mid after one first is))
     (held_moves place after new two further later)

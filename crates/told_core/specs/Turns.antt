@@ -71,7 +71,7 @@ pub record TakesLine (place : ℕ) (asked : Result Ask AllocError) (old new : St
 -- held lines are done, each of one of whom no call waits
 pub data GoesOn : State → Texts → Texts → State → Type 0 where
   rests : {old : State} → GoesOn old [] [] old
-  does : {old mid after new : State} {said added more further : Texts} (place : ℕ) (asked : Result Ask AllocError) →
+  does : {old new : State} (mid after : State) (said added more further : Texts) (place : ℕ) (asked : Result Ask AllocError) →
       waits_at old place ≡ false → TakesLine place asked old mid → Heeds place asked mid said added after →
       GoesOn after more further new → GoesOn old (said ++ more) (added ++ further) new
 
@@ -87,9 +87,9 @@ EndsAsk place (Err e) = OnlyTold place (line_text (lines.Unsubmitted faults.Gone
 -- each held line of one that has left is answered, in order, up to a `quit`
 pub data EndsHeld (place : ℕ) : State → Texts → Texts → State → Type 0 where
   all : {old : State} → NoLineFeed (held_at old place) → EndsHeld place old [] [] old
-  quits : {old mid new : State} {said added : Texts} → TakesLine place (Ok asks.Quit) old mid →
+  quits : {old new : State} {said added : Texts} (mid : State) → TakesLine place (Ok asks.Quit) old mid →
       EndsAsk place (Ok asks.Quit) mid said added new → EndsHeld place old said added new
-  goes_on : {old mid after new : State} {said added more further : Texts} (asked : Result Ask AllocError) →
+  goes_on : {old new : State} (mid after : State) (said added more further : Texts) (asked : Result Ask AllocError) →
       (asked ≡ Ok asks.Quit → ⊥) → TakesLine place asked old mid → EndsAsk place asked mid said added after →
       EndsHeld place after more further new → EndsHeld place old (said ++ more) (added ++ further) new
 
