@@ -147,7 +147,7 @@ leaves_of old new peers place session now opened by (inr none) =
 
 pub goes_from : (old mid : State) (clients : Clients) (place : ℕ) → LeavesOf place old mid →
     peers_of clients ≡ change mid.peers place (λ p. nobody) → Goes place old [] [] (state_of mid.objects clients)
-goes_from old mid clients place leaves is = (refl, refl, mid, leaves, peers_are mid.objects clients (change mid.peers place (λ p. nobody)) is)
+goes_from old mid clients place leaves is = (refl, refl, (mid, leaves, peers_are mid.objects clients (change mid.peers place (λ p. nobody)) is))
 
 pub quits_by : (a b c : Post) (old mid new : State) (place : ℕ) → Brings (OnlyTold place bye_text) a old b mid → Tells b c [] [] → Goes place mid [] [] new →
     Brings (Quits place) a old c new

@@ -131,10 +131,10 @@ leaves_moves place old new is =
     (moves_quiet old.objects is.opened.object is.object _ is.there (does (leaves is.opened.session is.now is.was_here is.guests is.leaves)))
 
 pub goes_moves : (place : ℕ) → MovesBy (Goes place)
-goes_moves place old new said added (none, lines, mid, inl is, left) =
+goes_moves place old new said added (none, lines, (mid, inl is, left)) =
     subst (λ (a : Texts). Moves old.objects a new.objects) (sym lines)
     (subst (λ (s : State). Moves old.objects [] s.objects) (sym left) (leaves_moves place old mid is))
-goes_moves place old new said added (none, lines, mid, inr is, left) =
+goes_moves place old new said added (none, lines, (mid, inr is, left)) =
     subst (λ (a : Texts). Moves old.objects a new.objects) (sym lines)
     (subst (λ (s : State). Moves old.objects [] s.objects) (sym left) (subst (λ (s : State). Moves old.objects [] s.objects) (sym is.1) (moves_none old.objects)))
 
