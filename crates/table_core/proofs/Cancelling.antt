@@ -108,7 +108,7 @@ one_ended a b c old mid new place at session told stays brings =
     })
 
 lets_go_by : (old mid new : State) (at session number : ℕ) (a b : Post) (said added : Texts) (go : HasLetGo at session number a old b mid) →
-    Ends at session (withdrawn_text number) mid said added new → LetsGo at session number old said ((at, go.line) ∷ []) new
+    Ends at session number (withdrawn_text number) mid said added new → LetsGo at session number old said ((at, go.line) ∷ []) new
 lets_go_by old mid new at session number a b said added go ends = record {
   object = go.object;
   there = go.there;
@@ -116,21 +116,18 @@ lets_go_by old mid new at session number a b said added go ends = record {
   line = go.line;
   cancels = go.cancels;
   lines = refl;
-  ends = subst (λ (l : Texts). Ends at session (withdrawn_text number) (with_object old at go.after) said l new)
-      (ends_keeps at session (withdrawn_text number) mid new said added ends).1
-      (subst (λ (s : State). Ends at session (withdrawn_text number) s said added new) go.adds.left ends);
+  ends = subst (λ (l : Texts). Ends at session number (withdrawn_text number) (with_object old at go.after) said l new)
+      (ends_keeps at session number (withdrawn_text number) mid new said added ends).1
+      (subst (λ (s : State). Ends at session number (withdrawn_text number) s said added new) go.adds.left ends);
 }
-
-no_more : (at session : ℕ) (text : List ℕ) (line : Texts) (old new : State) (said added : Texts) → Ends at session text old said added new → line ++ added ≡ line ++ []
-no_more at session text line old new said added ends = ap (λ (l : Texts). line ++ l) (ends_keeps at session text old new said added ends).1
 
 pub one_cancelled : (a b c d : Post) (old mid told_mid new : State) (place at session told number : ℕ) → HasLetGo at session number a old b mid →
     Brings (OnlyTold place (cancelled_line told (cancel_name answers.Cancelled))) b mid c told_mid →
-    Brings (Ends at session (withdrawn_text number)) c told_mid d new → Brings (CancelsOne place at session told) a old d new
+    Brings (Ends at session number (withdrawn_text number)) c told_mid d new → Brings (CancelsOne place at session told) a old d new
 one_cancelled a b c d old mid told_mid new place at session told number go tells ends =
-    let ends_mid : Ends at session (withdrawn_text number) mid ends.said ends.added new =
-      subst (λ (s : State). Ends at session (withdrawn_text number) s ends.said ends.added new) tells.is.left ends.is in
-    let none : ends.added ≡ [] = (ends_keeps at session (withdrawn_text number) told_mid new ends.said ends.added ends.is).1 in
+    let ends_mid : Ends at session number (withdrawn_text number) mid ends.said ends.added new =
+      subst (λ (s : State). Ends at session number (withdrawn_text number) s ends.said ends.added new) tells.is.left ends.is in
+    let none : ends.added ≡ [] = (ends_keeps at session number (withdrawn_text number) told_mid new ends.said ends.added ends.is).1 in
     record {
       said = tells.said ++ ends.said;
       added = (at, go.line) ∷ [];
@@ -155,9 +152,9 @@ withdraws_none a b old new at session stays = record {
 }
 
 pub withdraws_one : (a b c : Post) (old mid new : State) (at session number : ℕ) → HasLetGo at session number a old b mid →
-    Brings (Ends at session (withdrawn_text number)) b mid c new → Brings (Withdraws at session) a old c new
+    Brings (Ends at session number (withdrawn_text number)) b mid c new → Brings (Withdraws at session) a old c new
 withdraws_one a b c old mid new at session number go ends =
-    let none : ends.added ≡ [] = (ends_keeps at session (withdrawn_text number) mid new ends.said ends.added ends.is).1 in
+    let none : ends.added ≡ [] = (ends_keeps at session number (withdrawn_text number) mid new ends.said ends.added ends.is).1 in
     record {
       said = ends.said;
       added = (at, go.line) ∷ [];

@@ -45,10 +45,10 @@ opened_for a b objects old new place text opened tells is = record {
 }
 
 bare : ℕ → Opened
-bare at = record { object = at; session = 0; is_named = false; waits = false; calls = 0 }
+bare at = record { object = at; session = 0; is_named = false; waits = false; calls = 0; told = 0 }
 
 pub opens_bare : (a b : Post) (old new : State) (place at : ℕ) (name : List ℕ) → IsNamed old.objects at name →
-    Brings (TellsOpened place (opened_text name None) (record { object = at; session = 0; is_named = false; waits = false; calls = 0 })) a old b new →
+    Brings (TellsOpened place (opened_text name None) (record { object = at; session = 0; is_named = false; waits = false; calls = 0; told = 0 })) a old b new →
     Brings (OpensBare place name) a old b new
 opens_bare a b old new place at name named brings =
     brings_as (TellsOpened place (opened_text name None) (bare at)) (OpensBare place name) a b old new
@@ -76,7 +76,7 @@ refused_behind a b c old mid new place line is stays brings =
 pub opens_as : (a b c : Post) (old mid new : State) (place at : ℕ) (name client : List ℕ) (entered : Entered) → IsNamed old.objects at name →
     HasCome at client entered a old b mid →
     Brings (TellsOpened place (opened_text name (Some entered.next))
-      (record { object = at; session = entered.session; is_named = true; waits = false; calls = 0 })) b mid c new →
+      (record { object = at; session = entered.session; is_named = true; waits = false; calls = 0; told = 0 })) b mid c new →
     Brings (Opens place name (Some client)) a old c new
 opens_as a b c old mid new place at name client entered named come brings =
     let same : named.object ≡ come.object = same_Some named.object come.object (sym named.there ∙ come.there) in
@@ -100,7 +100,7 @@ opens_as a b c old mid new place at name client entered named come brings =
     }
   where
     seat : ℕ → Entered → Opened
-    seat at entered = record { object = at; session = entered.session; is_named = true; waits = false; calls = 0 }
+    seat at entered = record { object = at; session = entered.session; is_named = true; waits = false; calls = 0; told = 0 }
 
 pub comes_none : (a : Post) (old new : List Scene) (peers : List Peer) → new ≡ old → Stays a (of old peers) a (of new peers)
 comes_none a old new peers is = record { tells = tells_none a; left = objects_are old new peers is }

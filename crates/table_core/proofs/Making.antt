@@ -257,14 +257,14 @@ submit_taken a b c old mid new place seat operation arguments taken made tells =
         ended = brings.is.ended;
         told = brings.is.told ∙ ap (λ (s : State). told_to s.peers place (accepted_text (told_of made.after taken.number)) ++ brings.is.ended) made.adds.left;
         lines = ap (λ l. (seat.object, line) ∷ l) brings.is.lines;
-        ends = subst (λ (s : State). AllEnd seat.object made.after taken.ran.items (changed s place (opening (counted seat))) brings.is.ended [] new) made.adds.left brings.is.ends;
+        ends = subst (λ (s : State). AllEnd seat.object made.after taken.ran.items (changed s place (opening (counted (told_of made.after taken.number) seat))) brings.is.ended [] new) made.adds.left brings.is.ends;
       });
     }
 
 -- it is told, and all that ran
 pub taken_by : (a b c : Post) (objects : List Scene) (old mid : Clients) (new : State) (place told : ℕ) (seat : Opened) (taken : Taken) (object : Scene) →
     told ≡ told_of object taken.number → Tells a b (told_to (peers_of old) place (accepted_text told)) [] →
-    peers_of mid ≡ change (peers_of old) place (opening (counted seat)) →
+    peers_of mid ≡ change (peers_of old) place (opening (counted told seat)) →
     Brings (AllEnd seat.object object taken.ran.items) b (state_of objects mid) c new → Brings (TellsTaken place seat taken object) a (state_of objects old) c new
 taken_by a b c objects old mid new place told seat taken object is tells peers brings =
     let none : brings.added ≡ [] = (all_end_keeps seat.object object taken.ran.items (state_of objects mid) new brings.said brings.added brings.is).1 in
@@ -277,9 +277,9 @@ taken_by a b c objects old mid new place told seat taken object is tells peers b
         ended = brings.said;
         told = ap (λ n. text (accepted_text n) ++ brings.said) is;
         lines = none;
-        ends = subst (λ (l : Texts). AllEnd seat.object object taken.ran.items (of objects (change (peers_of old) place (opening (counted seat)))) brings.said l new) none
+        ends = subst (λ (l : Texts). AllEnd seat.object object taken.ran.items (of objects (change (peers_of old) place (opening (counted (told_of object taken.number) seat)))) brings.said l new) none
             (subst (λ (s : State). AllEnd seat.object object taken.ran.items s brings.said brings.added new)
-            (peers_are objects mid (change (peers_of old) place (opening (counted seat))) peers) brings.is);
+            (peers_are objects mid (change (peers_of old) place (opening (counted (told_of object taken.number) seat))) (peers ∙ ap (λ n. change (peers_of old) place (opening (counted n seat))) is)) brings.is);
       };
     }
 
@@ -289,13 +289,13 @@ none_end a s at object all is =
     (record { said = []; added = []; tells = tells_none a; is = record { told = refl; lines = refl; left = refl } })
 
 pub one_ends : (a b c : Post) (old mid new : State) (at : ℕ) (object : Scene) (all : List Ran) (r : Ran) (rest : List Ran) → all ≡ r ∷ rest →
-    Brings (Ends at r.call.session (ended_text (told_of object r.call.number) r.reply)) a old b mid → Brings (AllEnd at object rest) b mid c new →
+    Brings (Ends at r.call.session (told_of object r.call.number) (ended_text (told_of object r.call.number) r.reply)) a old b mid → Brings (AllEnd at object rest) b mid c new →
     Brings (AllEnd at object all) a old c new
 one_ends a b c old mid new at object all r rest is one more =
     let none : one.added ≡ [] =
-      (ends_keeps at r.call.session (ended_text (told_of object r.call.number) r.reply) old mid one.said one.added one.is).1 in
-    let first : Ends at r.call.session (ended_text (told_of object r.call.number) r.reply) old one.said [] mid =
-      subst (λ (l : Texts). Ends at r.call.session (ended_text (told_of object r.call.number) r.reply) old one.said l mid) none one.is in
+      (ends_keeps at r.call.session (told_of object r.call.number) (ended_text (told_of object r.call.number) r.reply) old mid one.said one.added one.is).1 in
+    let first : Ends at r.call.session (told_of object r.call.number) (ended_text (told_of object r.call.number) r.reply) old one.said [] mid =
+      subst (λ (l : Texts). Ends at r.call.session (told_of object r.call.number) (ended_text (told_of object r.call.number) r.reply) old one.said l mid) none one.is in
     subst (λ (l : List Ran). Brings (AllEnd at object l) a old c new) (sym is) (record {
       said = one.said ++ more.said;
       added = more.added;
@@ -305,10 +305,10 @@ one_ends a b c old mid new at object all r rest is one more =
     })
 
 -- the one whose call has ended is told so, and waits no more; or nobody
-pub ends_at : (a b : Post) (objects : List Scene) (old new : Clients) (at session place : ℕ) (text shown : List ℕ) →
-    ((os : List Scene) → Waits at session (state_of os old) place) → shown ≡ text → Tells a b (told_to (peers_of old) place shown) [] →
-    peers_of new ≡ change (peers_of old) place (waiting false) → Brings (Ends at session text) a (state_of objects old) b (state_of objects new)
-ends_at a b objects old new at session place text shown waits is tells peers = record {
+pub ends_at : (a b : Post) (objects : List Scene) (old new : Clients) (at session number place : ℕ) (text shown : List ℕ) →
+    ((os : List Scene) → Waits at session number (state_of os old) place) → shown ≡ text → Tells a b (told_to (peers_of old) place shown) [] →
+    peers_of new ≡ change (peers_of old) place (waiting false) → Brings (Ends at session number text) a (state_of objects old) b (state_of objects new)
+ends_at a b objects old new at session number place text shown waits is tells peers = record {
   said = told_to (peers_of old) place text;
   added = [];
   tells = subst (λ l. Tells a b (told_to (peers_of old) place l) []) is tells;
@@ -320,9 +320,9 @@ ends_at a b objects old new at session place text shown waits is tells peers = r
   });
 }
 
-pub ends_nowhere : (a : Post) (objects : List Scene) (old : Clients) (at session : ℕ) (text : List ℕ) →
-    ((os : List Scene) (place : ℕ) → Waits at session (state_of os old) place → ⊥) → Brings (Ends at session text) a (state_of objects old) a (state_of objects old)
-ends_nowhere a objects old at session text none = record {
+pub ends_nowhere : (a : Post) (objects : List Scene) (old : Clients) (at session number : ℕ) (text : List ℕ) →
+    ((os : List Scene) (place : ℕ) → Waits at session number (state_of os old) place → ⊥) → Brings (Ends at session number text) a (state_of objects old) a (state_of objects old)
+ends_nowhere a objects old at session number text none = record {
   said = [];
   added = [];
   tells = tells_none a;

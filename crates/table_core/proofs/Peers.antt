@@ -13,6 +13,7 @@ use Rattle.client_core.specs.Held.{waits_of, waits_in, with_waits, is_not, is_so
 use Rattle.client_core.specs.Places.{has_in, is_here_in, opened_in as has_opened, held_in as all_held, place_at, place_for, Elsewhere}
 use Rattle.client_core.specs.Asks.{Asks}
 use Rattle.told_core.specs.State.{Peer, State, cut_of, peer_of, peers_of, change, nobody, comer, opening, waiting, holding, left_with, who_in, opened_in, held_in}
+use Rattle.told_core.specs.Asked.{IsFor, Waits}
 use Rattle.told_core.specs.Turns.{TakesLine}
 use Rattle.table_core.specs.Seen.{state_of}
 
@@ -327,3 +328,31 @@ takes old new place asked elsewhere taken objects = by (place_at old place) refl
 
     made : List Scene → List Peer → State
     made os ps = record { objects = os; peers = ps }
+
+none_opened : (opened : Opened) → None ≡ Some opened → ⊥
+none_opened opened is = true≢false (sym (ap (λ (o : Option Opened). is_some o) is))
+
+-- who waits for a call
+pub waits_by : (clients : Clients) (place at session number : ℕ) (opened : Opened) → Some opened ≡ opened_in (slice_get (peers_of clients) place) →
+    IsFor at session number opened → (objects : List Scene) → Waits at session number (state_of objects clients) place
+waits_by clients place at session number opened by is objects = record { opened = opened; by = sym by; is = is }
+
+pub waits_not : (clients : Clients) (place at session number : ℕ) (opened : Opened) → Some opened ≡ opened_in (slice_get (peers_of clients) place) →
+    (IsFor at session number opened → ⊥) → (objects : List Scene) → Waits at session number (state_of objects clients) place → ⊥
+waits_not clients place at session number opened by not objects waits =
+    not (subst (λ (o : Opened). IsFor at session number o) (sym (same_Some opened waits.opened (by ∙ waits.by))) waits.is)
+
+pub nobody_waits : (clients : Clients) (place at session number : ℕ) → None ≡ opened_in (slice_get (peers_of clients) place) →
+    (objects : List Scene) → Waits at session number (state_of objects clients) place → ⊥
+nobody_waits clients place at session number none objects waits = none_opened waits.opened (none ∙ waits.by)
+
+-- none at the places that there are, so none at all
+pub none_waits : (clients : Clients) (at session number : ℕ) →
+    ((place : ℕ) → place < length (peers_of clients) → (objects : List Scene) → Waits at session number (state_of objects clients) place → ⊥) →
+    (objects : List Scene) (place : ℕ) → Waits at session number (state_of objects clients) place → ⊥
+none_waits clients at session number none objects place waits = none place (inside (peers_of clients) place waits.opened waits.by) objects waits
+  where
+    inside : (ps : List Peer) (k : ℕ) (o : Opened) → opened_in (slice_get ps k) ≡ Some o → k < length ps
+    inside [] k o is = absurd (none_opened o is)
+    inside (p ∷ ps) zero o is = omega arith
+    inside (p ∷ ps) (suc k) o is = omega (arith, inside ps k o is)

@@ -77,7 +77,7 @@ pub record TellsTaken (place : ℕ) (seat : Opened) (taken : Taken) (object : Sc
   pub ended : Texts
   pub told : said ≡ told_to old.peers place (accepted_text (told_of object taken.number)) ++ ended
   pub lines : added ≡ []
-  pub ends : AllEnd seat.object object taken.ran.items (changed old place (opening (counted seat))) ended [] new
+  pub ends : AllEnd seat.object object taken.ran.items (changed old place (opening (counted (told_of object taken.number) seat))) ended [] new
 
 -- a call is made, or refused
 abbrev pub SubmitsOr : ℕ → Opened → ℕ → List Datum → Deed

@@ -19,7 +19,7 @@ use crate::objects::{
     Keying, Made, admit_at, call_at, cancel_at, key_at, operation_at, owner_at, seat_at, told_at,
     waits_at,
 };
-use crate::peers::{open, opened_at, rest, waiter};
+use crate::peers::{Waiting, open, opened_at, rest, waiter};
 use crate::table::{MOST_LINE, SHORT_LINE, Table};
 use crate::tell::{
     tell_accepted, tell_cancel, tell_ended, tell_kept, tell_line, tell_repeated, tell_withdrawn,
@@ -296,6 +296,7 @@ impl Table {
         let counted = Opened {
             waits: true,
             calls: seat.calls.saturating_add(1),
+            told,
             ..seat
         };
         open(&mut self.clients, place, counted);
@@ -321,14 +322,15 @@ impl Table {
     // A call ran: its last line is told to the connection that made it.
     fn ended(&mut self, at: usize, ran: &Ran, post: &mut Post) -> Result<(), AllocError>
         ensures brings { OnOk result ((object : Scene) → slice_get self.old.objects.items at ≡ Some object
-            → Brings (Ends at ran.now.call.session (ended_text (told_of object ran.now.call.number) ran.now.reply)) post.old
+            → Brings (Ends at ran.now.call.session (told_of object ran.now.call.number) (ended_text (told_of object ran.now.call.number) ran.now.reply)) post.old
             (seen self.old) post.new (seen self.new)) }
         ensures same { self.new.objects ≡ self.old.objects }
     {
         let session = ran.call.session();
         let told = told_at(&self.objects, at, ran.call.number());
         let thought = owner_at(&self.objects, at, session);
-        match waiter(&self.clients, thought, at, session) {
+        let call = Waiting { at, session, told };
+        match waiter(&self.clients, thought, call) {
             None => Ok(()),
             Some(place) => {
                 tell_ended(&self.clients, &mut self.line, place, told, &ran.reply, post)?;
@@ -435,12 +437,17 @@ impl Table {
         number: u64,
         post: &mut Post,
     ) -> Result<(), AllocError>
-        ensures { OnOk result (Brings (Ends at session (withdrawn_text number)) post.old (seen self.old) post.new
+        ensures { OnOk result (Brings (Ends at session number (withdrawn_text number)) post.old (seen self.old) post.new
             (seen self.new)) }
     {
         let session = u32::from(session);
         let thought = owner_at(&self.objects, at, session);
-        match waiter(&self.clients, thought, at, session) {
+        let call = Waiting {
+            at,
+            session,
+            told: number,
+        };
+        match waiter(&self.clients, thought, call) {
             None => Ok(()),
             Some(place) => {
                 tell_withdrawn(&self.clients, &mut self.line, place, number, post)?;

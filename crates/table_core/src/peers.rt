@@ -4,7 +4,7 @@ ghost use Rattle.std.specs.Prelude.{◌≡◌, ◌%◌, ℕ, true, false, List, 
 ghost use Rattle.line_core.specs.Runs.{NoLineFeed};
 ghost use Rattle.hosted_core.specs.Scene.{Scene};
 ghost use Rattle.client_core.specs.Held.{waits_of};
-ghost use Rattle.told_core.specs.Asked.{Waits};
+ghost use Rattle.told_core.specs.Asked.{IsFor, Waits};
 ghost use Rattle.told_core.specs.State.{peers_of, change, nobody, comer, opening, waiting, holding, who_in, opened_in, held_in};
 ghost use Rattle.told_core.specs.Turns.{TakesLine};
 ghost use Rattle.table_core.specs.Seen.{state_of};
@@ -145,63 +145,68 @@ pub(crate) fn wake(clients: &mut Clients)
     clients.wake();
 }
 
-// Whether the one at a place has opened the object at a place by this session, and a call of it waits.
-fn is_waiter(clients: &Clients, place: usize, at: usize, session: u32) -> bool
-    ensures yes { result ≡ true → (objects : List Scene) → Waits at session (state_of objects clients.now) place }
-    ensures no { result ≡ false → (objects : List Scene) → Waits at session (state_of objects clients.now) place → ⊥ }
+/// A call of the object at a place: by which session, and which number was told of it.
+#[derive(Clone, Copy)]
+pub(crate) struct Waiting {
+    pub at: usize,
+    pub session: u32,
+    pub told: u64,
+}
+
+// Whether the one at a place waits for a call.
+fn is_waiter(clients: &Clients, place: usize, call: Waiting) -> bool
+    ensures yes { result ≡ true → (objects : List Scene) → Waits call.at call.session call.told (state_of objects clients.now) place }
+    ensures no { result ≡ false → (objects : List Scene) → Waits call.at call.session call.told (state_of objects clients.now) place → ⊥ }
 {
     match opened_at(clients, place) {
         None => false,
-        Some(opened) => is_its(opened, at, session),
+        Some(opened) => is_its(opened, call),
     }
 }
 
-fn is_its(opened: Opened, at: usize, session: u32) -> bool
-    ensures yes { result ≡ true → (opened.object ≡ at) × (opened.session ≡ session) × (opened.waits ≡ true) }
-    ensures no { result ≡ false → (opened.object ≡ at) × (opened.session ≡ session) × (opened.waits ≡ true) → ⊥ }
+fn is_its(opened: Opened, call: Waiting) -> bool
+    ensures yes { result ≡ true → IsFor call.at call.session call.told opened }
+    ensures no { result ≡ false → IsFor call.at call.session call.told opened → ⊥ }
 {
     if !opened.waits {
         return false;
     }
-    if opened.object != at {
+    if opened.object != call.at {
         return false;
     }
-    u32::from(opened.session) == session
+    if opened.told != call.told {
+        return false;
+    }
+    u32::from(opened.session) == call.session
 }
 
-/// The place of one that has opened the object at a place by this session and whose call waits: the first one, or the one
-/// that is thought to be it.
-pub(crate) fn waiter(
-    clients: &Clients,
-    thought: Option<usize>,
-    at: usize,
-    session: u32,
-) -> Option<usize>
-    ensures some { IfSome result (λ place. (objects : List Scene) → Waits at session (state_of objects clients.now) place) }
-    ensures none { IfNone result ((objects : List Scene) (place : ℕ) → Waits at session (state_of objects clients.now) place → ⊥) }
+/// The place of one that waits for a call: the one that is thought to be it, or the first one.
+pub(crate) fn waiter(clients: &Clients, thought: Option<usize>, call: Waiting) -> Option<usize>
+    ensures some { IfSome result (λ place. (objects : List Scene) → Waits call.at call.session call.told (state_of objects clients.now) place) }
+    ensures none { IfNone result ((objects : List Scene) (place : ℕ) → Waits call.at call.session call.told (state_of objects clients.now) place → ⊥) }
 {
     match thought {
-        None => find_waiter(clients, at, session),
-        Some(place) => waiter_or(clients, place, at, session),
+        None => find_waiter(clients, call),
+        Some(place) => waiter_or(clients, place, call),
     }
 }
 
-fn waiter_or(clients: &Clients, place: usize, at: usize, session: u32) -> Option<usize>
-    ensures some { IfSome result (λ place. (objects : List Scene) → Waits at session (state_of objects clients.now) place) }
-    ensures none { IfNone result ((objects : List Scene) (place : ℕ) → Waits at session (state_of objects clients.now) place → ⊥) }
+fn waiter_or(clients: &Clients, place: usize, call: Waiting) -> Option<usize>
+    ensures some { IfSome result (λ place. (objects : List Scene) → Waits call.at call.session call.told (state_of objects clients.now) place) }
+    ensures none { IfNone result ((objects : List Scene) (place : ℕ) → Waits call.at call.session call.told (state_of objects clients.now) place → ⊥) }
 {
-    if is_waiter(clients, place, at, session) {
+    if is_waiter(clients, place, call) {
         return Some(place);
     }
-    find_waiter(clients, at, session)
+    find_waiter(clients, call)
 }
 
-fn find_waiter(clients: &Clients, at: usize, session: u32) -> Option<usize>
-    ensures some { IfSome result (λ place. (objects : List Scene) → Waits at session (state_of objects clients.now) place) }
-    ensures none { IfNone result ((objects : List Scene) (place : ℕ) → Waits at session (state_of objects clients.now) place → ⊥) }
+fn find_waiter(clients: &Clients, call: Waiting) -> Option<usize>
+    ensures some { IfSome result (λ place. (objects : List Scene) → Waits call.at call.session call.told (state_of objects clients.now) place) }
+    ensures none { IfNone result ((objects : List Scene) (place : ℕ) → Waits call.at call.session call.told (state_of objects clients.now) place → ⊥) }
 {
-    for place in 0..clients.count() {
-        if is_waiter(clients, place, at, session) {
+    for place in 0..count(clients) {
+        if is_waiter(clients, place, call) {
             return Some(place);
         }
     }

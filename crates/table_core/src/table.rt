@@ -189,6 +189,7 @@ impl Table {
             is_named: false,
             waits: false,
             calls: 0,
+            told: 0,
         };
         self.open_for(place, name, None, opened, post)?;
         Ok(())
@@ -251,6 +252,7 @@ impl Table {
                     is_named: true,
                     waits: false,
                     calls: 0,
+            told: 0,
                 };
                 self.open_for(place, name, Some(entered.next), opened, post)?;
                 Ok(())

@@ -65,14 +65,14 @@ opens_moves place name None old new said added (inr is) = by_keeping (IsRefused 
 opens_moves place name (Some client) old new said added (inl is) = opens_as_moves place name client old new said added is
 opens_moves place name (Some client) old new said added (inr is) = by_keeping (IsRefused place) (refused_keeps place) old new said added is
 
-pub ends_keeps : (at session : ℕ) (text : List ℕ) → Keeps (Ends at session text)
-ends_keeps at session text old new said added (inl (place, e)) = (ap (λ (s : State). s.objects) e.left, e.lines)
-ends_keeps at session text old new said added (inr (nobody, n)) = nothing_keeps old new said added n
+pub ends_keeps : (at session number : ℕ) (text : List ℕ) → Keeps (Ends at session number text)
+ends_keeps at session number text old new said added (inl (place, e)) = (ap (λ (s : State). s.objects) e.left, e.lines)
+ends_keeps at session number text old new said added (inr (nobody, n)) = nothing_keeps old new said added n
 
 pub all_end_keeps : (at : ℕ) (object : Scene) (all : List Ran) → Keeps (AllEnd at object all)
 all_end_keeps at object [] old new said added n = nothing_keeps old new said added n
 all_end_keeps at object (r ∷ all) old new said added (mid, first, rest, told, one, more) =
-    let a = ends_keeps at r.call.session _ old mid first [] one in
+    let a = ends_keeps at r.call.session _ _ old mid first [] one in
     let b = all_end_keeps at object all mid new rest added more in
     (b.0 ∙ a.0, b.1)
 
@@ -115,7 +115,7 @@ call_moves place key name arguments old new said added (inr (inr (inr is))) = tu
 
 pub lets_go_moves : (at session number : ℕ) → MovesBy (LetsGo at session number)
 lets_go_moves at session number old new said added is =
-    let same = (ends_keeps at session _ _ new said [] is.ends).0 in
+    let same = (ends_keeps at session _ _ _ new said [] is.ends).0 in
     subst (λ (a : Texts). Moves old.objects a new.objects) (sym is.lines)
     (subst (λ (l : List Scene). Moves old.objects ((at, is.line) ∷ []) l) (sym same)
     (moves_one old.objects at is.object is.after _ is.there (does (cancels session number is.line is.cancels))))

@@ -51,7 +51,7 @@ pub record OpensBare (place : ℕ) (name : List ℕ) (old : State) (said added :
   pub named : object.hall.object.name ≡ name
   pub told : said ≡ told_to old.peers place (opened_text name None)
   pub lines : added ≡ []
-  pub left : new ≡ changed old place (opening (record { object = at; session = 0; is_named = false; waits = false; calls = 0 }))
+  pub left : new ≡ changed old place (opening (record { object = at; session = 0; is_named = false; waits = false; calls = 0; told = 0 }))
 
 -- the same, for a client of this name: it gets the session of the name, and is told the key of its next call; a line tells
 -- of a name that is new
@@ -67,38 +67,43 @@ pub record OpensAs (place : ℕ) (name client : List ℕ) (old : State) (said ad
   pub told : said ≡ told_to old.peers place (opened_text name (Some entered.next))
   pub lines : added ≡ (at, entered_lines client (Ok entered)) ∷ []
   pub left : new ≡ changed (with_object old at (with_guests object guests)) place
-      (opening (record { object = at; session = entered.session; is_named = true; waits = false; calls = 0 }))
+      (opening (record { object = at; session = entered.session; is_named = true; waits = false; calls = 0; told = 0 }))
 
 abbrev pub Opens : ℕ → List ℕ → Option (List ℕ) → Deed
 Opens place name None old said added new = OpensBare place name old said added new ⊎ IsRefused place old said added new
 Opens place name (Some client) old said added new = OpensAs place name client old said added new ⊎ IsRefused place old said added new
 
--- the one at a place has opened the object at a place by this session, and a call of it waits
-pub record Waits (at session : ℕ) (s : State) (place : ℕ) : Type 0 where
-  pub opened : Opened
-  pub by : opened_at s place ≡ Some opened
+-- it has opened the object at a place by this session, and a call of it waits of which it was told this number
+pub record IsFor (at session number : ℕ) (opened : Opened) : Type 0 where
   pub object : opened.object ≡ at
   pub session_is : opened.session ≡ session
   pub waits : opened.waits ≡ true
+  pub told_is : opened.told ≡ number
 
--- its call has ended: it is told so, and waits no more. Nobody is told where nobody has the session
-pub record EndsAt (place : ℕ) (at session : ℕ) (text : List ℕ) (old : State) (said added : Texts) (new : State) : Type 0 where
-  pub waits : Waits at session old place
+-- so does the one at a place
+pub record Waits (at session number : ℕ) (s : State) (place : ℕ) : Type 0 where
+  pub opened : Opened
+  pub by : opened_at s place ≡ Some opened
+  pub is : IsFor at session number opened
+
+-- its call has ended: it is told so, and waits no more. Nobody is told where nobody waits for it
+pub record EndsAt (place : ℕ) (at session number : ℕ) (text : List ℕ) (old : State) (said added : Texts) (new : State) : Type 0 where
+  pub waits : Waits at session number old place
   pub told : said ≡ told_to old.peers place text
   pub lines : added ≡ []
   pub left : new ≡ changed old place (waiting false)
 
-abbrev pub Ends : ℕ → ℕ → List ℕ → Deed
-Ends at session text old said added new =
-    ((place : ℕ) × EndsAt place at session text old said added new)
-    ⊎ (((place : ℕ) → Waits at session old place → ⊥) × Nothing old said added new)
+abbrev pub Ends : ℕ → ℕ → ℕ → List ℕ → Deed
+Ends at session number text old said added new =
+    ((place : ℕ) × EndsAt place at session number text old said added new)
+    ⊎ (((place : ℕ) → Waits at session number old place → ⊥) × Nothing old said added new)
 
--- these calls ran, in their order: each is told to the one that made it, by the number that was told of it, with its reply
+-- these calls ran, in their order: each is told to the one that waits for it, by the number that was told of it, with its reply
 abbrev pub AllEnd : ℕ → Scene → List Ran → Deed
 AllEnd at object [] old said added new = Nothing old said added new
 AllEnd at object (r ∷ ran) old said added new =
     (mid : State) × (first : Texts) × (rest : Texts) × (said ≡ first ++ rest)
-    × Ends at r.call.session (ended_text (told_of object r.call.number) r.reply) old first [] mid
+    × Ends at r.call.session (told_of object r.call.number) (ended_text (told_of object r.call.number) r.reply) old first [] mid
     × AllEnd at object ran mid rest added new
 
 -- A call of the session is made, of this operation with these arguments: its number is told, and behind that the end of
@@ -112,7 +117,7 @@ pub record Submits (place : ℕ) (seat : Opened) (operation : ℕ) (arguments : 
   pub ended : Texts
   pub told : said ≡ told_to old.peers place (accepted_text (told_of after taken.number)) ++ ended
   pub lines : added ≡ (seat.object, all_lines (object_of before.hall.object) taken.ran.items) ∷ []
-  pub ends : AllEnd seat.object after taken.ran.items (changed (with_object old seat.object after) place (opening (counted seat))) ended [] new
+  pub ends : AllEnd seat.object after taken.ran.items (changed (with_object old seat.object after) place (opening (counted (told_of after taken.number) seat))) ended [] new
 
 -- a session gets a number with its first call
 pub record GetsNumber (place : ℕ) (old : State) (opened seat : Opened) (new : State) : Type 0 where
@@ -196,7 +201,7 @@ pub record LetsGo (at session : ℕ) (number : ℕ) (old : State) (said added : 
   pub line : List ℕ
   pub cancels : Cancels object session number [] line after
   pub lines : added ≡ (at, line) ∷ []
-  pub ends : Ends at session (withdrawn_text number) (with_object old at after) said [] new
+  pub ends : Ends at session number (withdrawn_text number) (with_object old at after) said [] new
 
 -- a call that waits is cancelled: it waits by this number, and who asked is told so before its client is
 pub record IsCancelled (place told : ℕ) (old : State) (said added : Texts) (new : State) : Type 0 where

@@ -106,9 +106,9 @@ one_text (Some who) bytes = (who, bytes) ∷ []
 abbrev pub told_to : List Peer → ℕ → List ℕ → List (ℕ × List ℕ)
 told_to peers place bytes = one_text (who_in (slice_get peers place)) bytes
 
--- one call more of it waits
-abbrev pub counted : Opened → Opened
-counted opened = record opened { waits = true; calls = min (opened.calls + 1) (2 ^ 64 - 1) }
+-- one call more of it waits, of which this number was told
+abbrev pub counted : ℕ → Opened → Opened
+counted told opened = record opened { waits = true; calls = min (opened.calls + 1) (2 ^ 64 - 1); told = told }
 
 -- the session by which it makes calls under keys, where its client has a name
 abbrev pub session_by : Opened → Option ℕ
