@@ -1,8 +1,8 @@
 pub mod Bringing
 pub mod Cancelling
 pub mod Entering
-pub mod Making
-pub mod Objects
-pub mod Peers
+pub mod Placing
+pub mod Seating
+pub mod Submitting
 pub mod Telling
 pub mod Turning

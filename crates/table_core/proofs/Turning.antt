@@ -20,6 +20,7 @@ use Rattle.client_core.specs.declared.clients.Clients.{Clients}
 use Rattle.client_core.specs.Asks.{Asks}
 use Rattle.client_core.specs.Held.{is_some, waits_of}
 use Rattle.client_core.specs.Numbers.{cancel_in}
+use Rattle.hosted_core.specs.Scene.{Scene}
 use Rattle.told_core.specs.State.{Peer, State, change, changed, comer, holding, held_at, opened_at, waits_at, who_at, peers_of}
 use Rattle.told_core.specs.Deeds.{Texts, Deed, Nothing, OnlyTold, Then}
 use Rattle.told_core.specs.Asked.{AnswersCancel, Heeds, Goes}
@@ -48,14 +49,14 @@ pub line_cancels : (a b : Post) (old new : State) (place told : ℕ) (text : Lis
 line_cancels a b old new place told text is_whole busy whole reads brings =
     brings_as (AnswersCancel place told) (HearsLine place text is_whole) a b old new (λ said added is. cancels busy whole told reads is) brings
 
-pub line_held : (a : Post) (objects : List _) (old new : Clients) (place : ℕ) (text : List ℕ) (is_whole : Bool) → (IsIdle (state_of objects old) place → ⊥) →
+pub line_held : (a : Post) (objects : List Scene) (old new : Clients) (place : ℕ) (text : List ℕ) (is_whole : Bool) → (IsIdle (state_of objects old) place → ⊥) →
     peers_of new ≡ change (peers_of old) place (holding text is_whole) → Brings (HearsLine place text is_whole) a (state_of objects old) a (state_of objects new)
 line_held a objects old new place text is_whole busy peers =
     subst (λ (s : State). Brings (HearsLine place text is_whole) a (state_of objects old) a s)
     (sym (peers_are objects new (change (peers_of old) place (holding text is_whole)) peers))
     (record { said = []; added = []; tells = tells_none a; is = holds busy })
 
-pub line_refused : (a b : Post) (objects : List _) (old mid : Clients) (new : State) (place : ℕ) (text : List ℕ) (is_whole : Bool) →
+pub line_refused : (a b : Post) (objects : List Scene) (old mid : Clients) (new : State) (place : ℕ) (text : List ℕ) (is_whole : Bool) →
     (IsIdle (state_of objects old) place → ⊥) → peers_of mid ≡ peers_of old →
     Brings (OnlyTold place (line_text (lines.Unsubmitted faults.Memory))) a (state_of objects mid) b new →
     Brings (HearsLine place text is_whole) a (state_of objects old) b new
@@ -76,11 +77,11 @@ goes_by a b old mid new place asked idle takes brings = continues_by a b old new
 })
 
 -- the same is seen
-pub goes_same : (a b : Post) (objects : List _) (old mid : Clients) (new : State) → peers_of mid ≡ peers_of old → Continues a (state_of objects mid) b new →
+pub goes_same : (a b : Post) (objects : List Scene) (old mid : Clients) (new : State) → peers_of mid ≡ peers_of old → Continues a (state_of objects mid) b new →
     Continues a (state_of objects old) b new
 goes_same a b objects old mid new same goes = subst (λ (s : State). Continues a s b new) (peers_are objects mid (peers_of old) same) goes
 
-pub goes_still : (a : Post) (objects : List _) (old new : Clients) → peers_of new ≡ peers_of old → Continues a (state_of objects old) a (state_of objects new)
+pub goes_still : (a : Post) (objects : List Scene) (old new : Clients) → peers_of new ≡ peers_of old → Continues a (state_of objects old) a (state_of objects new)
 goes_still a objects old new same p first so =
     subst (λ (s : State). Brings GoesOn p first a s) (sym (peers_are objects new (peers_of old) same)) so
 
@@ -104,7 +105,7 @@ ends_last a b old mid new place asked is takes brings =
     brings_from : (said added : Texts) → Tells a b said added → EndsHeld place old said added new → Brings (EndsHeld place) a old b new
     brings_from said added tells is = record { said = said; added = added; tells = tells; is = is }
 
-pub ends_none : (a : Post) (objects : List _) (old new : Clients) (place : ℕ) → NoLineFeed (held_at (state_of objects old) place) → peers_of new ≡ peers_of old →
+pub ends_none : (a : Post) (objects : List Scene) (old new : Clients) (place : ℕ) → NoLineFeed (held_at (state_of objects old) place) → peers_of new ≡ peers_of old →
     Brings (EndsHeld place) a (state_of objects old) a (state_of objects new)
 ends_none a objects old new place none same =
     subst (λ (s : State). Brings (EndsHeld place) a (state_of objects old) a s) (sym (peers_are objects new (peers_of old) same))
@@ -200,7 +201,7 @@ pub way_is_made : (a b : Post) (old new : State) (who place : ℕ) → place ≡
 way_is_made a b old new who place is here brings =
     subst (λ p. Brings (LeavesIf p) a old b new) is (one_leaves a b old new place here.0 (sym here.1) brings)
 
-pub joins_by : (a b : Post) (old : State) (objects : List _) (mid new : Clients) (who : ℕ) → Brings (LeavesIf (place_of old who)) a old b (state_of objects mid) →
+pub joins_by : (a b : Post) (old : State) (objects : List Scene) (mid new : Clients) (who : ℕ) → Brings (LeavesIf (place_of old who)) a old b (state_of objects mid) →
     peers_of new ≡ change (peers_of mid) (place_of (state_of objects mid) who) (λ p. comer who) →
     Brings (Then (LeavesIf (place_of old who)) (Comes who)) a old b (state_of objects new)
 joins_by a b old objects mid new who way peers =

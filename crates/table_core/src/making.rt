@@ -1,9 +1,10 @@
 //! Calls: made, told, and cancelled.
 
-ghost use Rattle.std.specs.Prelude.{◌≡◌, [], Some, OnOk, OnErr, IfOk, slice_get};
+ghost use Rattle.std.specs.Prelude.{◌≡◌, [], Some, true, false, OnOk, OnErr, IfOk, slice_get};
 ghost use Rattle.script_text.specs.Answers.{cancelled_line};
 ghost use Rattle.session_text.specs.Lines.{cancel_name, ended_text, withdrawn_text};
 ghost use Rattle.ask_core.specs.declared.answer.Cancelled.TheVariants as answers;
+ghost use Rattle.client_core.specs.declared.client.Opened.{Opened as AnOpened};
 ghost use Rattle.hosted_core.specs.declared.hosted.Keyed.TheVariants as keys;
 ghost use Rattle.hosted_core.specs.Scene.{Scene, told_of};
 ghost use Rattle.post_core.specs.Posts.{Tells};
@@ -197,7 +198,7 @@ impl Table {
         ensures tells { Tells post.old post.new [] [] }
         ensures sits { IfOk result (λ ready. Sits asker.place (seen self.old) asker.opened ready.seat (seen self.new)) }
         ensures asked { IfOk result (λ ready. operation ≡ Some ready.operation) }
-        ensures err { OnErr result ((seat : Opened) × Sits asker.place (seen self.old) asker.opened seat (seen self.new)) }
+        ensures err { OnErr result ((seat : AnOpened) × Sits asker.place (seen self.old) asker.opened seat (seen self.new)) }
     {
         let at = asker.opened.object;
         let room = admit_at(&mut self.objects, at, operation, arguments)?;

@@ -1,4 +1,4 @@
-use Rattle.table_core.proofs.Objects.{at_place, called}
+use Rattle.table_core.proofs.Placing.{at_place, called}
 use Rattle.table_core.proofs.objects.call_at.Goals as goal
 
 pub returns-in_ok-taken-in-Some : goal.returns-in_ok-taken-in-Some

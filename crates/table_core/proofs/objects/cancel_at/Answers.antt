@@ -1,4 +1,4 @@
-use Rattle.table_core.proofs.Objects.{at_place, cancelled}
+use Rattle.table_core.proofs.Placing.{at_place, cancelled}
 use Rattle.table_core.proofs.objects.cancel_at.Goals as goal
 
 pub returns-in_ok-told-in-Some : goal.returns-in_ok-told-in-Some

@@ -1,4 +1,4 @@
-use Rattle.table_core.proofs.Objects.{at_place, entered}
+use Rattle.table_core.proofs.Placing.{at_place, entered}
 use Rattle.table_core.proofs.objects.enter_at.Goals as goal
 
 pub returns-in_ok-entered-in-Some : goal.returns-in_ok-entered-in-Some

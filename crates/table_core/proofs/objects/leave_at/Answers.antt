@@ -1,4 +1,4 @@
-use Rattle.table_core.proofs.Objects.{at_place, left_it}
+use Rattle.table_core.proofs.Placing.{at_place, left_it}
 use Rattle.table_core.proofs.objects.leave_at.Goals as goal
 
 pub returns-in-Some : goal.returns-in-Some
