@@ -1,3 +1,2 @@
 pub mod Cancels
-pub mod Keyed
 pub mod Numerals

@@ -126,7 +126,7 @@ pub one_cancelled : (a b c d : Post) (old mid told_mid new : State) (place at se
     Brings (Ends at session number (withdrawn_text number)) c told_mid d new → Brings (CancelsOne place at session told) a old d new
 one_cancelled a b c d old mid told_mid new place at session told number go tells ends =
     let ends_mid : Ends at session number (withdrawn_text number) mid ends.said ends.added new =
-      subst (λ (s : State). Ends at session number (withdrawn_text number) s ends.said ends.added new) tells.is.left ends.is in
+    subst (λ (s : State). Ends at session number (withdrawn_text number) s ends.said ends.added new) tells.is.left ends.is in
     let none : ends.added ≡ [] = (ends_keeps at session number (withdrawn_text number) told_mid new ends.said ends.added ends.is).1 in
     record {
       said = tells.said ++ ends.said;

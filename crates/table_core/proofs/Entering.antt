@@ -76,7 +76,7 @@ refused_behind a b c old mid new place line is stays brings =
 pub opens_as : (a b c : Post) (old mid new : State) (place at : ℕ) (name client : List ℕ) (entered : Entered) → IsNamed old.objects at name →
     HasCome at client entered a old b mid →
     Brings (TellsOpened place (opened_text name (Some entered.next))
-      (record { object = at; session = entered.session; is_named = true; waits = false; calls = 0; told = 0 })) b mid c new →
+    (record { object = at; session = entered.session; is_named = true; waits = false; calls = 0; told = 0 })) b mid c new →
     Brings (Opens place name (Some client)) a old c new
 opens_as a b c old mid new place at name client entered named come brings =
     let same : named.object ≡ come.object = same_Some named.object come.object (sym named.there ∙ come.there) in

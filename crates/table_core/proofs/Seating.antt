@@ -213,7 +213,7 @@ pub sets_waits : (old mid new : Clients) (place : ℕ) (waits : Bool) → Elsewh
 sets_waits old mid new place waits elsewhere set same =
     all_same mid new same
     ∙ changes old mid place (waiting waits) elsewhere
-      (λ x y one two. set_peer waits x y (at_some (IsSetTo waits) (place_at old place) (place_at mid place) x y one two set))
+    (λ x y one two. set_peer waits x y (at_some (IsSetTo waits) (place_at old place) (place_at mid place) x y one two set))
 
 cut_behind : (held line : List ℕ) (c : Bool) → cut_of (held ++ (line ++ 10 ∷ [])) c ≡ c
 cut_behind [] [] c = refl
@@ -231,8 +231,8 @@ pub holds : (old mid new : Clients) (place : ℕ) (line : List ℕ) (whole : Boo
 holds old mid new place line whole elsewhere held same =
     all_same mid new same
     ∙ changes old mid place (holding line whole) elsewhere
-      (λ x y one two. held_peer line whole x y
-      (at_some (IsHeld line whole) (place_at old place) (place_at mid place) x y one two (held (within old place x one))))
+    (λ x y one two. held_peer line whole x y
+    (at_some (IsHeld line whole) (place_at old place) (place_at mid place) x y one two (held (within old place x one))))
 
 -- the same is there, at a place and at the others
 pub same_there : (old new : Clients) (place : ℕ) → Elsewhere old new place → IsSame (place_at old place) (place_at new place) → peers_of new ≡ peers_of old

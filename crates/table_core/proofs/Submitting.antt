@@ -195,7 +195,7 @@ gets_number old new clients clients_new place session opened zero seats is = inr
   seat_is = refl;
   left = peers_are new clients_new (change (peers_of clients) place (opening (record opened { session = session }))) is
       ∙ objects_are (slice_set old opened.object (with_guests seats.object (with_seat seats.object.guests session Nameless))) new
-        (change (peers_of clients) place (opening (record opened { session = session }))) seats.left;
+      (change (peers_of clients) place (opening (record opened { session = session }))) seats.left;
 })
 
 -- a call was made
@@ -241,7 +241,7 @@ pub submit_taken : (a b c : Post) (old mid new : State) (place : ℕ) (seat : Op
     Brings (SubmitsOr place seat operation arguments) a old c new
 submit_taken a b c old mid new place seat operation arguments taken made tells =
     let there : slice_get mid.objects seat.object ≡ Some made.after =
-      ap (λ (s : State). slice_get s.objects seat.object) made.adds.left ∙ set_there old.objects seat.object made.object made.after made.there in
+    ap (λ (s : State). slice_get s.objects seat.object) made.adds.left ∙ set_there old.objects seat.object made.object made.after made.there in
     let brings : Brings (TellsTaken place seat taken made.after) b mid c new = tells made.after there in
     let line : List ℕ = all_lines (object_of made.object.hall.object) taken.ran.items in
     record {
@@ -293,9 +293,9 @@ pub one_ends : (a b c : Post) (old mid new : State) (at : ℕ) (object : Scene) 
     Brings (AllEnd at object all) a old c new
 one_ends a b c old mid new at object all r rest is one more =
     let none : one.added ≡ [] =
-      (ends_keeps at r.call.session (told_of object r.call.number) (ended_text (told_of object r.call.number) r.reply) old mid one.said one.added one.is).1 in
+    (ends_keeps at r.call.session (told_of object r.call.number) (ended_text (told_of object r.call.number) r.reply) old mid one.said one.added one.is).1 in
     let first : Ends at r.call.session (told_of object r.call.number) (ended_text (told_of object r.call.number) r.reply) old one.said [] mid =
-      subst (λ (l : Texts). Ends at r.call.session (told_of object r.call.number) (ended_text (told_of object r.call.number) r.reply) old one.said l mid) none one.is in
+    subst (λ (l : Texts). Ends at r.call.session (told_of object r.call.number) (ended_text (told_of object r.call.number) r.reply) old one.said l mid) none one.is in
     subst (λ (l : List Ran). Brings (AllEnd at object l) a old c new) (sym is) (record {
       said = one.said ++ more.said;
       added = more.added;
@@ -312,12 +312,15 @@ ends_at a b objects old new at session number place text shown waits is tells pe
   said = told_to (peers_of old) place text;
   added = [];
   tells = subst (λ l. Tells a b (told_to (peers_of old) place l) []) is tells;
-  is = inl (place, record {
-    waits = waits objects;
-    told = refl;
-    lines = refl;
-    left = peers_are objects new (change (peers_of old) place (waiting false)) peers;
-  });
+  is = inl (
+    place,
+    record {
+      waits = waits objects;
+      told = refl;
+      lines = refl;
+      left = peers_are objects new (change (peers_of old) place (waiting false)) peers;
+    },
+  );
 }
 
 pub ends_nowhere : (a : Post) (objects : List Scene) (old : Clients) (at session number : ℕ) (text : List ℕ) →

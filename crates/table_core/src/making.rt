@@ -150,7 +150,14 @@ impl Table {
                 Ok(())
             }
             Keyed::Cancelled(told) => {
-                tell_kept(&self.clients, &mut self.line, place, b"cancelled", told, post)?;
+                tell_kept(
+                    &self.clients,
+                    &mut self.line,
+                    place,
+                    b"cancelled",
+                    told,
+                    post,
+                )?;
                 Ok(())
             }
             Keyed::Waits(told) => {
@@ -158,7 +165,13 @@ impl Table {
                 Ok(())
             }
             Keyed::Refused(fault) => {
-                tell_line(&self.clients, &mut self.line, place, Line::Unkeyed(fault), post)?;
+                tell_line(
+                    &self.clients,
+                    &mut self.line,
+                    place,
+                    Line::Unkeyed(fault),
+                    post,
+                )?;
                 Ok(())
             }
         }

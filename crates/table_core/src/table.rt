@@ -252,7 +252,7 @@ impl Table {
                     is_named: true,
                     waits: false,
                     calls: 0,
-            told: 0,
+                    told: 0,
                 };
                 self.open_for(place, name, Some(entered.next), opened, post)?;
                 Ok(())

@@ -19,12 +19,7 @@ use session_text::line::{Line, push_line};
 use std::alloc::AllocError;
 
 // Tells the one at a place a line that was made.
-fn tell(
-    clients: &Clients,
-    place: usize,
-    line: &[u8],
-    post: &mut Post,
-) -> Result<(), AllocError>
+fn tell(clients: &Clients, place: usize, line: &[u8], post: &mut Post) -> Result<(), AllocError>
     ensures { OnOk result (Tells post.old post.new (told_to (peers_of clients.now) place line.now) []) }
 {
     match clients.who(place) {

@@ -39,9 +39,9 @@ the_one object after session told number line waits cancels t held =
     let left = cancels.lets_go.left in
     let each = subst (EachPair (λ (a b : Called). a.session ≢ b.session)) left.waited held.kept.one_each in
     let there : slice_get (left.front ++ cancels.call ∷ left.behind) waits.place ≡ Some waits.call =
-      subst (λ (ws : List Called). slice_get ws waits.place ≡ Some waits.call) left.waited waits.there in
+    subst (λ (ws : List Called). slice_get ws waits.place ≡ Some waits.call) left.waited waits.there in
     let same : waits.call ≡ cancels.call =
-      only_one left.front left.behind cancels.call waits.call waits.place each there (waits.of ∙ sym cancels.lets_go.of) in
+    only_one left.front left.behind cancels.call waits.call waits.place each there (waits.of ∙ sym cancels.lets_go.of) in
     cancels.told_is t held ∙ ap (λ (c : Called). told_of object c.number) (sym same) ∙ waits.told_is
 
 pub cancelled_is_asked : CancelledIsAsked
