@@ -17,6 +17,9 @@ use Rattle.live_core.specs.Hall.{Every}
 use Rattle.trace_core.specs.Events.{Called}
 use Rattle.hosted_core.specs.Scene.{Scene, with_guests}
 use Rattle.hosted_core.specs.Steps.{Comes}
+use Rattle.hosted_core.specs.Lines.{entered_lines}
+use Rattle.live_core.specs.Lines.{all_lines}
+use Rattle.decl_core.specs.ObjectMap.{object_of}
 use Rattle.table_core.specs.Objects.{EntersAt, SeatsAt, LeavesAt, CallsAt, CancelsAt}
 
 -- the object at a place
@@ -37,12 +40,12 @@ fault_stays old name now Memory guests is = is.2
 -- a client comes
 pub entered : (scenes : List Scene) (at : ℕ) (old new : Scene) (name : List ℕ) (now : ℕ) (r : Result Entered EnterFault) (before line : List ℕ) →
     slice_get scenes at ≡ Some old → before ≡ [] → Comes old name now before r line new → EntersAt scenes at name now (Some r) line (slice_set scenes at new)
-entered scenes at old new name now (Ok entered) before line there none c = record {
+entered scenes at old new name now (Ok came) before line there none c = record {
   object = old;
   there = there;
   guests = new.guests;
   enters = c.enters;
-  told = subst (λ (l : List ℕ). line ≡ l ++ _) none c.added;
+  told = c.added ∙ ap (λ (l : List ℕ). l ++ entered_lines name (Ok came)) none;
   left = ap (λ s. slice_set scenes at s) c.left;
 }
 entered scenes at old new name now (Err fault) before line there none c =
@@ -64,7 +67,7 @@ pub called : (scenes : List Scene) (at session operation : ℕ) (arguments : Lis
     slice_get scenes at ≡ Some old → before ≡ [] → Calls old session operation arguments before r line new →
     CallsAt scenes at session operation arguments r line (slice_set scenes at new)
 called scenes at session operation arguments old new (Ok taken) before line there none c =
-    record { before = old; there = there; after = new; does = c.0; told = subst (λ (l : List ℕ). line ≡ l ++ _) none c.1; left = refl }
+    record { before = old; there = there; after = new; does = c.0; told = c.1 ∙ ap (λ (l : List ℕ). l ++ all_lines (object_of old.hall.object) taken.ran.items) none; left = refl }
 called scenes at session operation arguments old new (Err fault) before line there none c = set_same scenes at old new there c.0
 
 -- a waiting call is cancelled, or none waits

@@ -1,7 +1,9 @@
 -- Places of connections, as clients know them.
-use Rattle.std.proofs.Common.{◌≡◌, ◌≢◌, ◌∙◌, ap, sym, subst, refl, arith, ℕ, zero, suc, ◌+◌, ◌<◌, ◌%◌, ◌==◌, List, [], ◌∷◌, ◌++◌, length, map, drop, eqb-true, eq-eqb, ne_eqb, true≢false}
+use Rattle.std.proofs.Common.{◌≡◌, ◌≢◌, ◌⊎◌, inl, inr, eqb, ◌∙◌, ap, sym, subst, refl, arith, ℕ, zero, suc, ◌+◌, ◌<◌, ◌%◌, ◌==◌, List, [], ◌∷◌, ◌++◌, length, map, drop, eqb-true, eq-eqb, ne_eqb, true≢false}
 use Rattle.std.specs.Prelude.{Bool, true, false, Option, Some, None, Result, IfSome, IfNone, IfOk, option_map, slice_get, if◌then◌else◌}
 use Rattle.std.specs.declared.alloc.AllocError.{AllocError}
+use Rattle.std.proofs.lemmas.Bool.Decides.{eqb_tells}
+use Rattle.line_core.specs.Runs.{NoLineFeed}
 use Rattle.std.proofs.lemmas.List.{length-map}
 use Rattle.std.proofs.lemmas.Option.{same_Some, slice_get-map, slice_get_past}
 use Rattle.hosted_core.specs.Scene.{Scene}
@@ -356,3 +358,26 @@ none_waits clients at session number none objects place waits = none place (insi
     inside [] k o is = absurd (none_opened o is)
     inside (p ∷ ps) zero o is = omega arith
     inside (p ∷ ps) (suc k) o is = omega (arith, inside ps k o is)
+
+if_none : {X : Type 0} (r : Option X) {P Q : Type 0} → IfNone r P → (P → Q) → IfNone r Q
+if_none None h f = f h
+if_none (Some x) h f = tt
+
+pub take_none : (clients : Clients) (place : ℕ) (r : Option (Result Ask AllocError)) (same : Type 0) →
+    IfNone r (NoLineFeed (rest_in (place_at clients place)) × same) → IfNone r (NoLineFeed (held_in (slice_get (peers_of clients) place)))
+take_none clients place r same h = if_none r h (λ a. subst (λ (l : List ℕ). NoLineFeed l) (sym (held_is clients place)) a.0)
+
+pub away_if : (clients : Clients) (who : ℕ) (r : Option ℕ) → IfNone r (is_here_in (place_at clients (place_for clients who)) ≡ false) →
+    IfNone r (who_in (slice_get (peers_of clients) (who % length (peers_of clients))) ≡ None)
+away_if clients who r h = if_none r h (λ a. away_is clients who a)
+
+-- none at the places up to one, and none there
+pub none_more : (clients : Clients) (at session number place : ℕ) →
+    ((k : ℕ) → k < place → (objects : List Scene) → Waits at session number (state_of objects clients) k → ⊥) →
+    ((objects : List Scene) → Waits at session number (state_of objects clients) place → ⊥) →
+    (k : ℕ) → k < place + 1 → (objects : List Scene) → Waits at session number (state_of objects clients) k → ⊥
+none_more clients at session number place before none k less objects waits = by (eqb_tells k place)
+  where
+    by : ((eqb k place ≡ true) × (k ≡ place)) ⊎ ((eqb k place ≡ false) × (k ≢ place)) → ⊥
+    by (inl same) = none objects (subst (λ n. Waits at session number (state_of objects clients) n) same.1 waits)
+    by (inr other) = before k (let ne = other.1 in omega (arith, less, ne)) objects waits

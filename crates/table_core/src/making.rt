@@ -13,7 +13,7 @@ ghost use Rattle.told_core.specs.Deeds.{OnlyTold};
 ghost use Rattle.told_core.specs.State.{opened_at, session_by};
 ghost use Rattle.told_core.specs.Turns.{Withdraws};
 ghost use Rattle.table_core.specs.Brings.{Brings};
-ghost use Rattle.table_core.specs.Parts.{MakesCall, UnderKey, SubmitsOr, MakesAt, TellsTaken, CancelsOne, TellsCancelled, LetsGoAt};
+ghost use Rattle.table_core.specs.Parts.{MakesCall, UnderKey, SubmitsOr, MakesAt, TellsTaken, CancelsOne, LetsGoAt};
 ghost use Rattle.table_core.specs.Seen.{seen};
 
 use crate::objects::{

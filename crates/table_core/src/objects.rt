@@ -47,12 +47,22 @@ fn is_named(object: &Hosted, name: &Name) -> bool
     object.name().as_bytes() == name.as_bytes()
 }
 
+// Whether there is an object of this name at a place.
+fn has_name(objects: &[Hosted], place: usize, name: &Name) -> bool
+    ensures { result ≡ true → IsNamed objects.now place name.now }
+{
+    match objects.get(place) {
+        None => false,
+        Some(object) => is_named(object, name),
+    }
+}
+
 /// The place of the object of this name.
 pub(crate) fn object_for(objects: &[Hosted], name: &Name) -> Option<usize>
     ensures { IfSome result (λ at. IsNamed objects.now at name.now) }
 {
     for place in 0..objects.len() {
-        if is_named(&objects[place], name) {
+        if has_name(objects, place, name) {
             return Some(place);
         }
     }
