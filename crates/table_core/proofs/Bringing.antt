@@ -1,6 +1,6 @@
 -- What is done while a post is filled.
 use Rattle.std.proofs.Common.{◌≡◌, ◌∙◌, ap, sym, subst, refl, ℕ, inl, inr, List, [], ◌∷◌, ◌++◌, append_assoc}
-use Rattle.std.specs.Prelude.{Option, Some, None, slice_get}
+use Rattle.std.specs.Prelude.{Option, Some, None, Result, Ok, Err, OnErr, slice_get}
 use Rattle.std.proofs.lemmas.List.{append-nil}
 use Rattle.post_core.specs.Posts.{Tells}
 use Rattle.post_core.specs.declared.post.Post.{Post}
@@ -13,6 +13,11 @@ use Rattle.told_core.specs.Turns.{GoesOn}
 use Rattle.told_core.specs.Turns.GoesOn.{rests, does}
 use Rattle.table_core.specs.Brings.{Brings, Continues}
 use Rattle.table_core.proofs.Telling.{tells_none, tells_then}
+
+-- what is so where there is an error
+pub on_err : {A E : Type 0} (r : Result A E) {P : Type 0} → P → OnErr r P
+on_err (Ok a) p = tt
+on_err (Err e) p = p
 
 -- the one who is there is told, or nobody
 pub told_some : (a b : Post) (peers : List Peer) (place who : ℕ) (bytes : List ℕ) → Some who ≡ who_in (slice_get peers place) →

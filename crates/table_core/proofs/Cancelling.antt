@@ -19,7 +19,7 @@ use Rattle.told_core.specs.Turns.{NoneWaits, Withdraws}
 use Rattle.told_core.proofs.Doing.{ends_keeps}
 use Rattle.table_core.specs.Brings.{Brings}
 use Rattle.table_core.specs.Objects.{HasCancelled, NoneWaitsAt}
-use Rattle.table_core.specs.Parts.{Stays, HasLetGo, CancelsOne}
+use Rattle.table_core.specs.Parts.{Stays, HasLetGo, TellsCancelled, CancelsOne}
 use Rattle.table_core.proofs.Bringing.{brings_as}
 use Rattle.table_core.proofs.Entering.{of, objects_are}
 use Rattle.table_core.proofs.Telling.{tells_none, tells_then}
@@ -35,37 +35,30 @@ not_cancelled a b old new place told answer other brings =
     brings_as (OnlyTold place (cancelled_line told (cancel_name answer))) (AnswersCancel place told) a b old new
     (λ said added only. inr (inl (record { answer = answer; other = other; only = only }))) brings
 
-answers_by : (old new : State) (said added : Texts) (place told session : ℕ) (opened : Opened) (object : Scene) → opened_at old place ≡ Some opened →
-    slice_get old.objects opened.object ≡ Some object → WaitsAs object session told → CancelsOne place opened.object session told old said added new →
-    AnswersCancel place told old said added new
-answers_by old new said added place told session opened object by there waits (inl c) = inl (record {
+answers_by : (old new : State) (said added : Texts) (place told session : ℕ) (opened : Opened) → opened_at old place ≡ Some opened →
+    ((object : Scene) → slice_get old.objects opened.object ≡ Some object → WaitsAs object session told) →
+    CancelsOne place opened.object session told old said added new → AnswersCancel place told old said added new
+answers_by old new said added place told session opened by waits (inl c) = inl (record {
   opened = opened;
   by = by;
-  object = object;
-  there = there;
+  object = c.lets_go.object;
+  there = c.lets_go.there;
   session = session;
-  waits = waits;
+  waits = waits c.lets_go.object c.lets_go.there;
   number = c.number;
   ended = c.ended;
   told_is = c.told_is;
   lets_go = c.lets_go;
 })
-answers_by old new said added place told session opened object by there waits (inr (inl c)) = inr (inl c)
-answers_by old new said added place told session opened object by there waits (inr (inr r)) = inr (inr r)
+answers_by old new said added place told session opened by waits (inr (inl c)) = inr (inl c)
+answers_by old new said added place told session opened by waits (inr (inr r)) = inr (inr r)
 
-get_there : (objects : List Scene) (at : ℕ) → (((object : Scene) × (slice_get objects at ≡ Some object)) → ⊥) → slice_get objects at ≡ None
-get_there objects at none = by (slice_get objects at) refl
-  where
-    by : (o : Option Scene) → slice_get objects at ≡ o → slice_get objects at ≡ None
-    by None is = is
-    by (Some s) is = absurd (none (s, is))
-
-pub cancels_by : (a b : Post) (old new : State) (place told session : ℕ) (opened : Opened) (object : Scene) → Some opened ≡ opened_at old place →
-    slice_get old.objects opened.object ≡ Some object → WaitsAs object session told →
+pub cancels_by : (a b : Post) (old new : State) (place told session : ℕ) (opened : Opened) → Some opened ≡ opened_at old place →
+    ((object : Scene) → slice_get old.objects opened.object ≡ Some object → WaitsAs object session told) →
     Brings (CancelsOne place opened.object session told) a old b new → Brings (AnswersCancel place told) a old b new
-cancels_by a b old new place told session opened object by there waits brings =
+cancels_by a b old new place told session opened by waits brings =
     brings_as (CancelsOne place opened.object session told) (AnswersCancel place told) a b old new
-    (λ said added is. answers_by old new said added place told session opened object (sym by) there waits is) brings
+    (λ said added is. answers_by old new said added place told session opened (sym by) waits is) brings
 
 pub one_refused : (a b c : Post) (old mid new : State) (place at session told : ℕ) (line : Line) → IsRefusal line → Tells a b [] [] → mid ≡ old →
     Brings (OnlyTold place (line_text line)) b mid c new → Brings (CancelsOne place at session told) a old c new
@@ -121,27 +114,40 @@ lets_go_by old mid new at session number a b said added go ends = record {
       (subst (λ (s : State). Ends at session number (withdrawn_text number) s said added new) go.adds.left ends);
 }
 
-pub one_cancelled : (a b c d : Post) (old mid told_mid new : State) (place at session told number : ℕ) → HasLetGo at session number a old b mid →
-    Brings (OnlyTold place (cancelled_line told (cancel_name answers.Cancelled))) b mid c told_mid →
-    Brings (Ends at session number (withdrawn_text number)) c told_mid d new → Brings (CancelsOne place at session told) a old d new
-one_cancelled a b c d old mid told_mid new place at session told number go tells ends =
-    let ends_mid : Ends at session number (withdrawn_text number) mid ends.said ends.added new =
-    subst (λ (s : State). Ends at session number (withdrawn_text number) s ends.said ends.added new) tells.is.left ends.is in
-    let none : ends.added ≡ [] = (ends_keeps at session number (withdrawn_text number) told_mid new ends.said ends.added ends.is).1 in
+-- who asked is told so, and then its client
+pub tells_cancelled : (a b c : Post) (old mid new : State) (place at session told number : ℕ) →
+    Brings (OnlyTold place (cancelled_line told (cancel_name answers.Cancelled))) a old b mid →
+    Brings (Ends at session number (withdrawn_text number)) b mid c new → Brings (TellsCancelled place at session told number) a old c new
+tells_cancelled a b c old mid new place at session told number tells ends =
+    let none : ends.added ≡ [] = (ends_keeps at session number (withdrawn_text number) mid new ends.said ends.added ends.is).1 in
     record {
       said = tells.said ++ ends.said;
-      added = (at, go.line) ∷ [];
-      tells = subst (λ (l : Texts). Tells a d (tells.said ++ ends.said) ((at, go.line) ∷ l)) (ap (λ (l : Texts). l ++ ends.added) tells.is.lines ∙ none)
-          (tells_then a b d [] (tells.said ++ ends.said) ((at, go.line) ∷ []) (tells.added ++ ends.added) go.adds.tells
-          (tells_then b c d tells.said ends.said tells.added ends.added tells.tells ends.tells));
-      is = inl (record {
-        number = number;
+      added = tells.added ++ ends.added;
+      tells = tells_then a b c tells.said ends.said tells.added ends.added tells.tells ends.tells;
+      is = record {
         ended = ends.said;
-        told_is = ap (λ (l : Texts). l ++ ends.said) (tells.is.told
-            ∙ ap (λ (s : State). told_to s.peers place (cancelled_line told (cancel_name answers.Cancelled))) go.adds.left);
-        lets_go = lets_go_by old mid new at session number a b ends.said ends.added go ends_mid;
-      });
+        told_is = ap (λ (l : Texts). l ++ ends.said) tells.is.told;
+        lines = ap (λ (l : Texts). l ++ ends.added) tells.is.lines ∙ none;
+        ends = subst (λ (l : Texts). Ends at session number (withdrawn_text number) old ends.said l new) none
+            (subst (λ (s : State). Ends at session number (withdrawn_text number) s ends.said ends.added new) tells.is.left ends.is);
+      };
     }
+
+pub one_cancelled : (a b c : Post) (old mid new : State) (place at session told number : ℕ) → HasLetGo at session number a old b mid →
+    Brings (TellsCancelled place at session told number) b mid c new → Brings (CancelsOne place at session told) a old c new
+one_cancelled a b c old mid new place at session told number go tells = record {
+  said = tells.said;
+  added = (at, go.line) ∷ tells.added;
+  tells = tells_then a b c [] tells.said ((at, go.line) ∷ []) tells.added go.adds.tells tells.tells;
+  is = inl (record {
+    number = number;
+    ended = tells.is.ended;
+    told_is = tells.is.told_is
+        ∙ ap (λ (s : State). told_to s.peers place (cancelled_line told (cancel_name answers.Cancelled)) ++ tells.is.ended) go.adds.left;
+    lets_go = subst (λ (l : Texts). LetsGo at session number old tells.is.ended l new) (ap (λ (l : Texts). (at, go.line) ∷ l) (sym tells.is.lines))
+        (lets_go_by old mid new at session number a b tells.is.ended [] go tells.is.ends);
+  });
+}
 
 pub withdraws_none : (a b : Post) (old new : State) (at session : ℕ) → NoneWaits at session old × Stays a old b new → Brings (Withdraws at session) a old b new
 withdraws_none a b old new at session stays = record {

@@ -72,6 +72,11 @@ refused_behind a b c old mid new place line is stays brings =
     behind a b c mid new place quiet brings =
         record { said = brings.said; added = brings.added; tells = tells_then a b c [] brings.said [] brings.added quiet brings.tells; is = brings.is }
 
+pub enter_refused : (a b c : Post) (old mid new : State) (place : ℕ) (name client : List ℕ) (line : Line) → IsRefusal line → Stays a old b mid →
+    Brings (OnlyTold place (line_text line)) b mid c new → Brings (Opens place name (Some client)) a old c new
+enter_refused a b c old mid new place name client line is stays brings =
+    opens_refused a c old new place name (Some client) (refused_behind a b c old mid new place line is stays brings)
+
 -- a client has come, and then the object is opened for it
 pub opens_as : (a b c : Post) (old mid new : State) (place at : ℕ) (name client : List ℕ) (entered : Entered) → IsNamed old.objects at name →
     HasCome at client entered a old b mid →

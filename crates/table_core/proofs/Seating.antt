@@ -4,7 +4,6 @@ use Rattle.std.specs.Prelude.{Bool, true, false, Option, Some, None, Result, IfS
 use Rattle.std.specs.declared.alloc.AllocError.{AllocError}
 use Rattle.std.proofs.lemmas.Bool.Decides.{eqb_tells}
 use Rattle.line_core.specs.Runs.{NoLineFeed}
-use Rattle.std.proofs.lemmas.List.{length-map}
 use Rattle.std.proofs.lemmas.Option.{same_Some, slice_get-map, slice_get_past}
 use Rattle.hosted_core.specs.Scene.{Scene}
 use Rattle.client_core.specs.declared.ask.Ask.{Ask}
@@ -61,7 +60,11 @@ waits_is clients place = ap (λ o. waits_of (opened_in o)) (at_is clients place)
 
 -- as many places
 pub count_is : (clients : Clients) → length (peers_of clients) ≡ length clients.rows.items
-count_is clients = length-map peer_of clients.rows.items
+count_is clients = go clients.rows.items
+  where
+    go : (xs : List Client) → length (map peer_of xs) ≡ length xs
+    go [] = refl
+    go (x ∷ xs) = ap suc (go xs)
 
 pub place_is : (clients : Clients) (who : ℕ) → place_for clients who ≡ who % length (peers_of clients)
 place_is clients who = ap (λ n. who % n) (sym (count_is clients))
@@ -120,7 +123,7 @@ away_is clients who is =
     ∙ away_seen (place_at clients (place_for clients who)) is
 
 -- a place of these
-mk : Option ℕ → Option Opened → List ℕ → Bool → Peer
+abbrev mk : Option ℕ → Option Opened → List ℕ → Bool → Peer
 mk who opened held is_cut = record { who = who; opened = opened; held = held; is_cut = is_cut }
 
 mk_is : (a b : Option ℕ) (o p : Option Opened) (h k : List ℕ) (c d : Bool) → a ≡ b → o ≡ p → h ≡ k → c ≡ d → mk a o h c ≡ mk b p k d
@@ -308,6 +311,9 @@ nothing_first (c ∷ line) behind is = true≢false (sym (ap has is))
     has [] = false
     has (b ∷ l) = true
 
+abbrev made_of : List Scene → List Peer → State
+made_of os ps = record { objects = os; peers = ps }
+
 -- the first held line was taken
 pub takes : (old new : Clients) (place : ℕ) (asked : Result Ask AllocError) → Elsewhere old new place →
     IsTaken (place_at old place) (place_at new place) asked → (objects : List Scene) → TakesLine place asked (state_of objects old) (state_of objects new)
@@ -323,13 +329,10 @@ takes old new place asked elsewhere taken objects = by (place_at old place) refl
       first = t.asks.first;
       asks = subst (λ b. IfOk asked (Asks (is_some x.opened) (is_whole_before b t.asks.behind) t.asks.line))
           (sym (ap (λ l. cut_of l x.is_cut) t.asks.first.1 ∙ cut_line t.asks.line t.asks.behind x.is_cut)) t.asks.asks;
-      left = ap (λ (ps : List Peer). made objects ps) (changes old new place (left_with t.asks.behind) elsewhere (λ w y one two.
+      left = ap (λ (ps : List Peer). made_of objects ps) (changes old new place (left_with t.asks.behind) elsewhere (λ w y one two.
           passed_peer t.count t.asks.line t.asks.behind w y (ap rest_in (sym one ∙ is) ∙ t.asks.first.1) t.asks.counted
           (at_some (IsPassed t.count) (Some x) (place_at new place) w y (sym is ∙ one) two t.passed)));
     }
-
-    made : List Scene → List Peer → State
-    made os ps = record { objects = os; peers = ps }
 
 none_opened : (opened : Opened) → None ≡ Some opened → ⊥
 none_opened opened is = true≢false (sym (ap (λ (o : Option Opened). is_some o) is))

@@ -215,6 +215,22 @@ joins_by a b old objects mid new who way peers =
 pub nothing_by : (a : Post) (old new : State) → new ≡ old → Brings Nothing a old a new
 nothing_by a old new is = record { said = []; added = []; tells = tells_none a; is = record { told = refl; lines = refl; left = is } }
 
+-- the last line
+pub last_none : (a : Post) (s : State) (place : ℕ) (text : List ℕ) → text ≡ [] → Brings (HearsLast place text) a s a s
+last_none a s place text is = subst (λ (l : List ℕ). Brings (HearsLast place l) a s a s) (sym is) (brings_none a s)
+
+pub last_some : (a b : Post) (old new : State) (place : ℕ) (text : List ℕ) → (text ≡ [] → ⊥) → Brings (HearsLine place text false) a old b new →
+    Brings (HearsLast place text) a old b new
+last_some a b old new place [] some brings = absurd (some refl)
+last_some a b old new place (c ∷ text) some brings = brings
+
+ok_of : Result Bool AllocError → Bool
+ok_of (Ok b) = b
+ok_of (Err e) = false
+
+pub same_ok : (b c : Bool) → ◌≡◌ {A = Result Bool AllocError} (Ok b) (Ok c) → b ≡ c
+same_ok b c is = ap ok_of is
+
 -- what a turn came to
 pub heard : (old new : Table) (a b : Post) (who : ℕ) (text : List ℕ) (end : LineEnd) →
     Brings (IfHere who (λ (place : ℕ). Then (HearsAt place text end) GoesOn)) a (seen old) b (seen new) → Does Gives old (Heard who text end) new a b

@@ -128,7 +128,14 @@ abbrev pub LetsGoAt : ℕ → ℕ → Option ℕ → Post → State → Post →
 LetsGoAt at session (Some number) before old after new = HasLetGo at session number before old after new
 LetsGoAt at session None before old after new = NoneWaits at session old × Stays before old after new
 
--- a call is cancelled, and who asked is told so before its client is
+-- who asked to cancel a call is told so before its client is
+pub record TellsCancelled (place at session told number : ℕ) (old : State) (said added : Texts) (new : State) : Type 0 where
+  pub ended : Texts
+  pub told_is : said ≡ told_to old.peers place (cancelled_line told (cancel_name answers.Cancelled)) ++ ended
+  pub lines : added ≡ []
+  pub ends : Ends at session number (withdrawn_text number) old ended [] new
+
+-- a call is cancelled, and this is told of it
 pub record CancelsNow (place at session told : ℕ) (old : State) (said added : Texts) (new : State) : Type 0 where
   pub number : ℕ
   pub ended : Texts

@@ -13,7 +13,7 @@ ghost use Rattle.told_core.specs.Deeds.{OnlyTold};
 ghost use Rattle.told_core.specs.State.{opened_at, session_by};
 ghost use Rattle.told_core.specs.Turns.{Withdraws};
 ghost use Rattle.table_core.specs.Brings.{Brings};
-ghost use Rattle.table_core.specs.Parts.{MakesCall, UnderKey, SubmitsOr, MakesAt, TellsTaken, CancelsOne, LetsGoAt};
+ghost use Rattle.table_core.specs.Parts.{MakesCall, UnderKey, SubmitsOr, MakesAt, TellsTaken, TellsCancelled, CancelsOne, LetsGoAt};
 ghost use Rattle.table_core.specs.Seen.{seen};
 
 use crate::objects::{
@@ -398,17 +398,50 @@ impl Table {
             self.reject(place, SubmitFault::Memory, post)?;
             return Ok(());
         }
+        self.cancel_now(place, at, told, session, post)?;
+        Ok(())
+    }
+
+    // The same, where there is room for the lines that tell of it.
+    fn cancel_now(
+        &mut self,
+        place: usize,
+        at: usize,
+        told: u64,
+        session: u16,
+        post: &mut Post,
+    ) -> Result<(), AllocError>
+        ensures { OnOk result (Brings (CancelsOne place at session told) post.old (seen self.old) post.new (seen self.new)) }
+    {
         match self.let_go(at, session, post)? {
             None => {
                 self.answer_cancel(place, told, Cancelled::Ended, post)?;
                 Ok(())
             }
             Some(number) => {
-                self.answer_cancel(place, told, Cancelled::Cancelled, post)?;
-                self.withdrawn(at, session, number, post)?;
+                self.tell_cancelled(place, at, told, session, number, post)?;
                 Ok(())
             }
         }
+    }
+
+    // Tells the one at a place that the call was cancelled, and then the connection that made it.
+    #[tactic(auto, using(crate::proofs::Cancelling::tells_cancelled))]
+    fn tell_cancelled(
+        &mut self,
+        place: usize,
+        at: usize,
+        told: u64,
+        session: u16,
+        number: u64,
+        post: &mut Post,
+    ) -> Result<(), AllocError>
+        ensures { OnOk result (Brings (TellsCancelled place at session told number) post.old (seen self.old) post.new
+            (seen self.new)) }
+    {
+        self.answer_cancel(place, told, Cancelled::Cancelled, post)?;
+        self.withdrawn(at, session, number, post)?;
+        Ok(())
     }
 
     fn answer_cancel(
@@ -444,6 +477,7 @@ impl Table {
     }
 
     // The waiting call of a session was cancelled: the connection that made it is told so, by this number.
+    #[tactic(auto, using(crate::proofs::Submitting::ends_at, crate::proofs::Submitting::ends_nowhere))]
     fn withdrawn(
         &mut self,
         at: usize,

@@ -86,6 +86,7 @@ impl Table {
     }
 
     // Tells the one at a place a line.
+    #[tactic(auto, using(crate::proofs::Bringing::brings_only))]
     pub(crate) fn say(
         &mut self,
         place: usize,
@@ -173,6 +174,7 @@ impl Table {
     }
 
     // Opens the object at a place for one without a name.
+    #[tactic(auto, using(crate::proofs::Entering::opens_bare))]
     fn enter_bare(
         &mut self,
         place: usize,
@@ -285,6 +287,7 @@ impl Table {
     }
 
     // Tells the one at a place that the object of a name is opened for it, by this session.
+    #[tactic(auto, using(crate::proofs::Entering::opened_for))]
     fn open_for(
         &mut self,
         place: usize,
@@ -302,6 +305,7 @@ impl Table {
     }
 
     // The one at a place ends behind its calls.
+    #[tactic(auto, using(crate::proofs::Entering::quits_by))]
     pub(crate) fn quit(&mut self, place: usize, post: &mut Post) -> Result<(), AllocError>
         ensures { OnOk result (Brings (Quits place) post.old (seen self.old) post.new (seen self.new)) }
     {
@@ -313,6 +317,7 @@ impl Table {
     }
 
     // The one at a place has gone, and its session leaves.
+    #[tactic(auto, using(crate::proofs::Entering::goes_from))]
     pub(crate) fn go(&mut self, place: usize)
         ensures { Goes place (seen self.old) [] [] (seen self.new) }
     {

@@ -1,6 +1,8 @@
 //! What a turn does: the lines of connections, one after the other, and what is noted.
 
-ghost use Rattle.std.specs.Prelude.{◌≡◌, [], List, ℕ, Bool, Some, None, Ok, true, false, OnOk, IfOk, length};
+ghost use Rattle.std.specs.Prelude.{◌≡◌, [], List, ℕ, Bool, Some, None, Ok, true, false, OnOk, IfOk, IfSome, length};
+ghost use Rattle.line_read.specs.Reads.{Reads};
+ghost use Rattle.client_core.specs.Numbers.{cancel_in};
 ghost use Rattle.std.specs.Str.Lines.{strip_carriage_return};
 ghost use Rattle.told_core.specs.Asked.{Acts, Heeds};
 ghost use Rattle.told_core.specs.Deeds.{Then};
@@ -75,6 +77,7 @@ impl Table {
     }
 
     // Hears a line of the one at a place. Where a call of it waits the line is held, but for a `cancel`.
+    #[tactic(auto, using(crate::proofs::Turning::line_done))]
     fn hear_line(
         &mut self,
         place: usize,
@@ -95,6 +98,7 @@ impl Table {
     }
 
     // Hears a line of the one at a place that has to be held.
+    #[tactic(auto, using(crate::proofs::Turning::line_cancels))]
     fn hear_behind(
         &mut self,
         place: usize,
@@ -105,14 +109,17 @@ impl Table {
         requires { IsIdle (seen self.old) place → ⊥ }
         ensures { OnOk result (Brings (HearsLine place line.now is_whole) post.old (seen self.old) post.new (seen self.new)) }
     {
-        if is_whole && opened_at(&self.clients, place).is_some() {
-            if let Some(told) = cancel_of(line) {
+        let is_open = opened_at(&self.clients, place).is_some();
+        match asked_cancel(line, is_whole, is_open) {
+            None => {
+                self.hold(place, line, is_whole, post)?;
+                Ok(())
+            }
+            Some(told) => {
                 self.cancel(place, told, post)?;
-                return Ok(());
+                Ok(())
             }
         }
-        self.hold(place, line, is_whole, post)?;
-        Ok(())
     }
 
     fn hold(
@@ -147,6 +154,7 @@ impl Table {
     }
 
     // Does the held lines of the next one that may go on. `false`: there is none.
+    #[tactic(auto, using(crate::proofs::Turning::goes_still, crate::proofs::Turning::goes_same))]
     fn go_on_next(&mut self, post: &mut Post) -> Result<bool, AllocError>
         ensures { OnOk result (Continues post.old (seen self.old) post.new (seen self.new)) }
     {
@@ -172,6 +180,7 @@ impl Table {
     }
 
     // Does the next held line of the one at a place. `false`: none may be done now.
+    #[tactic(auto, using(crate::proofs::Turning::goes_by, crate::proofs::Turning::goes_still))]
     fn go_on_by(&mut self, place: usize, post: &mut Post) -> Result<bool, AllocError>
         ensures { OnOk result (Continues post.old (seen self.old) post.new (seen self.new)) }
     {
@@ -201,6 +210,7 @@ impl Table {
 
     // Nothing more is heard of the one at a place: a call of it that waits is cancelled, and calls that were sent ahead
     // are not done.
+    #[tactic(auto, using(crate::proofs::Turning::leaves_by))]
     fn leave(&mut self, place: usize, post: &mut Post) -> Result<(), AllocError>
         ensures { OnOk result (Brings (Leaves place) post.old (seen self.old) post.new (seen self.new)) }
     {
@@ -225,11 +235,12 @@ impl Table {
     }
 
     // Answers the held lines of the one at a place, which has left.
+    #[tactic(auto, using(crate::proofs::Turning::some_none, crate::proofs::Turning::some_then, crate::proofs::Turning::some_then_all))]
     fn end_held(&mut self, place: usize, post: &mut Post) -> Result<(), AllocError>
         ensures { OnOk result (Brings (EndsHeld place) post.old (seen self.old) post.new (seen self.new)) }
     {
         for _ in 0..u64::MAX {
-            if !self.end_next(place, post)? {
+            if self.end_next(place, post)? {
                 return Ok(());
             }
         }
@@ -237,17 +248,17 @@ impl Table {
         Err(AllocError)
     }
 
-    // Answers the next held line of the one at a place, which has left. `false`: none is held, or it quits.
+    // Answers the next held line of the one at a place, which has left. `true`: none is held, or it quits.
     fn end_next(&mut self, place: usize, post: &mut Post) -> Result<bool, AllocError>
-        ensures more { result ≡ Ok true → EndsSome place post.old (seen self.old) post.new (seen self.new) }
-        ensures all { result ≡ Ok false → Brings (EndsHeld place) post.old (seen self.old) post.new (seen self.new) }
+        ensures more { result ≡ Ok false → EndsSome place post.old (seen self.old) post.new (seen self.new) }
+        ensures all { result ≡ Ok true → Brings (EndsHeld place) post.old (seen self.old) post.new (seen self.new) }
     {
         match take(&mut self.clients, place) {
-            None => Ok(false),
+            None => Ok(true),
             Some(ask) => {
                 let is_last = quits(&ask);
                 self.end_ask(place, ask, post)?;
-                Ok(!is_last)
+                Ok(is_last)
             }
         }
     }
@@ -290,6 +301,7 @@ impl Table {
     }
 
     // All connections leave.
+    #[tactic(auto, using(crate::proofs::Turning::all_none, crate::proofs::Turning::all_more))]
     fn end(&mut self, post: &mut Post) -> Result<(), AllocError>
         ensures { OnOk result (Brings (AllLeave (length (peers_of self.old.clients))) post.old (seen self.old) post.new
             (seen self.new)) }
@@ -301,6 +313,7 @@ impl Table {
     }
 
     // The one at a place leaves, where one is there.
+    #[tactic(auto, using(crate::proofs::Turning::nobody_leaves, crate::proofs::Turning::one_leaves))]
     fn leave_if_here(&mut self, place: usize, post: &mut Post) -> Result<(), AllocError>
         ensures { OnOk result (Brings (LeavesIf place) post.old (seen self.old) post.new (seen self.new)) }
     {
@@ -314,6 +327,7 @@ impl Table {
     }
 
     // Hears a line of a connection.
+    #[tactic(auto, using(crate::proofs::Turning::not_here, crate::proofs::Turning::is_here, crate::proofs::Turning::hears_then))]
     fn hear_of(
         &mut self,
         who: u64,
@@ -361,6 +375,7 @@ impl Table {
     }
 
     // Hears the last line of the one at a place, behind which no LF stood.
+    #[tactic(auto, using(crate::proofs::Turning::last_none, crate::proofs::Turning::last_some))]
     fn hear_last(&mut self, place: usize, line: &[u8], post: &mut Post) -> Result<(), AllocError>
         ensures { OnOk result (Brings (HearsLast place line.now) post.old (seen self.old) post.new (seen self.new)) }
     {
@@ -372,6 +387,7 @@ impl Table {
     }
 
     // Does what is to be done for a note.
+    #[tactic(auto, using(crate::proofs::Turning::hears_then))]
     fn heed_note(&mut self, note: Note, post: &mut Post) -> Result<(), AllocError>
         ensures { OnOk result (Brings (Then (Notes note) GoesOn) post.old (seen self.old) post.new (seen self.new)) }
     {
@@ -380,6 +396,7 @@ impl Table {
         Ok(())
     }
 
+    #[tactic(auto, using(crate::proofs::Turning::nothing_by))]
     fn do_note(&mut self, note: Note, post: &mut Post) -> Result<(), AllocError>
         ensures { OnOk result (Brings (Notes note) post.old (seen self.old) post.new (seen self.new)) }
     {
@@ -404,6 +421,7 @@ impl Table {
     }
 
     // A connection comes. One that has its place leaves.
+    #[tactic(auto, using(crate::proofs::Turning::joins_by))]
     fn join(&mut self, who: u64, post: &mut Post) -> Result<(), AllocError>
         ensures { OnOk result (Brings (Then (LeavesIf (place_of (seen self.old) who)) (Comes who)) post.old (seen self.old)
             post.new (seen self.new)) }
@@ -414,6 +432,7 @@ impl Table {
     }
 
     // The one that has the place of a connection leaves, where there is one.
+    #[tactic(auto, using(crate::proofs::Turning::way_is_free, crate::proofs::Turning::way_is_made))]
     fn make_way(&mut self, who: u64, post: &mut Post) -> Result<(), AllocError>
         ensures { OnOk result (Brings (LeavesIf (place_of (seen self.old) who)) post.old (seen self.old) post.new
             (seen self.new)) }
@@ -428,6 +447,7 @@ impl Table {
     }
 
     // A connection leaves.
+    #[tactic(auto, using(crate::proofs::Turning::not_here, crate::proofs::Turning::is_here))]
     fn leave_of(&mut self, who: u64, post: &mut Post) -> Result<(), AllocError>
         ensures { OnOk result (Brings (IfHere who Leaves) post.old (seen self.old) post.new (seen self.new)) }
     {
@@ -446,6 +466,22 @@ impl Table {
     {
         self.second = second;
         wake(&mut self.clients);
+    }
+}
+
+// The number of the call that a line asks to cancel, where an LF stood behind it and an object is opened.
+fn asked_cancel(line: &[u8], is_whole: bool, is_open: bool) -> Option<u64>
+    ensures { IfSome result (λ told. (is_whole ≡ true) × Reads cancel_in (λ n. n) line.now (Some told)) }
+{
+    if !is_whole {
+        return None;
+    }
+    if !is_open {
+        return None;
+    }
+    match cancel_of(line) {
+        None => None,
+        Some(told) => Some(told),
     }
 }
 
