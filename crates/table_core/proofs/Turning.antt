@@ -40,9 +40,9 @@ use Rattle.table_core.proofs.Telling.{tells_none, tells_then}
 pub line_done : (a b : Post) (old new : State) (place : ℕ) (line : List ℕ) (is_whole is_open : Bool) (asked : Result Ask AllocError) → IsIdle old place →
     is_open ≡ is_some (opened_at old place) → IfOk asked (Asks is_open is_whole line) → Brings (Heeds place asked) a old b new →
     Brings (HearsLine place line is_whole) a old b new
-line_done a b old new place text is_whole is_open asked idle open asks brings =
+line_done a b old new place text is_whole is_open asked idle is_opened asks brings =
     brings_as (Heeds place asked) (HearsLine place text is_whole) a b old new
-    (λ said added is. does idle asked (subst (λ o. IfOk asked (Asks o is_whole text)) open asks) is) brings
+    (λ said added is. does idle asked (subst (λ o. IfOk asked (Asks o is_whole text)) is_opened asks) is) brings
 
 pub line_cancels : (a b : Post) (old new : State) (place told : ℕ) (text : List ℕ) (is_whole : Bool) → (IsIdle old place → ⊥) → is_whole ≡ true →
     Reads cancel_in (λ n. n) text (Some told) → Brings (AnswersCancel place told) a old b new → Brings (HearsLine place text is_whole) a old b new
