@@ -35,7 +35,7 @@ told_by a b peers place bytes items before text one two three tells =
 
 pub brings_as : (P Q : Deed) (a b : Post) (old new : State) → ((said added : Texts) → P old said added new → Q old said added new) → Brings P a old b new →
     Brings Q a old b new
-brings_as P Q a b old new as brings = record { said = brings.said; added = brings.added; tells = brings.tells; is = as brings.said brings.added brings.is }
+brings_as P Q a b old new each brings = record { said = brings.said; added = brings.added; tells = brings.tells; is = each brings.said brings.added brings.is }
 
 pub brings_none : (a : Post) (s : State) → Brings Nothing a s a s
 brings_none a s = record { said = []; added = []; tells = tells_none a; is = record { told = refl; lines = refl; left = refl } }
