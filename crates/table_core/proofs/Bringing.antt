@@ -77,8 +77,8 @@ goes_then : (a b c : State) (said added more_said more_added : Texts) → GoesOn
     GoesOn a (said ++ more_said) (added ++ more_added) c
 goes_then a b c said added more_said more_added rests two = two
 goes_then a b c said added more_said more_added (does mid after s t u v place asked idle takes heeds later) two =
-    subst (λ l. GoesOn a l _ c) (sym (append_assoc s u more_said))
-    (subst (λ l. GoesOn a _ l c) (sym (append_assoc t v more_added))
+    subst (λ l. GoesOn a l ((t ++ v) ++ more_added) c) (sym (append_assoc s u more_said))
+    (subst (λ l. GoesOn a (s ++ (u ++ more_said)) l c) (sym (append_assoc t v more_added))
     (does mid after s t (u ++ more_said) (v ++ more_added) place asked idle takes heeds (goes_then after b c u v more_said more_added later two)))
 
 pub continues_by : (a b : Post) (old new : State) → Brings GoesOn a old b new → Continues a old b new

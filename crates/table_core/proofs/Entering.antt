@@ -44,7 +44,7 @@ opened_for a b objects old new place text opened tells is = record {
   is = record { told = refl; lines = refl; left = peers_are objects new (change (peers_of old) place (opening opened)) is };
 }
 
-bare : ℕ → Opened
+abbrev bare : ℕ → Opened
 bare at = record { object = at; session = 0; is_named = false; waits = false; calls = 0; told = 0 }
 
 pub opens_bare : (a b : Post) (old new : State) (place at : ℕ) (name : List ℕ) → IsNamed old.objects at name →

@@ -1,6 +1,6 @@
 -- Calls that are made.
-use Rattle.std.proofs.Common.{◌≡◌, ◌≢◌, ◌∙◌, ap, sym, subst, refl, ℕ, zero, suc, inl, inr, List, [], ◌∷◌, ◌++◌, append-nil, true≢false}
-use Rattle.std.specs.Prelude.{Bool, true, false, Option, Some, None, Result, Ok, Err, IfSome, slice_get, slice_set}
+use Rattle.std.proofs.Common.{◌≡◌, ◌≢◌, ◌∙◌, ap, sym, subst, refl, arith, ℕ, zero, suc, inl, inr, List, [], ◌∷◌, ◌++◌, append-nil, true≢false}
+use Rattle.std.specs.Prelude.{Bool, true, false, Option, Some, None, Result, Ok, Err, IfSome, OnErr, length, slice_get, slice_set}
 use Rattle.std.proofs.lemmas.Option.{same_Some}
 use Rattle.post_core.specs.Posts.{Tells}
 use Rattle.post_core.specs.declared.post.Post.{Post}
@@ -12,6 +12,7 @@ use Rattle.session_text.specs.declared.line.Line.{Line}
 use Rattle.session_text.specs.Lines.{accepted_text, ended_text, line_text}
 use Rattle.client_core.specs.declared.client.Opened.{Opened}
 use Rattle.client_core.specs.declared.clients.Clients.{Clients}
+use Rattle.client_core.specs.Held.{is_some}
 use Rattle.live_core.specs.declared.call.Ran.{Ran}
 use Rattle.live_core.specs.declared.live.Taken.{Taken}
 use Rattle.live_core.specs.Lines.{all_lines}
@@ -186,8 +187,8 @@ sits_from place old mid new opened seat same sits = subst (λ (s : State). Sits 
 pub gets_number : (old new : List Scene) (clients clients_new : Clients) (place session : ℕ) (opened : Opened) → opened.session ≡ 0 →
     SeatsAt old opened.object session new → peers_of clients_new ≡ change (peers_of clients) place (opening (record opened { session = session })) →
     Sits place (state_of old clients) opened (record opened { session = session }) (state_of new clients_new)
-gets_number old new clients clients_new place session opened zero seats is = inr (record {
-  none = zero;
+gets_number old new clients clients_new place session opened unseated seats is = inr (record {
+  none = unseated;
   object = seats.object;
   there = seats.there;
   session = session;
@@ -197,6 +198,11 @@ gets_number old new clients clients_new place session opened zero seats is = inr
       ∙ objects_are (slice_set old opened.object (with_guests seats.object (with_seat seats.object.guests session Nameless))) new
       (change (peers_of clients) place (opening (record opened { session = session }))) seats.left;
 })
+
+pub err_sits : {A E : Type 0} (r : Result A E) (place : ℕ) (old : State) (opened seat : Opened) (new : State) → Sits place old opened seat new →
+    OnErr r ((s : Opened) × Sits place old opened s new)
+err_sits (Ok a) place old opened seat new sits = tt
+err_sits (Err e) place old opened seat new sits = (seat, sits)
 
 -- a call was made
 pub makes_at : (a b : Post) (old new : List Scene) (peers : List Peer) (seat : Opened) (operation : ℕ) (arguments : List Datum) (taken : Taken)
@@ -223,15 +229,11 @@ submit_refused a b c old mid new place seat operation arguments line is stays br
       is = inr (line, is, brings.is);
     })
 
-set_there : (xs : List Scene) (k : ℕ) (x y : Scene) → slice_get xs k ≡ Some x → slice_get (slice_set xs k y) k ≡ Some y
-set_there [] k x y there = absurd (none_some there)
-  where
-    none_some : None ≡ Some x → ⊥
-    none_some is = true≢false (sym (ap is_some is))
+none_there : (x : Scene) → None ≡ Some x → ⊥
+none_there x is = true≢false (sym (ap (λ (o : Option Scene). is_some o) is))
 
-    is_some : Option Scene → Bool
-    is_some None = false
-    is_some (Some s) = true
+set_there : (xs : List Scene) (k : ℕ) (x y : Scene) → slice_get xs k ≡ Some x → slice_get (slice_set xs k y) k ≡ Some y
+set_there [] k x y there = absurd (none_there x there)
 set_there (z ∷ xs) zero x y there = refl
 set_there (z ∷ xs) (suc k) x y there = set_there xs k x y there
 
@@ -283,10 +285,12 @@ taken_by a b c objects old mid new place told seat taken object is tells peers b
       };
     }
 
-pub none_end : (a : Post) (s : State) (at : ℕ) (object : Scene) (all : List Ran) → all ≡ [] → Brings (AllEnd at object all) a s a s
-none_end a s at object all is =
-    subst (λ (l : List Ran). Brings (AllEnd at object l) a s a s) (sym is)
-    (record { said = []; added = []; tells = tells_none a; is = record { told = refl; lines = refl; left = refl } })
+no_length : (n : ℕ) → suc n ≡ 0 → ⊥
+no_length n is = omega (arith, is)
+
+pub none_end : (a : Post) (s : State) (at : ℕ) (object : Scene) (all : List Ran) → length all ≡ 0 → Brings (AllEnd at object all) a s a s
+none_end a s at object [] is = record { said = []; added = []; tells = tells_none a; is = record { told = refl; lines = refl; left = refl } }
+none_end a s at object (r ∷ all) is = absurd (no_length (length all) is)
 
 pub one_ends : (a b c : Post) (old mid new : State) (at : ℕ) (object : Scene) (all : List Ran) (r : Ran) (rest : List Ran) → all ≡ r ∷ rest →
     Brings (Ends at r.call.session (told_of object r.call.number) (ended_text (told_of object r.call.number) r.reply)) a old b mid → Brings (AllEnd at object rest) b mid c new →
@@ -331,3 +335,10 @@ ends_nowhere a objects old at session number text none = record {
   tells = tells_none a;
   is = inr (none objects, record { told = refl; lines = refl; left = refl });
 }
+
+pub ends_nowhere_as : (a : Post) (objects : List Scene) (old : Clients) (at session found number told : ℕ) (text : List ℕ) → found ≡ session → told ≡ number →
+    ((os : List Scene) (place : ℕ) → Waits at found told (state_of os old) place → ⊥) →
+    Brings (Ends at session number text) a (state_of objects old) a (state_of objects old)
+ends_nowhere_as a objects old at session found number told text one two none =
+    subst (λ n. Brings (Ends at n number text) a (state_of objects old) a (state_of objects old)) one
+    (subst (λ n. Brings (Ends at found n text) a (state_of objects old) a (state_of objects old)) two (ends_nowhere a objects old at found told text none))

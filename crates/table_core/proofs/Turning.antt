@@ -1,5 +1,5 @@
 -- Turns.
-use Rattle.std.proofs.Common.{◌≡◌, ◌≢◌, ◌∙◌, ap, sym, subst, refl, arith, ℕ, zero, suc, ◌+◌, inl, inr, List, [], ◌∷◌, ◌++◌, append_assoc, append-nil, true≢false}
+use Rattle.std.proofs.Common.{◌≡◌, ◌≢◌, ◌∙◌, ap, sym, subst, refl, arith, ℕ, zero, suc, ◌+◌, inl, inr, List, [], ◌∷◌, ◌++◌, append_assoc, append-nil, true≢false, not}
 use Rattle.std.specs.Prelude.{Bool, true, false, Option, Some, None, Result, Ok, Err, IfOk, slice_get, length}
 use Rattle.std.specs.declared.alloc.AllocError.{AllocError}
 use Rattle.line_core.specs.Runs.{NoLineFeed}
@@ -126,7 +126,7 @@ some_then a b c old mid new place one two = record {
   tells = tells_then a b c one.said two.said one.added two.added one.tells two.tells;
   more = λ more_said further last later.
       subst (λ l. EndsHeld place old l ((one.added ++ two.added) ++ further) last) (sym (append_assoc one.said two.said more_said))
-      (subst (λ l. EndsHeld place old (one.said ++ two.said ++ more_said) l last) (sym (append_assoc one.added two.added further))
+      (subst (λ l. EndsHeld place old (one.said ++ (two.said ++ more_said)) l last) (sym (append_assoc one.added two.added further))
       (one.more (two.said ++ more_said) (two.added ++ further) last (two.more more_said further last later)));
 }
 
@@ -224,12 +224,23 @@ pub last_some : (a b : Post) (old new : State) (place : ℕ) (text : List ℕ) �
 last_some a b old new place [] some brings = absurd (some refl)
 last_some a b old new place (c ∷ text) some brings = brings
 
-ok_of : Result Bool AllocError → Bool
+abbrev ok_of : Result Bool AllocError → Bool
 ok_of (Ok b) = b
 ok_of (Err e) = false
 
 pub same_ok : (b c : Bool) → ◌≡◌ {A = Result Bool AllocError} (Ok b) (Ok c) → b ≡ c
 same_ok b c is = ap ok_of is
+
+abbrev pub ok_bool : Bool → Result Bool AllocError
+ok_bool b = Ok b
+
+pub not_true : (b : Bool) → not b ≡ true → b ≡ false
+not_true true is = absurd (true≢false (sym is))
+not_true false is = refl
+
+pub not_false : (b : Bool) → not b ≡ false → b ≡ true
+not_false true is = refl
+not_false false is = absurd (true≢false is)
 
 -- what a turn came to
 pub heard : (old new : Table) (a b : Post) (who : ℕ) (text : List ℕ) (end : LineEnd) →

@@ -10,7 +10,7 @@ ghost use Rattle.hosted_core.specs.Scene.{Scene, told_of};
 ghost use Rattle.post_core.specs.Posts.{Tells};
 ghost use Rattle.told_core.specs.Asked.{Sits, Ends, AllEnd, AnswersCall, AnswersCancel, keyed_text};
 ghost use Rattle.told_core.specs.Deeds.{OnlyTold};
-ghost use Rattle.told_core.specs.State.{opened_at, session_by};
+ghost use Rattle.told_core.specs.State.{counted, opened_at, session_by};
 ghost use Rattle.told_core.specs.Turns.{Withdraws};
 ghost use Rattle.table_core.specs.Brings.{Brings};
 ghost use Rattle.table_core.specs.Parts.{MakesCall, UnderKey, SubmitsOr, MakesAt, TellsTaken, TellsCancelled, CancelsOne, LetsGoAt};
@@ -59,6 +59,18 @@ fn session_by(opened: Opened) -> Option<u16>
         return Some(opened.session);
     }
     None
+}
+
+// One call more waits, of which this number was told.
+fn counted(seat: Opened, told: u64) -> Opened
+    ensures { result ≡ counted told seat }
+{
+    Opened {
+        waits: true,
+        calls: seat.calls.saturating_add(1),
+        told,
+        ..seat
+    }
 }
 
 fn is_new(keyed: &Keyed) -> bool
@@ -307,13 +319,7 @@ impl Table {
         let at = seat.object;
         let told = told_at(&self.objects, at, taken.number);
         tell_accepted(&self.clients, &mut self.line, place, told, post)?;
-        let counted = Opened {
-            waits: true,
-            calls: seat.calls.saturating_add(1),
-            told,
-            ..seat
-        };
-        open(&mut self.clients, place, counted);
+        open(&mut self.clients, place, counted(seat, told));
         self.all_ended(at, &taken.ran, post)?;
         Ok(())
     }

@@ -1,12 +1,12 @@
-use Rattle.std.proofs.Common.{sym, subst, Some, slice_get}
+use Rattle.std.proofs.Common.{◌≡◌, sym, subst, Some, slice_get}
 use Rattle.std.specs.Global.{Vec}
 use Rattle.hosted_core.specs.Scene.{Scene}
 use Rattle.table_core.specs.Seen.{seen}
-use Rattle.table_core.proofs.Submitting.{one_ends}
+use Rattle.table_core.proofs.Submitting.{none_end, one_ends}
 use Rattle.table_core.proofs.table.Table.+all_ended.Goals as goal
 
 pub returns-in-None : goal.returns-in-None
-returns-in-None t c = ?
+returns-in-None t c = λ object there. none_end c.args.post.now (seen c.args.self.now) c.args.at object c.args.all.now c.in-None.ensures.cases
 
 pub returns-in_ok-all_ended-in-Some : goal.returns-in_ok-all_ended-in-Some
 returns-in_ok-all_ended-in-Some t c = λ object there.
