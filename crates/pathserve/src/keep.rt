@@ -4,6 +4,7 @@ ghost use Rattle.std.specs.Prelude.{◌≡◌, IfOk, OnOk};
 ghost use Rattle.hand_core.specs.Papers.{Papers};
 ghost use Rattle.keep_start.specs.Ending.{ObjectsAreSaved};
 
+use crate::stuck::stuck_lines;
 use answer_core::answer::{ACCEPTED, REFUSED};
 use answer_core::failure::Failure;
 use audit_core::verdict::Fault as TraceFault;
@@ -449,8 +450,8 @@ fn is_begun(rt: &HostRuntime, folder: &str, name: &str) -> io::Result<bool> {
 
 /// `pathserve keep`: serves these objects, which nobody else serves from the folder, to who connects at the listener, until
 /// the server is to end; and gives the exit status: 0 where each was kept, 1 where lines say why one is not begun with.
-/// `pasts` are what was done before parts were made, where an object begins with parts. At its end the parts of each are
-/// saved.
+/// `pasts` are what was done before parts were made, where an object begins with parts. Before it serves, `error` gets a
+/// line of each object that is known to get stuck. At its end the parts of each are saved.
 ///
 /// A failure is `Usage` where a past is told of an object that has a journal, `ReadFault` where the folder could not be
 /// read, `WriteFault` where a journal, a part or a line could not be written, or `Memory`. What was answered is on the
@@ -464,8 +465,12 @@ pub fn keep_objects<W: Write, E: Write>(
     writer: &mut W,
     error: &mut E,
 ) -> Result<u8, Failure> {
+    let stuck = stuck_lines(rt.alloc(), &accepted)?;
     match begin_all(rt, accepted, asked.folder, pasts)? {
-        Ok(kept) => serve_kept(rt, kept, asked, listener, writer, error),
+        Ok(kept) => {
+            let _ = write_whole(error, &stuck);
+            serve_kept(rt, kept, asked, listener, writer, error)
+        }
         Err(lines) => {
             say(writer, &lines)?;
             Ok(REFUSED)
