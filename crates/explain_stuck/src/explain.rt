@@ -25,9 +25,9 @@ use stuck_search::find::{MOST_STATES, find};
 fn sentence_of(is_stuck: bool, at_once: bool) -> &'static str {
     match (is_stuck, at_once) {
         (true, true) => "object `#` is stuck at once: none of its operations can ever start",
-        (true, false) => "object `#` can get stuck: after % none of its operations can start again",
+        (true, false) => "object `#` can get stuck: none of its operations can start again after %",
         (false, true) => "object `#` has operations that can never start: $",
-        (false, false) => "object `#` can lose operations: after % $ can never start again",
+        (false, false) => "object `#` can lose operations: $ can never start again after %",
     }
 }
 

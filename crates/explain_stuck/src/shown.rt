@@ -112,7 +112,7 @@ pub(crate) fn push_shown(out: &mut Vec<u8>, case: Case<'_>) -> Result<(), AllocE
             none,
         );
     }
-    push_help(out, "to see it, give `pathserve paths` these lines:", none)?;
+    push_help(out, "to see it, give `pathserve paths` these lines; each start at their end is blocked", none)?;
     push_operations(out, case)?;
     for number in 0..case.object.paths.len() {
         push_path(out, case, path_tokens(case.tokens, number))?;

@@ -76,7 +76,7 @@ fn push_turned_in(
 
 // ---- a comma for a semicolon ----
 
-// Adds the first semicolon in whose place a comma does, if one in the path of this number is such.
+// Adds each semicolon in the path of this number in whose place a comma does; whether there is one.
 fn push_comma_in(
     alloc: Global,
     out: &mut Vec<u8>,
@@ -84,16 +84,15 @@ fn push_comma_in(
     number: usize,
     tries: &mut Tries,
 ) -> Result<bool, AllocError> {
+    let mut some = false;
     for token in path_tokens(case.tokens, number) {
-        if is_symbol(token, Symbol::Semicolon) {
-            if is_way(alloc, case, span_of(token), b",", tries)? {
-                let sentence = "with `,` in the place of this `;` no operation of `#` can be lost";
-                push_note(out, case.page, span_of(token), sentence, words_of(case, b""))?;
-                return Ok(true);
-            }
+        if is_symbol(token, Symbol::Semicolon) && is_way(alloc, case, span_of(token), b",", tries)? {
+            let sentence = "with `,` in the place of this `;` no operation of `#` can be lost";
+            push_note(out, case.page, span_of(token), sentence, words_of(case, b""))?;
+            some = true;
         }
     }
-    Ok(false)
+    Ok(some)
 }
 
 // ---- a lower bound ----
@@ -280,7 +279,7 @@ fn push_fewer(
 
 // ---- all of them ----
 
-// Adds the first change that does of each kind; whether there is one.
+// Adds the first change that does of each kind that takes no turn away; whether there is one.
 fn push_each(
     alloc: Global,
     out: &mut Vec<u8>,
@@ -301,10 +300,20 @@ fn push_each(
             break;
         }
     }
-    for number in 0..count {
+    Ok(some)
+}
+
+// Adds the semicolons in whose place a comma does; whether there is one.
+fn push_commas(
+    alloc: Global,
+    out: &mut Vec<u8>,
+    case: Case<'_>,
+    tries: &mut Tries,
+) -> Result<bool, AllocError> {
+    let mut some = false;
+    for number in 0..case.object.paths.len() {
         if push_comma_in(alloc, out, case, number, tries)? {
             some = true;
-            break;
         }
     }
     Ok(some)
@@ -317,7 +326,9 @@ pub(crate) fn push_ways(
     case: Case<'_>,
 ) -> Result<(), AllocError> {
     let mut tries = no_tries();
-    let help = if push_each(alloc, out, case, &mut tries)? {
+    let some = push_each(alloc, out, case, &mut tries)?
+        || push_commas(alloc, out, case, &mut tries)?;
+    let help = if some {
         "each such change was tried alone: choose by what the clients of `#` do"
     } else {
         "no single small change was found that mends it: let all clients take things in one order, or fewer of them begin"
