@@ -111,13 +111,7 @@ fn stuck_text(alloc: Global, file: &[u8], source: &[u8]) -> Result<Vec<u8>, Allo
 
 // Writes it, as far as that is to be told.
 #[tactic(auto, using(crate::proofs::Hints::no_hint))]
-fn push_stuck<E: Write>(
-    alloc: Global,
-    telling: Telling,
-    file: &str,
-    source: &[u8],
-    error: &mut E,
-)
+fn push_stuck<E: Write>(alloc: Global, telling: Telling, file: &str, source: &[u8], error: &mut E)
     ensures unasked { telling ≡ Nothing → Keeps (E.contents error.old) (E.contents error.new) }
     ensures hint { telling ≡ Hint → IsHinted (E.contents error.old) (E.contents error.new) }
 {

@@ -84,12 +84,7 @@ pub(crate) fn push_number(out: &mut Vec<u8>, number: usize) -> Result<(), AllocE
 }
 
 // Adds so many calls of an operation, where there are some.
-fn push_run(
-    out: &mut Vec<u8>,
-    object: &Object,
-    op: OpId,
-    count: usize,
-) -> Result<(), AllocError> {
+fn push_run(out: &mut Vec<u8>, object: &Object, op: OpId, count: usize) -> Result<(), AllocError> {
     if count == 0 {
         return Ok(());
     }

@@ -4,7 +4,9 @@ use crate::case::{Case, name_of, path_tokens, push_number};
 use note_core::page::push_help;
 use note_core::said::Words;
 use note_core::span::{span_of, text_at};
-use note_core::tokens::{begins, find_name, is_any_name, is_symbol, name_of as word_of, tokens_from};
+use note_core::tokens::{
+    begins, find_name, is_any_name, is_symbol, name_of as word_of, tokens_from,
+};
 use path_tree::node::OpId;
 use path_tree::token::{Symbol, Token, TokenKind};
 use std::alloc::AllocError;
@@ -30,11 +32,7 @@ pub(crate) fn number_of(token: &Token) -> u32 {
 }
 
 // Adds the text of a token of a path: of a constant before a colon its value.
-fn push_token(
-    out: &mut Vec<u8>,
-    case: Case<'_>,
-    here: &[Token],
-) -> Result<(), AllocError> {
+fn push_token(out: &mut Vec<u8>, case: Case<'_>, here: &[Token]) -> Result<(), AllocError> {
     let [token, behind @ ..] = here else {
         return Ok(());
     };
@@ -84,12 +82,7 @@ fn push_operations(out: &mut Vec<u8>, case: Case<'_>) -> Result<(), AllocError> 
 }
 
 // Adds the line of a start or a finish.
-fn push_event(
-    out: &mut Vec<u8>,
-    case: Case<'_>,
-    word: &[u8],
-    op: OpId,
-) -> Result<(), AllocError> {
+fn push_event(out: &mut Vec<u8>, case: Case<'_>, word: &[u8], op: OpId) -> Result<(), AllocError> {
     push_margin(out)?;
     out.extend_from_slice(word)?;
     out.extend_from_slice(name_of(case.object, op))?;
@@ -112,7 +105,11 @@ pub(crate) fn push_shown(out: &mut Vec<u8>, case: Case<'_>) -> Result<(), AllocE
             none,
         );
     }
-    push_help(out, "to see it, give `pathserve paths` these lines; each start at their end is blocked", none)?;
+    push_help(
+        out,
+        "to see it, give `pathserve paths` these lines; each start at their end is blocked",
+        none,
+    )?;
     push_operations(out, case)?;
     for number in 0..case.object.paths.len() {
         push_path(out, case, path_tokens(case.tokens, number))?;

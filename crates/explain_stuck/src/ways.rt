@@ -65,7 +65,8 @@ fn push_turned_in(
     for (at, _) in path.iter().enumerate() {
         if let Some((span, text)) = turned(alloc, case, tokens_from(path, at))? {
             if is_way(alloc, case, span, &text, tries)? {
-                let sentence = "with `%` here, the other way round, no operation of `#` can be lost";
+                let sentence =
+                    "with `%` here, the other way round, no operation of `#` can be lost";
                 push_note(out, case.page, span, sentence, words_of(case, &text))?;
                 return Ok(true);
             }
@@ -86,9 +87,17 @@ fn push_comma_in(
 ) -> Result<bool, AllocError> {
     let mut some = false;
     for token in path_tokens(case.tokens, number) {
-        if is_symbol(token, Symbol::Semicolon) && is_way(alloc, case, span_of(token), b",", tries)? {
+        if is_symbol(token, Symbol::Semicolon)
+            && is_way(alloc, case, span_of(token), b",", tries)?
+        {
             let sentence = "with `,` in the place of this `;` no operation of `#` can be lost";
-            push_note(out, case.page, span_of(token), sentence, words_of(case, b""))?;
+            push_note(
+                out,
+                case.page,
+                span_of(token),
+                sentence,
+                words_of(case, b""),
+            )?;
             some = true;
         }
     }
@@ -129,7 +138,13 @@ fn push_lower_in(
                 push_number(&mut text, limit.saturating_sub(1))?;
                 if is_way(alloc, case, span_of(token), &text, tries)? {
                     let sentence = "with % here no operation of `#` can be lost";
-                    push_note(out, case.page, span_of(token), sentence, words_of(case, &text))?;
+                    push_note(
+                        out,
+                        case.page,
+                        span_of(token),
+                        sentence,
+                        words_of(case, &text),
+                    )?;
                     return Ok(true);
                 }
             }
