@@ -1,5 +1,9 @@
 //! The epochs of objects, from the files of a folder.
 
+ghost use Rattle.std.specs.Prelude.{◌++◌, IfOk};
+ghost use Rattle.decl_core.specs.ObjectMap.{object_of, objects_of};
+ghost use Rattle.folder_audit.specs.Said.{Adds, AddsAll, Hears, AreTold};
+
 use crate::files::{FolderFault, bytes_of, first_of, journal_of, trace_of};
 use decl_core::object::Object;
 use exclude_core::analyse::Accepted;
@@ -40,7 +44,10 @@ fn hear(
     name: &str,
     text: &[u8],
     said: &mut Said,
-) -> Result<bool, AllocError> {
+) -> Result<bool, AllocError>
+    ensures { IfOk result (λ went. Hears (object_of object.now) epochs.old said.old.lines.items went epochs.new
+        said.new.lines.items) }
+{
     push_note(&mut said.notes, name, text)?;
     match epochs.hear(alloc, object, text)? {
         Ok(()) => Ok(true),
@@ -60,7 +67,10 @@ fn hear_ended<R: Files + AllocGlobal>(
     epoch: u64,
     epochs: &mut Epochs,
     said: &mut Said,
-) -> Result<bool, FolderFault> {
+) -> Result<bool, FolderFault>
+    ensures { IfOk result (λ went. Hears (object_of object.now) epochs.old said.old.lines.items went epochs.new
+        said.new.lines.items) }
+{
     let first = first_of(rt, folder, name, epoch)?;
     for number in first..epoch {
         let file = trace_of(rt.alloc(), name, number)?;
@@ -82,7 +92,9 @@ fn audit_journal<R: Files + AllocGlobal>(
     name: &str,
     journal: &[u8],
     said: &mut Said,
-) -> Result<bool, FolderFault> {
+) -> Result<bool, FolderFault>
+    ensures { IfOk result (λ whole. Adds (object_of object.now) whole said.old.lines.items said.new.lines.items) }
+{
     let file = journal_of(rt.alloc(), name)?;
     let epoch = match epoch_of(rt.alloc(), object, journal)? {
         Ok(epoch) => epoch,
@@ -115,8 +127,9 @@ fn audit_object<R: Files + AllocGlobal>(
     object: &Object,
     folder: &str,
     said: &mut Said,
-) -> Result<bool, FolderFault> {
-    said.lines.extend_from_slice(object.name.as_bytes())?;
+) -> Result<bool, FolderFault>
+    ensures { IfOk result (λ whole. Adds (object_of object.now) whole said.old.lines.items said.new.lines.items) }
+{
     let Ok(name) = str::from_utf8(object.name.as_bytes()) else {
         return Err(FolderFault::Memory);
     };
@@ -130,6 +143,37 @@ fn audit_object<R: Files + AllocGlobal>(
     }
 }
 
+// Says the name of an object, and what it is in a folder.
+fn audit_named<R: Files + AllocGlobal>(
+    rt: &R,
+    object: &Object,
+    folder: &str,
+    said: &mut Said,
+) -> Result<bool, FolderFault>
+    ensures { IfOk result (λ whole. Adds (object_of object.now) whole (said.old.lines.items ++ object.now.name)
+        said.new.lines.items) }
+{
+    said.lines.extend_from_slice(object.name.as_bytes())?;
+    audit_object(rt, object, folder, said)
+}
+
+// Says what these objects are in a folder, in order. False: not all of them are whole.
+fn audit_objects<R: Files + AllocGlobal>(
+    rt: &R,
+    objects: &[Accepted],
+    folder: &str,
+    said: &mut Said,
+) -> Result<bool, FolderFault>
+    ensures { IfOk result (λ whole. AddsAll (objects_of objects.now) whole said.old.lines.items said.new.lines.items) }
+{
+    let Some((accepted, rest)) = objects.split_first() else {
+        return Ok(true);
+    };
+    let one = audit_named(rt, accepted.object(), folder, said)?;
+    let others = audit_objects(rt, rest, folder, said)?;
+    Ok(one && others)
+}
+
 /// Says what objects are in a folder, in order: `NAME epochs E entries K whole` where its epochs, the oldest of which there
 /// is a file first, can have happened one after another; `NAME no journal`; `NAME FILE line N bad` of the first file whose
 /// front is not read; or `NAME epoch E ` and why that one is refused.
@@ -139,16 +183,14 @@ pub fn audit_folder<R: Files + AllocGlobal>(
     rt: &R,
     objects: &[Accepted],
     folder: &str,
-) -> Result<Said, FolderFault> {
+) -> Result<Said, FolderFault>
+    ensures { IfOk result (λ said. AreTold (objects_of objects.now) said.is_whole said.lines.items) }
+{
     let mut said = Said {
         lines: Vec::new(rt.alloc()),
         notes: Vec::new(rt.alloc()),
-        is_whole: true,
+        is_whole: false,
     };
-    for accepted in objects {
-        if !audit_object(rt, accepted.object(), folder, &mut said)? {
-            said.is_whole = false;
-        }
-    }
+    said.is_whole = audit_objects(rt, objects, folder, &mut said)?;
     Ok(said)
 }

@@ -2,7 +2,7 @@
 //!
 //! The epoch that goes on is `NAME.journal`; ended ones are `NAME.NNNNNN.trace`, with the number of the epoch in six
 //! digits at least. `files` reads them, `audit` hands them to recover_text, one after another, and gathers what is said.
-//! No clause can say what a folder holds: what is proved of the epochs stands in recover_text.
+//! No clause can say what a folder holds; that texts are told as whole only where they can be such epochs is proved.
 #![tactic(auto)]
 
 pub mod audit;

@@ -1,5 +1,6 @@
 pub mod Crashed
 pub mod Cuts
+pub mod Ended
 pub mod Grown
 pub mod Heeded
 pub mod Honest

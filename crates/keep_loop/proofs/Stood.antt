@@ -587,3 +587,10 @@ module _ {S : Type 0} (gives : Gives S) (first : S) (limits : Limits) where
         s.owes;
     heeds = s.heeds;
   }
+
+  pub rests_synced : (seen : List Happened) (keep : Keep S) (journal : ℕ) → limits.waits ≡ false → Rests gives first limits seen keep → Rests gives first limits (Stored journal ∷ seen) keep
+  unfolding stands_synced
+  rests_synced seen keep journal waits r = record {
+    stands = stands_synced seen keep journal waits r.stands;
+    none = r.none;
+  }

@@ -2,7 +2,7 @@
 use Rattle.std.specs.Prelude.{◌≡◌, ◌<◌, ◌≤◌, ◌%◌, ℕ, true, false, List, [], ◌++◌, Option, IfSome, length}
 use Rattle.keep_loop.specs.Cuts.{IsCut, IsFed}
 use Rattle.post_core.specs.Posts.{is_here, hears, owed_to}
-use Rattle.keep_loop.specs.Seen.{Happened, came_from, ended_in, written_to, notes_in, added_in, kept_in, comings, Always}
+use Rattle.keep_loop.specs.Seen.{Happened, came_from, ended_in, written_to, notes_in, added_in, stored_in, kept_in, comings, Always}
 use Rattle.post_core.specs.Texts.{Begins, text_at}
 use Rattle.post_core.specs.Turns.{Turn, Gives, Runs, said_to, heard_of, added_by, notes_by, has_joined}
 use Rattle.keep_loop.specs.declared.keep.Keep.{Keep}
@@ -42,6 +42,18 @@ pub record Survives {S : Type 0} (gives : Gives S) (first : S) (limits : Limits)
   pub written : (c : ℕ) → Begins (written_to c seen) (said_to c answered)
   pub all : (j : ℕ) → j < limits.journals → Begins (added_by j answered) (found j)
   pub only : (j : ℕ) → j < limits.journals → Begins (found j) (added_by j (answered ++ later))
+
+-- The server has ended, and this is what it leaves of what it served: one history leads there, which has each note. What each
+-- connection said begins with its lines in it, and what each was written is a front of what it tells it. Each journal was
+-- handed the lines of the history and no others, and all of them are stored
+pub record HasEnded {S : Type 0} (gives : Gives S) (first : S) (limits : Limits) (seen : List Happened) (last : S) : Type 0 where
+  pub turns : List Turn
+  pub runs : Runs gives first turns last
+  pub heard : (c : ℕ) → IsCut (ended_in c seen) (came_from c seen) (heard_of c turns)
+  pub noted : notes_in seen ≡ notes_by turns
+  pub written : (c : ℕ) → Begins (written_to c seen) (said_to c turns)
+  pub added : (j : ℕ) → j < limits.journals → added_in j seen ≡ added_by j turns
+  pub stored : (j : ℕ) → j < limits.journals → stored_in j seen ≡ added_by j turns
 
 -- what is owed is what was said and not written, and what was added and not handed on
 pub record Owes (limits : Limits) (written kept added : ℕ → List ℕ) (post : Post) (base : ℕ) (kept_turns later : List Turn) : Type 0 where
@@ -112,3 +124,13 @@ Fails {S} gives before old after = (first : S) (limits : Limits) → Good gives 
 
 abbrev pub FailsRested : {S : Type 0} → Gives S → Option (List Happened) → Keep S → Option (List Happened) → Type 0
 FailsRested {S} gives before old after = (first : S) (limits : Limits) → Rested gives first limits before old → Honest gives first limits after
+
+-- to an end: all lines are stored
+abbrev pub Ended : {S : Type 0} → Gives S → S → Limits → Option (List Happened) → S → Type 0
+Ended gives first limits seen last = IfSome seen (λ s. HasEnded gives first limits s last × Always (IsHonest gives first limits) s)
+
+abbrev pub Ends : {S : Type 0} → Gives S → Option (List Happened) → Keep S → Option (List Happened) → S → Type 0
+Ends {S} gives before old after last = (first : S) (limits : Limits) → Good gives first limits before old → Ended gives first limits after last
+
+abbrev pub EndsRested : {S : Type 0} → Gives S → Option (List Happened) → Keep S → Option (List Happened) → S → Type 0
+EndsRested {S} gives before old after last = (first : S) (limits : Limits) → Rested gives first limits before old → Ended gives first limits after last

@@ -1,10 +1,10 @@
 //! Rounds: hear, store, and only then write.
 
-ghost use Rattle.std.specs.Prelude.{◌≡◌, ◌<◌, [], ℕ, List, true, false, OnOk, OnErr, IfSome, length, if◌then◌else◌, ◌==◌};
+ghost use Rattle.std.specs.Prelude.{◌≡◌, ◌<◌, [], ℕ, List, true, false, OnOk, OnErr, IfOk, IfSome, length, if◌then◌else◌, ◌==◌};
 ghost use Rattle.post_core.specs.Posts.{is_here};
 ghost use Rattle.keep_loop.specs.Seen.{Happened, Grows, Always};
 ghost use Rattle.keep_loop.specs.Seen.Happened.{Stored};
-ghost use Rattle.keep_loop.specs.Stands.{IsHonest, Stands, Keeps, Settles, Sends, Fails, FailsRested};
+ghost use Rattle.keep_loop.specs.Stands.{IsHonest, HasEnded, Stands, Keeps, Settles, Sends, Ends, EndsRested, Fails, FailsRested};
 ghost use Rattle.post_core.specs.Texts.{text_at};
 
 use crate::keep::{Keep, Limits};
@@ -407,6 +407,7 @@ fn store_one<O: Served, W: Outside>(
 ) -> Result<(), Fault>
     requires { keep.now.limits.waits ≡ false }
     ensures ok { OnOk result (Keeps O.gives (W.seen outside.old) keep.now (W.seen outside.new) keep.now) }
+    ensures stored { OnOk result (Grows (Stored journal) (W.seen outside.old) (W.seen outside.new)) }
     ensures err { OnErr result (Fails O.gives (W.seen outside.old) keep.now (W.seen outside.new)) }
 {
     outside.sync(journal)?;
@@ -511,6 +512,30 @@ fn go_on<O: Served, W: Outside>(
     Ok(true)
 }
 
+// Stores all journals at the end, where no answer waits for that: else they are stored.
+fn store_last<O: Served, W: Outside>(keep: &Keep<O>, outside: &mut W) -> Result<(), Fault>
+    ensures ok { OnOk result (EndsRested O.gives (W.seen outside.old) keep.now (W.seen outside.new) keep.now.object) }
+    ensures err { OnErr result (FailsRested O.gives (W.seen outside.old) keep.now (W.seen outside.new)) }
+{
+    if keep.limits.waits {
+        return Ok(());
+    }
+    for journal in 0..keep.post.journals() {
+        store_one(keep, outside, journal)?;
+    }
+    Ok(())
+}
+
+// Hands the journals the lines that are left at the end, and stores all.
+fn conclude<O: Served, W: Outside>(keep: &mut Keep<O>, outside: &mut W) -> Result<(), Fault>
+    ensures ok { OnOk result (Ends O.gives (W.seen outside.old) keep.old (W.seen outside.new) keep.new.object) }
+    ensures err { OnErr result (Fails O.gives (W.seen outside.old) keep.old (W.seen outside.new)) }
+{
+    settle(keep, outside)?;
+    store_last(keep, outside)?;
+    Ok(())
+}
+
 // Serves so many rounds, or until the server is to end.
 fn serve<O: Served, W: Outside>(
     keep: &mut Keep<O>,
@@ -518,7 +543,8 @@ fn serve<O: Served, W: Outside>(
     piece: &mut Vec<u8>,
     rounds: u64,
 ) -> Result<(), Fault>
-    ensures { Fails O.gives (W.seen outside.old) keep.old (W.seen outside.new) }
+    ensures ok { OnOk result (Keeps O.gives (W.seen outside.old) keep.old (W.seen outside.new) keep.new) }
+    ensures err { OnErr result (Fails O.gives (W.seen outside.old) keep.old (W.seen outside.new)) }
 {
     for _round in 0..rounds {
         if !go_on(keep, outside, piece)? {
@@ -529,7 +555,8 @@ fn serve<O: Served, W: Outside>(
     Ok(())
 }
 
-/// Serves an object for so many rounds, or until the server is to end, and hands it back.
+/// Serves an object for so many rounds, or until the server is to end, and hands it back. Then all that its journals were
+/// handed is stored, also where no answer waited for that.
 ///
 /// `Err`: memory was refused, or a journal failed. Nothing was written then that waits for lines that are not stored.
 pub fn run<O: Served + Drop, W: Outside>(
@@ -542,9 +569,12 @@ pub fn run<O: Served + Drop, W: Outside>(
     requires { IfSome (W.seen outside.old) (λ seen. seen ≡ []) }
     // However it ends, and at each moment of it.
     ensures honest { IfSome (W.seen outside.new) (λ seen. Always (IsHonest O.gives object limits) seen) }
+    // What is handed back is what the one history leads to, all lines of which are stored.
+    ensures ended { IfOk result (λ last. IfSome (W.seen outside.new) (λ seen. HasEnded O.gives object limits seen last)) }
 {
     let mut keep = Keep::new(alloc, object, limits)?;
     let mut piece = Vec::new(alloc);
     serve(&mut keep, outside, &mut piece, rounds)?;
+    conclude(&mut keep, outside)?;
     Ok(keep.into_object())
 }

@@ -1,11 +1,7 @@
 //! `pathserve keep`: objects in memory, over journals in a folder.
 
-ghost use Rattle.std.specs.Prelude.{◌≡◌, IfOk, OnOk};
-ghost use Rattle.hand_core.specs.Papers.{Papers};
-ghost use Rattle.keep_start.specs.Ending.{ObjectsAreSaved};
-
+use crate::ending::{Ended, KeepEnd, say, serve_table};
 use crate::stuck::stuck_lines;
-use answer_core::answer::{ACCEPTED, REFUSED};
 use answer_core::failure::Failure;
 use audit_core::verdict::Fault as TraceFault;
 use command_line::past::Past;
@@ -13,15 +9,12 @@ use command_line::request::{Address, Keeping, Sync, past_error};
 use decl_core::object::Object;
 use device_core::dir_shelf::DirShelf;
 use exclude_core::analyse::Accepted;
-use hand_core::hand::HandFault;
-use hand_core::shelf::Shelf;
 use hosted_core::hosted::{Hosted, MOST_LINES};
 use journal_core::device::DeviceError;
 use journal_core::folder::FolderFile;
 use journal_core::journal::recover as lines_of;
 use keep_core::open::push_damaged;
-use keep_loop::{Fault, Limits as LoopLimits, run};
-use keep_start::ending::save_objects;
+use keep_loop::Limits as LoopLimits;
 use keep_start::start::{NotBegun, begin_behind, begin_first, opening_of, push_calls};
 use line_core::write_whole;
 use live_core::call::Limits;
@@ -337,7 +330,7 @@ fn serve_kept<W: Write, E: Write>(
     listener: Listener,
     writer: &mut W,
     error: &mut E,
-) -> Result<u8, Failure> {
+) -> Result<Ended, Failure> {
     let alloc = rt.alloc();
     let Kept {
         objects,
@@ -345,6 +338,7 @@ fn serve_kept<W: Write, E: Write>(
         fronts,
     } = kept;
     let count = objects.len();
+    let mut shelf = DirShelf::new(*rt, asked.folder)?;
     let traces = u64::from(asked.traces).saturating_mul(MEGABYTE);
     let begun = Journals::begin(*rt, asked.folder, &names, &fronts, ROOM, traces);
     let Some(journals) = begun else {
@@ -366,22 +360,7 @@ fn serve_kept<W: Write, E: Write>(
         journals: count,
         waits: asked.sync == Sync::Always,
     };
-    match run(alloc, table, limits, &mut wires, u64::MAX) {
-        Ok(table) => {
-            let mut shelf = DirShelf::new(*rt, asked.folder)?;
-            end_objects(alloc, table.objects(), &mut shelf, writer, error)
-        }
-        Err(Fault::Memory) => Err(Failure::Memory),
-        Err(Fault::Journal(_)) => Err(Failure::WriteFault),
-    }
-}
-
-// Writes a line whole.
-fn say<W: Write>(writer: &mut W, line: &[u8]) -> Result<(), Failure> {
-    match write_whole(writer, line) {
-        Ok(()) => Ok(()),
-        Err(_) => Err(Failure::WriteFault),
-    }
+    serve_table(alloc, table, limits, &mut wires, &mut shelf, writer, error)
 }
 
 // `listening PLACE`.
@@ -391,43 +370,6 @@ fn tell_place<W: Write>(alloc: Global, asked: Keeping<'_>, writer: &mut W) -> Re
         Address::Path(path) => format!(in alloc; "listening {path}\n")?,
     };
     say(writer, line.as_bytes())
-}
-
-// `NAME entries K` for each object, in order: so many calls of it finished since the server began.
-fn tell_entries<W: Write>(alloc: Global, objects: &[Hosted], writer: &mut W) -> Result<u8, Failure>
-    ensures { IfOk result (λ status. status ≡ 0) }
-{
-    for hosted in objects {
-        let entries = hosted.entries();
-        let mut line = hosted.name().as_bytes().to_vec(alloc)?;
-        let told = format!(in alloc; " entries {entries}\n")?;
-        line.extend_from_slice(told.as_bytes())?;
-        say(writer, &line)?;
-    }
-    Ok(ACCEPTED)
-}
-
-// Ends objects that were served: their parts are saved, for people and for another folder (here they are read from the
-// journals alone), and `NAME entries K` is said of each. The status is 0, and only where each part is saved and each line
-// is said.
-fn end_objects<S: Shelf, W: Write, E: Write>(
-    alloc: Global,
-    objects: &[Hosted],
-    shelf: &mut S,
-    writer: &mut W,
-    error: &mut E,
-) -> Result<u8, Failure>
-    ensures status { IfOk result (λ status. status ≡ 0) }
-    ensures saved { OnOk result ((papers : Papers) → S.holds shelf.new papers → (before : Papers)
-        × S.holds shelf.old before × ObjectsAreSaved objects.now before papers) }
-{
-    let saved = save_objects(alloc, objects, shelf, error);
-    let told = tell_entries(alloc, objects, writer);
-    match saved {
-        Ok(()) => told,
-        Err(HandFault::Device) => Err(Failure::WriteFault),
-        Err(HandFault::Memory) => Err(Failure::Memory),
-    }
 }
 
 /// Whether a folder has a journal of an object that is kept: a file `NAME.journal` that is not empty. The error is that of
@@ -449,9 +391,9 @@ fn is_begun(rt: &HostRuntime, folder: &str, name: &str) -> io::Result<bool> {
 }
 
 /// `pathserve keep`: serves these objects, which nobody else serves from the folder, to who connects at the listener, until
-/// the server is to end; and gives the exit status: 0 where each was kept, 1 where lines say why one is not begun with.
-/// `pasts` are what was done before parts were made, where an object begins with parts. Before it serves, `error` gets a
-/// line of each object that is known to get stuck. At its end the parts of each are saved.
+/// the server is to end; and says how that ended: each was kept, or lines say why one is not begun with. `pasts` are what
+/// was done before parts were made, where an object begins with parts. Before it serves, `error` gets a line of each object
+/// that is known to get stuck. At its end the parts of each are saved.
 ///
 /// A failure is `Usage` where a past is told of an object that has a journal, `ReadFault` where the folder could not be
 /// read, `WriteFault` where a journal, a part or a line could not be written, or `Memory`. What was answered is on the
@@ -464,16 +406,17 @@ pub fn keep_objects<W: Write, E: Write>(
     listener: Listener,
     writer: &mut W,
     error: &mut E,
-) -> Result<u8, Failure> {
+) -> Result<KeepEnd, Failure> {
     let stuck = stuck_lines(rt.alloc(), &accepted)?;
     match begin_all(rt, accepted, asked.folder, pasts)? {
         Ok(kept) => {
             let _ = write_whole(error, &stuck);
-            serve_kept(rt, kept, asked, listener, writer, error)
+            let ended = serve_kept(rt, kept, asked, listener, writer, error)?;
+            Ok(KeepEnd::Whole(ended))
         }
         Err(lines) => {
             say(writer, &lines)?;
-            Ok(REFUSED)
+            Ok(KeepEnd::Refused)
         }
     }
 }

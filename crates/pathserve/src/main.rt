@@ -16,6 +16,11 @@
 //! where it has no answer. What stands here hands them the command line and the streams.
 #![tactic(auto)]
 
+ghost use Rattle.std.specs.Prelude.{◌≡◌};
+ghost use Rattle.std.specs.Process.{exit_status as code};
+ghost use Rattle.answer_core.specs.Status.{exit_status_of};
+
+mod ending;
 mod keep;
 mod lack;
 mod pasts;
@@ -33,6 +38,7 @@ use answer_core::source::read_source;
 use answer_core::stuck::check_stuck;
 use command_line::past::Past;
 use command_line::request::{Address, Explain, Keeping, Request, Serving, request_of};
+use ending::{KeepEnd, status_of_keep};
 use exclude_core::analyse::Accepted;
 use explain_line::files::Files;
 use explain_line::kept::Kept;
@@ -123,7 +129,14 @@ fn main(rt: HostRuntime) -> ExitCode {
     if let Err(failure) = &ended {
         let _ = eprint!(rt; "{failure}");
     }
-    ExitCode::from(exit_status(&ended))
+    code_of(&ended)
+}
+
+// What the process ends with.
+fn code_of(ended: &Result<u8, Failure>) -> ExitCode
+    ensures { code result ≡ exit_status_of ended.now }
+{
+    ExitCode::from(exit_status(ended))
 }
 
 // Opens a folder, if it is one.
@@ -366,7 +379,10 @@ fn prepare(rt: &HostRuntime) -> Result<Prepared, Failure> {
     let words: Vec<&str> = words.iter().map(|word| word.as_str()).collect(rt.alloc())?;
     let ended = match request_of(rt.alloc(), words.as_slice()) {
         Ok(Request::Serve(asked)) => return prepare_server(rt, asked),
-        Ok(Request::Keep(asked)) => run_keep(rt, asked, words.as_slice()),
+        Ok(Request::Keep(asked)) => match run_keep(rt, asked, words.as_slice()) {
+            Ok(end) => Ok(status_of_keep(end)),
+            Err(failure) => Err(failure),
+        },
         Ok(request) => run(rt, request),
         Err(error) => words_end(error, &mut io::writer(rt)),
     };
@@ -545,7 +561,7 @@ fn keep_source(
     asked: Keeping<'_>,
     pasts: &[Past<'_>],
     ears: Ears,
-) -> Result<u8, Failure> {
+) -> Result<KeepEnd, Failure> {
     match judge(rt.alloc(), source)? {
         Judged::Ready(objects) => keep_objects(
             rt,
@@ -566,13 +582,14 @@ fn keep_source(
                 source,
                 None,
                 &mut rt.stderr(),
-            )
+            )?;
+            Ok(KeepEnd::Refused)
         }
     }
 }
 
 // `pathserve keep`.
-fn run_keep(rt: &HostRuntime, asked: Keeping<'_>, words: &[&str]) -> Result<u8, Failure> {
+fn run_keep(rt: &HostRuntime, asked: Keeping<'_>, words: &[&str]) -> Result<KeepEnd, Failure> {
     let pasts = pasts_in(rt.alloc(), words)?;
     let source = match source_at(rt, asked.file) {
         Ok(source) => source,
@@ -623,7 +640,7 @@ fn run(rt: &HostRuntime, request: Request<'_>) -> Result<u8, Failure> {
         Request::Check(path, when, stuck) => run_check(rt, path, when, stuck),
         Request::Run(source, text, when) => run_script(rt, Files { source, text }, when),
         Request::Audit(source, text, when) => run_audit(rt, Files { source, text }, when),
-        // `prepare` has them.
-        Request::Keep(_) | Request::Serve(_) => Ok(0),
+        // `prepare` has them: they do not come here.
+        Request::Keep(_) | Request::Serve(_) => Ok(REFUSED),
     }
 }

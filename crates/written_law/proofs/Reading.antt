@@ -1,5 +1,5 @@
 -- What is recovered of lines that were added.
-use Rattle.std.proofs.Common.{◌≡◌, ℕ, suc, inl, inr, false, List, [], ◌∷◌, ◌++◌, ◌==◌, refl, sym, ap, ◌∙◌, append_assoc, subst, arith}
+use Rattle.std.proofs.Common.{◌≡◌, ◌⊎◌, ℕ, suc, inl, inr, false, List, [], ◌∷◌, ◌++◌, ◌==◌, refl, sym, ap, ◌∙◌, append_assoc, subst, arith}
 use Rattle.std.specs.Prelude.{Option, Some, None}
 use Rattle.std.specs.Str.{str_to_ascii_lowercase}
 use Rattle.std.proofs.lemmas.List.{append-nil}
@@ -13,8 +13,9 @@ use Rattle.replay_core.proofs.Exact.{tells_once}
 use Rattle.replay_core.proofs.Saying.{says_once}
 use Rattle.recover_core.specs.Lines.{IsLine, AreLines, joined}
 use Rattle.recover_core.specs.Playing.{begun_by}
+use Rattle.hosted_core.specs.Steps as hosted
 use Rattle.written_law.specs.Happens.{all_happen}
-use Rattle.written_law.specs.Read.{Adds, FrontIsRead, AllIsRead, NoFaultIsFound}
+use Rattle.written_law.specs.Read.{Adds, AddsTwice, FrontIsRead, AllIsRead, StoredIsRead, NoFaultIsFound}
 use Rattle.written_law.specs.Told.{heard_of, AreTold}
 use Rattle.written_law.proofs.Telling.{steps_are_told}
 
@@ -63,6 +64,10 @@ lines_begin (l ∷ first) (m ∷ all) more lf la is =
     let on = lines_begin first all more lf.1 la.1 two.1 in
     record { rest = on.rest; is = ap (λ x. x ∷ all) two.0 ∙ ap (λ xs. l ∷ xs) on.is; text = on.text }
 
+ends_in : (l more : List ℕ) → IsLine (l ++ 10 ∷ more) → ⊥
+ends_in [] more is = no_end 10 (line_head 10 more is) refl
+ends_in (b ∷ l) more is = ends_in l more (line_tail b (l ++ 10 ∷ more) is)
+
 -- no line ends in bytes without the end of one
 no_lines : (lines : List (List ℕ)) (rest : List ℕ) → IsLine rest → joined lines ≡ rest → lines ≡ []
 no_lines [] rest is same = refl
@@ -71,9 +76,40 @@ no_lines (l ∷ lines) rest is same = absurd (ends_in l (joined lines) (subst Is
     same' : (l : List ℕ) (lines : List (List ℕ)) (rest : List ℕ) → joined (l ∷ lines) ≡ rest → l ++ 10 ∷ joined lines ≡ rest
     same' l lines rest same = sym (append_assoc l (10 ∷ []) (joined lines)) ∙ same
 
-    ends_in : (l more : List ℕ) → IsLine (l ++ 10 ∷ more) → ⊥
-    ends_in [] more is = no_end 10 (line_head 10 more is) refl
-    ends_in (b ∷ l) more is = ends_in l more (line_tail b (l ++ 10 ∷ more) is)
+-- lines with which a text begins are the first of its lines, whatever has no end behind these
+lines_begin_open : (first all : List (List ℕ)) (rest more : List ℕ) → AreLines first → AreLines all → IsLine rest → joined all ++ rest ≡ joined first ++ more →
+    (behind : List (List ℕ)) × (all ≡ first ++ behind)
+lines_begin_open [] all rest more lf la loose is = (all, refl)
+lines_begin_open (l ∷ first) [] rest more lf la loose is =
+    absurd (ends_in l (joined first ++ more) (subst IsLine (is ∙ append_assoc (l ++ 10 ∷ []) (joined first) more ∙ append_assoc l (10 ∷ []) (joined first ++ more)) loose))
+lines_begin_open (l ∷ first) (m ∷ all) rest more lf la loose is =
+    let one : m ++ 10 ∷ (joined all ++ rest) ≡ l ++ 10 ∷ (joined first ++ more) =
+    sym (append_assoc m (10 ∷ []) (joined all ++ rest)) ∙ sym (append_assoc (m ++ 10 ∷ []) (joined all) rest) ∙ is ∙ append_assoc (l ++ 10 ∷ []) (joined first) more ∙ append_assoc l (10 ∷ []) (joined first ++ more) in
+    let two = first_once m l (joined all ++ rest) (joined first ++ more) la.0 lf.0 one in
+    let on = lines_begin_open first all rest more lf.1 la.1 loose two.1 in
+    (on.0, ap (λ x. x ∷ all) two.0 ∙ ap (λ xs. l ∷ xs) on.1)
+
+-- the first lines of those of which one is the last: all of them, or among the others
+first_of_last : (first behind kept : List (List ℕ)) (last : List ℕ) → first ++ behind ≡ kept ++ last ∷ [] →
+    (first ≡ kept ++ last ∷ []) ⊎ ((more : List (List ℕ)) × (kept ≡ first ++ more))
+first_of_last [] behind kept last is = inr (kept, refl)
+first_of_last (x ∷ []) behind [] last is = inl (ap (λ y. y ∷ []) (heads x last behind [] is).0)
+  where
+    heads : (a b : List ℕ) (xs ys : List (List ℕ)) → a ∷ xs ≡ b ∷ ys → (a ≡ b) × (xs ≡ ys)
+    heads a b xs ys is = (cc, cc)
+first_of_last (x ∷ y ∷ first) behind [] last is = cc
+first_of_last (x ∷ first) behind (k ∷ kept) last is = goes_on (first_of_last first behind kept last (heads x k (first ++ behind) (kept ++ last ∷ []) is).1)
+  where
+    heads : (a b : List ℕ) (xs ys : List (List ℕ)) → a ∷ xs ≡ b ∷ ys → (a ≡ b) × (xs ≡ ys)
+    heads a b xs ys is = (cc, cc)
+
+    same : x ≡ k
+    same = (heads x k (first ++ behind) (kept ++ last ∷ []) is).0
+
+    goes_on : (first ≡ kept ++ last ∷ []) ⊎ ((more : List (List ℕ)) × (kept ≡ first ++ more)) →
+        (x ∷ first ≡ k ∷ (kept ++ last ∷ [])) ⊎ ((more : List (List ℕ)) × (k ∷ kept ≡ x ∷ (first ++ more)))
+    goes_on (inl all) = inl (ap (λ y. y ∷ first) same ∙ ap (λ ys. k ∷ ys) all)
+    goes_on (inr (more, some)) = inr (more, ap (λ y. y ∷ kept) (sym same) ∙ ap (λ ys. x ∷ ys) some)
 
 -- what lines told
 
@@ -135,6 +171,32 @@ module _ (o : ObjectForm) (e : Begun) where
       let one : Tells o e (heard_of found) last (heard_of steps) = subst (Tells o e (heard_of found) last) (sym more.2) more.1 in
       absurd (no_start (heard_of found) last (heard_of steps) asked says refl one)
 
+  -- lines behind which nothing runs are among those that are kept
+  stored_told : (first behind all kept : List (List ℕ)) (steps found : List Step) → Tell o e nothing_heard first (heard_of steps) → all ≡ first ++ behind → IsCut all kept →
+      Tell o e nothing_heard kept (heard_of found) → (read : List Step) × (found ≡ read ++ steps)
+  stored_told first behind all kept steps found told is cut read = by_cut cut
+    where
+      by_front : (more : List (List ℕ)) → kept ≡ first ++ more → (read : List Step) × (found ≡ read ++ steps)
+      by_front more so =
+          let two = tell_split nothing_heard first more (heard_of found) (subst (λ ls. Tell o e nothing_heard ls (heard_of found)) so read) in
+          let same = tell_once nothing_heard first two.0 (heard_of steps) two.1 told in
+          more_steps (heard_of steps) more (heard_of found) (subst (λ h. Tell o e h more (heard_of found)) same two.2)
+
+      not_last : (last : List ℕ) (asked : Asked) → Says last (a_start asked) → first ≡ kept ++ last ∷ [] → ⊥
+      not_last last asked says so =
+          let two = tell_split nothing_heard kept (last ∷ []) (heard_of steps) (subst (λ ls. Tell o e nothing_heard ls (heard_of steps)) so told) in
+          let one : Tells o e two.0 last (heard_of steps) = subst (Tells o e two.0 last) (sym two.2.2) two.2.1 in
+          no_start two.0 last (heard_of steps) asked says refl one
+
+      by_last : (last : List ℕ) (asked : Asked) → Says last (a_start asked) → (first ≡ kept ++ last ∷ []) ⊎ ((more : List (List ℕ)) × (kept ≡ first ++ more)) →
+          (read : List Step) × (found ≡ read ++ steps)
+      by_last last asked says (inl so) = absurd (not_last last asked says so)
+      by_last last asked says (inr (more, so)) = by_front more so
+
+      by_cut : IsCut all kept → (read : List Step) × (found ≡ read ++ steps)
+      by_cut (inl same) = by_front behind (sym same ∙ is)
+      by_cut (inr (last, asked, says, so)) = by_last last asked says (first_of_last first behind kept last (sym is ∙ so))
+
 -- the lines of what happened
 told_of : (o : ObjectForm) (f : Opening) (text : List ℕ) (a : Adds o f text) → AreTold o (begun_by f) nothing_heard text (all_happen a.all []) a.new
 told_of o f text a = steps_are_told o (begun_by f) nothing_heard a.old a.new text a.all a.names a.stands a.can
@@ -155,6 +217,24 @@ all_is_read o h f bytes text r a b =
     let none = no_lines begins.rest b.rest b.open_end begins.text in
     let is : told.lines ≡ b.lines = begins.is ∙ ap (λ x. b.lines ++ x) none ∙ append-nil b.lines in
     all_told o (begun_by f) b.lines b.played.kept b.steps steps (subst (λ ls. Tell o (begun_by f) nothing_heard ls (heard_of steps)) is told.told) b.played.cut b.played.told
+
+pub stored_is_read : StoredIsRead
+stored_is_read o h f bytes stored more found extra lost r a begins cut b =
+    let both : Adds o f (stored ++ more) =
+    record {
+      names = a.names;
+      old = a.old;
+      new = a.new;
+      all = hosted.goes_on a.first a.later;
+      can = (a.can_first, a.can_later);
+      stands = a.stands;
+    } in
+    let front = front_is_read o h f bytes (stored ++ more) found lost r both cut b in
+    let told = steps_are_told o (begun_by f) nothing_heard a.old a.mid stored a.first a.names a.stands a.can_first in
+    let same : joined b.lines ++ b.rest ≡ joined told.lines ++ extra = sym b.cut ∙ begins ∙ ap (λ x. x ++ extra) told.cut in
+    let lines = lines_begin_open told.lines b.lines b.rest extra told.each b.each b.open_end same in
+    let back = stored_told o (begun_by f) told.lines lines.0 b.lines b.played.kept (all_happen a.first []) b.steps told.told lines.1 b.played.cut b.played.told in
+    record { unread = front.0; nothing_else = front.1; read = back.0; all_stored = back.1 }
 
 pub no_fault_is_found : NoFaultIsFound
 no_fault_is_found o h f text found more before line fault a cut (number, counted, bad) =

@@ -35,6 +35,31 @@ AllIsRead =
     (o : ObjectForm) (h : House) (f : Opening) (bytes : ℕ) (text : List ℕ) (r : Recovered) (a : Adds o f text) →
     (b : IsBehind o h f bytes text r) → all_happen a.all [] ≡ b.steps
 
+-- What happened in two parts since this front was written, and the bytes that each added.
+pub record AddsTwice (o : ObjectForm) (f : Opening) (stored more : List ℕ) : Type 0 where
+  pub names : IsNamed o
+  pub old : Scene
+  pub mid : Scene
+  pub new : Scene
+  pub first : hosted.Steps old stored mid
+  pub later : hosted.Steps mid more new
+  pub can_first : AllCanBeTold first
+  pub can_later : AllCanBeTold later
+  pub stands : Stands o (begun_by f) nothing_heard old
+
+-- What is recovered is all of the first part, and of the second one its first steps, however many.
+pub record IsReadOf {o : ObjectForm} {f : Opening} {stored more : List ℕ} (a : AddsTwice o f stored more) (steps : List Step) : Type 0 where
+  pub unread : List Step
+  pub nothing_else : all_happen a.later (all_happen a.first []) ≡ unread ++ steps
+  pub read : List Step
+  pub all_stored : steps ≡ read ++ all_happen a.first []
+
+-- It is recovered so of bytes that have all of the first part in them, and of the second one the first bytes.
+abbrev pub StoredIsRead : Type 0
+StoredIsRead =
+    (o : ObjectForm) (h : House) (f : Opening) (bytes : ℕ) (stored more found extra lost : List ℕ) (r : Recovered) (a : AddsTwice o f stored more) →
+    found ≡ stored ++ extra → stored ++ more ≡ found ++ lost → (b : IsBehind o h f bytes found r) → IsReadOf a b.steps
+
 -- In none of their first bytes a line with a fault is found.
 abbrev pub NoFaultIsFound : Type 0
 NoFaultIsFound =

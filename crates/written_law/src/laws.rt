@@ -2,7 +2,7 @@
 
 ghost use Rattle.written_law.specs.Told.{StepIsTold, StepsAreTold};
 ghost use Rattle.written_law.specs.Begins.{FollowedStands, AgainStands, RecoveredAreSeated};
-ghost use Rattle.written_law.specs.Read.{FrontIsRead, AllIsRead, NoFaultIsFound};
+ghost use Rattle.written_law.specs.Read.{FrontIsRead, AllIsRead, StoredIsRead, NoFaultIsFound};
 
 /// The lines of one thing that happens to an object with its clients tell just that.
 pub fn step_is_told()
@@ -37,6 +37,12 @@ pub fn front_is_read()
 /// What is recovered of all that was added is what happened, all of it.
 pub fn all_is_read()
     ensures { AllIsRead }
+{}
+
+/// What is recovered of bytes in which all is that was stored, and the first bytes of what was added behind it, is all that
+/// had happened when it was stored, and the first steps of what happened then.
+pub fn stored_is_read()
+    ensures { StoredIsRead }
 {}
 
 /// In none of the first bytes that were added a line with a fault is found.
