@@ -1,7 +1,6 @@
 -- Calls that are cancelled.
-use Rattle.std.proofs.Common.{◌≡◌, ◌≢◌, ◌∙◌, ap, sym, subst, refl, ℕ, inl, inr, List, [], ◌∷◌, ◌++◌, true≢false}
-use Rattle.std.specs.Prelude.{Bool, true, false, Option, Some, None, slice_get, slice_set}
-use Rattle.std.proofs.lemmas.Option.{same_Some}
+use Rattle.std.proofs.Common.{◌≡◌, ◌∙◌, ap, sym, subst, refl, ℕ, inl, inr, List, [], ◌∷◌, ◌++◌, true≢false}
+use Rattle.std.specs.Prelude.{Bool, true, false, Some, slice_get, slice_set}
 use Rattle.post_core.specs.Posts.{Tells}
 use Rattle.post_core.specs.declared.post.Post.{Post}
 use Rattle.script_text.specs.Answers.{cancelled_line}
@@ -13,8 +12,8 @@ use Rattle.client_core.specs.declared.client.Opened.{Opened}
 use Rattle.hosted_core.specs.Keys.{WaitsAs}
 use Rattle.hosted_core.specs.Scene.{Scene}
 use Rattle.told_core.specs.State.{Peer, State, opened_at, told_to, with_object}
-use Rattle.told_core.specs.Deeds.{Texts, Nothing, OnlyTold}
-use Rattle.told_core.specs.Asked.{IsRefusal, IsRefused, Ends, LetsGo, IsNotCancelled, AnswersCancel}
+use Rattle.told_core.specs.Deeds.{Texts, OnlyTold}
+use Rattle.told_core.specs.Asked.{IsRefusal, Ends, LetsGo, AnswersCancel}
 use Rattle.told_core.specs.Turns.{NoneWaits, Withdraws}
 use Rattle.told_core.proofs.Doing.{ends_keeps}
 use Rattle.table_core.specs.Brings.{Brings}

@@ -1,6 +1,6 @@
 -- One that opens an object, and one that goes.
-use Rattle.std.proofs.Common.{◌≡◌, ◌≢◌, ◌∙◌, ap, sym, subst, refl, ℕ, inl, inr, List, [], ◌∷◌, ◌++◌, append-nil, true≢false}
-use Rattle.std.specs.Prelude.{Bool, true, false, Option, Some, None, Result, Ok, Err, slice_get, slice_set}
+use Rattle.std.proofs.Common.{◌≡◌, ◌∙◌, ap, sym, subst, refl, ℕ, inl, inr, List, [], ◌∷◌, ◌++◌, append-nil, true≢false}
+use Rattle.std.specs.Prelude.{true, false, Option, Some, None, Ok, slice_get, slice_set}
 use Rattle.std.proofs.lemmas.Option.{same_Some}
 use Rattle.post_core.specs.Posts.{Tells}
 use Rattle.post_core.specs.declared.post.Post.{Post}
@@ -10,15 +10,14 @@ use Rattle.client_core.specs.declared.client.Opened.{Opened}
 use Rattle.client_core.specs.declared.clients.Clients.{Clients}
 use Rattle.client_core.specs.Held.{is_some}
 use Rattle.guest_core.specs.declared.guests.Entered.{Entered}
-use Rattle.guest_core.specs.declared.guests.EnterFault.{EnterFault}
 use Rattle.hosted_core.specs.Lines.{entered_lines}
 use Rattle.hosted_core.specs.Scene.{Scene, with_guests}
-use Rattle.told_core.specs.State.{Peer, State, change, changed, nobody, opening, opened_at, peers_of, told_to, with_object}
-use Rattle.told_core.specs.Deeds.{Texts, Deed, OnlyTold}
-use Rattle.told_core.specs.Asked.{IsRefusal, IsRefused, OpensBare, OpensAs, Opens, LeavesObject, HasNoSession, Goes, Quits}
+use Rattle.told_core.specs.State.{Peer, State, change, changed, nobody, opening, opened_at, peers_of, told_to}
+use Rattle.told_core.specs.Deeds.{Texts, OnlyTold}
+use Rattle.told_core.specs.Asked.{IsRefusal, IsRefused, OpensBare, Opens, HasNoSession, Goes, Quits}
 use Rattle.table_core.specs.Brings.{Brings}
-use Rattle.table_core.specs.Objects.{IsNamed, HasEntered, HasLeft, LeavesAt}
-use Rattle.table_core.specs.Parts.{TellsOpened, Adds, Stays, HasCome, ComesAt, LeavesOf}
+use Rattle.table_core.specs.Objects.{IsNamed, HasEntered, LeavesAt}
+use Rattle.table_core.specs.Parts.{TellsOpened, Stays, HasCome, LeavesOf}
 use Rattle.table_core.specs.Seen.{state_of}
 use Rattle.table_core.proofs.Bringing.{brings_as, refuses}
 use Rattle.table_core.proofs.Telling.{tells_none, tells_then}

@@ -4,13 +4,13 @@ use Rattle.std.specs.Prelude.{Bool, true, false, Option, Some, None, Result, IfS
 use Rattle.std.specs.declared.alloc.AllocError.{AllocError}
 use Rattle.std.proofs.lemmas.Bool.Decides.{eqb_tells}
 use Rattle.line_core.specs.Runs.{NoLineFeed}
-use Rattle.std.proofs.lemmas.Option.{same_Some, slice_get-map, slice_get_past}
+use Rattle.std.proofs.lemmas.Option.{same_Some, slice_get-map}
 use Rattle.hosted_core.specs.Scene.{Scene}
 use Rattle.client_core.specs.declared.ask.Ask.{Ask}
 use Rattle.client_core.specs.declared.client.Client.{Client}
 use Rattle.client_core.specs.declared.client.Opened.{Opened}
 use Rattle.client_core.specs.declared.clients.Clients.{Clients}
-use Rattle.client_core.specs.Held.{waits_of, waits_in, with_waits, is_not, is_some, rest_in, is_cut_in, is_whole_before, IsSame, AreSame, AreSameRows, HasOpened, IsHeld, IsPassed, IsSetTo, IsTaken}
+use Rattle.client_core.specs.Held.{waits_of, waits_in, is_not, is_some, rest_in, is_whole_before, IsSame, AreSame, AreSameRows, HasOpened, IsHeld, IsPassed, IsSetTo, IsTaken}
 use Rattle.client_core.specs.Places.{has_in, is_here_in, opened_in as has_opened, held_in as all_held, place_at, place_for, Elsewhere}
 use Rattle.client_core.specs.Asks.{Asks}
 use Rattle.told_core.specs.State.{Peer, State, cut_of, peer_of, peers_of, change, nobody, comer, opening, waiting, holding, left_with, who_in, opened_in, held_in}

@@ -1,13 +1,11 @@
 -- Calls that are made.
-use Rattle.std.proofs.Common.{◌≡◌, ◌≢◌, ◌∙◌, ap, sym, subst, refl, arith, ℕ, zero, suc, inl, inr, List, [], ◌∷◌, ◌++◌, append-nil, true≢false}
-use Rattle.std.specs.Prelude.{Bool, true, false, Option, Some, None, Result, Ok, Err, IfSome, OnErr, length, slice_get, slice_set}
-use Rattle.std.proofs.lemmas.Option.{same_Some}
+use Rattle.std.proofs.Common.{◌≡◌, ◌∙◌, ap, sym, subst, refl, arith, ℕ, zero, suc, inl, inr, List, [], ◌∷◌, ◌++◌, true≢false}
+use Rattle.std.specs.Prelude.{false, Option, Some, None, Result, Ok, Err, IfSome, OnErr, length, slice_get, slice_set}
 use Rattle.post_core.specs.Posts.{Tells}
 use Rattle.post_core.specs.declared.post.Post.{Post}
 use Rattle.value_core.specs.declared.datum.Datum.{Datum}
 use Rattle.decl_core.specs.ObjectMap.{object_of}
 use Rattle.trace_core.specs.Text.{operation_name}
-use Rattle.ask_core.specs.declared.answer.SubmitFault.{SubmitFault}
 use Rattle.session_text.specs.declared.line.Line.{Line}
 use Rattle.session_text.specs.Lines.{accepted_text, ended_text, line_text}
 use Rattle.client_core.specs.declared.client.Opened.{Opened}
@@ -22,15 +20,15 @@ use Rattle.hosted_core.specs.declared.hosted.Keyed.{Keyed}
 use Rattle.hosted_core.specs.declared.hosted.Keyed.TheVariants as keys
 use Rattle.hosted_core.specs.Keys.{Says}
 use Rattle.hosted_core.specs.Scene.{Scene, told_of, with_guests}
-use Rattle.told_core.specs.State.{Peer, State, change, changed, counted, opening, waiting, opened_at, peers_of, session_by, told_to, with_object}
-use Rattle.told_core.specs.Deeds.{Texts, Deed, Nothing, OnlyTold}
-use Rattle.told_core.specs.Asked.{IsRefusal, IsRefused, Sits, GetsNumber, Submits, Waits, Ends, AllEnd, Calls, Repeats, AnswersCall, keyed_text}
+use Rattle.told_core.specs.State.{Peer, State, change, changed, counted, opening, waiting, opened_at, peers_of, session_by, told_to}
+use Rattle.told_core.specs.Deeds.{Texts, OnlyTold}
+use Rattle.told_core.specs.Asked.{IsRefusal, IsRefused, Sits, Waits, Ends, AllEnd, AnswersCall, keyed_text}
 use Rattle.told_core.proofs.Doing.{ends_keeps, all_end_keeps}
 use Rattle.table_core.specs.Brings.{Brings}
 use Rattle.table_core.specs.Objects.{HasOperation, SeatsAt, HasCalled}
-use Rattle.table_core.specs.Parts.{Adds, Stays, HasMade, MakesAt, TellsTaken, SubmitsOr, MakesOne, RefusesOne, MakesCall, SaysOf, UnderKey}
+use Rattle.table_core.specs.Parts.{Stays, HasMade, TellsTaken, SubmitsOr, MakesCall, UnderKey}
 use Rattle.table_core.specs.Seen.{state_of}
-use Rattle.table_core.proofs.Bringing.{brings_as, refuses}
+use Rattle.table_core.proofs.Bringing.{brings_as}
 use Rattle.table_core.proofs.Entering.{of, peers_are, objects_are}
 use Rattle.table_core.proofs.Telling.{tells_none, tells_then}
 

@@ -1,5 +1,5 @@
 -- Posts that are told to.
-use Rattle.std.proofs.Common.{◌≡◌, ◌∙◌, ap, sym, subst, refl, ℕ, ◌<◌, List, [], ◌∷◌, ◌++◌, append_assoc}
+use Rattle.std.proofs.Common.{◌∙◌, ap, sym, subst, refl, ℕ, ◌<◌, List, [], ◌++◌, append_assoc}
 use Rattle.std.proofs.lemmas.List.{append-nil}
 use Rattle.post_core.specs.Posts.{Tells, owed_to}
 use Rattle.post_core.specs.Texts.{text_at, to}

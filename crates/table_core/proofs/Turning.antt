@@ -1,12 +1,11 @@
 -- Turns.
-use Rattle.std.proofs.Common.{◌≡◌, ◌≢◌, ◌∙◌, ap, sym, subst, refl, arith, ℕ, zero, suc, ◌+◌, inl, inr, List, [], ◌∷◌, ◌++◌, append_assoc, append-nil, true≢false, not}
-use Rattle.std.specs.Prelude.{Bool, true, false, Option, Some, None, Result, Ok, Err, IfOk, slice_get, length}
+use Rattle.std.proofs.Common.{◌≡◌, ap, sym, subst, refl, arith, ℕ, zero, suc, ◌+◌, inl, inr, List, [], ◌∷◌, ◌++◌, append_assoc, append-nil, true≢false, not}
+use Rattle.std.specs.Prelude.{Bool, true, false, Option, Some, None, Result, Ok, Err, IfOk}
 use Rattle.std.specs.declared.alloc.AllocError.{AllocError}
 use Rattle.line_core.specs.Runs.{NoLineFeed}
 use Rattle.line_read.specs.Reads.{Reads}
 use Rattle.post_core.specs.Posts.{Tells, Does}
 use Rattle.post_core.specs.declared.post.Post.{Post}
-use Rattle.post_core.specs.Turns.{Asked}
 use Rattle.post_core.specs.Turns.Asked.{Heard, Noted}
 use Rattle.post_core.specs.declared.served.LineEnd.{LineEnd}
 use Rattle.post_core.specs.declared.served.Note.{Note}
@@ -21,7 +20,7 @@ use Rattle.client_core.specs.Asks.{Asks}
 use Rattle.client_core.specs.Held.{is_some, waits_of}
 use Rattle.client_core.specs.Numbers.{cancel_in}
 use Rattle.hosted_core.specs.Scene.{Scene}
-use Rattle.told_core.specs.State.{Peer, State, change, changed, comer, holding, held_at, opened_at, waits_at, who_at, peers_of}
+use Rattle.told_core.specs.State.{State, change, comer, holding, held_at, opened_at, waits_at, who_at, peers_of}
 use Rattle.told_core.specs.Deeds.{Texts, Deed, Nothing, OnlyTold, Then}
 use Rattle.told_core.specs.Asked.{AnswersCancel, Heeds, Goes}
 use Rattle.told_core.specs.Turns.{IsIdle, HearsLine, HearsLast, HearsAt, TakesLine, GoesOn, EndsAsk, EndsHeld, Withdraws, WithdrawsAt, Leaves, LeavesIf, Comes, IfHere, AllLeave, Notes, place_of}
@@ -33,7 +32,7 @@ use Rattle.table_core.specs.Moves.{Gives}
 use Rattle.table_core.specs.Seen.{seen, state_of}
 use Rattle.table_core.specs.declared.table.Table.{Table}
 use Rattle.table_core.proofs.Bringing.{brings_as, brings_none, brings_then, continues_by, continued}
-use Rattle.table_core.proofs.Entering.{of, peers_are}
+use Rattle.table_core.proofs.Entering.{peers_are}
 use Rattle.table_core.proofs.Telling.{tells_none, tells_then}
 
 -- a line is done

@@ -1,5 +1,5 @@
 -- What is done with the object at a place of a list.
-use Rattle.std.specs.Prelude.{◌≡◌, ◌⊎◌, ℕ, List, [], ◌∷◌, Option, Some, None, Result, Ok, Err, Bool, IfSome, slice_get, slice_set}
+use Rattle.std.specs.Prelude.{◌≡◌, ◌⊎◌, ℕ, List, [], Option, Some, None, Result, Ok, Err, Bool, IfSome, slice_get, slice_set}
 use Rattle.value_core.specs.declared.datum.Datum.{Datum}
 use Rattle.decl_core.specs.ObjectMap.{object_of}
 use Rattle.trace_core.specs.Events.{Called}

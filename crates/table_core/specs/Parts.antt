@@ -21,9 +21,9 @@ use Rattle.hosted_core.specs.Scene.{Scene, told_of, with_guests}
 use Rattle.client_core.specs.declared.client.Opened.{Opened}
 use Rattle.post_core.specs.Posts.{Tells}
 use Rattle.post_core.specs.declared.post.Post.{Post}
-use Rattle.told_core.specs.State.{State, opening, changed, with_object, told_to, counted, session_by, opened_at}
+use Rattle.told_core.specs.State.{State, opening, changed, with_object, told_to, counted, session_by}
 use Rattle.told_core.specs.Deeds.{Texts, Deed, OnlyTold}
-use Rattle.told_core.specs.Asked.{IsRefused, Sits, GetsNumber, Submits, AllEnd, Ends, LetsGo, IsNotCancelled, LeavesObject, HasNoSession, keyed_text}
+use Rattle.told_core.specs.Asked.{IsRefused, Sits, Submits, AllEnd, Ends, LetsGo, IsNotCancelled, LeavesObject, HasNoSession, keyed_text}
 use Rattle.told_core.specs.Turns.{NoneWaits}
 
 -- the one at a place is told this, and has opened that

@@ -1,5 +1,5 @@
 -- What is seen of a table.
-use Rattle.std.specs.Prelude.{List, ◌≡◌}
+use Rattle.std.specs.Prelude.{List}
 use Rattle.hosted_core.specs.Scene.{Scene}
 use Rattle.client_core.specs.declared.clients.Clients.{Clients}
 use Rattle.told_core.specs.State.{State, peers_of}

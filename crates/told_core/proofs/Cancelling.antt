@@ -3,14 +3,10 @@ use Rattle.std.proofs.Common.{◌≡◌, ◌≢◌, ◌∙◌, ap, sym, subst, a
 use Rattle.std.specs.Prelude.{Some, slice_get}
 use Rattle.std.proofs.lemmas.Option.{same_Some}
 use Rattle.trace_core.specs.Events.{Called}
-use Rattle.live_core.specs.Hall.{Hall, Told, Every, EachPair, IsHeld}
-use Rattle.live_core.specs.Steps.{Leaves}
+use Rattle.live_core.specs.Hall.{Told, Every, EachPair, IsHeld}
 use Rattle.hosted_core.specs.Calls.{Cancels}
 use Rattle.hosted_core.specs.Keys.{WaitsAs}
 use Rattle.hosted_core.specs.Scene.{Scene, told_of}
-use Rattle.told_core.specs.State.{State}
-use Rattle.told_core.specs.Deeds.{Texts}
-use Rattle.told_core.specs.Asked.{IsCancelled}
 use Rattle.told_core.specs.Laws.{CancelledIsAsked}
 
 every_at : (P : Called → Type 0) (xs : List Called) (k : ℕ) (c : Called) → Every P xs → slice_get xs k ≡ Some c → P c

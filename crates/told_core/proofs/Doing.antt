@@ -1,6 +1,5 @@
 -- What each deed moves.
-use Rattle.std.proofs.Common.{◌≡◌, ◌∙◌, ap, sym, subst, refl, ℕ, inl, inr, List, [], ◌∷◌, ◌++◌, Option, Some, None, Result, Ok, Err}
-use Rattle.std.specs.Prelude.{slice_get, slice_set}
+use Rattle.std.proofs.Common.{◌≡◌, ◌∙◌, ap, sym, subst, ℕ, inl, inr, List, [], ◌∷◌, Option, Some, None, Result, Ok, Err}
 use Rattle.std.specs.declared.alloc.AllocError.{AllocError}
 use Rattle.value_core.specs.declared.datum.Datum.{Datum}
 use Rattle.live_core.specs.declared.call.Ran.{Ran}
@@ -11,10 +10,10 @@ use Rattle.decl_core.specs.ObjectMap.{object_of}
 use Rattle.live_core.specs.Lines.{all_lines}
 use Rattle.hosted_core.specs.Lines.{entered_lines}
 use Rattle.hosted_core.specs.Scene.{Scene}
-use Rattle.hosted_core.specs.Steps.{Step, Steps, does, comes, gets_number, leaves, calls, cancels}
+use Rattle.hosted_core.specs.Steps.{does, comes, gets_number, leaves, calls, cancels}
 use Rattle.told_core.specs.State.{State}
 use Rattle.told_core.specs.Deeds.{Texts, Deed, Nothing, OnlyTold, Then}
-use Rattle.told_core.specs.Asked.{IsRefused, OpensBare, OpensAs, Opens, Ends, AllEnd, Submits, GetsNumber, Sits, Calls, RepeatsUnder, IsTurnedAway, AnswersCall, LetsGo, IsCancelled, AnswersCancel, LeavesObject, Goes, Quits, Acts, Heeds}
+use Rattle.told_core.specs.Asked.{IsRefused, OpensBare, OpensAs, Opens, Ends, AllEnd, Submits, GetsNumber, Sits, Calls, RepeatsUnder, IsTurnedAway, AnswersCall, LetsGo, AnswersCancel, LeavesObject, Goes, Quits, Acts, Heeds}
 use Rattle.told_core.specs.Moves.{Moves}
 use Rattle.told_core.proofs.Moving.{moves_none, moves_one, moves_quiet, moves_then}
 

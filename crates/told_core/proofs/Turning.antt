@@ -1,8 +1,7 @@
 -- What each turn moves.
-use Rattle.std.proofs.Common.{◌≡◌, ◌∙◌, ap, sym, subst, refl, ℕ, zero, suc, inl, inr, List, [], ◌∷◌, ◌++◌, Bool, true, false, Option, Some, None, Result, Ok, Err}
+use Rattle.std.proofs.Common.{◌≡◌, ap, subst, ℕ, zero, suc, inl, inr, List, [], ◌∷◌, Bool, true, false, Result, Ok, Err}
 use Rattle.std.specs.Prelude.{length}
 use Rattle.std.specs.declared.alloc.AllocError.{AllocError}
-use Rattle.post_core.specs.Turns.{Asked}
 use Rattle.post_core.specs.Turns.Asked.{Heard, Noted, Changes}
 use Rattle.post_core.specs.declared.served.LineEnd.{LineEnd}
 use Rattle.post_core.specs.declared.served.LineEnd.TheVariants as ends
@@ -18,9 +17,9 @@ use Rattle.told_core.specs.Moves.{Moves}
 use Rattle.told_core.specs.Turns.HearsLine.{does, cancels, holds, refuses}
 use Rattle.told_core.specs.Turns.GoesOn.{rests, does as does_more}
 use Rattle.told_core.specs.Turns.EndsHeld.{all, quits, goes_on}
-use Rattle.told_core.specs.Turns.{HearsLine, HearsLast, HearsAt, TakesLine, GoesOn, EndsAsk, EndsHeld, Withdraws, WithdrawsAt, Leaves, LeavesIf, Comes, IfHere, AllLeave, Notes, Gives, place_of}
+use Rattle.told_core.specs.Turns.{HearsLine, HearsLast, HearsAt, TakesLine, GoesOn, EndsAsk, EndsHeld, Withdraws, WithdrawsAt, Leaves, LeavesIf, Comes, IfHere, AllLeave, Notes, place_of}
 use Rattle.told_core.proofs.Moving.{moves_none, moves_then}
-use Rattle.told_core.proofs.Doing.{MovesBy, Keeps, by_keeping, nothing_keeps, told_keeps, then_moves, heeds_moves, cancel_moves, lets_go_moves, goes_moves}
+use Rattle.told_core.proofs.Doing.{MovesBy, by_keeping, nothing_keeps, told_keeps, then_moves, heeds_moves, cancel_moves, lets_go_moves, goes_moves}
 
 nothing_moves : MovesBy Nothing
 nothing_moves = by_keeping Nothing nothing_keeps

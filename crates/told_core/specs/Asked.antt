@@ -3,7 +3,6 @@ use Rattle.std.specs.Prelude.{◌≡◌, ◌≢◌, ◌⊎◌, ℕ, Bool, true, 
 use Rattle.std.specs.declared.alloc.AllocError.{AllocError}
 use Rattle.value_core.specs.declared.datum.Datum.{Datum}
 use Rattle.decl_core.specs.ObjectMap.{object_of}
-use Rattle.trace_core.specs.Events.{Called}
 use Rattle.trace_core.specs.Text.{operation_name}
 use Rattle.script_text.specs.Answers.{cancelled_line, kept_line}
 use Rattle.ask_core.specs.declared.answer.Cancelled.{Cancelled}
@@ -14,7 +13,6 @@ use Rattle.session_text.specs.declared.line.Line.TheVariants as lines
 use Rattle.session_text.specs.Lines.{accepted_text, bye_text, cancel_name, ended_text, line_text, opened_text, repeated_text, withdrawn_text}
 use Rattle.live_core.specs.declared.call.Ran.{Ran}
 use Rattle.live_core.specs.declared.live.Taken.{Taken}
-use Rattle.live_core.specs.Hall.{Every}
 use Rattle.live_core.specs.Lines.{all_lines}
 use Rattle.guest_core.specs.declared.guests.Entered.{Entered}
 use Rattle.guest_core.specs.declared.seats.Seat.TheVariants.{Nameless}
@@ -30,7 +28,7 @@ use Rattle.hosted_core.specs.Scene.{Scene, told_of, with_guests}
 use Rattle.client_core.specs.declared.ask.Ask.{Ask}
 use Rattle.client_core.specs.declared.ask.Ask.TheVariants as asks
 use Rattle.client_core.specs.declared.client.Opened.{Opened}
-use Rattle.told_core.specs.State.{Peer, State, nobody, opening, waiting, opened_at, changed, with_object, told_to, counted, session_by}
+use Rattle.told_core.specs.State.{State, nobody, opening, waiting, opened_at, changed, with_object, told_to, counted, session_by}
 use Rattle.told_core.specs.Deeds.{Texts, Deed, Nothing, OnlyTold}
 
 -- it is refused: it is told why, and nothing changes

@@ -1,5 +1,5 @@
 -- What follows from what a turn gives.
-use Rattle.std.specs.Prelude.{◌≡◌, ℕ, List, true, false}
+use Rattle.std.specs.Prelude.{◌≡◌, ℕ, true, false}
 use Rattle.live_core.specs.Hall.{Told, IsHeld}
 use Rattle.post_core.specs.Turns.{Asked}
 use Rattle.post_core.specs.Turns.Asked.{Heard, Noted, Changes}

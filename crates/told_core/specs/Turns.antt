@@ -25,7 +25,7 @@ use Rattle.client_core.specs.Held.{IsFirstLine, is_some, is_whole_before}
 use Rattle.client_core.specs.Numbers.{cancel_in}
 use Rattle.told_core.specs.State.{Peer, State, comer, holding, left_with, who_at, opened_at, held_at, waits_at, changed}
 use Rattle.told_core.specs.Deeds.{Texts, Deed, Nothing, OnlyTold, Then}
-use Rattle.told_core.specs.Asked.{AnswersCancel, Acts, Heeds, LetsGo, Goes}
+use Rattle.told_core.specs.Asked.{AnswersCancel, Heeds, LetsGo, Goes}
 use Rattle.told_core.specs.Moves.{Begins}
 
 -- no call of the one at a place waits, and no line of it is held

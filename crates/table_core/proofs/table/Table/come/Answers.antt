@@ -1,4 +1,4 @@
-use Rattle.std.proofs.Common.{◌∙◌, ap, subst, List, ℕ, Option, Result, Some}
+use Rattle.std.proofs.Common.{◌∙◌, ap, subst, Option, Result, Some}
 use Rattle.guest_core.specs.declared.guests.Entered.{Entered}
 use Rattle.guest_core.specs.declared.guests.EnterFault.{EnterFault}
 use Rattle.told_core.specs.State.{peers_of}

@@ -1,4 +1,4 @@
-use Rattle.std.proofs.Common.{◌≡◌, ◌∙◌, ap, sym, subst, refl, List, ℕ, Some, slice_get}
+use Rattle.std.proofs.Common.{◌≡◌, ◌∙◌, ap, sym, subst, List, ℕ, Some, slice_get}
 use Rattle.hosted_core.specs.Scene.{Scene, told_of}
 use Rattle.session_text.specs.Lines.{ended_text}
 use Rattle.table_core.proofs.Submitting.{ends_nowhere_as}

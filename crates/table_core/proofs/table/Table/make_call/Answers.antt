@@ -1,4 +1,4 @@
-use Rattle.std.proofs.Common.{subst, Result, Ok}
+use Rattle.std.proofs.Common.{subst, Result}
 use Rattle.ask_core.specs.declared.answer.SubmitFault.{SubmitFault}
 use Rattle.live_core.specs.declared.live.Taken.{Taken}
 use Rattle.told_core.specs.State.{peers_of}
