@@ -274,6 +274,8 @@ class Trace:
                 call.waits = max(since, before.get(call.session, 0))
                 if call.waits >= until:
                     call.waits = None
+            if call.start is None and call.waits is None:
+                call.waits = until
             before[call.session] = max(before.get(call.session, 0), call.end or len(self.events) + 1)
 
     def most_waiting(self):
