@@ -54,15 +54,16 @@ fn misfit_of(operation: &Operation, words: &LineWords<'_>, number: usize) -> Opt
     }
 }
 
-fn elem_word(elem: Elem) -> &'static [u8] {
+/// The word for what a value is.
+pub(crate) fn elem_word(elem: Elem) -> &'static [u8] {
     match elem {
         Elem::Integer => b"integer",
         Elem::Text => b"text",
     }
 }
 
-// An operation as it is declared: its name, and its parameters.
-fn head_of(alloc: Global, operation: &Operation) -> Result<Vec<u8>, AllocError> {
+/// An operation as it is declared: its name, and its parameters.
+pub(crate) fn head_of(alloc: Global, operation: &Operation) -> Result<Vec<u8>, AllocError> {
     let mut head = Vec::new(alloc);
     head.extend_from_slice(operation.name.as_bytes())?;
     for (place, param) in operation.params.iter().enumerate() {

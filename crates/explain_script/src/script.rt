@@ -105,6 +105,40 @@ fn push_lines(
     Ok(())
 }
 
+/// Adds what is wrong with a line, before which so many others came: why it says nothing, or why the object does not
+/// take the call.
+pub(crate) fn push_why(
+    alloc: Global,
+    out: &mut Vec<u8>,
+    object: &Object,
+    before: usize,
+    line: &[u8],
+) -> Result<(), AllocError> {
+    // A text in which the line has its number.
+    let mut text = Vec::new(alloc);
+    for _ in 0..before {
+        text.push(b'\n')?;
+    }
+    text.extend_from_slice(line)?;
+    let page = Page {
+        file: b"input",
+        source: &text,
+        tokens: &[],
+    };
+    let place = Span {
+        start: before,
+        end: text.len(),
+    };
+    match done_by(alloc, line)? {
+        Does::Ends => push_line(alloc, out, page, object, place),
+        Does::Calls(number) => {
+            push_called(alloc, out, page, object, place, number)?;
+            Ok(())
+        }
+        Does::Other => Ok(()),
+    }
+}
+
 /// What a person is told of the line that ended a script, if one did, and of the first 16 calls before it that are of
 /// no operation of the object, or have other arguments than it takes; or of a first line that names no object of the
 /// source. It is empty where there is nothing of that, and where the source, or the object, is refused: `explain` tells

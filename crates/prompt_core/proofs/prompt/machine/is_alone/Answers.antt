@@ -1,0 +1,5 @@
+use Rattle.prompt_core.proofs.Alone.{alone_is}
+use Rattle.prompt_core.proofs.prompt.machine.is_alone.Goals as goal
+
+pub returns-in-Some : goal.returns-in-Some
+returns-in-Some c = alone_is c.args.line.now c.in-Some.found.now c.args.word.now c.is_same_word.result c.in-Some.ensures c.is_same_word.ensures
