@@ -27,10 +27,10 @@ pub fn answer_try<R: Read, W: Write>(
 ) -> Result<u8, Failure>
     ensures ended { IfOk result (λ status. (status ≡ ACCEPTED) × IfSome (R.remaining reader.old) (λ text.
         (written : List ℕ) × Appends (W.contents writer.old) (W.contents writer.new) written
-        × IsTried accepted (texts_in texts) text written)) }
+        × IsTried accepted (texts_in texts.entry) text written)) }
     ensures cut { IfErr result (λ failure. IsFault failure × IfSome (R.remaining reader.old) (λ text. (written : List ℕ)
         × Appends (W.contents writer.old) (W.contents writer.new) written
-        × IsTriedFront accepted (texts_in texts) text written)) }
+        × IsTriedFront accepted (texts_in texts.entry) text written)) }
 {
     match run_prompt(alloc, accepted, texts, reader, writer) {
         Ok(()) => Ok(ACCEPTED),

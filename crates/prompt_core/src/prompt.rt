@@ -41,20 +41,20 @@ pub fn run_prompt<R: Read, W: Write>(
     ensures any { IfOk result (λ _. (text : List ℕ) × (written : List ℕ)
         × Consumes (R.remaining reader.old) (R.remaining reader.new) text
         × Appends (W.contents writer.old) (W.contents writer.new) written
-        × IsTried accepted (texts_in texts) (text ++ unwrap_or (R.remaining reader.new) []) written) }
+        × IsTried accepted (texts_in texts.entry) (text ++ unwrap_or (R.remaining reader.new) []) written) }
 
     // Of a reader whose text is known: the answer to that text, and after a fault a front of it.
     ensures known { IfOk result (λ _. IfSome (R.remaining reader.old) (λ text.
         (written : List ℕ) × Appends (W.contents writer.old) (W.contents writer.new) written
-        × IsTried accepted (texts_in texts) text written)) }
+        × IsTried accepted (texts_in texts.entry) text written)) }
     ensures fault { OnErr result (IfSome (R.remaining reader.old) (λ text.
         (written : List ℕ) × Appends (W.contents writer.old) (W.contents writer.new) written
-        × IsTriedFront accepted (texts_in texts) text written)) }
+        × IsTriedFront accepted (texts_in texts.entry) text written)) }
     // Each line that has come whole is answered before the next read: any read may fail.
     ensures unread { IsErrOf result ReadFault →
         (text : List ℕ) × (written : List ℕ) × Consumes (R.remaining reader.old) (R.remaining reader.new) text
         × Appends (W.contents writer.old) (W.contents writer.new) written
-        × IsTriedSoFar accepted (texts_in texts) text written }
+        × IsTriedSoFar accepted (texts_in texts.entry) text written }
 {
     let mut prompt = Prompt::new(alloc, accepted, texts)?;
     let ended = run_lines(alloc, &mut prompt, reader, writer);

@@ -39,7 +39,7 @@ impl<'a> Prompt<'a> {
         accepted: Accepted,
         texts: Texts<'a>,
     ) -> Result<Prompt<'a>, AllocError>
-        ensures { IfOk result (λ state. IsNew accepted state.world × (state.texts ≡ texts)) }
+        ensures { IfOk result (λ state. IsNew accepted state.world × (state.texts ≡ texts.entry)) }
     {
         let world = World::new(alloc, accepted)?;
         Ok(Prompt {
