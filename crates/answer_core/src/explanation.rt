@@ -10,6 +10,7 @@ use crate::failure::Failure;
 use explain_core::explain::explain;
 use explain_line::files::Files;
 use explain_script::script::explain_script;
+use explain_stuck::explain::explain_stuck;
 use explain_trace::trace::explain_trace;
 use line_core::write_whole;
 use script_open::head::named_object;
@@ -96,6 +97,49 @@ pub fn explained<E: Write>(
 {
     if matches!(&ended, Ok(REFUSED)) {
         push_explanation(alloc, telling, file, source, only, error);
+    }
+    ended
+}
+
+// What there is to tell of a source that was also asked what can get stuck.
+fn stuck_text(alloc: Global, file: &[u8], source: &[u8]) -> Result<Vec<u8>, AllocError> {
+    let mut text = explain(alloc, file, source, None)?;
+    let lost = explain_stuck(alloc, file, source)?;
+    text.extend_from_slice(&lost)?;
+    Ok(text)
+}
+
+// Writes it, as far as that is to be told.
+#[tactic(auto, using(crate::proofs::Hints::no_hint))]
+fn push_stuck<E: Write>(alloc: Global, telling: Telling, file: &str, source: &[u8], error: &mut E)
+    ensures unasked { telling ≡ Nothing → Keeps (E.contents error.old) (E.contents error.new) }
+    ensures hint { telling ≡ Hint → IsHinted (E.contents error.old) (E.contents error.new) }
+{
+    match telling {
+        Telling::Whole => push_text(stuck_text(alloc, file.as_bytes(), source), error),
+        Telling::Hint => write_hint(error),
+        Telling::Nothing => {}
+    }
+}
+
+/// Hands on what a check ended with that was also asked what can get stuck, which no explanation changes. Where it
+/// refused something, or an operation is lost, `error` gets first, as far as that is to be told, what `explained` tells,
+/// and then of each accepted object that loses operations after which calls that is, and what would mend it.
+#[tactic(auto, using(crate::proofs::Hints::no_hint))]
+pub fn explained_stuck<E: Write>(
+    alloc: Global,
+    ended: Result<u8, Failure>,
+    telling: Telling,
+    file: &str,
+    source: &[u8],
+    error: &mut E,
+) -> Result<u8, Failure>
+    ensures same { result ≡ ended }
+    ensures unasked { telling ≡ Nothing → Keeps (E.contents error.old) (E.contents error.new) }
+    ensures hint { telling ≡ Hint → IsHinted (E.contents error.old) (E.contents error.new) }
+{
+    if matches!(&ended, Ok(REFUSED)) {
+        push_stuck(alloc, telling, file, source, error);
     }
     ended
 }

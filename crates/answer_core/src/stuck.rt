@@ -10,7 +10,7 @@ ghost use Rattle.answer_core.specs.declared.explanation.Telling.TheVariants.{Not
 ghost use Rattle.answer_core.specs.declared.failure.Failure.TheVariants.{ReadFault, WriteFault, Memory};
 
 use crate::answer::{REFUSED, status_of_check};
-use crate::explanation::{Telling, explained};
+use crate::explanation::{Telling, explained_stuck};
 use crate::failure::Failure;
 use crate::source::read_source;
 use std::alloc::Global;
@@ -46,8 +46,8 @@ fn check_text<W: Write>(alloc: Global, source: &[u8], writer: &mut W) -> Result<
 
 /// `pathserve check --stuck`: checks the objects of a source, says what can be lost, waited for and stuck, and gives the
 /// exit status: 0 where no object is refused and no operation is lost, else 1, also where the source is no file of
-/// objects. Then `error` gets why the source of the file is refused, as far as that is to be told; what is written to
-/// `writer`, and the exit status, are what they are without it.
+/// objects. Then `error` gets why the source of the file is refused, or its object loses an operation, as far as that is
+/// to be told; what is written to `writer`, and the exit status, are what they are without it.
 ///
 /// A failure is `ReadFault`, `WriteFault` or `Memory`. A `WriteFault` leaves a front of the report, the others
 /// leave nothing.
@@ -77,5 +77,5 @@ pub fn check_stuck<R: Read + Drop, W: Write, E: Write>(
         Err(error) => return Err(Failure::from(error)),
     };
     let ended = check_text(alloc, &source, writer);
-    explained(alloc, ended, telling, file, &source, None, error)
+    explained_stuck(alloc, ended, telling, file, &source, error)
 }

@@ -84,6 +84,14 @@ pub record IsPassed (count : ℕ) (old new : Option Client) : Type 0 where
   pub rest : rest_in new ≡ drop count (rest_in old)
   pub cut : is_cut_in new ≡ is_cut_in old
 
+-- it has opened this
+pub record HasOpened (what : Opened) (old new : Option Client) : Type 0 where
+  pub here : is_here_in new ≡ is_here_in old
+  pub who : (who : ℕ) → has_in who new ≡ has_in who old
+  pub opened : opened_in new ≡ Some what
+  pub rest : rest_in new ≡ rest_in old
+  pub cut : is_cut_in new ≡ is_cut_in old
+
 -- its call waits, or waits no more
 pub record IsSetTo (waits : Bool) (old new : Option Client) : Type 0 where
   pub here : is_here_in new ≡ is_here_in old

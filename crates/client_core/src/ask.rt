@@ -4,7 +4,8 @@ ghost use Rattle.std.specs.Prelude.{◌≡◌, true, IfOk, IfSome};
 ghost use Rattle.line_read.specs.Reads.{Reads};
 ghost use Rattle.session_text.specs.declared.line.Refusal.TheVariants as refusals;
 ghost use Rattle.session_text.specs.declared.session.Action.TheVariants as actions;
-ghost use Rattle.client_core.specs.Asks.{TableDoes, asked_by, IsKeyed, IsWide, Asks};
+ghost use Rattle.client_core.specs.Asks.{TableDoes, asked_by, IsKeyed, IsLongCancel, IsWide, Asks};
+ghost use Rattle.client_core.specs.Asks.{IsCallVerb, IsKey, IsKeyFront, IsBehindKey};
 ghost use Rattle.client_core.specs.Numbers.{only_long, cancel_in};
 
 use crate::number::number_of;
@@ -56,29 +57,52 @@ fn cancelled_by(line: &[u8]) -> Option<u64>
     only_number(rest)
 }
 
-// The key behind `call #`, and what stands behind it.
-fn key_of(line: &[u8]) -> Option<(u64, &[u8])> {
-    let (verb, rest) = next_bare(line)?;
+// What stands behind `call`.
+fn behind_call(line: &[u8]) -> Option<&[u8]>
+    ensures { IfSome result (λ rest. IsCallVerb line.now rest.now) }
+{
+    let Some(front) = next_bare(line) else {
+        return None;
+    };
+    let (verb, rest) = front;
     if !is_same_word(verb, b"call") {
         return None;
     }
-    let (word, rest) = next_bare(rest)?;
+    Some(rest)
+}
+
+// The key that a word is.
+fn key_in(word: &[u8]) -> Option<u64>
+    ensures { IfSome result (λ key. IsKey word.now key) }
+{
     match word {
-        [b'#', digits @ ..] => {
-            let key = number_of(digits)?;
-            Some((key, rest))
-        }
+        [b'#', digits @ ..] => number_of(digits),
         _ => None,
+    }
+}
+
+// The key at the front of a line, and what stands behind it.
+fn key_at(line: &[u8]) -> Option<(u64, &[u8])>
+    ensures { IfSome result (λ r. IsKeyFront line.now r.0 r.1.now) }
+{
+    let Some(front) = next_bare(line) else {
+        return None;
+    };
+    let (word, rest) = front;
+    match key_in(word) {
+        None => None,
+        Some(key) => Some((key, rest)),
     }
 }
 
 // A call under a key, by the words behind it.
 fn call_under(alloc: Global, key: u64, line: &[u8]) -> Result<Option<Ask>, AllocError>
-    ensures { IfOk result (λ found. IfSome found IsKeyed) }
+    ensures { IfOk result (λ found. IfSome found (IsBehindKey key line.now)) }
 {
-    let Some((word, rest)) = next_bare(line) else {
+    let Some(front) = next_bare(line) else {
         return Ok(None);
     };
+    let (word, rest) = front;
     let Some(name) = Name::read(alloc, word)? else {
         return Ok(None);
     };
@@ -90,12 +114,17 @@ fn call_under(alloc: Global, key: u64, line: &[u8]) -> Result<Option<Ask>, Alloc
 
 // A call under a key that may have more than 32 bits.
 fn keyed_call(alloc: Global, line: &[u8]) -> Result<Option<Ask>, AllocError>
-    ensures { IfOk result (λ found. IfSome found IsKeyed) }
+    ensures { IfOk result (λ found. IfSome found (IsKeyed line.now)) }
 {
-    match key_of(line) {
-        Some((key, rest)) => call_under(alloc, key, rest),
-        None => Ok(None),
-    }
+    let Some(behind) = behind_call(line) else {
+        return Ok(None);
+    };
+    let Some(front) = key_at(behind) else {
+        return Ok(None);
+    };
+    let (key, rest) = front;
+    let found = call_under(alloc, key, rest)?;
+    Ok(found)
 }
 
 fn asked_by(action: Action) -> Ask
@@ -127,19 +156,20 @@ fn fed(alloc: Global, is_open: bool, is_whole: bool, line: &[u8]) -> Result<Acti
 
 // What a line asks for whose number or key has more than 32 bits, and nothing where it is bad.
 fn wide(alloc: Global, is_open: bool, is_whole: bool, line: &[u8]) -> Result<Ask, AllocError>
-    ensures { IfOk result (IsWide is_open is_whole) }
+    ensures { IfOk result (IsWide is_open is_whole line.now) }
 {
     if let Some(number) = cancelled_by(line) {
-        return Ok(wide_cancel(is_open, is_whole, number));
+        return Ok(wide_cancel(is_open, is_whole, line, number));
     }
     match keyed_call(alloc, line)? {
         None => Ok(Ask::Answer(Refusal::BadLine)),
-        Some(call) => Ok(wide_call(is_open, is_whole, call)),
+        Some(call) => Ok(wide_call(is_open, is_whole, line, call)),
     }
 }
 
-fn wide_cancel(is_open: bool, is_whole: bool, number: u64) -> Ask
-    ensures { IsWide is_open is_whole result }
+fn wide_cancel(is_open: bool, is_whole: bool, line: &[u8], number: u64) -> Ask
+    requires { IsLongCancel line.now number }
+    ensures { IsWide is_open is_whole line.now result }
 {
     if !is_open {
         return Ask::Answer(Refusal::NotOpen);
@@ -150,9 +180,9 @@ fn wide_cancel(is_open: bool, is_whole: bool, number: u64) -> Ask
     Ask::Cancel(number)
 }
 
-fn wide_call(is_open: bool, is_whole: bool, call: Ask) -> Ask
-    requires { IsKeyed call }
-    ensures { IsWide is_open is_whole result }
+fn wide_call(is_open: bool, is_whole: bool, line: &[u8], call: Ask) -> Ask
+    requires { IsKeyed line.now call }
+    ensures { IsWide is_open is_whole line.now result }
 {
     if !is_open {
         return Ask::Answer(Refusal::NotOpen);

@@ -25,6 +25,8 @@ pub struct Opened {
     pub waits: bool,
     /// How many calls it made that have no name to be remembered by.
     pub calls: u64,
+    /// The number that was told of its last call; 0 where it made none.
+    pub told: u64,
 }
 
 /// A place of a connection.

@@ -4,7 +4,7 @@ ghost use Rattle.std.specs.Prelude.{◌≡◌, ◌<◌, ◌==◌, ◌%◌, [], �
 ghost use Rattle.std.specs.Prelude.{◌↔◌, ◌≤◌, ◌⊎◌, OnOk, OnErr};
 ghost use Rattle.line_core.specs.Runs.{NoLineFeed};
 ghost use Rattle.client_core.specs.Held.{rest_in, waits_in, AreSame, AreSameRows, IsAsked};
-ghost use Rattle.client_core.specs.Held.{IsHeld, IsPassed, IsSame, IsSetTo, IsTaken};
+ghost use Rattle.client_core.specs.Held.{HasOpened, IsHeld, IsPassed, IsSame, IsSetTo, IsTaken};
 ghost use Rattle.client_core.specs.Places.{has_in, is_here_in, opened_in, held_in, place_for, place_at, Elsewhere};
 
 use crate::ask::{Ask, ask_of};
@@ -66,8 +66,7 @@ fn go(rows: &mut Vec<Client>, at: usize, alloc: Global)
 fn set_opened(rows: &mut Vec<Client>, at: usize, opened: Opened)
     requires { at < length rows.old.items }
     ensures count { length rows.new.items ≡ length rows.old.items }
-    ensures opened { opened_in (slice_get rows.new.items at) ≡ Some opened }
-    ensures here { (who : ℕ) → has_in who (slice_get rows.new.items at) ≡ has_in who (slice_get rows.old.items at) }
+    ensures set { HasOpened opened (slice_get rows.old.items at) (slice_get rows.new.items at) }
     ensures others { (k : ℕ) → (at == k) ≡ false → slice_get rows.new.items k ≡ slice_get rows.old.items k }
 {
     rows[at].opened = Some(opened);
@@ -257,8 +256,8 @@ impl Clients {
 
     /// The one at a place has opened this.
     pub fn set_opened(&mut self, place: usize, opened: Opened)
-        ensures opened { place < length self.old.rows.items → opened_in (place_at self.new place) ≡ Some opened }
-        ensures here { (who : ℕ) → has_in who (place_at self.new place) ≡ has_in who (place_at self.old place) }
+        ensures set { place < length self.old.rows.items →
+            HasOpened opened (place_at self.old place) (place_at self.new place) }
         ensures others { Elsewhere self.old self.new place }
     {
         if place < self.rows.len() {

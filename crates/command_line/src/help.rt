@@ -105,10 +105,11 @@ and whose finish lets it go; and whether the object can get stuck, `stuck never`
 or `stuck after K OP ..`. What is not decided is `unknown`, with the reason.
 
 With `--explain`, and where standard error is a terminal, standard error gets,
-for a fault of the file and for each object that is refused, FILE:LINE:COLUMN, a
-sentence, the line with a caret under the place, and what would help. Columns
-count bytes, from 1. Elsewhere it gets the line `--explain tells more`, and with
-`--no-explain` nothing. Nothing else changes.
+for a fault of the file, for each object that is refused, and with `--stuck` for
+each that loses an operation, FILE:LINE:COLUMN, a sentence, the line with a
+caret under the place, and what would help. Columns count bytes, from 1.
+Elsewhere it gets the line `--explain tells more`, and with `--no-explain`
+nothing. Nothing else changes.
 
 Exit status: 0 no object is refused, 1 one is, the file is no file of objects,
 or with `--stuck` an operation of an accepted object can be lost.";

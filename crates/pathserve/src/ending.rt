@@ -6,6 +6,7 @@ ghost use Rattle.keep_loop.specs.Seen.{Always};
 ghost use Rattle.keep_loop.specs.Stands.{IsHonest};
 ghost use Rattle.keep_start.specs.Ending.{ObjectsAreSaved};
 ghost use Rattle.table_core.specs.Moves.{Gives};
+ghost use Rattle.table_core.specs.Seen.{seen};
 ghost use Rattle.pathserve.specs.Ends.{keep_status};
 ghost use Rattle.pathserve.specs.Kept.{IsKept};
 
@@ -106,7 +107,7 @@ pub fn serve_table<O: Outside, S: Shelf, W: Write, E: Write>(
 ) -> Result<Ended, Failure>
     requires { IfSome (O.seen outside.old) (λ seen. seen ≡ []) }
     ensures honest { IfSome (O.seen outside.new) (λ seen. Always (IsHonest Gives table limits) seen) }
-    ensures kept { OnOk result (IsKept Gives (λ last. last) table limits (O.seen outside.new) (λ papers. S.holds shelf.old papers)
+    ensures kept { OnOk result (IsKept Gives (λ last. (seen last).objects) table limits (O.seen outside.new) (λ papers. S.holds shelf.old papers)
         (λ papers. S.holds shelf.new papers)) }
 {
     match run(alloc, table, limits, outside, u64::MAX) {

@@ -1,6 +1,7 @@
 //! `pathserve keep`: objects in memory, over journals in a folder.
 
 use crate::ending::{Ended, KeepEnd, say, serve_table};
+use crate::stuck::stuck_lines;
 use answer_core::failure::Failure;
 use audit_core::verdict::Fault as TraceFault;
 use command_line::past::Past;
@@ -15,6 +16,7 @@ use journal_core::journal::recover as lines_of;
 use keep_core::open::push_damaged;
 use keep_loop::Limits as LoopLimits;
 use keep_start::start::{NotBegun, begin_behind, begin_first, opening_of, push_calls};
+use line_core::write_whole;
 use live_core::call::Limits;
 use mio_core::clock::Pace;
 use mio_core::journals::Journals;
@@ -390,7 +392,8 @@ fn is_begun(rt: &HostRuntime, folder: &str, name: &str) -> io::Result<bool> {
 
 /// `pathserve keep`: serves these objects, which nobody else serves from the folder, to who connects at the listener, until
 /// the server is to end; and says how that ended: each was kept, or lines say why one is not begun with. `pasts` are what
-/// was done before parts were made, where an object begins with parts. At its end the parts of each are saved.
+/// was done before parts were made, where an object begins with parts. Before it serves, `error` gets a line of each object
+/// that is known to get stuck. At its end the parts of each are saved.
 ///
 /// A failure is `Usage` where a past is told of an object that has a journal, `ReadFault` where the folder could not be
 /// read, `WriteFault` where a journal, a part or a line could not be written, or `Memory`. What was answered is on the
@@ -404,8 +407,10 @@ pub fn keep_objects<W: Write, E: Write>(
     writer: &mut W,
     error: &mut E,
 ) -> Result<KeepEnd, Failure> {
+    let stuck = stuck_lines(rt.alloc(), &accepted)?;
     match begin_all(rt, accepted, asked.folder, pasts)? {
         Ok(kept) => {
+            let _ = write_whole(error, &stuck);
             let ended = serve_kept(rt, kept, asked, listener, writer, error)?;
             Ok(KeepEnd::Whole(ended))
         }

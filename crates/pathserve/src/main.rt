@@ -28,6 +28,7 @@ mod lack;
 mod pasts;
 mod serve;
 mod socket;
+mod stuck;
 
 use ahead_core::ahead::AheadHand;
 use answer_core::answer::{ACCEPTED, REFUSED, answer_lines, check_source};

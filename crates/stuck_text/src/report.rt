@@ -31,7 +31,7 @@ use path_tree::node::OpId;
 use path_tree::path_fault::PathFault;
 use std::alloc::{AllocError, Global};
 use std::io::Write;
-use stuck_search::find::find;
+use stuck_search::find::{MOST_STATES, find};
 
 /// How a check ended that was also asked what can get stuck.
 #[derive(Clone, Copy, Debug, PartialEq, Eq)]
@@ -64,7 +64,7 @@ fn push_told(alloc: Global, out: &mut Vec<u8>, object: &Object) -> Result<bool, 
         × (lost ≡ some_lost found.each.items)) }
 {
     let count = count_of(object);
-    let found = find(alloc, &object.paths, count)?;
+    let found = find(alloc, &object.paths, count, MOST_STATES)?;
     push_found(alloc, out, object, count, &found)?;
     Ok(is_losing(&found.each))
 }

@@ -1,2 +1,5 @@
-pub mod Along
+pub mod Brings
 pub mod Moves
+pub mod Objects
+pub mod Parts
+pub mod Seen

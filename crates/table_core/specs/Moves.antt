@@ -1,29 +1,10 @@
 -- What a turn of a table gives.
-use Rattle.std.specs.Prelude.{◌≡◌, ℕ, List, length, slice_get, slice_set, Some, true, false}
-use Rattle.past_core.specs.declared.past.PastEvent.{PastEvent}
-use Rattle.hosted_core.specs.Scene.{Scene}
-use Rattle.hosted_core.specs.Steps.{Steps, IsFollowed}
-use Rattle.post_core.specs.Texts.{to}
+use Rattle.std.specs.Prelude.{ℕ, List}
 use Rattle.post_core.specs.Turns.{Asked}
-use Rattle.post_core.specs.Turns.Asked.{Heard, Noted, Changes}
-
--- each object goes by such steps, and the lines that are added to its journal are those of them
-pub record Moves (old : List Scene) (added : List (ℕ × List ℕ)) (new : List Scene) : Type 0 where
-  pub count : length new ≡ length old
-  pub steps : (j : ℕ) (h k : Scene) → slice_get old j ≡ Some h → slice_get new j ≡ Some k → Steps h (to j added) k
-
--- one object begins an epoch more, and the others stay as they are
-pub record Begins (old : List Scene) (journal : ℕ) (new : List Scene) : Type 0 where
-  pub past : List PastEvent
-  pub before : Scene
-  pub after : Scene
-  pub there : slice_get old journal ≡ Some before
-  pub followed : IsFollowed before past after
-  pub left : new ≡ slice_set old journal after
+use Rattle.told_core.specs.Turns as told
+use Rattle.table_core.specs.Seen.{seen}
+use Rattle.table_core.specs.declared.table.Table.{Table}
 
 -- what is asked of a table gives this
-abbrev pub Gives : List Scene → Asked → List (ℕ × List ℕ) → List (ℕ × List ℕ) → List Scene → Type 0
-Gives old (Heard who line end) said added new = Moves old added new
-Gives old (Noted note) said added new = Moves old added new
-Gives old (Changes journal front true) said added new = Begins old journal new
-Gives old (Changes journal front false) said added new = new ≡ old
+abbrev pub Gives : Table → Asked → List (ℕ × List ℕ) → List (ℕ × List ℕ) → Table → Type 0
+Gives old asked said added new = told.Gives (seen old) asked said added (seen new)

@@ -1,11 +1,16 @@
 //! What is done with the object at a place. Where there is none, nothing is done.
 
-ghost use Rattle.std.specs.Prelude.{◌≡◌, [], ◌∷◌, OnOk, Ok, true, false};
-ghost use Rattle.table_core.specs.Moves.{Begins, Moves};
+ghost use Rattle.std.specs.Prelude.{◌≡◌, [], ◌∷◌, Ok, Err, Some, true, false, IfOk, IfErr, IfSome, OnErr, slice_get, slice_set};
+ghost use Rattle.ask_core.specs.declared.answer.Cancelled.TheVariants as answers;
+ghost use Rattle.hosted_core.specs.declared.hosted.Keyed.TheVariants as keys;
+ghost use Rattle.hosted_core.specs.Keys.{Says, WaitsAs};
+ghost use Rattle.hosted_core.specs.Scene.{Scene, told_of};
+ghost use Rattle.told_core.specs.Moves.{Begins};
+ghost use Rattle.table_core.specs.Objects.{IsNamed, HasOperation, EntersAt, SeatsAt, LeavesAt, CallsAt, CancelsAt};
 
-use ask_core::answer::SubmitFault;
+use ask_core::answer::{Cancelled, SubmitFault};
 use guest_core::guests::{EnterFault, Entered};
-use hosted_core::hosted::Hosted;
+use hosted_core::hosted::{Hosted, Keyed};
 use live_core::live::Taken;
 use path_tree::name::Name;
 use path_tree::node::OpId;
@@ -27,6 +32,43 @@ pub(crate) struct Made {
     pub operation: OpId,
 }
 
+/// What a call needs that may be submitted: bytes to its client, and bytes of lines, its own and those of all that wait.
+#[derive(Clone, Copy)]
+pub(crate) struct Room {
+    pub operation: OpId,
+    pub told: usize,
+    pub lines: usize,
+}
+
+// Whether an object has this name.
+fn is_named(object: &Hosted, name: &Name) -> bool
+    ensures { result ≡ true → object.now.hall.object.name ≡ name.now }
+{
+    object.name().as_bytes() == name.as_bytes()
+}
+
+// Whether there is an object of this name at a place.
+fn has_name(objects: &[Hosted], place: usize, name: &Name) -> bool
+    ensures { result ≡ true → IsNamed objects.now place name.now }
+{
+    match objects.get(place) {
+        None => false,
+        Some(object) => is_named(object, name),
+    }
+}
+
+/// The place of the object of this name.
+pub(crate) fn object_for(objects: &[Hosted], name: &Name) -> Option<usize>
+    ensures { IfSome result (λ at. IsNamed objects.now at name.now) }
+{
+    for place in 0..objects.len() {
+        if has_name(objects, place, name) {
+            return Some(place);
+        }
+    }
+    None
+}
+
 /// Whether a client of this name may come: the journal has room for the line that would tell of it.
 pub(crate) fn may_come(objects: &[Hosted], at: usize, name: &Name) -> bool {
     match objects.get(at) {
@@ -43,7 +85,7 @@ pub(crate) fn enter_at(
     who: Comer,
     line: &mut Vec<u8>,
 ) -> Result<Option<Result<Entered, EnterFault>>, AllocError>
-    ensures { OnOk result (Moves objects.old.items ((at, line.new.items) ∷ []) objects.new.items) }
+    ensures { IfOk result (λ r. EntersAt objects.old.items at name.now who.second r line.new.items objects.new.items) }
 {
     line.clear();
     match objects.get_mut(at) {
@@ -61,7 +103,8 @@ pub(crate) fn seat_at(
     at: usize,
     place: usize,
 ) -> Result<u16, SubmitFault>
-    ensures { Moves objects.old.items [] objects.new.items }
+    ensures ok { IfOk result (λ session. SeatsAt objects.old.items at session objects.new.items) }
+    ensures err { OnErr result (objects.new.items ≡ objects.old.items) }
 {
     match objects.get_mut(at) {
         None => Err(SubmitFault::Gone),
@@ -77,7 +120,7 @@ pub(crate) fn seat_at(
 
 /// A session leaves in this second.
 pub(crate) fn leave_at(objects: &mut Vec<Hosted>, at: usize, session: u16, second: u64)
-    ensures { Moves objects.old.items [] objects.new.items }
+    ensures { LeavesAt objects.old.items at session second objects.new.items }
 {
     match objects.get_mut(at) {
         None => {}
@@ -85,6 +128,98 @@ pub(crate) fn leave_at(objects: &mut Vec<Hosted>, at: usize, session: u16, secon
             let _was_here = object.leave(session, second);
         }
     }
+}
+
+/// The operation of this name, of the object at a place.
+pub(crate) fn operation_at(objects: &[Hosted], at: usize, name: &Name) -> Option<Option<OpId>>
+    ensures { IfSome result (λ operation. HasOperation objects.now at operation name.now) }
+{
+    match objects.get(at) {
+        None => None,
+        Some(object) => Some(object.operation(name)),
+    }
+}
+
+/// A call under a key, of one that has a session by which it makes calls under keys, or made so many calls.
+#[derive(Clone, Copy)]
+pub(crate) struct Keying {
+    pub session: Option<u16>,
+    pub calls: u64,
+    pub key: u64,
+    pub operation: Option<OpId>,
+}
+
+/// What a key says of a call of the object at a place.
+pub(crate) fn key_at(
+    objects: &[Hosted],
+    at: usize,
+    call: Keying,
+    arguments: &[Datum],
+) -> Option<Keyed>
+    ensures { IfSome result (λ keyed. (object : Scene) → slice_get objects.now at ≡ Some object
+        → Says object call.session call.calls call.key call.operation arguments.now keyed) }
+{
+    match objects.get(at) {
+        None => None,
+        Some(object) => Some(object.key(
+            call.session,
+            call.calls,
+            call.key,
+            call.operation,
+            arguments,
+        )),
+    }
+}
+
+/// What a call needs of the object at a place, where it may be submitted.
+pub(crate) fn admit_at(
+    objects: &mut Vec<Hosted>,
+    at: usize,
+    operation: Option<OpId>,
+    arguments: &[Datum],
+) -> Result<Room, SubmitFault>
+    ensures same { objects.new.items ≡ objects.old.items }
+    ensures asked { IfOk result (λ room. operation ≡ Some room.operation) }
+{
+    match objects.get_mut(at) {
+        None => Err(SubmitFault::Gone),
+        Some(object) => {
+            object.count();
+            admitted(object, operation, arguments)
+        }
+    }
+}
+
+// What a call needs, where it may be submitted, the journal has room for it, and there is memory to keep that it ran.
+fn admitted(
+    object: &mut Hosted,
+    operation: Option<OpId>,
+    arguments: &[Datum],
+) -> Result<Room, SubmitFault>
+    ensures same { object.new ≡ object.old }
+    ensures asked { IfOk result (λ room. operation ≡ Some room.operation) }
+{
+    let Some(operation) = operation else {
+        return Err(SubmitFault::UnknownOp);
+    };
+    if !object.fits(operation, arguments) {
+        return Err(SubmitFault::BadArgs);
+    }
+    if object.is_full() {
+        return Err(SubmitFault::Full);
+    }
+    let lines = object.most_with(operation, arguments);
+    if object.is_spent() || !object.has_room(lines) {
+        return Err(SubmitFault::HistoryFull);
+    }
+    if object.reserve().is_err() {
+        return Err(SubmitFault::Memory);
+    }
+    Ok(Room {
+        operation,
+        told: object.most_told(operation),
+        lines,
+    })
 }
 
 /// A call is made. The lines that tell of it stand in `line` then, alone.
@@ -95,7 +230,8 @@ pub(crate) fn call_at(
     arguments: Vec<Datum>,
     line: &mut Vec<u8>,
 ) -> Result<Result<Taken, SubmitFault>, AllocError>
-    ensures { OnOk result (Moves objects.old.items ((at, line.new.items) ∷ []) objects.new.items) }
+    ensures { IfOk result (λ r. CallsAt objects.old.items at made.session made.operation arguments.items r line.new.items
+        objects.new.items) }
 {
     line.clear();
     match objects.get_mut(at) {
@@ -107,6 +243,52 @@ pub(crate) fn call_at(
     }
 }
 
+/// The number that is told of a call of the object at a place.
+pub(crate) fn told_at(objects: &[Hosted], at: usize, number: u32) -> u64
+    ensures { (object : Scene) → slice_get objects.now at ≡ Some object → result ≡ told_of object number }
+{
+    match objects.get(at) {
+        None => 0,
+        Some(object) => object.told(number),
+    }
+}
+
+/// The place that is thought to be that of the connection that has a session of the object at a place.
+pub(crate) fn owner_at(objects: &[Hosted], at: usize, session: u32) -> Option<usize> {
+    match objects.get(at) {
+        None => None,
+        Some(object) => object.owner(session),
+    }
+}
+
+/// The session of the waiting call of which this number was told, of the object at a place, or what became of it: that is
+/// not that it was cancelled.
+pub(crate) fn waits_at(objects: &[Hosted], at: usize, told: u64) -> Result<u16, Cancelled>
+    ensures ok { IfOk result (λ session. (object : Scene) → slice_get objects.now at ≡ Some object
+        → WaitsAs object session told) }
+    ensures err { IfErr result (λ answer. answer ≡ answers.Cancelled → ⊥) }
+{
+    match objects.get(at) {
+        None => Err(Cancelled::Unknown),
+        Some(object) => session_of(object.waits_as(told)),
+    }
+}
+
+// The session that was found, as its clients know it; of a call that does not wait it is not said that it was cancelled.
+fn session_of(found: Result<u32, Cancelled>) -> Result<u16, Cancelled>
+    ensures ok { IfOk result (λ session. found ≡ Ok session) }
+    ensures err { IfErr result (λ answer. answer ≡ answers.Cancelled → ⊥) }
+{
+    match found {
+        Err(Cancelled::Unknown) => Err(Cancelled::Unknown),
+        Err(_) => Err(Cancelled::Ended),
+        Ok(session) => match u16::try_from(session) {
+            Ok(session) => Ok(session),
+            Err(_) => Err(Cancelled::Ended),
+        },
+    }
+}
+
 /// The waiting call of a session is cancelled, if it has one. The line that tells of it stands in `line` then, alone.
 pub(crate) fn cancel_at(
     objects: &mut Vec<Hosted>,
@@ -114,7 +296,7 @@ pub(crate) fn cancel_at(
     session: u16,
     line: &mut Vec<u8>,
 ) -> Result<Option<u64>, AllocError>
-    ensures { OnOk result (Moves objects.old.items ((at, line.new.items) ∷ []) objects.new.items) }
+    ensures { IfOk result (λ told. CancelsAt objects.old.items at session told line.new.items objects.new.items) }
 {
     line.clear();
     match objects.get_mut(at) {
@@ -134,5 +316,15 @@ pub(crate) fn begin_at(objects: &mut Vec<Hosted>, at: usize) -> Result<bool, All
     match objects.get_mut(at) {
         None => Ok(false),
         Some(object) => object.begin_next(),
+    }
+}
+
+/// Puts the next epoch of the object at a place off.
+pub(crate) fn put_off_at(objects: &mut Vec<Hosted>, at: usize)
+    ensures { objects.new.items ≡ objects.old.items }
+{
+    match objects.get_mut(at) {
+        None => {}
+        Some(object) => object.put_off(),
     }
 }

@@ -1,41 +1,41 @@
 //! All objects of a kept server, and all connections.
 
-ghost use Rattle.std.specs.Prelude.{◌≡◌, [], OnOk, IfOk};
+ghost use Rattle.std.specs.Prelude.{◌≡◌, [], Some, OnOk, IfOk, slice_get};
+ghost use Rattle.hosted_core.specs.Scene.{Scene};
 ghost use Rattle.post_core.specs.Posts.{Tells};
-ghost use Rattle.table_core.specs.Along.{GoesOn, Keeps};
+ghost use Rattle.session_text.specs.declared.line.Line.TheVariants as lines;
+ghost use Rattle.session_text.specs.Lines.{line_text, opened_text};
+ghost use Rattle.told_core.specs.Asked.{IsRefusal, OpensBare, Opens, Goes, Quits};
+ghost use Rattle.told_core.specs.Deeds.{OnlyTold};
+ghost use Rattle.table_core.specs.Brings.{Brings};
+ghost use Rattle.table_core.specs.Objects.{IsNamed};
+ghost use Rattle.table_core.specs.Parts.{TellsOpened, ComesAt, LeavesOf};
+ghost use Rattle.table_core.specs.Seen.{seen};
 
-use crate::objects::{
-    Comer, Made, begin_at, call_at, cancel_at, enter_at, leave_at, may_come, seat_at,
-};
-use ask_core::answer::{Cancelled, KeyedFault, SubmitFault};
-use client_core::answer::{
-    push_accepted, push_cancel, push_ended, push_kept, push_opened, push_repeated, push_withdrawn,
-};
-use client_core::ask::{Ask, ask_of, cancel_of};
+use crate::objects::{Comer, enter_at, leave_at, may_come, object_for};
+use crate::peers::{go, open, opened_at, who_at};
+use crate::tell::{tell_line, tell_opened};
+use ask_core::answer::SubmitFault;
 use client_core::client::Opened;
 use client_core::clients::Clients;
 use guest_core::guests::{EnterFault, Entered};
-use hosted_core::hosted::{Hosted, Keyed};
-use keep_loop::{LineEnd, Note, Post, Served};
-use live_core::call::Ran;
-use live_core::live::Taken;
+use hosted_core::hosted::Hosted;
+use keep_loop::Post;
 use path_tree::name::Name;
-use path_tree::node::OpId;
-use session_text::line::{Line, Refusal, push_line};
+use session_text::line::{Line, Refusal};
 use std::alloc::{AllocError, Global};
-use std::marker::Model;
-use value_core::datum::Datum;
 
 /// Where more than so many bytes are owed to a connection, its held lines are done later.
 pub const MOST_OWED: usize = 65_536;
 
 // The most bytes of a line that is told or added, or of the two lines of a call.
-const MOST_LINE: usize = 8_192;
+pub(crate) const MOST_LINE: usize = 8_192;
 
 // The most bytes of the lines that tell of a name or of a cancel.
-const SHORT_LINE: usize = 192;
+pub(crate) const SHORT_LINE: usize = 192;
 
-/// All objects of a kept server, and all connections. A contract sees each object with its clients.
+/// All objects of a kept server, and all connections. A contract sees each object with its clients, and each place of
+/// connections (`specs/Seen.antt`).
 #[derive(Drop)]
 pub struct Table {
     pub(crate) alloc: Global,
@@ -47,42 +47,14 @@ pub struct Table {
     pub(crate) second: u64,
 }
 
-impl Model for Table {
-    ghost use Rattle.std.specs.Prelude.{List};
-    ghost use Rattle.std.specs.Coded.{coded_list};
-    ghost use Rattle.hosted_core.specs.Scene.{Scene};
-    ghost use Rattle.hosted_core.specs.contracts.hosted.Hosted as h;
-
-    ghost Value = { List Scene };
-
-    ghost coded = { coded_list h.the_row.coded };
-
-    ghost view = { λ t. t.objects.items };
-}
-
-// Who asks for a call.
-#[derive(Clone, Copy)]
-struct Asker {
-    place: usize,
-    opened: Opened,
-}
-
-fn refusal_of(fault: EnterFault) -> Line {
+fn refusal_of(fault: EnterFault) -> Line
+    ensures { IsRefusal result }
+{
     match fault {
         EnterFault::InUse => Line::Refused(Refusal::InUse),
         EnterFault::Full => Line::Refused(Refusal::Full),
         EnterFault::Memory => Line::Unsubmitted(SubmitFault::Memory),
     }
-}
-
-// The place of the object of this name.
-fn object_for(objects: &[Hosted], name: &Name) -> Option<usize> {
-    for place in 0..objects.len() {
-        if objects[place].name().as_bytes() == name.as_bytes() {
-            return Some(place);
-        }
-    }
-    None
 }
 
 impl Table {
@@ -93,7 +65,7 @@ impl Table {
         places: usize,
         now: u64,
     ) -> Result<Table, AllocError>
-        ensures { IfOk result (λ t. t ≡ objects.items) }
+        ensures { IfOk result (λ t. t.objects ≡ objects) }
     {
         let clients = Clients::new(alloc, places)?;
         let line = Vec::with_capacity(alloc, MOST_LINE)?;
@@ -108,36 +80,23 @@ impl Table {
 
     /// The objects, in their order.
     pub fn objects(&self) -> &[Hosted]
-        ensures { result.now ≡ self.now }
+        ensures { result.now ≡ self.now.objects.items }
     {
         &self.objects
     }
 
-    // Tells the one at a place the line that was made.
-    fn tell(&self, place: usize, post: &mut Post) -> Result<(), AllocError>
-        ensures { OnOk result (GoesOn self.now post.old self.now post.new) }
-    {
-        match self.clients.who(place) {
-            Some(who) => {
-                post.tell(who, &self.line)?;
-                Ok(())
-            }
-            None => Ok(()),
-        }
-    }
-
     // Tells the one at a place a line.
+    #[tactic(auto, using(crate::proofs::Bringing::brings_only))]
     pub(crate) fn say(
         &mut self,
         place: usize,
         line: Line,
         post: &mut Post,
     ) -> Result<(), AllocError>
-        ensures { OnOk result (GoesOn self.old post.old self.new post.new) }
+        ensures { OnOk result (Brings (OnlyTold place (line_text line)) post.old (seen self.old) post.new (seen self.new)) }
     {
-        self.line.clear();
-        push_line(&mut self.line, line)?;
-        self.tell(place, post)
+        tell_line(&self.clients, &mut self.line, place, line, post)?;
+        Ok(())
     }
 
     // Tells the one at a place why a line is refused.
@@ -147,9 +106,11 @@ impl Table {
         refusal: Refusal,
         post: &mut Post,
     ) -> Result<(), AllocError>
-        ensures { OnOk result (GoesOn self.old post.old self.new post.new) }
+        ensures { OnOk result (Brings (OnlyTold place (line_text (lines.Refused refusal))) post.old (seen self.old)
+            post.new (seen self.new)) }
     {
-        self.say(place, Line::Refused(refusal), post)
+        self.say(place, Line::Refused(refusal), post)?;
+        Ok(())
     }
 
     // Tells the one at a place why a call is not taken.
@@ -159,13 +120,15 @@ impl Table {
         fault: SubmitFault,
         post: &mut Post,
     ) -> Result<(), AllocError>
-        ensures { OnOk result (GoesOn self.old post.old self.new post.new) }
+        ensures { OnOk result (Brings (OnlyTold place (line_text (lines.Unsubmitted fault))) post.old (seen self.old)
+            post.new (seen self.new)) }
     {
-        self.say(place, Line::Unsubmitted(fault), post)
+        self.say(place, Line::Unsubmitted(fault), post)?;
+        Ok(())
     }
 
     // Takes the memory for so many bytes to the one at a place, and for lines of so many bytes of an object.
-    fn make_room(
+    pub(crate) fn make_room(
         &mut self,
         place: usize,
         told: usize,
@@ -173,7 +136,8 @@ impl Table {
         size: usize,
         post: &mut Post,
     ) -> Result<(), AllocError>
-        ensures { GoesOn self.old post.old self.new post.new }
+        ensures tells { Tells post.old post.new [] [] }
+        ensures same { seen self.new ≡ seen self.old }
     {
         self.line.clear();
         self.line.reserve(size)?;
@@ -191,42 +155,50 @@ impl Table {
         client: Option<Name>,
         post: &mut Post,
     ) -> Result<(), AllocError>
-        ensures { OnOk result (GoesOn self.old post.old self.new post.new) }
+        ensures { OnOk result (Brings (Opens place name.now client) post.old (seen self.old) post.new (seen self.new)) }
     {
         let Some(at) = object_for(&self.objects, name) else {
-            return self.refuse(place, Refusal::NoObject, post);
+            self.refuse(place, Refusal::NoObject, post)?;
+            return Ok(());
         };
         match client {
-            None => self.enter_nameless(place, at, name, post),
-            Some(client) => self.enter_named(place, at, name, &client, post),
+            None => {
+                self.enter_bare(place, at, name, post)?;
+                Ok(())
+            }
+            Some(client) => {
+                self.enter_as(place, at, name, &client, post)?;
+                Ok(())
+            }
         }
     }
 
-    fn enter_nameless(
+    // Opens the object at a place for one without a name.
+    #[tactic(auto, using(crate::proofs::Entering::opens_bare))]
+    fn enter_bare(
         &mut self,
         place: usize,
         at: usize,
         name: &Name,
         post: &mut Post,
     ) -> Result<(), AllocError>
-        ensures { OnOk result (GoesOn self.old post.old self.new post.new) }
+        requires { IsNamed self.old.objects.items at name.now }
+        ensures { OnOk result (Brings (OpensBare place name.now) post.old (seen self.old) post.new (seen self.new)) }
     {
-        self.clients.set_opened(
-            place,
-            Opened {
-                object: at,
-                session: 0,
-                is_named: false,
-                waits: false,
-                calls: 0,
-            },
-        );
-        self.line.clear();
-        push_opened(&mut self.line, name, None)?;
-        self.tell(place, post)
+        let opened = Opened {
+            object: at,
+            session: 0,
+            is_named: false,
+            waits: false,
+            calls: 0,
+            told: 0,
+        };
+        self.open_for(place, name, None, opened, post)?;
+        Ok(())
     }
 
-    fn enter_named(
+    // Opens the object at a place for a client.
+    fn enter_as(
         &mut self,
         place: usize,
         at: usize,
@@ -234,21 +206,59 @@ impl Table {
         client: &Name,
         post: &mut Post,
     ) -> Result<(), AllocError>
-        ensures { OnOk result (GoesOn self.old post.old self.new post.new) }
+        requires { IsNamed self.old.objects.items at name.now }
+        ensures { OnOk result (Brings (Opens place name.now (Some client.now)) post.old (seen self.old) post.new
+            (seen self.new)) }
     {
         if !may_come(&self.objects, at, client) {
-            return self.reject(place, SubmitFault::HistoryFull, post);
+            self.reject(place, SubmitFault::HistoryFull, post)?;
+            return Ok(());
         }
         if self
             .make_room(place, SHORT_LINE, at, SHORT_LINE, post)
             .is_err()
         {
-            return self.reject(place, SubmitFault::Memory, post);
+            self.reject(place, SubmitFault::Memory, post)?;
+            return Ok(());
         }
+        self.enter_known(place, at, name, client, post)?;
+        Ok(())
+    }
+
+    // The same, where there is room for the lines that tell of it.
+    fn enter_known(
+        &mut self,
+        place: usize,
+        at: usize,
+        name: &Name,
+        client: &Name,
+        post: &mut Post,
+    ) -> Result<(), AllocError>
+        requires { IsNamed self.old.objects.items at name.now }
+        ensures { OnOk result (Brings (Opens place name.now (Some client.now)) post.old (seen self.old) post.new
+            (seen self.new)) }
+    {
         match self.come(place, at, client, post)? {
-            None => self.refuse(place, Refusal::NoObject, post),
-            Some(Err(fault)) => self.say(place, refusal_of(fault), post),
-            Some(Ok(entered)) => self.take_seat(place, at, name, entered, post),
+            None => {
+                self.refuse(place, Refusal::NoObject, post)?;
+                Ok(())
+            }
+            Some(Err(fault)) => {
+                self.say(place, refusal_of(fault), post)?;
+                Ok(())
+            }
+            Some(Ok(entered)) => {
+                let opened = Opened {
+                    object: at,
+                    session: entered.session,
+                    is_named: true,
+                    waits: false,
+                    calls: 0,
+                    told: 0,
+                };
+                self.open_for(place, name, Some(entered.next), opened, post)?;
+                Ok(())
+            }
         }
     }
 
@@ -260,392 +270,66 @@ impl Table {
         client: &Name,
         post: &mut Post,
     ) -> Result<Option<Result<Entered, EnterFault>>, AllocError>
-        ensures { OnOk result (GoesOn self.old post.old self.new post.new) }
+        ensures { IfOk result (λ r. ComesAt at client.now r post.old (seen self.old) post.new (seen self.new)) }
     {
         let who = Comer {
             place,
             second: self.second,
         };
-        let entered = enter_at(&mut self.objects, at, client, who, &mut self.line)?;
-        post.add(at, &self.line)?;
-        Ok(entered)
-    }
-
-    // The one at a place has the session of a name from now on.
-    fn take_seat(
-        &mut self,
-        place: usize,
-        at: usize,
-        name: &Name,
-        entered: Entered,
-        post: &mut Post,
-    ) -> Result<(), AllocError>
-        ensures { OnOk result (GoesOn self.old post.old self.new post.new) }
-    {
-        self.clients.set_opened(
-            place,
-            Opened {
-                object: at,
-                session: entered.session,
-                is_named: true,
-                waits: false,
-                calls: 0,
-            },
-        );
-        self.line.clear();
-        push_opened(&mut self.line, name, Some(entered.next))?;
-        self.tell(place, post)
-    }
-
-    // A call of the one at a place, under a key or none.
-    pub(crate) fn call(
-        &mut self,
-        place: usize,
-        key: Option<u64>,
-        name: &Name,
-        arguments: Vec<Datum>,
-        post: &mut Post,
-    ) -> Result<(), AllocError>
-        ensures { OnOk result (GoesOn self.old post.old self.new post.new) }
-    {
-        let Some(opened) = self.clients.opened(place) else {
-            return self.refuse(place, Refusal::NotOpen, post);
-        };
-        let asker = Asker { place, opened };
-        let Some(object) = self.objects.get_mut(opened.object) else {
-            return self.refuse(place, Refusal::NoObject, post);
-        };
-        let operation = object.operation(name);
-        match key {
-            None => self.call_new(asker, operation, arguments, post),
-            Some(key) => self.call_under(asker, key, operation, arguments, post),
-        }
-    }
-
-    // A call under a key, which says whether it is to be made. What it says has room for a reply.
-    #[inline(never)]
-    fn call_under(
-        &mut self,
-        asker: Asker,
-        key: u64,
-        operation: Option<OpId>,
-        arguments: Vec<Datum>,
-        post: &mut Post,
-    ) -> Result<(), AllocError>
-        ensures { OnOk result (GoesOn self.old post.old self.new post.new) }
-    {
-        let opened = asker.opened;
-        let Some(object) = self.objects.get_mut(opened.object) else {
-            return self.refuse(asker.place, Refusal::NoObject, post);
-        };
-        let session = named_session(&opened);
-        match object.key(session, opened.calls, key, operation, &arguments) {
-            Keyed::New => self.call_new(asker, operation, arguments, post),
-            other => self.answer_key(asker.place, other, post),
-        }
-    }
-
-    // Answers a call of which its key says that it is not to be made.
-    fn answer_key(&mut self, place: usize, keyed: Keyed, post: &mut Post) -> Result<(), AllocError>
-        ensures { OnOk result (GoesOn self.old post.old self.new post.new) }
-    {
-        self.line.clear();
-        match keyed {
-            Keyed::New => return Ok(()),
-            Keyed::Repeated(told, reply) => push_repeated(&mut self.line, told, &reply)?,
-            Keyed::Cancelled(told) => push_kept(&mut self.line, b"cancelled", told)?,
-            Keyed::Waits(told) => push_kept(&mut self.line, b"waiting", told)?,
-            Keyed::Refused(fault) => push_line(&mut self.line, Line::Unkeyed(fault))?,
-        }
-        self.tell(place, post)
-    }
-
-    // A call that is to be made, where it may be.
-    fn call_new(
-        &mut self,
-        asker: Asker,
-        operation: Option<OpId>,
-        arguments: Vec<Datum>,
-        post: &mut Post,
-    ) -> Result<(), AllocError>
-        ensures { OnOk result (GoesOn self.old post.old self.new post.new) }
-    {
-        match self.ready_for(asker, operation, &arguments, post) {
-            Err(fault) => self.reject(asker.place, fault, post),
-            Ok((session, operation)) => self.submit(asker, session, operation, arguments, post),
-        }
-    }
-
-    // The session and the operation of a call that may be submitted: the memory that it needs is taken.
-    fn ready_for(
-        &mut self,
-        asker: Asker,
-        operation: Option<OpId>,
-        arguments: &[Datum],
-        post: &mut Post,
-    ) -> Result<(u16, OpId), SubmitFault>
-        ensures { GoesOn self.old post.old self.new post.new }
-    {
-        let at = asker.opened.object;
-        let Some(object) = self.objects.get_mut(at) else {
-            return Err(SubmitFault::Gone);
-        };
-        object.count();
-        let room = admitted(object, operation, arguments)?;
-        let session = self.seat(asker)?;
-        if self
-            .make_room(asker.place, room.told, at, room.lines, post)
-            .is_err()
-        {
-            return Err(SubmitFault::Memory);
-        }
-        Ok((session, room.operation))
-    }
-
-    // The session of the one that asks, which gets a number with its first call.
-    fn seat(&mut self, asker: Asker) -> Result<u16, SubmitFault>
-        ensures { Keeps self.old self.new }
-    {
-        if asker.opened.session != 0 {
-            return Ok(asker.opened.session);
-        }
-        let session = seat_at(&mut self.objects, asker.opened.object, asker.place)?;
-        let opened = Opened {
-            session,
-            ..asker.opened
-        };
-        self.clients.set_opened(asker.place, opened);
-        Ok(session)
-    }
-
-    // Submits a call. Where it may start it is done, and then all that may start then.
-    fn submit(
-        &mut self,
-        asker: Asker,
-        session: u16,
-        operation: OpId,
-        arguments: Vec<Datum>,
-        post: &mut Post,
-    ) -> Result<(), AllocError>
-        ensures { OnOk result (GoesOn self.old post.old self.new post.new) }
-    {
-        let at = asker.opened.object;
-        match self.make_call(at, session, operation, arguments, post)? {
-            Err(fault) => self.reject(asker.place, fault, post),
-            Ok(taken) => self.taken(asker, session, &taken, post),
-        }
-    }
-
-    // Submits a call. The lines of all that ran join the journal.
-    fn make_call(
-        &mut self,
-        at: usize,
-        session: u16,
-        operation: OpId,
-        arguments: Vec<Datum>,
-        post: &mut Post,
-    ) -> Result<Result<Taken, SubmitFault>, AllocError>
-        ensures { OnOk result (GoesOn self.old post.old self.new post.new) }
-    {
-        let made = Made {
-            is_first: post.lines(at).is_empty(),
-            session,
-            operation,
-        };
-        let taken = call_at(&mut self.objects, at, made, arguments, &mut self.line)?;
-        post.add(at, &self.line)?;
-        Ok(taken)
-    }
-
-    // A call was taken: its client is told so, and each client of those that ran the last line of its call.
-    fn taken(
-        &mut self,
-        asker: Asker,
-        session: u16,
-        taken: &Taken,
-        post: &mut Post,
-    ) -> Result<(), AllocError>
-        ensures { OnOk result (GoesOn self.old post.old self.new post.new) }
-    {
-        let at = asker.opened.object;
-        let told = match self.objects.get(at) {
-            None => return Ok(()),
-            Some(object) => object.told(taken.number),
-        };
-        self.clients.set_opened(
-            asker.place,
-            Opened {
-                session,
-                waits: true,
-                calls: asker.opened.calls.saturating_add(1),
-                ..asker.opened
-            },
-        );
-        self.line.clear();
-        push_accepted(&mut self.line, told)?;
-        self.tell(asker.place, post)?;
-        for ran in &taken.ran {
-            self.ended(at, ran, post)?;
-        }
-        Ok(())
-    }
-
-    // A call ran: its last line is told to the connection that made it.
-    fn ended(&mut self, at: usize, ran: &Ran, post: &mut Post) -> Result<(), AllocError>
-        ensures { OnOk result (GoesOn self.old post.old self.new post.new) }
-    {
-        let Some(object) = self.objects.get(at) else {
-            return Ok(());
-        };
-        let told = object.told(ran.call.number());
-        let Some(place) = object.owner(ran.call.session()) else {
-            return Ok(());
-        };
-        self.line.clear();
-        push_ended(&mut self.line, told, &ran.reply)?;
-        self.tell(place, post)?;
-        self.rests(place);
-        Ok(())
-    }
-
-    // No call of the one at a place waits: its held lines may be done.
-    fn rests(&mut self, place: usize)
-        ensures { self.new ≡ self.old }
-    {
-        self.clients.set_waits(place, false);
-        self.clients.ready(place);
-    }
-
-    // Cancels the call of which this number was told, for the one at a place.
-    pub(crate) fn cancel(
-        &mut self,
-        place: usize,
-        told: u64,
-        post: &mut Post,
-    ) -> Result<(), AllocError>
-        ensures { OnOk result (GoesOn self.old post.old self.new post.new) }
-    {
-        let Some(opened) = self.clients.opened(place) else {
-            return self.refuse(place, Refusal::NotOpen, post);
-        };
-        let at = opened.object;
-        let found = match self.objects.get(at) {
-            None => Err(Cancelled::Unknown),
-            Some(object) => object.waits_as(told),
-        };
-        match found {
-            Err(answer) => self.answer_cancel(place, told, answer, post),
-            Ok(session) => {
-                if self
-                    .make_room(place, SHORT_LINE, at, MOST_LINE, post)
-                    .is_err()
-                {
-                    return self.reject(place, SubmitFault::Memory, post);
-                }
-                self.answer_cancel(place, told, Cancelled::Cancelled, post)?;
-                self.withdraw(at, session, post)
+        match enter_at(&mut self.objects, at, client, who, &mut self.line)? {
+            None => Ok(None),
+            Some(Err(fault)) => Ok(Some(Err(fault))),
+            Some(Ok(entered)) => {
+                post.add(at, &self.line)?;
+                Ok(Some(Ok(entered)))
             }
         }
     }
 
-    fn answer_cancel(
+    // Tells the one at a place that the object of a name is opened for it, by this session.
+    #[tactic(auto, using(crate::proofs::Entering::opened_for))]
+    fn open_for(
         &mut self,
         place: usize,
-        told: u64,
-        answer: Cancelled,
+        name: &Name,
+        next: Option<u64>,
+        opened: Opened,
         post: &mut Post,
     ) -> Result<(), AllocError>
-        ensures { OnOk result (GoesOn self.old post.old self.new post.new) }
+        ensures { OnOk result (Brings (TellsOpened place (opened_text name.now next) opened) post.old (seen self.old)
+            post.new (seen self.new)) }
     {
-        self.line.clear();
-        push_cancel(&mut self.line, told, answer)?;
-        self.tell(place, post)
-    }
-
-    // The waiting call of a session is cancelled, if it has one, and its connection is told.
-    pub(crate) fn withdraw(
-        &mut self,
-        at: usize,
-        session: u32,
-        post: &mut Post,
-    ) -> Result<(), AllocError>
-        ensures { OnOk result (GoesOn self.old post.old self.new post.new) }
-    {
-        let Some(told) = self.let_go(at, session, post)? else {
-            return Ok(());
-        };
-        let Some(place) = self.owner(at, session) else {
-            return Ok(());
-        };
-        self.line.clear();
-        push_withdrawn(&mut self.line, told)?;
-        self.tell(place, post)?;
-        self.rests(place);
+        tell_opened(&self.clients, &mut self.line, place, name, next, post)?;
+        open(&mut self.clients, place, opened);
         Ok(())
     }
 
-    // The place of the connection that has a session of an object.
-    fn owner(&self, at: usize, session: u32) -> Option<usize> {
-        match self.objects.get(at) {
-            Some(object) => object.owner(session),
-            None => None,
-        }
-    }
-
-    // The waiting call of a session is cancelled, if it has one: a line tells of it where its client has a name. It answers
-    // the number that is told.
-    fn let_go(
-        &mut self,
-        at: usize,
-        session: u32,
-        post: &mut Post,
-    ) -> Result<Option<u64>, AllocError>
-        ensures { OnOk result (GoesOn self.old post.old self.new post.new) }
-    {
-        let Ok(session) = u16::try_from(session) else {
-            return Ok(None);
-        };
-        let told = cancel_at(&mut self.objects, at, session, &mut self.line)?;
-        post.add(at, &self.line)?;
-        Ok(told)
-    }
-
     // The one at a place ends behind its calls.
+    #[tactic(auto, using(crate::proofs::Entering::quits_by))]
     pub(crate) fn quit(&mut self, place: usize, post: &mut Post) -> Result<(), AllocError>
-        ensures { OnOk result (GoesOn self.old post.old self.new post.new) }
+        ensures { OnOk result (Brings (Quits place) post.old (seen self.old) post.new (seen self.new)) }
     {
         self.say(place, Line::Bye, post)?;
-        let who = self.who_at(place);
+        let who = who_at(&self.clients, place);
         hang_up(post, who)?;
         self.go(place);
         Ok(())
     }
 
-    // The connection at a place.
-    fn who_at(&self, place: usize) -> Option<u64> {
-        self.clients.who(place)
-    }
-
     // The one at a place has gone, and its session leaves.
+    #[tactic(auto, using(crate::proofs::Entering::goes_from))]
     pub(crate) fn go(&mut self, place: usize)
-        ensures { Keeps self.old self.new }
+        ensures { Goes place (seen self.old) [] [] (seen self.new) }
     {
         self.leave_object(place);
-        self.forget(place);
-    }
-
-    // Nothing is known any more of the one at a place.
-    fn forget(&mut self, place: usize)
-        ensures { self.new ≡ self.old }
-    {
-        self.clients.go(place);
+        go(&mut self.clients, place);
     }
 
     // The session of the one at a place leaves. No call of it waits.
     fn leave_object(&mut self, place: usize)
-        ensures { Keeps self.old self.new }
+        ensures { LeavesOf place (seen self.old) (seen self.new) }
     {
-        let Some(opened) = self.clients.opened(place) else {
+        let Some(opened) = opened_at(&self.clients, place) else {
             return;
         };
         if opened.session == 0 {
@@ -671,51 +355,4 @@ fn hang_up(post: &mut Post, who: Option<u64>) -> Result<(), AllocError>
             Ok(())
         }
     }
-}
-
-// The session of one that has a name.
-fn named_session(opened: &Opened) -> Option<u16> {
-    if opened.is_named {
-        return Some(opened.session);
-    }
-    None
-}
-
-// What a call needs that may be submitted: bytes to its client, and bytes of lines, its own and those of all that wait.
-#[derive(Clone, Copy)]
-struct Room {
-    operation: OpId,
-    told: usize,
-    lines: usize,
-}
-
-// What a call needs, where it may be submitted, the journal has room for it, and there is memory to keep that it ran.
-fn admitted(
-    object: &mut Hosted,
-    operation: Option<OpId>,
-    arguments: &[Datum],
-) -> Result<Room, SubmitFault>
-    ensures { object.new ≡ object.old }
-{
-    let Some(operation) = operation else {
-        return Err(SubmitFault::UnknownOp);
-    };
-    if !object.fits(operation, arguments) {
-        return Err(SubmitFault::BadArgs);
-    }
-    if object.is_full() {
-        return Err(SubmitFault::Full);
-    }
-    let lines = object.most_with(operation, arguments);
-    if object.is_spent() || !object.has_room(lines) {
-        return Err(SubmitFault::HistoryFull);
-    }
-    if object.reserve().is_err() {
-        return Err(SubmitFault::Memory);
-    }
-    Ok(Room {
-        operation,
-        told: object.most_told(operation),
-        lines,
-    })
 }

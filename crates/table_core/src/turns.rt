@@ -1,14 +1,26 @@
 //! What a turn does: the lines of connections, one after the other, and what is noted.
 
-ghost use Rattle.std.specs.Prelude.{◌≡◌, [], OnOk, IfOk};
-ghost use Rattle.post_core.specs.Posts.{Tells};
-ghost use Rattle.table_core.specs.Along.{GoesOn, Keeps};
+ghost use Rattle.std.specs.Prelude.{◌≡◌, [], List, ℕ, Bool, Some, None, Ok, true, false, OnOk, IfOk, IfSome, length};
+ghost use Rattle.line_read.specs.Reads.{Reads};
+ghost use Rattle.client_core.specs.Numbers.{cancel_in};
+ghost use Rattle.std.specs.Str.Lines.{strip_carriage_return};
+ghost use Rattle.told_core.specs.Asked.{Acts, Heeds};
+ghost use Rattle.told_core.specs.Deeds.{Then};
+ghost use Rattle.told_core.specs.State.{State, peers_of};
+ghost use Rattle.told_core.specs.Turns.{IsIdle, HearsLine, HearsLast, HearsAt, GoesOn, EndsAsk, EndsHeld, WithdrawsAt, Leaves};
+ghost use Rattle.told_core.specs.Turns.{LeavesIf, AllLeave, IfHere, Notes, Comes, place_of};
+ghost use Rattle.client_core.specs.declared.ask.Ask.TheVariants as asks;
+ghost use Rattle.table_core.specs.Brings.{Brings, Continues, EndsSome};
+ghost use Rattle.table_core.specs.Seen.{seen};
 
-use crate::objects::{begin_at, leave_at};
+use crate::objects::{begin_at, put_off_at};
+use crate::peers::{
+    come, count, goes_on, hold, must_hold, next, opened_at, place_of, stall, take, taken_by, wake,
+    who_at,
+};
 use crate::table::{MOST_OWED, Table};
 use ask_core::answer::SubmitFault;
 use client_core::ask::{Ask, ask_of, cancel_of};
-use client_core::client::Opened;
 use hosted_core::hosted::Hosted;
 use keep_loop::{LineEnd, Note, Post, Served};
 use session_text::line::{Line, Refusal};
@@ -17,14 +29,29 @@ use std::alloc::AllocError;
 impl Table {
     // Does what a line asks for.
     fn act(&mut self, place: usize, ask: Ask, post: &mut Post) -> Result<(), AllocError>
-        ensures { OnOk result (GoesOn self.old post.old self.new post.new) }
+        ensures { OnOk result (Brings (Acts place ask) post.old (seen self.old) post.new (seen self.new)) }
     {
         match ask {
-            Ask::Open(name, client) => self.enter(place, &name, client, post),
-            Ask::Call(key, name, arguments) => self.call(place, key, &name, arguments, post),
-            Ask::Cancel(number) => self.cancel(place, number, post),
-            Ask::Quit => self.quit(place, post),
-            Ask::Answer(refusal) => self.refuse(place, refusal, post),
+            Ask::Open(name, client) => {
+                self.enter(place, &name, client, post)?;
+                Ok(())
+            }
+            Ask::Call(key, name, arguments) => {
+                self.call(place, key, &name, arguments, post)?;
+                Ok(())
+            }
+            Ask::Cancel(number) => {
+                self.cancel(place, number, post)?;
+                Ok(())
+            }
+            Ask::Quit => {
+                self.quit(place, post)?;
+                Ok(())
+            }
+            Ask::Answer(refusal) => {
+                self.refuse(place, refusal, post)?;
+                Ok(())
+            }
         }
     }
 
@@ -35,15 +62,22 @@ impl Table {
         ask: Result<Ask, AllocError>,
         post: &mut Post,
     ) -> Result<(), AllocError>
-        ensures { OnOk result (GoesOn self.old post.old self.new post.new) }
+        ensures { OnOk result (Brings (Heeds place ask) post.old (seen self.old) post.new (seen self.new)) }
     {
         match ask {
-            Ok(ask) => self.act(place, ask, post),
-            Err(_) => self.reject(place, SubmitFault::Memory, post),
+            Ok(ask) => {
+                self.act(place, ask, post)?;
+                Ok(())
+            }
+            Err(_) => {
+                self.reject(place, SubmitFault::Memory, post)?;
+                Ok(())
+            }
         }
     }
 
     // Hears a line of the one at a place. Where a call of it waits the line is held, but for a `cancel`.
+    #[tactic(auto, using(crate::proofs::Turning::line_done))]
     fn hear_line(
         &mut self,
         place: usize,
@@ -51,19 +85,41 @@ impl Table {
         is_whole: bool,
         post: &mut Post,
     ) -> Result<(), AllocError>
-        ensures { OnOk result (GoesOn self.old post.old self.new post.new) }
+        ensures { OnOk result (Brings (HearsLine place line.now is_whole) post.old (seen self.old) post.new (seen self.new)) }
     {
-        let is_open = self.clients.opened(place).is_some();
-        if self.clients.must_hold(place) {
-            if is_open && is_whole {
-                if let Some(told) = cancel_of(line) {
-                    return self.cancel(place, told, post);
-                }
-            }
-            return self.hold(place, line, is_whole, post);
+        if must_hold(&self.clients, place) {
+            self.hear_behind(place, line, is_whole, post)?;
+            return Ok(());
         }
+        let is_open = opened_at(&self.clients, place).is_some();
         let ask = ask_of(self.alloc, is_open, is_whole, line);
-        self.heed(place, ask, post)
+        self.heed(place, ask, post)?;
+        Ok(())
+    }
+
+    // Hears a line of the one at a place that has to be held.
+    #[tactic(auto, using(crate::proofs::Turning::line_cancels))]
+    fn hear_behind(
+        &mut self,
+        place: usize,
+        line: &[u8],
+        is_whole: bool,
+        post: &mut Post,
+    ) -> Result<(), AllocError>
+        requires { IsIdle (seen self.old) place → ⊥ }
+        ensures { OnOk result (Brings (HearsLine place line.now is_whole) post.old (seen self.old) post.new (seen self.new)) }
+    {
+        let is_open = opened_at(&self.clients, place).is_some();
+        match asked_cancel(line, is_whole, is_open) {
+            None => {
+                self.hold(place, line, is_whole, post)?;
+                Ok(())
+            }
+            Some(told) => {
+                self.cancel(place, told, post)?;
+                Ok(())
+            }
+        }
     }
 
     fn hold(
@@ -73,46 +129,75 @@ impl Table {
         is_whole: bool,
         post: &mut Post,
     ) -> Result<(), AllocError>
-        ensures { OnOk result (GoesOn self.old post.old self.new post.new) }
+        requires { IsIdle (seen self.old) place → ⊥ }
+        ensures { OnOk result (Brings (HearsLine place line.now is_whole) post.old (seen self.old) post.new (seen self.new)) }
     {
-        if self.clients.hold(place, line, is_whole).is_err() {
-            return self.reject(place, SubmitFault::Memory, post);
+        match hold(&mut self.clients, place, line, is_whole) {
+            Ok(()) => Ok(()),
+            Err(_) => {
+                self.reject(place, SubmitFault::Memory, post)?;
+                Ok(())
+            }
         }
-        self.clients.ready(place);
-        Ok(())
     }
 
     // Does the held lines of those of whom no call waits any more, and of those whom that lets go on.
     fn go_on(&mut self, post: &mut Post) -> Result<(), AllocError>
-        ensures { OnOk result (GoesOn self.old post.old self.new post.new) }
+        ensures { OnOk result (Continues post.old (seen self.old) post.new (seen self.new)) }
     {
         for _ in 0..u64::MAX {
-            match self.clients.next() {
-                None => return Ok(()),
-                Some(place) => self.go_on_at(place, post)?,
+            if !self.go_on_next(post)? {
+                return Ok(());
             }
         }
         Ok(())
     }
 
+    // Does the held lines of the next one that may go on. `false`: there is none.
+    #[tactic(auto, using(crate::proofs::Turning::goes_still, crate::proofs::Turning::goes_same))]
+    fn go_on_next(&mut self, post: &mut Post) -> Result<bool, AllocError>
+        ensures { OnOk result (Continues post.old (seen self.old) post.new (seen self.new)) }
+    {
+        match next(&mut self.clients) {
+            None => Ok(false),
+            Some(place) => {
+                self.go_on_at(place, post)?;
+                Ok(true)
+            }
+        }
+    }
+
     // Does the held lines of the one at a place, until a call of it waits.
     fn go_on_at(&mut self, place: usize, post: &mut Post) -> Result<(), AllocError>
-        ensures { OnOk result (GoesOn self.old post.old self.new post.new) }
+        ensures { OnOk result (Continues post.old (seen self.old) post.new (seen self.new)) }
     {
         for _ in 0..u64::MAX {
-            if !self.clients.goes_on(place) {
+            if !self.go_on_by(place, post)? {
                 return Ok(());
-            }
-            if self.is_owed_much(place, post) {
-                self.clients.stall(place);
-                return Ok(());
-            }
-            match self.clients.take(place) {
-                None => return Ok(()),
-                Some(ask) => self.heed(place, ask, post)?,
             }
         }
         Ok(())
+    }
+
+    // Does the next held line of the one at a place. `false`: none may be done now.
+    #[tactic(auto, using(crate::proofs::Turning::goes_by, crate::proofs::Turning::goes_still))]
+    fn go_on_by(&mut self, place: usize, post: &mut Post) -> Result<bool, AllocError>
+        ensures { OnOk result (Continues post.old (seen self.old) post.new (seen self.new)) }
+    {
+        if !goes_on(&self.clients, place) {
+            return Ok(false);
+        }
+        if self.is_owed_much(place, post) {
+            stall(&mut self.clients, place);
+            return Ok(false);
+        }
+        match take(&mut self.clients, place) {
+            None => Ok(false),
+            Some(ask) => {
+                self.heed(place, ask, post)?;
+                Ok(true)
+            }
+        }
     }
 
     // Whether too much is owed to the one at a place.
@@ -125,82 +210,124 @@ impl Table {
 
     // Nothing more is heard of the one at a place: a call of it that waits is cancelled, and calls that were sent ahead
     // are not done.
+    #[tactic(auto, using(crate::proofs::Turning::leaves_by))]
     fn leave(&mut self, place: usize, post: &mut Post) -> Result<(), AllocError>
-        ensures { OnOk result (GoesOn self.old post.old self.new post.new) }
+        ensures { OnOk result (Brings (Leaves place) post.old (seen self.old) post.new (seen self.new)) }
     {
-        if let Some(opened) = self.clients.opened(place) {
-            if opened.waits {
-                self.withdraw(opened.object, u32::from(opened.session), post)?;
-            }
-        }
+        self.withdraw_at(place, post)?;
         self.end_held(place, post)?;
         self.go(place);
         Ok(())
     }
 
-    // Answers the held lines of the one at a place, which has left.
-    fn end_held(&mut self, place: usize, post: &mut Post) -> Result<(), AllocError>
-        ensures { OnOk result (GoesOn self.old post.old self.new post.new) }
+    // The call of the one at a place that waits is cancelled, if one does.
+    fn withdraw_at(&mut self, place: usize, post: &mut Post) -> Result<(), AllocError>
+        ensures { OnOk result (Brings (WithdrawsAt place) post.old (seen self.old) post.new (seen self.new)) }
     {
-        for _ in 0..u64::MAX {
-            match self.clients.take(place) {
-                None => return Ok(()),
-                Some(ask) => {
-                    if !self.end_ask(place, ask, post)? {
-                        return Ok(());
-                    }
-                }
-            }
+        let Some(opened) = opened_at(&self.clients, place) else {
+            return Ok(());
+        };
+        if !opened.waits {
+            return Ok(());
         }
+        self.withdraw(opened.object, opened.session, post)?;
         Ok(())
     }
 
-    // Answers a held line of the one at a place, which has left. `false`: no line behind it is answered.
+    // Answers the held lines of the one at a place, which has left.
+    #[tactic(auto, using(crate::proofs::Turning::some_none, crate::proofs::Turning::some_then, crate::proofs::Turning::some_then_all))]
+    fn end_held(&mut self, place: usize, post: &mut Post) -> Result<(), AllocError>
+        ensures { OnOk result (Brings (EndsHeld place) post.old (seen self.old) post.new (seen self.new)) }
+    {
+        for _ in 0..u64::MAX {
+            if self.end_next(place, post)? {
+                return Ok(());
+            }
+        }
+        // No more lines are held than they have bytes.
+        Err(AllocError)
+    }
+
+    // Answers the next held line of the one at a place, which has left. `true`: none is held, or it quits.
+    fn end_next(&mut self, place: usize, post: &mut Post) -> Result<bool, AllocError>
+        ensures more { result ≡ Ok false → EndsSome place post.old (seen self.old) post.new (seen self.new) }
+        ensures all { result ≡ Ok true → Brings (EndsHeld place) post.old (seen self.old) post.new (seen self.new) }
+    {
+        match take(&mut self.clients, place) {
+            None => Ok(true),
+            Some(ask) => {
+                let is_last = quits(&ask);
+                self.end_ask(place, ask, post)?;
+                Ok(is_last)
+            }
+        }
+    }
+
+    // Answers a held line of the one at a place, which has left.
     fn end_ask(
         &mut self,
         place: usize,
         ask: Result<Ask, AllocError>,
         post: &mut Post,
-    ) -> Result<bool, AllocError>
-        ensures { OnOk result (GoesOn self.old post.old self.new post.new) }
+    ) -> Result<(), AllocError>
+        ensures { OnOk result (Brings (EndsAsk place ask) post.old (seen self.old) post.new (seen self.new)) }
     {
         match ask {
             Ok(Ask::Quit) => {
                 self.say(place, Line::Bye, post)?;
-                Ok(false)
+                Ok(())
             }
             Ok(Ask::Open(_, _)) => {
                 self.refuse(place, Refusal::Opened, post)?;
-                Ok(true)
+                Ok(())
             }
             Ok(Ask::Answer(refusal)) => {
                 self.refuse(place, refusal, post)?;
-                Ok(true)
+                Ok(())
             }
             Ok(Ask::Cancel(number)) => {
                 self.cancel(place, number, post)?;
-                Ok(true)
+                Ok(())
             }
-            Ok(Ask::Call(_, _, _)) | Err(_) => {
+            Ok(Ask::Call(_, _, _)) => {
                 self.reject(place, SubmitFault::Gone, post)?;
-                Ok(true)
+                Ok(())
+            }
+            Err(_) => {
+                self.reject(place, SubmitFault::Gone, post)?;
+                Ok(())
             }
         }
     }
 
     // All connections leave.
+    #[tactic(auto, using(crate::proofs::Turning::all_none, crate::proofs::Turning::all_more))]
     fn end(&mut self, post: &mut Post) -> Result<(), AllocError>
-        ensures { OnOk result (GoesOn self.old post.old self.new post.new) }
+        ensures { OnOk result (Brings (AllLeave (length (peers_of self.old.clients))) post.old (seen self.old) post.new
+            (seen self.new)) }
     {
-        for place in 0..self.clients.count() {
-            if self.clients.who(place).is_some() {
-                self.leave(place, post)?;
-            }
+        for place in 0..count(&self.clients) {
+            self.leave_if_here(place, post)?;
         }
         Ok(())
     }
 
+    // The one at a place leaves, where one is there.
+    #[tactic(auto, using(crate::proofs::Turning::nobody_leaves, crate::proofs::Turning::one_leaves))]
+    fn leave_if_here(&mut self, place: usize, post: &mut Post) -> Result<(), AllocError>
+        ensures { OnOk result (Brings (LeavesIf place) post.old (seen self.old) post.new (seen self.new)) }
+    {
+        match who_at(&self.clients, place) {
+            None => Ok(()),
+            Some(_) => {
+                self.leave(place, post)?;
+                Ok(())
+            }
+        }
+    }
+
     // Hears a line of a connection.
+    #[tactic(auto, using(crate::proofs::Turning::not_here, crate::proofs::Turning::is_here, crate::proofs::Turning::hears_then))]
     fn hear_of(
         &mut self,
         who: u64,
@@ -208,14 +335,17 @@ impl Table {
         end: LineEnd,
         post: &mut Post,
     ) -> Result<(), AllocError>
-        ensures { OnOk result (GoesOn self.old post.old self.new post.new) }
+        ensures { OnOk result (Brings (IfHere who (λ (place : ℕ). Then (HearsAt place line.now end) GoesOn)) post.old
+            (seen self.old) post.new (seen self.new)) }
     {
-        let Some(place) = self.clients.place_of(who) else {
-            return Ok(());
-        };
-        self.hear_at(place, line, end, post)?;
-        self.go_on(post)?;
-        Ok(())
+        match place_of(&self.clients, who) {
+            None => Ok(()),
+            Some(place) => {
+                self.hear_at(place, line, end, post)?;
+                self.go_on(post)?;
+                Ok(())
+            }
+        }
     }
 
     // Hears a line of the one at a place.
@@ -226,79 +356,143 @@ impl Table {
         end: LineEnd,
         post: &mut Post,
     ) -> Result<(), AllocError>
-        ensures { OnOk result (GoesOn self.old post.old self.new post.new) }
+        ensures { OnOk result (Brings (HearsAt place line.now end) post.old (seen self.old) post.new (seen self.new)) }
     {
         match end {
-            LineEnd::TooLong => self.refuse(place, Refusal::LineTooLong, post),
-            LineEnd::Feed => self.hear_line(place, without_cr(line), true, post),
-            LineEnd::Input => self.hear_last(place, without_cr(line), post),
+            LineEnd::TooLong => {
+                self.refuse(place, Refusal::LineTooLong, post)?;
+                Ok(())
+            }
+            LineEnd::Feed => {
+                self.hear_line(place, without_cr(line), true, post)?;
+                Ok(())
+            }
+            LineEnd::Input => {
+                self.hear_last(place, without_cr(line), post)?;
+                Ok(())
+            }
         }
     }
 
     // Hears the last line of the one at a place, behind which no LF stood.
+    #[tactic(auto, using(crate::proofs::Turning::last_none, crate::proofs::Turning::last_some))]
     fn hear_last(&mut self, place: usize, line: &[u8], post: &mut Post) -> Result<(), AllocError>
-        ensures { OnOk result (GoesOn self.old post.old self.new post.new) }
+        ensures { OnOk result (Brings (HearsLast place line.now) post.old (seen self.old) post.new (seen self.new)) }
     {
         if line.is_empty() {
             return Ok(());
         }
-        self.hear_line(place, line, false, post)
+        self.hear_line(place, line, false, post)?;
+        Ok(())
     }
 
     // Does what is to be done for a note.
+    #[tactic(auto, using(crate::proofs::Turning::hears_then))]
     fn heed_note(&mut self, note: Note, post: &mut Post) -> Result<(), AllocError>
-        ensures { OnOk result (GoesOn self.old post.old self.new post.new) }
+        ensures { OnOk result (Brings (Then (Notes note) GoesOn) post.old (seen self.old) post.new (seen self.new)) }
     {
-        match note {
-            Note::Joins(who) => self.join(who, post)?,
-            Note::Leaves(who) => self.leave_at(who, post)?,
-            Note::Ticks(time) => self.tick(time),
-            Note::Ends => self.end(post)?,
-        }
+        self.do_note(note, post)?;
         self.go_on(post)?;
         Ok(())
     }
 
-    // A connection comes. One that has its place leaves.
-    fn join(&mut self, who: u64, post: &mut Post) -> Result<(), AllocError>
-        ensures { OnOk result (GoesOn self.old post.old self.new post.new) }
+    #[tactic(auto, using(crate::proofs::Turning::nothing_by))]
+    fn do_note(&mut self, note: Note, post: &mut Post) -> Result<(), AllocError>
+        ensures { OnOk result (Brings (Notes note) post.old (seen self.old) post.new (seen self.new)) }
     {
-        let place = self.clients.taken_by(who);
-        self.leave_if(place, post)?;
-        self.come_here(who);
+        match note {
+            Note::Joins(who) => {
+                self.join(who, post)?;
+                Ok(())
+            }
+            Note::Leaves(who) => {
+                self.leave_of(who, post)?;
+                Ok(())
+            }
+            Note::Ticks(time) => {
+                self.tick(time);
+                Ok(())
+            }
+            Note::Ends => {
+                self.end(post)?;
+                Ok(())
+            }
+        }
+    }
+
+    // A connection comes. One that has its place leaves.
+    #[tactic(auto, using(crate::proofs::Turning::joins_by))]
+    fn join(&mut self, who: u64, post: &mut Post) -> Result<(), AllocError>
+        ensures { OnOk result (Brings (Then (LeavesIf (place_of (seen self.old) who)) (Comes who)) post.old (seen self.old)
+            post.new (seen self.new)) }
+    {
+        self.make_way(who, post)?;
+        come(&mut self.clients, who);
         Ok(())
     }
 
-    fn come_here(&mut self, who: u64)
-        ensures { self.new ≡ self.old }
+    // The one that has the place of a connection leaves, where there is one.
+    #[tactic(auto, using(crate::proofs::Turning::way_is_free, crate::proofs::Turning::way_is_made))]
+    fn make_way(&mut self, who: u64, post: &mut Post) -> Result<(), AllocError>
+        ensures { OnOk result (Brings (LeavesIf (place_of (seen self.old) who)) post.old (seen self.old) post.new
+            (seen self.new)) }
     {
-        self.clients.come(who);
+        match taken_by(&self.clients, who) {
+            None => Ok(()),
+            Some(place) => {
+                self.leave(place, post)?;
+                Ok(())
+            }
+        }
     }
 
     // A connection leaves.
-    fn leave_at(&mut self, who: u64, post: &mut Post) -> Result<(), AllocError>
-        ensures { OnOk result (GoesOn self.old post.old self.new post.new) }
+    #[tactic(auto, using(crate::proofs::Turning::not_here, crate::proofs::Turning::is_here))]
+    fn leave_of(&mut self, who: u64, post: &mut Post) -> Result<(), AllocError>
+        ensures { OnOk result (Brings (IfHere who Leaves) post.old (seen self.old) post.new (seen self.new)) }
     {
-        let place = self.clients.place_of(who);
-        self.leave_if(place, post)
-    }
-
-    // The one at a place leaves, where there is one.
-    fn leave_if(&mut self, place: Option<usize>, post: &mut Post) -> Result<(), AllocError>
-        ensures { OnOk result (GoesOn self.old post.old self.new post.new) }
-    {
-        match place {
+        match place_of(&self.clients, who) {
             None => Ok(()),
-            Some(place) => self.leave(place, post),
+            Some(place) => {
+                self.leave(place, post)?;
+                Ok(())
+            }
         }
     }
 
     // It is this second.
     fn tick(&mut self, second: u64)
-        ensures { self.new ≡ self.old }
+        ensures { seen self.new ≡ seen self.old }
     {
         self.second = second;
-        self.clients.wake();
+        wake(&mut self.clients);
+    }
+}
+
+// The number of the call that a line asks to cancel, where an LF stood behind it and an object is opened.
+fn asked_cancel(line: &[u8], is_whole: bool, is_open: bool) -> Option<u64>
+    ensures { IfSome result (λ told. (is_whole ≡ true) × Reads cancel_in (λ n. n) line.now (Some told)) }
+{
+    if !is_whole {
+        return None;
+    }
+    if !is_open {
+        return None;
+    }
+    match cancel_of(line) {
+        None => None,
+        Some(told) => Some(told),
+    }
+}
+
+// Whether it is asked to end.
+fn quits(ask: &Result<Ask, AllocError>) -> bool
+    ensures yes { result ≡ true → ask.now ≡ Ok asks.Quit }
+    ensures no { result ≡ false → ask.now ≡ Ok asks.Quit → ⊥ }
+{
+    match ask {
+        Ok(Ask::Quit) => true,
+        _ => false,
     }
 }
 
@@ -311,10 +505,14 @@ fn writes_next(object: &Hosted, front: &mut Vec<u8>) -> bool {
 }
 
 // A line without its CR.
-fn without_cr(line: &[u8]) -> &[u8] {
-    match line {
-        [front @ .., b'\r'] => front,
-        _ => line,
+fn without_cr(line: &[u8]) -> &[u8]
+    ensures { result.now ≡ strip_carriage_return line.now }
+{
+    let len = line.len();
+    if len > 0 && line[len - 1] == b'\r' {
+        &line[..len - 1]
+    } else {
+        line
     }
 }
 
@@ -342,14 +540,14 @@ impl Served for Table {
     }
 
     fn may_read(&self, who: u64) -> bool {
-        match self.clients.place_of(who) {
+        match place_of(&self.clients, who) {
             Some(place) => self.clients.may_read(place),
             None => true,
         }
     }
 
     fn waits(&self, who: u64) -> bool {
-        match self.clients.place_of(who) {
+        match place_of(&self.clients, who) {
             Some(place) => self.clients.waits(place),
             None => false,
         }
@@ -368,9 +566,7 @@ impl Served for Table {
 
     fn changed(&mut self, journal: usize, _front: &[u8], went: bool) -> Result<(), AllocError> {
         if !went {
-            if let Some(object) = self.objects.get_mut(journal) {
-                object.put_off();
-            }
+            put_off_at(&mut self.objects, journal);
             return Ok(());
         }
         if begin_at(&mut self.objects, journal)? {

@@ -1,5 +1,5 @@
 use Rattle.std.proofs.Common.{refl}
-use Rattle.table_core.proofs.Moving.{at_place}
+use Rattle.table_core.proofs.Placing.{at_place}
 use Rattle.table_core.proofs.objects.begin_at.Goals as goal
 
 pub returns-in-Some-clause-begun : goal.returns-in-Some-clause-begun

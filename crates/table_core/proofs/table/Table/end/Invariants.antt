@@ -1,5 +1,7 @@
-use Rattle.table_core.specs.Along.{GoesOn}
+use Rattle.told_core.specs.Turns.{AllLeave}
+use Rattle.table_core.specs.Brings.{Brings}
+use Rattle.table_core.specs.Seen.{seen}
 use Rattle.table_core.proofs.table.Table.end.Given as goal
 
 abbrev pub invariant-loop-place : goal.invariant-loop-place
-invariant-loop-place l = GoesOn l.fn.self l.fn.post l.self l.post
+invariant-loop-place l = Brings (AllLeave l.place) l.fn.post (seen l.fn.self) l.post (seen l.self)

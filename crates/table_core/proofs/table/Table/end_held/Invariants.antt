@@ -1,5 +1,6 @@
-use Rattle.table_core.specs.Along.{GoesOn}
+use Rattle.table_core.specs.Brings.{EndsSome}
+use Rattle.table_core.specs.Seen.{seen}
 use Rattle.table_core.proofs.table.Table.end_held.Given as goal
 
 abbrev pub invariant-loop : goal.invariant-loop
-invariant-loop l = GoesOn l.fn.self l.fn.post l.self l.post
+invariant-loop l = EndsSome l.place l.fn.post (seen l.fn.self) l.post (seen l.self)

@@ -1,7 +1,14 @@
-use Rattle.table_core.proofs.Moving.{adds_by}
+use Rattle.std.proofs.Common.{subst, Result}
+use Rattle.ask_core.specs.declared.answer.SubmitFault.{SubmitFault}
+use Rattle.live_core.specs.declared.live.Taken.{Taken}
+use Rattle.told_core.specs.State.{peers_of}
+use Rattle.table_core.specs.Objects.{CallsAt}
+use Rattle.table_core.proofs.Submitting.{makes_at}
 use Rattle.table_core.proofs.table.Table.make_call.Goals as goal
 
-pub returns : goal.returns
-returns c =
-    adds_by c.self.inside.objects.items c.args.self.now c.call_at.new.objects.items c.args.at c.call_at.new.line.items c.deref.result.now c.args.post.now c.add.new.self
-    c.self.view_is c.in_ok-taken.ensures c.deref.ensures.value c.in_ok-add.ensures
+pub returns-in_ok-add-in-Ok : goal.returns-in_ok-add-in-Ok
+returns-in_ok-add-in-Ok c = makes_at c.args.post.now c.add.new.self c.args.self.now.objects.items c.call_at.new.objects.items (peers_of c.args.self.now.clients) c.args.ready.seat
+    c.args.ready.operation c.args.arguments.items c.in-Ok.taken c.call_at.new.line.items c.deref.result.now
+    (subst (λ (r : Result Taken SubmitFault). CallsAt c.args.self.now.objects.items c.args.ready.seat.object c.args.ready.seat.session c.args.ready.operation c.args.arguments.items r c.call_at.new.line.items c.call_at.new.objects.items)
+    c.in-Ok.is c.in_ok-fault.ensures)
+    c.deref.ensures.value c.in_ok-add-in-Ok.ensures

@@ -1,8 +1,7 @@
-use Rattle.table_core.proofs.Moving.{keeps_by}
+use Rattle.std.proofs.Common.{arith}
+use Rattle.table_core.proofs.Submitting.{gets_number}
 use Rattle.table_core.proofs.table.Table.seat.Goals as goal
 
-pub returns-in_err-session : goal.returns-in_err-session
-returns-in_err-session c = keeps_by c.self.inside.objects.items c.args.self.now c.seat_at.new.objects.items c.self.view_is c.seat_at.ensures
-
-pub returns : goal.returns
-returns c = keeps_by c.self.inside.objects.items c.args.self.now c.seat_at.new.objects.items c.self.view_is c.seat_at.ensures
+pub returns-clause-ok : goal.returns-clause-ok
+returns-clause-ok c = gets_number c.args.self.now.objects.items c.seat_at.new.objects.items c.args.self.now.clients c.open.new.clients c.args.asker.place c.in_ok-session.session
+    c.args.asker.opened (let z = c.if-asker-ne0.false in omega (arith, z)) c.in_ok-session.ensures.ok c.open.ensures

@@ -1,4 +1,4 @@
-use Rattle.table_core.proofs.Moving.{heard}
+use Rattle.table_core.proofs.Turning.{heard}
 use Rattle.table_core.proofs.turns.TableServed.hear.Goals as goal
 
 pub returns : goal.returns

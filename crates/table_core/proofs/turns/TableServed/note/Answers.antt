@@ -1,4 +1,4 @@
-use Rattle.table_core.proofs.Moving.{noted}
+use Rattle.table_core.proofs.Turning.{noted}
 use Rattle.table_core.proofs.turns.TableServed.note.Goals as goal
 
 pub returns : goal.returns

@@ -1,0 +1,148 @@
+-- Parts of what is done for one that asks.
+use Rattle.std.specs.Prelude.{◌≡◌, ◌⊎◌, ℕ, List, [], ◌∷◌, ◌++◌, Option, Some, None, Result, Ok, Err, slice_get}
+use Rattle.value_core.specs.declared.datum.Datum.{Datum}
+use Rattle.decl_core.specs.ObjectMap.{object_of}
+use Rattle.script_text.specs.Answers.{cancelled_line}
+use Rattle.session_text.specs.Lines.{accepted_text, cancel_name, withdrawn_text}
+use Rattle.ask_core.specs.declared.answer.Cancelled.TheVariants as answers
+use Rattle.ask_core.specs.declared.answer.SubmitFault.{SubmitFault}
+use Rattle.live_core.specs.declared.live.Taken.{Taken}
+use Rattle.live_core.specs.Lines.{all_lines}
+use Rattle.guest_core.specs.declared.guests.Entered.{Entered}
+use Rattle.guest_core.specs.declared.guests.EnterFault.{EnterFault}
+use Rattle.guest_core.specs.Entering.{Enters}
+use Rattle.guest_core.specs.Guests.{Guests}
+use Rattle.hosted_core.specs.declared.hosted.Keyed.{Keyed}
+use Rattle.hosted_core.specs.declared.hosted.Keyed.TheVariants as keys
+use Rattle.hosted_core.specs.Calls.{Does, Cancels}
+use Rattle.hosted_core.specs.Keys.{Says}
+use Rattle.hosted_core.specs.Lines.{entered_lines}
+use Rattle.hosted_core.specs.Scene.{Scene, told_of, with_guests}
+use Rattle.client_core.specs.declared.client.Opened.{Opened}
+use Rattle.post_core.specs.Posts.{Tells}
+use Rattle.post_core.specs.declared.post.Post.{Post}
+use Rattle.told_core.specs.State.{State, opening, changed, with_object, told_to, counted, session_by}
+use Rattle.told_core.specs.Deeds.{Texts, Deed, OnlyTold}
+use Rattle.told_core.specs.Asked.{IsRefused, Sits, Submits, AllEnd, Ends, LetsGo, IsNotCancelled, LeavesObject, HasNoSession, keyed_text}
+use Rattle.told_core.specs.Turns.{NoneWaits}
+
+-- the one at a place is told this, and has opened that
+pub record TellsOpened (place : ℕ) (text : List ℕ) (opened : Opened) (old : State) (said added : Texts) (new : State) : Type 0 where
+  pub told : said ≡ told_to old.peers place text
+  pub lines : added ≡ []
+  pub left : new ≡ changed old place (opening opened)
+
+-- one object goes on, which adds this, and nothing is told
+pub record Adds (at : ℕ) (after : Scene) (line : List ℕ) (before : Post) (old : State) (behind : Post) (new : State) : Type 0 where
+  pub tells : Tells before behind [] ((at, line) ∷ [])
+  pub left : new ≡ with_object old at after
+
+-- a post is as it was, and a state
+pub record Stays (before : Post) (old : State) (after : Post) (new : State) : Type 0 where
+  pub tells : Tells before after [] []
+  pub left : new ≡ old
+
+-- a client has come to an object
+pub record HasCome (at : ℕ) (client : List ℕ) (entered : Entered) (before : Post) (old : State) (after : Post) (new : State) : Type 0 where
+  pub object : Scene
+  pub there : slice_get old.objects at ≡ Some object
+  pub now : ℕ
+  pub guests : Guests
+  pub enters : Enters object.guests client now (Ok entered) guests
+  pub adds : Adds at (with_guests object guests) (entered_lines client (Ok entered)) before old after new
+
+abbrev pub ComesAt : ℕ → List ℕ → Option (Result Entered EnterFault) → Post → State → Post → State → Type 0
+ComesAt at client (Some (Ok entered)) before old after new = HasCome at client entered before old after new
+ComesAt at client (Some (Err fault)) before old after new = Stays before old after new
+ComesAt at client None before old after new = Stays before old after new
+
+-- a session leaves, or there is none
+abbrev pub LeavesOf : ℕ → State → State → Type 0
+LeavesOf place old new = LeavesObject place old new ⊎ (HasNoSession old place × (new ≡ old))
+
+-- a call was made of an object
+pub record HasMade (seat : Opened) (operation : ℕ) (arguments : List Datum) (taken : Taken) (before : Post) (old : State) (behind : Post) (new : State) : Type 0 where
+  pub object : Scene
+  pub there : slice_get old.objects seat.object ≡ Some object
+  pub after : Scene
+  pub does : Does object seat.session operation arguments taken after
+  pub adds : Adds seat.object after (all_lines (object_of object.hall.object) taken.ran.items) before old behind new
+
+abbrev pub MakesAt : Opened → ℕ → List Datum → Result Taken SubmitFault → Post → State → Post → State → Type 0
+MakesAt seat operation arguments (Ok taken) before old after new = HasMade seat operation arguments taken before old after new
+MakesAt seat operation arguments (Err fault) before old after new = Stays before old after new
+
+-- it is told that a call was taken, and each that ran that it ended
+pub record TellsTaken (place : ℕ) (seat : Opened) (taken : Taken) (object : Scene) (old : State) (said added : Texts) (new : State) : Type 0 where
+  pub ended : Texts
+  pub told : said ≡ told_to old.peers place (accepted_text (told_of object taken.number)) ++ ended
+  pub lines : added ≡ []
+  pub ends : AllEnd seat.object object taken.ran.items (changed old place (opening (counted (told_of object taken.number) seat))) ended [] new
+
+-- a call is made, or refused
+abbrev pub SubmitsOr : ℕ → Opened → ℕ → List Datum → Deed
+SubmitsOr place seat operation arguments old said added new =
+    Submits place seat operation arguments old said added new ⊎ IsRefused place old said added new
+
+-- the call of one that has opened an object is made, or refused
+pub record MakesOne (place : ℕ) (opened : Opened) (operation : Option ℕ) (arguments : List Datum) (old : State) (said added : Texts) (new : State) : Type 0 where
+  pub seat : Opened
+  pub mid : State
+  pub sits : Sits place old opened seat mid
+  pub asked : ℕ
+  pub operation_is : operation ≡ Some asked
+  pub submits : Submits place seat asked arguments mid said added new
+
+pub record RefusesOne (place : ℕ) (opened : Opened) (old : State) (said added : Texts) (new : State) : Type 0 where
+  pub seat : Opened
+  pub mid : State
+  pub sits : Sits place old opened seat mid
+  pub refused : IsRefused place mid said added new
+
+abbrev pub MakesCall : ℕ → Opened → Option ℕ → List Datum → Deed
+MakesCall place opened operation arguments old said added new =
+    MakesOne place opened operation arguments old said added new ⊎ RefusesOne place opened old said added new
+
+-- what a key says of a call of the object that was opened
+abbrev pub SaysOf : Opened → ℕ → Option ℕ → List Datum → Keyed → State → Type 0
+SaysOf opened key operation arguments keyed s =
+    (object : Scene) → slice_get s.objects opened.object ≡ Some object → Says object (session_by opened) opened.calls key operation arguments keyed
+
+abbrev pub UnderKey : ℕ → Opened → ℕ → Option ℕ → List Datum → Deed
+UnderKey place opened key operation arguments old said added new =
+    (SaysOf opened key operation arguments keys.New old × MakesCall place opened operation arguments old said added new)
+    ⊎ (((keyed : Keyed) × SaysOf opened key operation arguments keyed old × (keyed ≡ keys.New → ⊥)
+    × OnlyTold place (keyed_text keyed) old said added new)
+    ⊎ IsRefused place old said added new)
+
+-- the waiting call of a session was cancelled, or none waits
+pub record HasLetGo (at session number : ℕ) (before : Post) (old : State) (behind : Post) (new : State) : Type 0 where
+  pub object : Scene
+  pub there : slice_get old.objects at ≡ Some object
+  pub after : Scene
+  pub line : List ℕ
+  pub cancels : Cancels object session number [] line after
+  pub adds : Adds at after line before old behind new
+
+abbrev pub LetsGoAt : ℕ → ℕ → Option ℕ → Post → State → Post → State → Type 0
+LetsGoAt at session (Some number) before old after new = HasLetGo at session number before old after new
+LetsGoAt at session None before old after new = NoneWaits at session old × Stays before old after new
+
+-- who asked to cancel a call is told so before its client is
+pub record TellsCancelled (place at session told number : ℕ) (old : State) (said added : Texts) (new : State) : Type 0 where
+  pub ended : Texts
+  pub told_is : said ≡ told_to old.peers place (cancelled_line told (cancel_name answers.Cancelled)) ++ ended
+  pub lines : added ≡ []
+  pub ends : Ends at session number (withdrawn_text number) old ended [] new
+
+-- a call is cancelled, and this is told of it
+pub record CancelsNow (place at session told : ℕ) (old : State) (said added : Texts) (new : State) : Type 0 where
+  pub number : ℕ
+  pub ended : Texts
+  pub told_is : said ≡ told_to old.peers place (cancelled_line told (cancel_name answers.Cancelled)) ++ ended
+  pub lets_go : LetsGo at session number old ended added new
+
+abbrev pub CancelsOne : ℕ → ℕ → ℕ → ℕ → Deed
+CancelsOne place at session told old said added new =
+    CancelsNow place at session told old said added new
+    ⊎ (IsNotCancelled place told old said added new ⊎ IsRefused place old said added new)

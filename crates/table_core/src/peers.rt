@@ -1,0 +1,214 @@
+//! The connections of a table, as a contract sees them: each call says what becomes of the places.
+
+ghost use Rattle.std.specs.Prelude.{◌≡◌, ◌%◌, [], ℕ, true, false, List, Some, None, IfSome, IfNone, OnOk, OnErr, length, slice_get};
+ghost use Rattle.line_core.specs.Runs.{NoLineFeed};
+ghost use Rattle.hosted_core.specs.Scene.{Scene};
+ghost use Rattle.client_core.specs.Held.{waits_of};
+ghost use Rattle.told_core.specs.Asked.{IsFor, Waits};
+ghost use Rattle.told_core.specs.State.{peers_of, change, nobody, comer, opening, waiting, holding, who_in, opened_in, held_in};
+ghost use Rattle.told_core.specs.Turns.{TakesLine};
+ghost use Rattle.table_core.specs.Seen.{state_of};
+
+use client_core::ask::Ask;
+use client_core::client::Opened;
+use client_core::clients::Clients;
+use std::alloc::AllocError;
+
+/// Who is at a place.
+pub(crate) fn who_at(clients: &Clients, place: usize) -> Option<u64>
+    ensures { result ≡ who_in (slice_get (peers_of clients.now) place) }
+{
+    clients.who(place)
+}
+
+/// What the one at a place has opened.
+pub(crate) fn opened_at(clients: &Clients, place: usize) -> Option<Opened>
+    ensures { result ≡ opened_in (slice_get (peers_of clients.now) place) }
+{
+    clients.opened(place)
+}
+
+/// The place of a connection that is here.
+pub(crate) fn place_of(clients: &Clients, who: u64) -> Option<usize>
+    ensures place { IfSome result (λ place. place ≡ who % length (peers_of clients.now)) }
+    ensures some { IfSome result (λ place. who_in (slice_get (peers_of clients.now) place) ≡ Some who) }
+    ensures none { IfNone result (who_in (slice_get (peers_of clients.now) (who % length (peers_of clients.now))) ≡ Some who → ⊥) }
+{
+    clients.place_of(who)
+}
+
+/// The place that a connection that comes will have, where another one has it.
+pub(crate) fn taken_by(clients: &Clients, who: u64) -> Option<usize>
+    ensures place { IfSome result (λ place. place ≡ who % length (peers_of clients.now)) }
+    ensures some { IfSome result (λ place. (other : ℕ) × (who_in (slice_get (peers_of clients.now) place) ≡ Some other)) }
+    ensures none { IfNone result (who_in (slice_get (peers_of clients.now) (who % length (peers_of clients.now))) ≡ None) }
+{
+    clients.taken_by(who)
+}
+
+/// How many places there are.
+pub(crate) fn count(clients: &Clients) -> usize
+    ensures { result ≡ length (peers_of clients.now) }
+{
+    clients.count()
+}
+
+/// Whether a line of the one at a place has to be held.
+pub(crate) fn must_hold(clients: &Clients, place: usize) -> bool
+    ensures no { result ≡ false → (waits_of (opened_in (slice_get (peers_of clients.now) place)) ≡ false)
+        × (held_in (slice_get (peers_of clients.now) place) ≡ []) }
+    ensures yes { result ≡ true → (waits_of (opened_in (slice_get (peers_of clients.now) place)) ≡ false)
+        × (held_in (slice_get (peers_of clients.now) place) ≡ []) → ⊥ }
+{
+    clients.must_hold(place)
+}
+
+/// Whether held lines of the one at a place may be done now.
+pub(crate) fn goes_on(clients: &Clients, place: usize) -> bool
+    ensures { result ≡ true → waits_of (opened_in (slice_get (peers_of clients.now) place)) ≡ false }
+{
+    clients.goes_on(place)
+}
+
+/// A connection comes.
+pub(crate) fn come(clients: &mut Clients, who: u64)
+    ensures { peers_of clients.new ≡ change (peers_of clients.old) (who % length (peers_of clients.old)) (λ p. comer who) }
+{
+    clients.come(who);
+}
+
+/// The one at a place has gone.
+pub(crate) fn go(clients: &mut Clients, place: usize)
+    ensures { peers_of clients.new ≡ change (peers_of clients.old) place (λ p. nobody) }
+{
+    clients.go(place);
+}
+
+/// The one at a place has opened this.
+pub(crate) fn open(clients: &mut Clients, place: usize, opened: Opened)
+    ensures { peers_of clients.new ≡ change (peers_of clients.old) place (opening opened) }
+{
+    clients.set_opened(place, opened);
+}
+
+/// No call of the one at a place waits any more: its held lines may be done.
+pub(crate) fn rest(clients: &mut Clients, place: usize)
+    ensures { peers_of clients.new ≡ change (peers_of clients.old) place (waiting false) }
+{
+    clients.set_waits(place, false);
+    clients.ready(place);
+}
+
+/// A line of the one at a place is held. The error is that memory was refused: then it is not held.
+pub(crate) fn hold(
+    clients: &mut Clients,
+    place: usize,
+    line: &[u8],
+    is_whole: bool,
+) -> Result<(), AllocError>
+    ensures ok { OnOk result (peers_of clients.new ≡ change (peers_of clients.old) place (holding line.now is_whole)) }
+    ensures err { OnErr result (peers_of clients.new ≡ peers_of clients.old) }
+{
+    clients.hold(place, line, is_whole)?;
+    clients.ready(place);
+    Ok(())
+}
+
+/// Takes what the next held line of the one at a place asks for: it is held no more. `None`: no line is held.
+pub(crate) fn take(clients: &mut Clients, place: usize) -> Option<Result<Ask, AllocError>>
+    ensures some { IfSome result (λ asked. (objects : List Scene)
+        → TakesLine place asked (state_of objects clients.old) (state_of objects clients.new)) }
+    ensures none { IfNone result (NoLineFeed (held_in (slice_get (peers_of clients.old) place))) }
+    ensures same { IfNone result (peers_of clients.new ≡ peers_of clients.old) }
+{
+    clients.take(place)
+}
+
+/// Takes the first of those whose held lines may be done.
+pub(crate) fn next(clients: &mut Clients) -> Option<usize>
+    ensures { peers_of clients.new ≡ peers_of clients.old }
+{
+    clients.next()
+}
+
+/// The held lines of the one at a place are done later.
+pub(crate) fn stall(clients: &mut Clients, place: usize)
+    ensures { peers_of clients.new ≡ peers_of clients.old }
+{
+    clients.stall(place);
+}
+
+/// All whose held lines were to be done later are ready again.
+pub(crate) fn wake(clients: &mut Clients)
+    ensures { peers_of clients.new ≡ peers_of clients.old }
+{
+    clients.wake();
+}
+
+/// A call of the object at a place: by which session, and which number was told of it.
+#[derive(Clone, Copy)]
+pub(crate) struct Waiting {
+    pub at: usize,
+    pub session: u32,
+    pub told: u64,
+}
+
+// Whether the one at a place waits for a call.
+fn is_waiter(clients: &Clients, place: usize, call: Waiting) -> bool
+    ensures yes { result ≡ true → (objects : List Scene) → Waits call.at call.session call.told (state_of objects clients.now) place }
+    ensures no { result ≡ false → (objects : List Scene) → Waits call.at call.session call.told (state_of objects clients.now) place → ⊥ }
+{
+    match opened_at(clients, place) {
+        None => false,
+        Some(opened) => is_its(opened, call),
+    }
+}
+
+fn is_its(opened: Opened, call: Waiting) -> bool
+    ensures yes { result ≡ true → IsFor call.at call.session call.told opened }
+    ensures no { result ≡ false → IsFor call.at call.session call.told opened → ⊥ }
+{
+    if !opened.waits {
+        return false;
+    }
+    if opened.object != call.at {
+        return false;
+    }
+    if opened.told != call.told {
+        return false;
+    }
+    u32::from(opened.session) == call.session
+}
+
+/// The place of one that waits for a call: the one that is thought to be it, or the first one.
+pub(crate) fn waiter(clients: &Clients, thought: Option<usize>, call: Waiting) -> Option<usize>
+    ensures some { IfSome result (λ place. (objects : List Scene) → Waits call.at call.session call.told (state_of objects clients.now) place) }
+    ensures none { IfNone result ((objects : List Scene) (place : ℕ) → Waits call.at call.session call.told (state_of objects clients.now) place → ⊥) }
+{
+    match thought {
+        None => find_waiter(clients, call),
+        Some(place) => waiter_or(clients, place, call),
+    }
+}
+
+fn waiter_or(clients: &Clients, place: usize, call: Waiting) -> Option<usize>
+    ensures some { IfSome result (λ place. (objects : List Scene) → Waits call.at call.session call.told (state_of objects clients.now) place) }
+    ensures none { IfNone result ((objects : List Scene) (place : ℕ) → Waits call.at call.session call.told (state_of objects clients.now) place → ⊥) }
+{
+    if is_waiter(clients, place, call) {
+        return Some(place);
+    }
+    find_waiter(clients, call)
+}
+
+fn find_waiter(clients: &Clients, call: Waiting) -> Option<usize>
+    ensures some { IfSome result (λ place. (objects : List Scene) → Waits call.at call.session call.told (state_of objects clients.now) place) }
+    ensures none { IfNone result ((objects : List Scene) (place : ℕ) → Waits call.at call.session call.told (state_of objects clients.now) place → ⊥) }
+{
+    for place in 0..count(clients) {
+        if is_waiter(clients, place, call) {
+            return Some(place);
+        }
+    }
+    None
+}

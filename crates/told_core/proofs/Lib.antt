@@ -1,0 +1,4 @@
+pub mod Cancelling
+pub mod Doing
+pub mod Moving
+pub mod Turning

@@ -1,0 +1,27 @@
+-- What follows from what a turn gives.
+use Rattle.std.specs.Prelude.{◌≡◌, ℕ, true, false}
+use Rattle.live_core.specs.Hall.{Told, IsHeld}
+use Rattle.post_core.specs.Turns.{Asked}
+use Rattle.post_core.specs.Turns.Asked.{Heard, Noted, Changes}
+use Rattle.told_core.specs.State.{State}
+use Rattle.told_core.specs.Deeds.{Texts}
+use Rattle.told_core.specs.Asked.{IsCancelled}
+use Rattle.told_core.specs.Moves.{Moves, Begins}
+use Rattle.told_core.specs.Turns.{Gives}
+
+-- the objects go by steps whose lines are those that are added, or one begins its next epoch
+abbrev pub MovesBy : State → Asked → Texts → State → Type 0
+MovesBy old (Heard who line end) added new = Moves old.objects added new.objects
+MovesBy old (Noted note) added new = Moves old.objects added new.objects
+MovesBy old (Changes journal front true) added new = Begins old.objects journal new.objects
+MovesBy old (Changes journal front false) added new = new.objects ≡ old.objects
+
+-- Each turn does so.
+abbrev pub TurnsMove : Type 0
+TurnsMove = (old new : State) (asked : Asked) (said added : Texts) → Gives old asked said added new → MovesBy old asked added new
+
+-- Where `cancel N Cancelled` is told, the call that is cancelled is the one of which N was told.
+abbrev pub CancelledIsAsked : Type 0
+CancelledIsAsked =
+    (place told : ℕ) (old new : State) (said added : Texts) (c : IsCancelled place told old said added new) (t : Told) →
+    IsHeld c.object.hall t → c.number ≡ told

@@ -1,0 +1,6 @@
+pub mod Asked
+pub mod Deeds
+pub mod Laws
+pub mod Moves
+pub mod State
+pub mod Turns

@@ -1,0 +1,20 @@
+-- What a turn adds to the journals of objects.
+use Rattle.std.specs.Prelude.{◌≡◌, ℕ, List, length, slice_get, slice_set, Some}
+use Rattle.past_core.specs.declared.past.PastEvent.{PastEvent}
+use Rattle.hosted_core.specs.Scene.{Scene}
+use Rattle.hosted_core.specs.Steps.{Steps, IsFollowed}
+use Rattle.post_core.specs.Texts.{to}
+
+-- each object goes by such steps, and the lines that are added to its journal are those of them
+pub record Moves (old : List Scene) (added : List (ℕ × List ℕ)) (new : List Scene) : Type 0 where
+  pub count : length new ≡ length old
+  pub steps : (j : ℕ) (h k : Scene) → slice_get old j ≡ Some h → slice_get new j ≡ Some k → Steps h (to j added) k
+
+-- one object begins an epoch more, and the others stay as they are
+pub record Begins (old : List Scene) (journal : ℕ) (new : List Scene) : Type 0 where
+  pub past : List PastEvent
+  pub before : Scene
+  pub after : Scene
+  pub there : slice_get old journal ≡ Some before
+  pub followed : IsFollowed before past after
+  pub left : new ≡ slice_set old journal after
