@@ -12,3 +12,5 @@ pub mod Widening
 pub mod Outcomes
 pub mod Backs
 pub mod Undone
+pub mod Strips
+pub mod Theres

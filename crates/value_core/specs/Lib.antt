@@ -14,3 +14,5 @@ pub mod Body
 pub mod Code
 pub mod Kinds
 pub mod Undo
+pub mod There
+pub mod Entries

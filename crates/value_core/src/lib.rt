@@ -22,5 +22,6 @@ mod reader;
 pub mod refusal;
 mod rows;
 mod sorted;
+mod strip;
 pub mod undo;
 pub mod value;
