@@ -1,7 +1,7 @@
-use Rattle.std.proofs.Common.{◌≢◌, ⊥, [], arith, rules}
+use Rattle.std.proofs.Common.{◌≡◌, ◌≢◌, ⊥, [], arith, rules}
 use Rattle.value_core.specs.Spelling.{IsAfter}
 use Rattle.value_core.specs.There.{last_key}
-use Rattle.value_core.proofs.Strips.{no_row_yet, one_row_more, no_row_more, does_not_rise, too_many_rows}
+use Rattle.value_core.proofs.Strips.{no_row_yet, one_row_more, no_row_more, does_not_rise, all_rows, too_many_rows}
 use Rattle.value_core.proofs.strip.are_rows.Goals as goal
 
 pub loop-place-init : goal.loop-place-init
@@ -25,3 +25,8 @@ pub returns-then-not-is_empty-clause-no : goal.returns-then-not-is_empty-clause-
 returns-then-not-is_empty-clause-no c = λ _.
     let some : c.loop-place.rest.now ≢ [] = search rules in
     too_many_rows c.args.bytes.now c.loop-place.rest.now c.args.sort c.loop-place.place c.args.count (last_key c.loop-place.first c.loop-place.last.now) c.loop-place.invariant (omega arith) some
+
+pub returns-clause-yes : goal.returns-clause-yes
+returns-clause-yes c = λ _.
+    let empty : c.loop-place.rest.now ≡ [] = search rules in
+    all_rows c.args.bytes.now c.loop-place.rest.now c.args.sort c.loop-place.place c.args.count (last_key c.loop-place.first c.loop-place.last.now) c.loop-place.invariant (omega arith) empty
