@@ -1,4 +1,5 @@
-use Rattle.std.proofs.Common.{◌≡◌, ◌≢◌, ⊥, [], arith, rules}
+use Rattle.std.proofs.Common.{◌≡◌, ◌≢◌, [], arith, rules}
+use Rattle.std.proofs.lemmas.List.{nil_from_length}
 use Rattle.value_core.specs.Spelling.{IsAfter}
 use Rattle.value_core.specs.There.{last_key}
 use Rattle.value_core.proofs.Strips.{no_row_yet, one_row_more, no_row_more, does_not_rise, all_rows, too_many_rows}
@@ -28,5 +29,5 @@ returns-then-not-is_empty-clause-no c = λ _.
 
 pub returns-clause-yes : goal.returns-clause-yes
 returns-clause-yes c = λ _.
-    let empty : c.loop-place.rest.now ≡ [] = search rules in
+    let empty : c.loop-place.rest.now ≡ [] = nil_from_length c.loop-place.rest.now (omega arith) in
     all_rows c.args.bytes.now c.loop-place.rest.now c.args.sort c.loop-place.place c.args.count (last_key c.loop-place.first c.loop-place.last.now) c.loop-place.invariant (omega arith) empty
