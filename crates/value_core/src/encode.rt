@@ -9,6 +9,7 @@ ghost use Rattle.value_core.specs.Cells.{cells_data};
 ghost use Rattle.value_core.specs.Spelling.{spelled_text, spelled_datum, header, Spells};
 
 use crate::cells::Cells;
+use crate::datum::Datum;
 use crate::format::Format;
 use crate::kind::Kind;
 use crate::value::{Body, Value};
@@ -22,17 +23,22 @@ use text_core::text::Text;
 pub fn encode(alloc: Global, value: &Value) -> Result<Vec<u8>, AllocError>
     ensures { IfOk result (λ bytes. Spells bytes.items (kind_of value.now) value.now) }
 {
+    if let Body::Spelled(spelled) = value.body() {
+        return spelled.bytes().to_vec(alloc);
+    }
     let mut out = Vec::with_capacity(alloc, value.spelled_len())?;
     put_header(&mut out, value.kind(), value.count() as u16)?;
     match value.body() {
         Body::Array(cells) => put_cells(&mut out, cells)?,
         Body::Queue(queue) => queue.put(&mut out)?,
         Body::Table(rows) => rows.put(&mut out)?,
+        Body::Spelled(_) => unreachable!(),
     }
     Ok(out)
 }
 
-fn put_header(out: &mut Vec<u8>, kind: Kind, count: u16) -> Result<(), AllocError>
+/// Adds the header of a value of this kind, of so many elements.
+pub(crate) fn put_header(out: &mut Vec<u8>, kind: Kind, count: u16) -> Result<(), AllocError>
     ensures { OnOk result (out.new.items ≡ out.old.items ++ header kind count) }
 {
     out.push(Format::Second.number())?;
@@ -100,4 +106,14 @@ fn put_texts(out: &mut Vec<u8>, all: &[Text]) -> Result<(), AllocError>
 // How many bytes spell a text: its length, and itself.
 pub(crate) fn text_len(text: &Text) -> usize {
     size_of::<TextLength>() + text.len() as usize
+}
+
+/// Adds an integer or a text.
+pub(crate) fn put_datum(out: &mut Vec<u8>, datum: &Datum) -> Result<(), AllocError>
+    ensures { OnOk result (out.new.items ≡ out.old.items ++ spelled_datum datum.now) }
+{
+    match datum {
+        Datum::Integer(number) => put_integer(out, *number),
+        Datum::Text(text) => put_text(out, text),
+    }
 }
