@@ -87,7 +87,8 @@ fn decode_part(
         return unread(alloc);
     }
     match operation.kinds[part] {
-        Some(kind) => decode(alloc, kind, read[part].as_slice()),
+        Some(Kind::Array(n, Elem::Integer)) => decode(alloc, Kind::Array(n, Elem::Integer), read[part].as_slice()),
+        Some(kind) => Value::spelled(alloc, kind, read[part].as_slice()),
         None => unread(alloc),
     }
 }

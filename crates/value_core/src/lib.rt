@@ -22,5 +22,7 @@ mod reader;
 pub mod refusal;
 mod rows;
 mod sorted;
+pub mod spelled;
+mod strip;
 pub mod undo;
 pub mod value;

@@ -5,6 +5,7 @@ ghost use Rattle.value_core.specs.Datum.{IsDatum};
 ghost use Rattle.value_core.specs.Undo.{kept_datum, KeepsData};
 
 use crate::datum::Datum;
+use crate::spelled::Spelled;
 use std::alloc::{AllocError, Global};
 use std::collections::VecDeque;
 use text_core::row::Row;
@@ -33,6 +34,8 @@ pub enum Undo {
     /// Puts this row into a table, with room for its rows.
     RowOfInteger(Row, u32, Vec<(Row, u32)>),
     RowOfText(Row, Row, Vec<(Row, Row)>),
+    /// Puts this value in its place.
+    Before(Spelled),
 }
 
 impl Kept {
@@ -101,7 +104,7 @@ impl Undo {
                 let _key = key.bytes();
                 let _bytes = row.bytes();
             }
-            Undo::Newest | Undo::Added(_) => {}
+            Undo::Newest | Undo::Added(_) | Undo::Before(_) => {}
         }
     }
 }

@@ -11,12 +11,14 @@ ghost use Rattle.value_core.specs.Undo.{back, Grown};
 
 use crate::cells::Cells;
 use crate::datum::Datum;
+use crate::decode::DecodeFault;
 use crate::format::Format;
 use crate::kind::Kind;
 use crate::limits::{HEADER_BYTES, MOST_ELEMENTS};
 use crate::queue::Queue;
 use crate::refusal::{GrowFault, Refusal};
 use crate::rows::Rows;
+use crate::spelled::Spelled;
 use crate::undo::Undo;
 use std::alloc::{AllocError, Global};
 use std::marker::Model;
@@ -34,6 +36,7 @@ pub(crate) enum Body {
     Array(Cells),
     Queue(Queue),
     Table(Rows),
+    Spelled(Spelled),
 }
 
 impl Model for Value {
@@ -77,6 +80,7 @@ impl Value {
             Body::Array(cells) => cells.spelled_len(),
             Body::Queue(queue) => queue.spelled_len(),
             Body::Table(rows) => rows.spelled_len(),
+            Body::Spelled(_) => 0,
         };
         elements.saturating_add(HEADER_BYTES)
     }
@@ -103,6 +107,12 @@ impl Value {
         Ok(Value { body })
     }
 
+    /// The value of this kind that these bytes spell, held in a copy of them.
+    pub fn spelled(alloc: Global, kind: Kind, bytes: &[u8]) -> Result<Value, DecodeFault> {
+        let it = Spelled::read(alloc, kind, bytes)?;
+        Ok(Value { body: Body::Spelled(it) })
+    }
+
     /// A copy of the value, in memory of its own.
     pub fn copy(&self, alloc: Global) -> Result<Value, AllocError>
         ensures { IfOk result (λ copy. copy ≡ self.now) }
@@ -111,6 +121,7 @@ impl Value {
             Body::Array(cells) => Body::Array(cells.copy(alloc)?),
             Body::Queue(queue) => Body::Queue(queue.copy(alloc)?),
             Body::Table(rows) => Body::Table(rows.copy()?),
+            Body::Spelled(it) => Body::Spelled(it.copy()?),
         };
         Ok(Value { body })
     }
@@ -124,6 +135,7 @@ impl Value {
             Body::Array(cells) => Kind::Array(cells.len() as u16, cells.sort()),
             Body::Queue(queue) => Kind::Queue(queue.sort()),
             Body::Table(rows) => Kind::Table(rows.sort()),
+            Body::Spelled(it) => it.kind(),
         }
     }
 
@@ -135,6 +147,7 @@ impl Value {
             Body::Array(cells) => cells.len() as u32,
             Body::Queue(queue) => queue.len() as u32,
             Body::Table(rows) => rows.len() as u32,
+            Body::Spelled(it) => it.count() as u32,
         }
     }
 
@@ -145,7 +158,7 @@ impl Value {
         match &self.body {
             Body::Array(cells) => cells.list(alloc),
             Body::Queue(queue) => queue.list(alloc),
-            Body::Table(_) => Ok(Vec::new(alloc)),
+            Body::Table(_) | Body::Spelled(_) => Ok(Vec::new(alloc)),
         }
     }
 
@@ -155,7 +168,7 @@ impl Value {
     {
         match &self.body {
             Body::Table(rows) => rows.list(alloc),
-            Body::Array(_) | Body::Queue(_) => Ok(Vec::new(alloc)),
+            Body::Array(_) | Body::Queue(_) | Body::Spelled(_) => Ok(Vec::new(alloc)),
         }
     }
 
@@ -166,6 +179,10 @@ impl Value {
         ensures value { result ≡ element_at self.now index }
         ensures sort { IfOk result (IsElement (sort_of (kind_of self.now))) }
     {
+        if let Body::Spelled(it) = &self.body {
+            if index >= it.count() as u32 { return Err(Refusal::Index); }
+            return it.get(index as u16).ok_or(Refusal::Index);
+        }
         let Body::Array(cells) = &self.body else {
             unreachable!();
         };
@@ -182,6 +199,11 @@ impl Value {
     {
         // Called for its contract alone: this is a datum.
         let _sort = datum.elem();
+        if let Body::Spelled(it) = &mut self.body {
+            if index >= it.count() as u32 { return Err(GrowFault::Refused(Refusal::Index)); }
+            let was = it.set(index as u16, &datum)?;
+            return Ok(Undo::Before(was));
+        }
         let Body::Array(cells) = &mut self.body else {
             unreachable!();
         };
@@ -198,6 +220,9 @@ impl Value {
         ensures value { result ≡ oldest_of self.now }
         ensures sort { IfOk result (IsElement (sort_of (kind_of self.now))) }
     {
+        if let Body::Spelled(it) = &self.body {
+            return it.get(0).ok_or(Refusal::Empty);
+        }
         let Body::Queue(queue) = &self.body else {
             unreachable!();
         };
@@ -211,6 +236,11 @@ impl Value {
         ensures change { Grown result (without_oldest self.old) self.old self.new }
         ensures kind { kind_of self.new ≡ kind_of self.old }
     {
+        if let Body::Spelled(it) = &mut self.body {
+            if it.count() == 0 { return Err(GrowFault::Refused(Refusal::Empty)); }
+            let was = it.take()?;
+            return Ok(Undo::Before(was));
+        }
         let Body::Queue(queue) = &mut self.body else {
             unreachable!();
         };
@@ -231,6 +261,11 @@ impl Value {
     {
         // Called for its contract alone: this is a datum.
         let _sort = datum.elem();
+        if let Body::Spelled(it) = &mut self.body {
+            if it.count() >= MOST_ELEMENTS { return Err(GrowFault::Refused(Refusal::Full)); }
+            let was = it.append(&datum)?;
+            return Ok(Undo::Before(was));
+        }
         let Body::Queue(queue) = &mut self.body else {
             unreachable!();
         };
@@ -246,6 +281,9 @@ impl Value {
         requires { IsTable (kind_of self.now) }
         ensures { result ≡ has_key self.now key.now }
     {
+        if let Body::Spelled(it) = &self.body {
+            return it.has(key);
+        }
         let Body::Table(rows) = &self.body else {
             unreachable!();
         };
@@ -258,6 +296,9 @@ impl Value {
         ensures value { result ≡ under_key self.now key.now }
         ensures sort { IfOk result (IsElement (sort_of (kind_of self.now))) }
     {
+        if let Body::Spelled(it) = &self.body {
+            return it.under(key).ok_or(Refusal::Missing);
+        }
         let Body::Table(rows) = &self.body else {
             unreachable!();
         };
@@ -275,6 +316,10 @@ impl Value {
         // Called for their contracts alone: this is a datum, and a key is a text.
         let _sort = datum.elem();
         let _bytes = key.bytes();
+        if let Body::Spelled(it) = &mut self.body {
+            let was = it.store(&key, &datum)?;
+            return Ok(Undo::Before(was));
+        }
         let Body::Table(rows) = &mut self.body else {
             unreachable!();
         };
@@ -292,6 +337,10 @@ impl Value {
         ensures change { Grown result (without_key self.old key.now) self.old self.new }
         ensures kind { kind_of self.new ≡ kind_of self.old }
     {
+        if let Body::Spelled(it) = &mut self.body {
+            let was = it.erase(key)?;
+            return Ok(Undo::Before(was));
+        }
         let Body::Table(rows) = &mut self.body else {
             unreachable!();
         };
@@ -313,6 +362,10 @@ impl Value {
             Body::Array(cells) => cells.take_back(undo),
             Body::Queue(queue) => queue.take_back(undo),
             Body::Table(rows) => rows.take_back(undo),
+            Body::Spelled(it) => match undo {
+                Undo::Before(was) => *it = was,
+                _ => {}
+            },
         }
     }
 }
