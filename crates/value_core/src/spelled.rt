@@ -189,6 +189,7 @@ impl Spelled {
 }
 
 // What is put into a spelling.
+#[derive(Clone, Copy)]
 enum Entry<'a> {
     None,
     Datum(&'a Datum),

@@ -122,6 +122,7 @@ pub fn behind(sort: Elem, count: u16, bytes: &[u8]) -> &[u8] {
 }
 
 /// Where a key of a table stands, or would go.
+#[derive(Clone, Copy)]
 pub struct Spot<'a> {
     /// The rows from there on.
     pub rest: &'a [u8],

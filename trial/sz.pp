@@ -1,0 +1,18 @@
+object line;
+  path 1:(put, drop, pass, lose, oldest, size) end;
+  var items : queue of text;
+  entry procedure put(x : text); begin append(items, x) end;
+  entry procedure drop; begin take(items) end;
+  entry procedure pass(x : text); begin append(items, x); take(items) end;
+  entry procedure lose(x : text); begin append(items, x); take(items); refuse('lost') end;
+  entry function oldest : text; begin oldest := first(items) end;
+  entry function size : integer; begin size := count(items) end;
+end;
+object book;
+  path 1:(look, known, put, cut) end;
+  var items : table of text;
+  entry function look(k : text) : text; begin look := lookup(items, k) end;
+  entry function known(k : text) : integer; begin if has(items, k) then known := 1 else known := 0 end;
+  entry procedure put(k, x : text); begin store(items, k, x) end;
+  entry procedure cut(k : text); begin erase(items, k) end;
+end;
