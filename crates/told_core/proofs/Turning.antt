@@ -113,5 +113,5 @@ turns_move old new (Heard who line end) said added is =
     if_here_moves who (λ place. Then (HearsAt place line end) GoesOn)
     (λ place. then_moves (HearsAt place line end) GoesOn (at_moves place line end) goes_on_moves) old new said added is
 turns_move old new (Noted note) said added is = then_moves (Notes note) GoesOn (notes_moves note) goes_on_moves old new said added is
-turns_move old new (Changes journal front true) said added is = is.0
-turns_move old new (Changes journal front false) said added is = ap (λ (s : State). s.objects) is
+turns_move old new (Changes journal front true) said added is = is.2
+turns_move old new (Changes journal front false) said added is = ap (λ (s : State). s.objects) is.left

@@ -145,9 +145,10 @@ Notes (notes.Ticks time) = Nothing
 Notes notes.Ends = λ old said added new. AllLeave (length old.peers) old said added new
 
 -- What a turn gives: what is done for what is asked, and for the held lines of those that it lets go on. A journal that
--- begins anew tells nobody.
+-- begins anew tells nobody, and nothing is added for it.
 abbrev pub Gives : State → Asked → Texts → Texts → State → Type 0
 Gives old (Heard who line end) said added new = IfHere who (λ place. Then (HearsAt place line end) GoesOn) old said added new
 Gives old (Noted note) said added new = Then (Notes note) GoesOn old said added new
-Gives old (Changes journal front true) said added new = Begins old.objects journal new.objects × (new.peers ≡ old.peers)
-Gives old (Changes journal front false) said added new = new ≡ old
+Gives old (Changes journal front true) said added new =
+    (said ≡ []) × (added ≡ []) × Begins old.objects journal new.objects × (new.peers ≡ old.peers)
+Gives old (Changes journal front false) said added new = Nothing old said added new
