@@ -1,13 +1,11 @@
 -- Turns, one after the other.
-use Rattle.std.proofs.Common.{◌≡◌, ◌≢◌, ◌∙◌, inl, inr, ap, sym, subst, refl, arith, ℕ, zero, suc, ◌<◌, ◌==◌, List, [], ◌∷◌, ◌++◌, length}
-use Rattle.std.specs.Prelude.{Bool, true, false, Some, slice_get, slice_set}
+use Rattle.std.proofs.Common.{◌≡◌, ◌≢◌, ◌∙◌, ap, sym, subst, refl, arith, ℕ, zero, suc, ◌<◌, List, [], ◌∷◌, ◌++◌, length}
+use Rattle.std.specs.Prelude.{true, false, Some, slice_get, slice_set}
 use Rattle.std.proofs.lemmas.Option.{slice_get_within}
 use Rattle.post_core.specs.Texts.{to}
-use Rattle.post_core.specs.Turns.{Asked, Turn, Runs, added_by}
+use Rattle.post_core.specs.Turns.{Asked, added_by}
 use Rattle.post_core.specs.Turns.Asked.{Heard, Noted, Changes}
-use Rattle.keep_loop.specs.Seen.{Happened, stored_in, added_in}
-use Rattle.keep_loop.specs.Stands.{IsHonest, IsBetween, Survives}
-use Rattle.keep_loop.specs.declared.keep.Limits.{Limits}
+use Rattle.keep_loop.specs.Stands.{Survives}
 use Rattle.keep_loop.proofs.Crashed.{survives}
 use Rattle.hosted_core.specs.Scene.{Scene}
 use Rattle.hosted_core.specs.Steps.{Steps, rests, goes_on}
@@ -18,8 +16,8 @@ use Rattle.told_core.proofs.Turning.{turns_move}
 use Rattle.table_core.specs.Moves.{Gives}
 use Rattle.table_core.specs.Seen.{seen}
 use Rattle.table_core.specs.declared.table.Table.{Table}
-use Rattle.kept_law.specs.Kept.{BeginsNot, BeginsNone}
-use Rattle.table_law.specs.Laws.{RunsAreSteps, AreOfSteps, CrashLeavesSteps}
+use Rattle.kept_law.specs.Kept.{BeginsNot}
+use Rattle.table_law.specs.Laws.{RunsAreSteps, CrashLeavesSteps}
 
 -- an object went by steps
 abbrev Went : ℕ → Scene → List ℕ → List Scene → Type 0
