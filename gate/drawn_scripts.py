@@ -15,6 +15,11 @@ BAD_RETURNS = ("resume", "resume 1", "resume s1 2", "Resume s1", "resume s1 #1",
                "call s1 ##1 get", "call s1 #-1 get", "call s1 1 get", "call s1 '#1' get")
 
 
+# Lines that say nothing, and look like those of calls that are done at once.
+BAD_DOS = ("do", "do s1", "do 1 get", "do s1 1", "do s1 'get'", "do s1 get x", "do s1 #1 get", "Do s1 get", "do get s1", "done s1 get",
+           "do s1 get 4294967296", "do s1 g-t", "do s get")
+
+
 class Drawer:
     """Numbers that follow from a seed alone."""
 
@@ -50,6 +55,8 @@ class Script:
         self.made = OBJECTS[seed % len(OBJECTS)]
         self.world = World(self.made)
         self.lines, self.answers, self.status = [], [], 0
+        # How each `do` was answered: what its last line, or that before those of the calls that it started, begins with.
+        self.dones = []
         # Lines that say nothing, of which one ends a script of so many.
         self.bad_lines, self.bad_in = BAD_LINES, 12
         # How lines end, or none where each ends as it likes; and whether the last one lacks its end.
@@ -343,12 +350,49 @@ class InTurnAgain(InTurn):
             self.add(words, ["repeat " + finish_line(number, ending)])
 
 
+class Doing(Returning):
+    """A drawn script in which many calls are done at once."""
+
+    def __init__(self, seed):
+        super().__init__(seed)
+        self.bad_lines, self.bad_in = BAD_DOS, 4
+
+    def draw_line(self):
+        if not self.draw.one_in(3):
+            super().draw_line()
+            return
+        op, session = self.operation(self.made.operations), self.session()
+        arguments = self.arguments(op)
+        if self.draw.one_in(12):
+            arguments = self.wrong(arguments)
+        if self.draw.one_in(12):
+            op = self.draw.of(UNKNOWN)
+        texts = self.texts(arguments)
+        answer = self.world.do(session, op, arguments)
+        told = [it for it in answer if not it.startswith("started ")]
+        self.dones.append(f"do: {told[-1]}")
+        self.add(["do", "s" + self.number(session), self.cased(op), *texts], answer)
+
+
+class DoingInTurn(InTurn):
+    """A script in turn in which a call is done in one line, or in three."""
+
+    def add_turn(self, number, op, arguments, ending):
+        if self.draw.one_in(3):
+            super().add_turn(number, op, arguments, ending)
+            return
+        session = f"s{1 + self.draw.below(6)}"
+        self.add(["do", session, self.cased(op), *self.texts(arguments)], [finish_line(number, ending)])
+
+
 FIRST_RETURN = 331
+FIRST_DO = 501
 
 
 def script_of(seed):
-    """The script of a seed: one of seven is in turn. From a seed on sessions come back, and calls have keys."""
-    kinds = (Script, InTurn) if seed < FIRST_RETURN else (Returning, InTurnAgain)
+    """The script of a seed: one of seven is in turn. From a seed on sessions come back, and calls have keys; from a later
+    one on many calls are done at once."""
+    kinds = (Script, InTurn) if seed < FIRST_RETURN else (Returning, InTurnAgain) if seed < FIRST_DO else (Doing, DoingInTurn)
     script = kinds[seed % 7 == 3](seed)
     script.draw_lines()
     return script

@@ -387,6 +387,14 @@ class World:
         self.calls.append(Call(session, op.lower(), arguments))
         return [f"call {len(self.calls)}", *self.admitted()]
 
+    def do(self, session, op, arguments):
+        """A call and, where it starts at once, its steps to the end and its finish: the answers to the three lines."""
+        answer = self.call(session, op, arguments)
+        number = len(self.calls)
+        if answer[0] != f"call {number}" or self.running(number) is None:
+            return answer
+        return [*answer, *self.steps(number), *self.finish(number)]
+
     def keys(self, session):
         """The numbers of the session's accepted calls, cancelled ones too: the key of a call is its place among them, from 1."""
         return [number for number, it in enumerate(self.calls, 1) if it.session == session]

@@ -131,6 +131,8 @@ each line to standard output before it waits for more.
   line               what happens                      answer
   call sK OP ARG ..  session K calls an operation      call N, or no FAULT
   call sK #J OP ..   the same, under key J             call N, or repeat ..
+  do sK OP ARG ..    the same as `call`, and what      what `call`, `steps` and
+                     starts at once is done            `finish` are answered
   step N ok          the run of call N makes a step    step N NEED ok
   step N fail        its device fails at that step     step N NEED failed
   steps N            it makes the steps that are left  steps N K

@@ -34,6 +34,21 @@ fn wrong_key(words: &LineWords<'_>, is_right: bool) -> Option<Finding> {
     wrong_word(words, 2, is_right, wrong, wrong)
 }
 
+// What is wrong with a line that begins with `do`.
+fn wrong_do_line(words: &LineWords<'_>) -> Option<Finding> {
+    if let Some(found) = wrong_session(words, 1) {
+        return Some(found);
+    }
+    let no_key = say(
+        "`do` takes no key, and `%` is one",
+        "a call under a key is `call sK #J OP ARG ..`; `steps N` and `finish N` bring it to its end",
+    );
+    if words.bare(2).starts_with(b"#") {
+        return wrong_word(words, 2, false, no_key, no_key);
+    }
+    wrong_operation(words, 2)
+}
+
 // What is wrong with an operation, which is the word of this number, and its arguments.
 fn wrong_operation(words: &LineWords<'_>, number: usize) -> Option<Finding> {
     if let Some(found) = wrong_name(words, number, is_identifier(words.bare(number))) {
@@ -67,6 +82,7 @@ fn wrong_step_line(words: &LineWords<'_>) -> Option<Finding> {
 fn wrong_line(verb: Verb, words: &LineWords<'_>) -> Option<Finding> {
     match verb {
         Verb::Call => wrong_call_line(words),
+        Verb::Do => wrong_do_line(words),
         Verb::Step => wrong_step_line(words),
         Verb::Steps | Verb::Finish | Verb::Cancel => match wrong_call(words, 1) {
             Some(found) => Some(found),
@@ -143,8 +159,8 @@ fn of_first_word(words: &LineWords<'_>, object: &Object) -> Said {
     }
     say(
         "no line of a script begins with `%`",
-        "the lines are `call sK OP ARG ..`, `call sK #J OP ARG ..`, `step N ok`, `step N fail`, `steps N`, `finish N`, \
-            `cancel N`, `drop sK`, `resume sK`, `show` and `trace`",
+        "the lines are `call sK OP ARG ..`, `call sK #J OP ARG ..`, `do sK OP ARG ..`, `step N ok`, `step N fail`, \
+            `steps N`, `finish N`, `cancel N`, `drop sK`, `resume sK`, `show` and `trace`",
     )
 }
 

@@ -36,7 +36,7 @@ fn done_by(alloc: Global, line: &[u8]) -> Result<Does, AllocError> {
     let said = read_line(alloc, line)?;
     match &said {
         None => Ok(Does::Ends),
-        Some(Said::Call(_, _, _)) => Ok(Does::Calls(2)),
+        Some(Said::Call(_, _, _) | Said::Do(_, _, _)) => Ok(Does::Calls(2)),
         Some(Said::CallKey(_, _, _, _)) => Ok(Does::Calls(3)),
         Some(_) => Ok(Does::Other),
     }

@@ -6,6 +6,7 @@ use note_core::alike::are_alike;
 #[derive(Clone, Copy, PartialEq, Eq)]
 pub(crate) enum Verb {
     Call,
+    Do,
     Step,
     Steps,
     Finish,
@@ -21,6 +22,7 @@ impl Verb {
     pub(crate) fn word(self) -> &'static [u8] {
         match self {
             Verb::Call => b"call",
+            Verb::Do => b"do",
             Verb::Step => b"step",
             Verb::Steps => b"steps",
             Verb::Finish => b"finish",
@@ -36,6 +38,7 @@ impl Verb {
     pub(crate) fn form(self) -> &'static str {
         match self {
             Verb::Call => "the line is `call sK OP ARG ..`, as in `call s1 put 7`",
+            Verb::Do => "the line is `do sK OP ARG ..`, as in `do s1 put 7`",
             Verb::Step => "the line is `step N ok` or `step N fail`, as in `step 1 ok`",
             Verb::Steps => "the line is `steps N`, as in `steps 1`",
             Verb::Finish => "the line is `finish N`, as in `finish 1`",
@@ -52,19 +55,20 @@ impl Verb {
 fn verb_number(number: usize) -> Verb {
     match number {
         0 => Verb::Call,
-        1 => Verb::Step,
-        2 => Verb::Steps,
-        3 => Verb::Finish,
-        4 => Verb::Cancel,
-        5 => Verb::Drop,
-        6 => Verb::Resume,
-        7 => Verb::Show,
+        1 => Verb::Do,
+        2 => Verb::Step,
+        3 => Verb::Steps,
+        4 => Verb::Finish,
+        5 => Verb::Cancel,
+        6 => Verb::Drop,
+        7 => Verb::Resume,
+        8 => Verb::Show,
         _ => Verb::Trace,
     }
 }
 
 // How many there are.
-const VERBS: usize = 9;
+const VERBS: usize = 10;
 
 /// The verb that this word is.
 pub(crate) fn verb_of(word: &[u8]) -> Option<Verb> {

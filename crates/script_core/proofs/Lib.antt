@@ -5,3 +5,4 @@ pub mod Serializing
 pub mod Unended
 pub mod Back
 pub mod Stepping
+pub mod Doing

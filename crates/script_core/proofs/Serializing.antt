@@ -29,22 +29,26 @@ use Rattle.ask_core.specs.declared.answer.CallState.TheVariants as states
 use Rattle.ask_core.specs.Answers.{Asked, IsNamedAt}
 use Rattle.ask_core.specs.Keyed.{IsStateOf}
 use Rattle.world_core.specs.Events.{WorldEvent, call, call_key, step, finish, cancel, leave, resume, look}
+use Rattle.world_core.specs.declared.event.Refusal.{Refusal}
 use Rattle.world_core.specs.declared.event.Refusal.TheVariants as refusals
+use Rattle.world_core.specs.declared.event.Answer.TheVariants.{Ended, Refused}
 use Rattle.world_core.specs.declared.event.EventAnswer.{EventAnswer}
 use Rattle.world_core.specs.Names.{refusal_name}
 use Rattle.world_core.specs.Scene.{Scene, Standing, Goes, IsNew, call_running}
 use Rattle.world_core.specs.Plays.{Plays, HasFailedStep}
 use Rattle.world_core.specs.Laws.{FailsOnlyWithItsDevice}
 use Rattle.world_core.specs.Answers.{Answers, called, not_called, called_key, not_called_key, stepped, no_step, step_not_running, finished, not_done, finish_not_running, cancelled, not_cancelled, left, no_session, resumed, not_resumed, shown, not_shown}
-use Rattle.script_text.specs.Said.{Said, a_call, a_keyed_call, a_step, all_steps, a_finish, a_cancel, a_drop, a_resume, a_show, a_trace}
-use Rattle.script_text.specs.Answers.{called_line, refused_line, kept_line, repeated_line, started_line, shown_lines}
-use Rattle.script_core.specs.Does.{Does, Happens, IsEvent, IsTold, StepsMade, none_yet, one_more, answer_lines, repeat_line, started_lines, one_event, all_stepped, not_stepped, traced}
+use Rattle.script_text.specs.Said.{Said, a_call, a_keyed_call, a_do, a_step, all_steps, a_finish, a_cancel, a_drop, a_resume, a_show, a_trace}
+use Rattle.script_text.specs.Answers.{called_line, refused_line, all_stepped_line, kept_line, repeated_line, started_line, shown_lines}
+use Rattle.script_core.specs.Does.{Does, Happens, IsEvent, IsKept, IsTold, StepsMade, StepsOn, IsOver, none_yet, one_more, answer_lines, call_of, next_number, repeat_line, started_lines, one_event, all_stepped, not_stepped, traced}
 use Rattle.script_core.specs.declared.script.ScriptEnd.{ScriptEnd}
 use Rattle.script_core.specs.declared.script.ScriptEnd.TheVariants.{Whole, BadLine}
-use Rattle.script_core.specs.Writes.{Told, IsBegun, IsKept, NamesObject, Writes}
+use Rattle.script_core.specs.Writes.{Told, IsBegun, NamesObject, Writes}
 use Rattle.script_core.specs.Run.{IsScript}
 use Rattle.script_core.specs.Serial.{Serial, MayReply, AreStarts, IsRepeat, IsUnended, Serially, WritesSerially, IsSerialScript}
+use Rattle.ask_core.specs.Answers.{runs_in}
 use Rattle.script_core.proofs.Unended.{waits_unended, runs_unended, none_unended}
+use Rattle.script_core.proofs.Doing.{over_ends, HasEnded}
 use Rattle.script_core.proofs.Back.{resumed_same}
 
 -- A world came about from a new one by events in which only these calls were made to fail.
@@ -235,6 +239,10 @@ not_by_resume m n is = cc
 
 not_by_look : (n : ℕ) → look ≡ step n false → ⊥
 not_by_look n is = cc
+
+-- a refusal is no end
+not_ended : (refusal : Refusal) (reply : Reply) → Refused refusal ≡ Ended reply → ⊥
+not_ended refusal reply is = cc
 
 -- What the sequential object makes of a line that says this, and that it is the world still.
 abbrev Next : Object → Told → Serial → Said → List ℕ → Scene → Type 0
@@ -459,16 +467,63 @@ on_happening : {o : Object} {told : Told} {s : Serial} (said : Said) (event : Wo
     → IsEvent said event number → Happens event number told.world text new → Next o told s said text new
 on_happening said event number text new legal_by leads_by fails m kept is (Happens.happens a by is_told) = on_event said event number a new legal_by leads_by fails m kept is by is_told
 
+-- what the sequential object has is that of a world whose board is this one still
+matches_on : {o : Object} {told : Told} {s : Serial} (new : Scene) → Matches o told s → new.board ≡ told.world.board → new.opening ≡ told.world.opening → Carries o new s.failing → Matches o (record told { world = new }) s
+matches_on {told = told} {s = s} new m same opening carries = record {
+  named = m.named;
+  object = m.object ∙ ap (λ (b : Board). b.object) (sym same);
+  calls = m.calls ∙ ap (λ (b : Board). b.calls) (sym same);
+  contents = same_contents told.world new s.contents m.contents (ap (λ (b : Board). b.history) same) opening;
+  replies = same_replies told.world new s.replies m.replies (ap (λ (b : Board). b.history) same);
+  running = subst (λ (b : Board). Every (λ (r : RunningCall). call_at b.calls r.number ≡ Some r.call) b.running) (sym same) m.running;
+  carries = carries;
+}
+
+-- steps to the end of a run
+on_all_steps : {o : Object} {told : Told} {s : Serial} (number count : ℕ) (new : Scene) → Matches o told s → StepsOn number told.world count new
+    → Matches o (record told { world = new }) s × (new.board ≡ told.world.board) × (new.opening ≡ told.world.opening)
+on_all_steps {told = told} {s = s} number count new m (before, made, over) =
+    let far = on_steps number m.carries count before made in
+    let same = step_same before new number true over.a over.answers in
+    let board : new.board ≡ told.world.board = same.0 ∙ far.1 in
+    let opening : new.opening ≡ told.world.opening = same.1 ∙ far.2 in
+    (matches_on new m board opening (carries_on s.failing far.0 (step number true) over.a over.answers (λ n h. h) (λ n e. absurd (not_by_step number n e))), board, opening)
+
+-- a finish by which the call ends is one reply more
+abbrev Ends : Object → Told → Serial → ℕ → List ℕ → Scene → Type 0
+Ends o told s number text new =
+    (next : Serial) × (reply : Reply) × Serially (a_finish number) s text next × (next.replies ≡ s.replies ++ (number, reply) ∷ []) × Matches o (record told { world = new }) next
+
+on_end : {o : Object} {told : Told} {s : Serial} (number : ℕ) (a : EventAnswer) (new : Scene) → LegalByOne → LeadsByOne → FailsOnlyWithItsDevice → Matches o told s → IsKept new
+    → Answers told.world (finish number) a new → HasEnded a → Ends o told s number (answer_lines new.board.object number a.answer ++ started_lines a.starts new.board.trace) new
+unfolding on_finish
+on_end number a new legal_by leads_by fails m kept (finished {starts = starts} k r run reply news among there is ends leaves goes) so =
+    let it = on_finish number a new legal_by leads_by fails m kept (finished {starts = starts} k r run reply news among there is ends leaves goes) in
+    (it.0, reply, it.1, refl, it.2)
+on_end number a new legal_by leads_by fails m kept (not_done k run there going) so = absurd (not_ended (refusals.NotDone) so.0 so.1)
+on_end number a new legal_by leads_by fails m kept (finish_not_running none) so = absurd (not_ended (refusals.NotRunning) so.0 so.1)
+
+-- a call that is done in one line
+on_do : {o : Object} {told : Told} {s : Serial} (session number count : ℕ) (name : List ℕ) (arguments : List Datum) (first last : List ℕ) (mid far new : Scene) → LegalByOne → LeadsByOne → FailsOnlyWithItsDevice
+    → Matches o told s → IsKept mid → IsKept new → Happens (call_of session name arguments) 0 told.world first mid → number ≡ next_number told.world → runs_in mid.board number ≡ true → StepsOn number mid count far
+    → Happens (finish number) number far last new → Next o told s (a_do session name arguments) (first ++ all_stepped_line number count ++ last) new
+on_do {told = told} {s = s} session number count name arguments first last mid far new legal_by leads_by fails m kept_mid kept called_so is_next runs steps (Happens.happens a by is_told) =
+    let here = on_happening (a_call session name arguments) (call_of session name arguments) 0 first mid legal_by leads_by fails m kept_mid IsEvent.calls called_so in
+    let there = on_all_steps {told = record told { world = mid }} number count far here.2 steps in
+    let end = on_end {told = record told { world = far }} number a new legal_by leads_by fails there.0 kept by (over_ends mid far new number count a steps (ap (λ (b : Board). runs_in b number) there.1 ∙ runs) by) in
+    (end.0, Serially.done_at_once count end.1 (is_next ∙ ap (λ (cs : List AcceptedCall). length cs + 1) (sym m.calls)) here.1 end.2 end.3 refl, end.4)
+
 -- what a line that says this does
 on_said : {o : Object} {told : Told} {s : Serial} (said : Said) (text : List ℕ) (new : Scene) → LegalByOne → LeadsByOne → FailsOnlyWithItsDevice → Matches o told s → IsKept new
     → Does said told.world text new → Next o told s said text new
 on_said said text new legal_by leads_by fails m kept (one_event {event = event} {number = number} is so) = on_happening said event number text new legal_by leads_by fails m kept is so
-on_said {told = told} {s = s} said text new legal_by leads_by fails m kept (all_stepped {number = number} count (mid, made, over)) =
-    let far = on_steps number m.carries count mid made in
-    let same = step_same mid new number true over.a over.answers in
-    let board : new.board ≡ told.world.board = same.0 ∙ far.1 in
-    stays (all_steps number) text new m kept Serially.to_end (ap (λ (b : Board). b.object) board) (ap (λ (b : Board). b.calls) board) (ap (λ (b : Board). b.history) board) (same.1 ∙ far.2)
-    (carries_on s.failing far.0 (step number true) over.a over.answers (λ n h. h) (λ n e. absurd (not_by_step number n e)))
+on_said {s = s} said text new legal_by leads_by fails m kept (all_stepped {number = number} count steps) =
+    let far = on_all_steps number count new m steps in (s, Serially.to_end, far.0)
+on_said said text new legal_by leads_by fails m kept (Does.done_at_once {session = session} {number = number} {count = count} {name = name} {arguments = arguments} {mid = mid} {far = far} {first = first} {last = last} called_so kept_mid is_next runs steps finishes_so) =
+    on_do session number count name arguments first last mid far new legal_by leads_by fails m kept_mid kept called_so is_next runs steps finishes_so
+on_said said text new legal_by leads_by fails m kept (Does.only_called {session = session} {name = name} {arguments = arguments} so none) =
+    let here = on_happening (a_call session name arguments) (call_of session name arguments) 0 text new legal_by leads_by fails m kept IsEvent.calls so in
+    (here.0, Serially.only_called here.1, here.2)
 on_said {s = s} said text new legal_by leads_by fails m kept (not_stepped {number = number} none) = stays (all_steps number) text new m kept Serially.to_end refl refl refl refl m.carries
 on_said {s = s} said text new legal_by leads_by fails m kept traced = stays a_trace text new m kept Serially.traced refl refl refl refl m.carries
 

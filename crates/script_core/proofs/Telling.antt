@@ -15,10 +15,9 @@ use Rattle.world_core.specs.Scene.{Scene}
 use Rattle.world_core.specs.Events.{WorldEvent}
 use Rattle.script_text.specs.Said.{Said, a_trace}
 use Rattle.script_text.specs.Answers.{started_line}
-use Rattle.script_core.specs.Does.{Does, Happens, IsEvent, IsTold, answer_lines, one_event, traced}
+use Rattle.script_core.specs.Does.{Does, Happens, IsEvent, answer_lines, event_lines, one_event, traced}
 use Rattle.decl_core.specs.declared.object.Object.{Object}
 use Rattle.world_core.specs.declared.event.EventAnswer.{EventAnswer}
-use Rattle.world_core.specs.Answers.{Answers}
 
 -- `started N` for each of these events
 abbrev pub told_starts : List TraceEvent → List ℕ
@@ -60,17 +59,14 @@ pub told_event : {T E : Type 0} (r : Result T E) (new old : List ℕ) (said : Sa
 told_event (Ok u) new old said event number w after is (text, made, done) = (text, made, one_event is done)
 told_event (Err e) new old said event number w after is told = tt
 
--- an event, its answer and the calls that it started are told
-pub event_told : (w new : Scene) (event : WorldEvent) (number : ℕ) (a : EventAnswer) (o : Object) (b : Board) (k : ℕ) (out mid last : List ℕ) → Answers w event a new → IsTold a.answer
+-- an answer to an event, and the calls that it started, are told
+pub event_told : (new : Scene) (number : ℕ) (a : EventAnswer) (o : Object) (b : Board) (k : ℕ) (out mid last : List ℕ)
     → o ≡ new.board.object → b ≡ new.board → k ≡ length b.trace - a.starts → mid ≡ out ++ answer_lines o number a.answer → last ≡ mid ++ told_starts (drop k b.trace)
-    → (x : List ℕ) × (last ≡ out ++ x) × Happens event number w x new
-event_told w new event number a o b k out mid last answers told same_object same_board is first second = (
-  answer_lines new.board.object number a.answer ++ told_starts (drop (length new.board.trace - a.starts) new.board.trace),
-  second
-      ∙ ap (λ m. m ++ told_starts (drop k b.trace)) first
-      ∙ append_assoc out (answer_lines o number a.answer) (told_starts (drop k b.trace))
-      ∙ ap (λ (x : Object). out ++ (answer_lines x number a.answer ++ told_starts (drop k b.trace))) same_object
-      ∙ ap (λ n. out ++ (answer_lines new.board.object number a.answer ++ told_starts (drop n b.trace))) is
-      ∙ ap (λ (x : Board). out ++ (answer_lines new.board.object number a.answer ++ told_starts (drop (length x.trace - a.starts) x.trace))) same_board,
-  Happens.happens a answers told,
-)
+    → last ≡ out ++ event_lines new number a
+event_told new number a o b k out mid last same_object same_board is first second =
+    second
+    ∙ ap (λ m. m ++ told_starts (drop k b.trace)) first
+    ∙ append_assoc out (answer_lines o number a.answer) (told_starts (drop k b.trace))
+    ∙ ap (λ (x : Object). out ++ (answer_lines x number a.answer ++ told_starts (drop k b.trace))) same_object
+    ∙ ap (λ n. out ++ (answer_lines new.board.object number a.answer ++ told_starts (drop n b.trace))) is
+    ∙ ap (λ (x : Board). out ++ (answer_lines new.board.object number a.answer ++ told_starts (drop (length x.trace - a.starts) x.trace))) same_board

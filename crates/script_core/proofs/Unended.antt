@@ -9,13 +9,13 @@ use Rattle.board_core.specs.Board.{Board, call_at}
 use Rattle.board_core.specs.Sound.{IsNoted, IsRunningIn, IsSound, IsWaitingIn}
 use Rattle.ask_core.specs.Answers.{waits_in, runs_in}
 
-every_among : {X : Type 0} (P : X → Type 0) (xs : List X) (x : X) → Every P xs → Among x xs → P x
+pub every_among : {X : Type 0} (P : X → Type 0) (xs : List X) (x : X) → Every P xs → Among x xs → P x
 every_among P [] x all here = absurd here
 every_among P (y ∷ ys) x all (inl same) = subst P same all.0
 every_among P (y ∷ ys) x all (inr later) = every_among P ys x all.1 later
 
 -- one of this number is there
-number_found : {X : Type 0} (number : X → ℕ) (n : ℕ) (xs : List X) → list_any (λ x. number x == n) xs ≡ true → (x : X) × Among x xs × (number x ≡ n)
+pub number_found : {X : Type 0} (number : X → ℕ) (n : ℕ) (xs : List X) → list_any (λ x. number x == n) xs ≡ true → (x : X) × Among x xs × (number x ≡ n)
 number_found number n [] is = absurd cc
 number_found number n (x ∷ xs) is = elim (eqb_tells (number x) n) [
   | inl same ↦ (x, inl refl, same.1)

@@ -9,7 +9,7 @@ use Rattle.run_core.specs.declared.step.StepAnswer.{StepAnswer}
 use Rattle.run_core.specs.declared.step.StepAnswer.TheVariants.{Went, Failed, AlreadyDone}
 use Rattle.trace_core.specs.Text.{trace_text}
 use Rattle.board_core.specs.declared.event.TraceEvent.{TraceEvent}
-use Rattle.board_core.specs.Sound.{event_number}
+use Rattle.board_core.specs.Sound.{event_number, IsSound}
 use Rattle.ask_core.specs.declared.answer.SubmitFault.TheVariants as faults
 use Rattle.ask_core.specs.declared.answer.KeyedFault.TheVariants as keyed
 use Rattle.ask_core.specs.declared.answer.CallState.{CallState}
@@ -28,8 +28,9 @@ use Rattle.world_core.specs.Names.{refusal_name}
 use Rattle.world_core.specs.Events.{WorldEvent, call, call_key, step, finish, cancel, leave, resume, look}
 use Rattle.world_core.specs.Scene.{Scene}
 use Rattle.world_core.specs.Answers.{Answers}
-use Rattle.script_text.specs.Said.{Said, a_call, a_keyed_call, a_step, all_steps, a_finish, a_cancel, a_drop, a_resume}
-use Rattle.script_text.specs.Said.{a_show, a_trace}
+use Rattle.world_core.specs.Headline.{IsSequential}
+use Rattle.script_text.specs.Said.{Said, a_call, a_keyed_call, a_do, a_step, all_steps, a_finish, a_cancel, a_drop}
+use Rattle.script_text.specs.Said.{a_resume, a_show, a_trace}
 use Rattle.script_text.specs.Answers.{called_line, refused_line, stepped_line, all_stepped_line, finished_line}
 use Rattle.script_text.specs.Answers.{cancelled_line, dropped_line, resumed_line, kept_line, repeated_line}
 use Rattle.script_text.specs.Answers.{started_line, shown_lines}
@@ -80,6 +81,10 @@ IsTold answer = (refusal : Refusal) → answer ≡ Refused refusal → IsNoWant 
 abbrev pub started_lines : ℕ → List TraceEvent → List ℕ
 started_lines starts trace = flat_map (λ e. started_line (event_number e)) (drop (length trace - starts) trace)
 
+-- the lines that tell the answer to an event of this call or session, which left this world
+abbrev pub event_lines : Scene → ℕ → EventAnswer → List ℕ
+event_lines new number a = answer_lines new.board.object number a.answer ++ started_lines a.starts new.board.trace
+
 -- the event that a line says, and the call or the session that it speaks of; a call has no number yet
 pub data IsEvent : Said → WorldEvent → ℕ → Type 0 where
   calls : {session : ℕ} {name : List ℕ} {arguments : List Datum} →
@@ -101,8 +106,7 @@ pub data IsEvent : Said → WorldEvent → ℕ → Type 0 where
 -- an event of this call or session happens: its answer, and a line for each call that it started
 pub data Happens (event : WorldEvent) (number : ℕ) (old : Scene) : List ℕ → Scene → Type 0 where
   happens : {new : Scene} (a : EventAnswer) → Answers old event a new → IsTold a.answer →
-      Happens event number old (answer_lines new.board.object number a.answer ++ started_lines a.starts new.board.trace)
-      new
+      Happens event number old (event_lines new number a) new
 
 -- a step of a call that is to work is made
 pub record IsStep (number : ℕ) (old new : Scene) : Type 0 where
@@ -128,6 +132,19 @@ pub record IsOver (number : ℕ) (old new : Scene) : Type 0 where
 abbrev pub StepsOn : ℕ → Scene → ℕ → Scene → Type 0
 StepsOn number first count last = (mid : Scene) × StepsMade number first count mid × IsOver number mid last
 
+-- what holds of a world between events: its history is sequential, and its board is sound
+pub record IsKept (w : Scene) : Type 0 where
+  pub sequential : IsSequential w
+  pub sound : IsSound w.board
+
+-- the number that the next call gets
+abbrev pub next_number : Scene → ℕ
+next_number w = length w.board.calls + 1
+
+-- a session calls an operation, by its name, with arguments
+abbrev pub call_of : ℕ → List ℕ → List Datum → WorldEvent
+call_of session name arguments = call (record { session = session; name = name; arguments = arguments })
+
 -- what a line that says this does to a world: the lines that answer it, and the world that it leaves
 pub data Does : Said → Scene → List ℕ → Scene → Type 0 where
   one_event : {said : Said} {event : WorldEvent} {number : ℕ} {old new : Scene} {text : List ℕ} →
@@ -137,6 +154,17 @@ pub data Does : Said → Scene → List ℕ → Scene → Type 0 where
       Does (all_steps number) old (all_stepped_line number count) new
   not_stepped : {number : ℕ} {old : Scene} → runs_in old.board number ≡ false →
       Does (all_steps number) old (refused_line (refusal_name NotRunning)) old
+  -- A call that starts at once makes its steps until its run is done, and finishes: it is answered what the lines
+  -- `call`, `steps` and `finish` are.
+  done_at_once : {session number count : ℕ} {name : List ℕ} {arguments : List Datum} {old mid far new : Scene}
+      {first last : List ℕ} → Happens (call_of session name arguments) 0 old first mid → IsKept mid →
+      number ≡ next_number old → runs_in mid.board number ≡ true
+      → StepsOn number mid count far → Happens (finish number) number far last new →
+      Does (a_do session name arguments) old (first ++ all_stepped_line number count ++ last) new
+  -- one that waits, or is refused, is answered what the line `call` is, and nothing else happens
+  only_called : {session : ℕ} {name : List ℕ} {arguments : List Datum} {old new : Scene} {text : List ℕ} →
+      Happens (call_of session name arguments) 0 old text new → runs_in new.board (next_number old) ≡ false →
+      Does (a_do session name arguments) old text new
   -- the trace, with the opening values
   traced : {old : Scene} → Does a_trace old (trace_text (object_of old.board.object) old.opening (lines_told old.board))
       old

@@ -21,10 +21,10 @@ use Rattle.board_core.specs.Sound.{kinds_of}
 use Rattle.key_core.specs.Keys.{HasKey, next_key}
 use Rattle.ask_core.specs.Answers.{IsNamedAt}
 use Rattle.ask_core.specs.Keyed.{IsSameCall}
-use Rattle.script_text.specs.Said.{Said, a_call, a_keyed_call, a_step, all_steps, a_finish, a_cancel, a_drop, a_resume}
-use Rattle.script_text.specs.Said.{a_show, a_trace, said_of, IsSkipped}
-use Rattle.script_text.specs.Answers.{called_line, refused_line, finished_line, kept_line, repeated_line, started_line}
-use Rattle.script_text.specs.Answers.{shown_lines, bad_line}
+use Rattle.script_text.specs.Said.{Said, a_call, a_keyed_call, a_do, a_step, all_steps, a_finish, a_cancel, a_drop}
+use Rattle.script_text.specs.Said.{a_resume, a_show, a_trace, said_of, IsSkipped}
+use Rattle.script_text.specs.Answers.{called_line, refused_line, all_stepped_line, finished_line, kept_line}
+use Rattle.script_text.specs.Answers.{repeated_line, started_line, shown_lines, bad_line}
 use Rattle.script_core.specs.declared.script.ScriptEnd.{ScriptEnd}
 use Rattle.script_core.specs.declared.script.ScriptEnd.TheVariants.{Whole, BadLine}
 use Rattle.script_core.specs.Writes.{NamesObject}
@@ -119,6 +119,14 @@ pub data Serially : Said → Serial → List ℕ → Serial → Type 0 where
       })
   not_finished : {number : ℕ} {old : Serial} {text : List ℕ} (why : List ℕ) → text ≡ refused_line why →
       Serially (a_finish number) old text old
+  -- a call that is done at once is called and finishes, with a reply; one that is not is called alone
+  done_at_once : {session number : ℕ} {name : List ℕ} {arguments : List Datum} {old mid new : Serial}
+      {first last text : List ℕ} (count : ℕ) (reply : Reply) → number ≡ length old.calls + 1 →
+      Serially (a_call session name arguments) old first mid → Serially (a_finish number) mid last new →
+      new.replies ≡ mid.replies ++ (number, reply) ∷ []
+      → text ≡ first ++ all_stepped_line number count ++ last → Serially (a_do session name arguments) old text new
+  only_called : {session : ℕ} {name : List ℕ} {arguments : List Datum} {old new : Serial} {text : List ℕ} →
+      Serially (a_call session name arguments) old text new → Serially (a_do session name arguments) old text new
   shown : {old : Serial} {text : List ℕ} → text ≡ shown_lines (object_of old.object).parts old.contents →
       Serially a_show old text old
   -- what else a line says changes nothing for the sequential object, and is not told by it

@@ -3,13 +3,11 @@ use Rattle.std.specs.Prelude.{◌≡◌, ℕ, Bool, true, false, List, []}
 use Rattle.std.specs.Str.{str_to_ascii_lowercase}
 use Rattle.decl_core.specs.declared.object.Object.{Object}
 use Rattle.word_core.specs.Says.{Says}
-use Rattle.board_core.specs.Sound.{IsSound}
 use Rattle.world_core.specs.Scene.{Scene, IsNew}
-use Rattle.world_core.specs.Headline.{IsSequential}
 use Rattle.script_text.specs.Said.{Said, said_of, IsSkipped}
 use Rattle.script_text.specs.First.{IsObjectLine}
 use Rattle.script_text.specs.Answers.{bad_line}
-use Rattle.script_core.specs.Does.{Does}
+use Rattle.script_core.specs.Does.{Does, IsKept}
 use Rattle.script_core.specs.declared.script.machine.Script.{Script}
 
 -- whether the first line has named the object, and its world
@@ -31,11 +29,6 @@ pub record NamesObject (o : Object) (line : List ℕ) : Type 0 where
   pub name : List ℕ
   pub stands : IsObjectLine line name
   pub same : str_to_ascii_lowercase name ≡ o.name
-
--- what holds of the world that a line leaves: its history is sequential, and its board is sound
-pub record IsKept (w : Scene) : Type 0 where
-  pub sequential : IsSequential w
-  pub sound : IsSound w.board
 
 -- the answer to the line of this number: its text, whether the script goes on, and what holds then
 pub data Writes (told : Told) (number : ℕ) (line : List ℕ) : List ℕ → Bool → Told → Type 0 where

@@ -1,6 +1,6 @@
 //! Scripts over one object.
 
-mod answer;
+pub mod answer;
 mod machine;
 mod steps;
 

@@ -7,7 +7,7 @@ use Rattle.path_tree.specs.Identifier.{IsIdentifier, IsLetter}
 use Rattle.std.proofs.lemmas.Bool.Decides.{Decides-eqb, eqb_tells}
 use Rattle.word_core.specs.Words.{Word, bare, quoted}
 use Rattle.word_core.specs.Data.{integer_of, session_of, data_of, bare_of, only_bare, only_integer, at_end}
-use Rattle.script_text.specs.Said.{Said, a_call, a_keyed_call, a_step, all_steps, a_finish, a_cancel, a_drop, a_resume, a_show, a_trace, call_said, call_by, named_said, digits_said, keyed_said, works_of, step_said, numbered, drop_said, resume_said, said_by, said_of}
+use Rattle.script_text.specs.Said.{Said, a_call, a_keyed_call, a_do, a_step, all_steps, a_finish, a_cancel, a_drop, a_resume, a_show, a_trace, call_said, call_by, named_said, digits_said, keyed_said, done_said, do_said, works_of, step_said, numbered, drop_said, resume_said, said_by, said_of}
 use Rattle.script_text.specs.Laws.{AreNumbered, works_word, Tell, SaidExact}
 use Rattle.script_text.specs.Identifier.{identifier_of}
 use Rattle.script_text.proofs.Choices.{none_some, some_same, choose, found_by}
@@ -36,9 +36,9 @@ works_found word works is = elim (choose (bytes_eq word (codes "ok")) _ _ works 
   ]
 ]
 
--- the words behind `call` and a session
-call_words : (v k : List ℕ) (words more others : List Word) → v ≡ codes "call" → words ≡ bare k ∷ more → more ≡ others → (bare v ∷ words) ≡ bare (codes "call") ∷ bare k ∷ others
-call_words v k words more others verb first rest = ap (λ w. bare w ∷ words) verb ∙ ap (λ ws. bare (codes "call") ∷ ws) (first ∙ ap (λ ws. bare k ∷ ws) rest)
+-- the words behind a verb and a session
+call_words : (verb v k : List ℕ) (words more others : List Word) → v ≡ verb → words ≡ bare k ∷ more → more ≡ others → (bare v ∷ words) ≡ bare verb ∷ bare k ∷ others
+call_words verb v k words more others is first rest = ap (λ w. bare w ∷ words) is ∙ ap (λ ws. bare verb ∷ ws) (first ∙ ap (λ ws. bare k ∷ ws) rest)
 
 named_tells : (k : List ℕ) (session : ℕ) (word : List ℕ) (words : List Word) (e : Said) → session_of k ≡ Some session → named_said session word words ≡ Some e → Tell e (bare (codes "call") ∷ bare k ∷ bare word ∷ words)
 named_tells k session word words e known is =
@@ -75,8 +75,24 @@ call_tells v words e verb is =
     let first = found_by (bare_of words) _ e is in
     let session = found_by (session_of first.0.0) _ e first.2 in
     let second = found_by (bare_of first.0.1) (λ (x : List ℕ × List Word). call_by session.0 x.0 x.1) e session.2 in
-    subst (Tell e) (sym (call_words v first.0.0 words first.0.1 (bare second.0.0 ∷ second.0.1) verb (bare_found words first.0 first.1) (bare_found first.0.1 second.0 second.1)))
+    subst (Tell e) (sym (call_words (codes "call") v first.0.0 words first.0.1 (bare second.0.0 ∷ second.0.1) verb (bare_found words first.0 first.1) (bare_found first.0.1 second.0 second.1)))
     (by_tells first.0.0 session.0 second.0.0 second.0.1 e session.1 second.2)
+
+done_tells : (k : List ℕ) (session : ℕ) (word : List ℕ) (words : List Word) (e : Said) → session_of k ≡ Some session → done_said session word words ≡ Some e → Tell e (bare (codes "do") ∷ bare k ∷ bare word ∷ words)
+done_tells k session word words e known is =
+    let name = found_by (identifier_of word) _ e is in
+    let arguments = found_by (data_of words) _ e name.2 in
+    let spelled = identifier_found word name.0 name.1 in
+    subst (λ x. Tell x (bare (codes "do") ∷ bare k ∷ bare word ∷ words)) (some_same (a_do session name.0 arguments.0) e arguments.2)
+    (k, words, ap (λ w. bare (codes "do") ∷ bare k ∷ bare w ∷ words) spelled.0, known, subst IsIdentifier spelled.0 spelled.1, arguments.1)
+
+do_tells : (v : List ℕ) (words : List Word) (e : Said) → v ≡ codes "do" → do_said words ≡ Some e → Tell e (bare v ∷ words)
+do_tells v words e verb is =
+    let first = found_by (bare_of words) _ e is in
+    let session = found_by (session_of first.0.0) _ e first.2 in
+    let second = found_by (bare_of first.0.1) (λ (x : List ℕ × List Word). done_said session.0 x.0 x.1) e session.2 in
+    subst (Tell e) (sym (call_words (codes "do") v first.0.0 words first.0.1 (bare second.0.0 ∷ second.0.1) verb (bare_found words first.0 first.1) (bare_found first.0.1 second.0 second.1)))
+    (done_tells first.0.0 session.0 second.0.0 second.0.1 e session.1 second.2)
 
 step_tells : (v : List ℕ) (words : List Word) (e : Said) → v ≡ codes "step" → step_said words ≡ Some e → Tell e (bare v ∷ words)
 step_tells v words e verb is =
@@ -121,23 +137,26 @@ alone_tells verb said v words e is found =
 verb_tells : (v : List ℕ) (words : List Word) (e : Said) → said_by v words ≡ Some e → Tell e (bare v ∷ words)
 verb_tells v words e is = elim (choose (bytes_eq v (codes "call")) _ _ e is) [
   | inl found ↦ call_tells v words e (same v (codes "call") found.0) found.1
-  | inr later ↦ elim (choose (bytes_eq v (codes "step")) _ _ e later.1) [
-    | inl found ↦ step_tells v words e (same v (codes "step") found.0) found.1
-    | inr later ↦ elim (choose (bytes_eq v (codes "steps")) _ _ e later.1) [
-      | inl found ↦ let it = numbered_found (codes "steps") all_steps v words e (same v (codes "steps") found.0) found.1 in subst (λ x. Tell x (bare v ∷ words)) it.2 it.1
-      | inr later ↦ elim (choose (bytes_eq v (codes "finish")) _ _ e later.1) [
-        | inl found ↦ let it = numbered_found (codes "finish") a_finish v words e (same v (codes "finish") found.0) found.1 in subst (λ x. Tell x (bare v ∷ words)) it.2 it.1
-        | inr later ↦ elim (choose (bytes_eq v (codes "cancel")) _ _ e later.1) [
-          | inl found ↦ let it = numbered_found (codes "cancel") a_cancel v words e (same v (codes "cancel") found.0) found.1 in subst (λ x. Tell x (bare v ∷ words)) it.2 it.1
-          | inr later ↦ elim (choose (bytes_eq v (codes "drop")) _ _ e later.1) [
-            | inl found ↦ drop_tells v words e (same v (codes "drop") found.0) found.1
-            | inr later ↦ elim (choose (bytes_eq v (codes "resume")) _ _ e later.1) [
-              | inl found ↦ resume_tells v words e (same v (codes "resume") found.0) found.1
-              | inr later ↦ elim (choose (bytes_eq v (codes "show")) _ _ e later.1) [
-                | inl found ↦ let it = alone_tells (codes "show") a_show v words e (same v (codes "show") found.0) found.1 in subst (λ x. Tell x (bare v ∷ words)) it.1 it.0
-                | inr later ↦ elim (choose (bytes_eq v (codes "trace")) _ _ e later.1) [
-                  | inl found ↦ let it = alone_tells (codes "trace") a_trace v words e (same v (codes "trace") found.0) found.1 in subst (λ x. Tell x (bare v ∷ words)) it.1 it.0
-                  | inr none ↦ absurd (none_some e none.1)
+  | inr later ↦ elim (choose (bytes_eq v (codes "do")) _ _ e later.1) [
+    | inl found ↦ do_tells v words e (same v (codes "do") found.0) found.1
+    | inr later ↦ elim (choose (bytes_eq v (codes "step")) _ _ e later.1) [
+      | inl found ↦ step_tells v words e (same v (codes "step") found.0) found.1
+      | inr later ↦ elim (choose (bytes_eq v (codes "steps")) _ _ e later.1) [
+        | inl found ↦ let it = numbered_found (codes "steps") all_steps v words e (same v (codes "steps") found.0) found.1 in subst (λ x. Tell x (bare v ∷ words)) it.2 it.1
+        | inr later ↦ elim (choose (bytes_eq v (codes "finish")) _ _ e later.1) [
+          | inl found ↦ let it = numbered_found (codes "finish") a_finish v words e (same v (codes "finish") found.0) found.1 in subst (λ x. Tell x (bare v ∷ words)) it.2 it.1
+          | inr later ↦ elim (choose (bytes_eq v (codes "cancel")) _ _ e later.1) [
+            | inl found ↦ let it = numbered_found (codes "cancel") a_cancel v words e (same v (codes "cancel") found.0) found.1 in subst (λ x. Tell x (bare v ∷ words)) it.2 it.1
+            | inr later ↦ elim (choose (bytes_eq v (codes "drop")) _ _ e later.1) [
+              | inl found ↦ drop_tells v words e (same v (codes "drop") found.0) found.1
+              | inr later ↦ elim (choose (bytes_eq v (codes "resume")) _ _ e later.1) [
+                | inl found ↦ resume_tells v words e (same v (codes "resume") found.0) found.1
+                | inr later ↦ elim (choose (bytes_eq v (codes "show")) _ _ e later.1) [
+                  | inl found ↦ let it = alone_tells (codes "show") a_show v words e (same v (codes "show") found.0) found.1 in subst (λ x. Tell x (bare v ∷ words)) it.1 it.0
+                  | inr later ↦ elim (choose (bytes_eq v (codes "trace")) _ _ e later.1) [
+                    | inl found ↦ let it = alone_tells (codes "trace") a_trace v words e (same v (codes "trace") found.0) found.1 in subst (λ x. Tell x (bare v ∷ words)) it.1 it.0
+                    | inr none ↦ absurd (none_some e none.1)
+                  ]
                 ]
               ]
             ]
@@ -172,6 +191,7 @@ call_plain session (b ∷ bytes) words is = ap (λ x. if x then digits_said sess
 said : (words : List Word) (e : Said) → Tell e words → said_of words ≡ Some e
 said words (a_call session name arguments) is = rw is.2 (rw is.3 (call_plain session name is.1 is.4 ∙ rw (identifier_read name is.4) (rw is.5 refl)))
 said words (a_keyed_call session key name arguments) is = rw is.3 (rw is.4 (rw is.5 (rw (identifier_read name is.6) (rw is.7 refl))))
+said words (a_do session name arguments) is = rw is.2 (rw is.3 (rw (identifier_read name is.4) (rw is.5 refl)))
 said words (a_step number works) is = rw is.1 (said_step is.0 number works is.2)
 said words (all_steps number) is = rw is.1 (rw is.2 refl)
 said words (a_finish number) is = rw is.1 (rw is.2 refl)

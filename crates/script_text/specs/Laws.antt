@@ -3,8 +3,8 @@ use Rattle.std.specs.Prelude.{◌≡◌, ◌↔◌, ℕ, Bool, true, false, List
 use Rattle.path_tree.specs.Identifier.{IsIdentifier}
 use Rattle.word_core.specs.Words.{Word, bare}
 use Rattle.word_core.specs.Data.{integer_of, session_of, data_of}
-use Rattle.script_text.specs.Said.{Said, a_call, a_keyed_call, a_step, all_steps, a_finish, a_cancel, a_drop, a_resume}
-use Rattle.script_text.specs.Said.{a_show, a_trace, said_of}
+use Rattle.script_text.specs.Said.{Said, a_call, a_keyed_call, a_do, a_step, all_steps, a_finish, a_cancel, a_drop}
+use Rattle.script_text.specs.Said.{a_resume, a_show, a_trace, said_of}
 
 -- a verb, and the number of a call
 abbrev pub AreNumbered : List ℕ → ℕ → List Word → Type 0
@@ -26,6 +26,10 @@ Tell (a_keyed_call session key name arguments) words =
     × (words ≡ bare (codes "call") ∷ bare k ∷ bare (35 ∷ digits) ∷ bare name ∷ others) × (session_of k ≡ Some session)
     × (integer_of digits ≡ Some key)
     × IsIdentifier name × (data_of others ≡ Some arguments)
+Tell (a_do session name arguments) words =
+    (k : List ℕ) × (others : List Word) × (words ≡ bare (codes "do") ∷ bare k ∷ bare name ∷ others)
+    × (session_of k ≡ Some session) × IsIdentifier name
+    × (data_of others ≡ Some arguments)
 Tell (a_step number works) words =
     (n : List ℕ) × (words ≡ bare (codes "step") ∷ bare n ∷ bare (works_word works) ∷ []) × (integer_of n ≡ Some number)
 Tell (all_steps number) words = AreNumbered (codes "steps") number words

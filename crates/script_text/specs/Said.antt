@@ -7,12 +7,13 @@ use Rattle.word_core.specs.Words.{Word}
 use Rattle.word_core.specs.Data.{◌>>=◌, integer_of, session_of, data_of, bare_of, only_bare, only_integer, at_end}
 use Rattle.script_text.specs.Identifier.{identifier_of}
 
--- a session calls an operation, by its name as it is written, with arguments; the same under a key; one step of a call,
--- which works or fails;
+-- a session calls an operation, by its name as it is written, with arguments; the same under a key; the same, and what
+-- starts at once is done to its end; one step of a call, which works or fails;
 -- its steps to the end; its finish; its cancel; a session leaves, or is back; the values of the parts; the trace
 pub data Said : Type 0 where
   a_call : ℕ → List ℕ → List Datum → Said
   a_keyed_call : ℕ → ℕ → List ℕ → List Datum → Said
+  a_do : ℕ → List ℕ → List Datum → Said
   a_step : ℕ → Bool → Said
   all_steps : ℕ → Said
   a_finish : ℕ → Said
@@ -49,6 +50,17 @@ call_said words =
     bare_of words >>= λ first. session_of first.0 >>= λ session. bare_of first.1 >>= λ second.
     call_by session second.0 second.1
 
+-- behind `do sK`, by this word, where it is an identifier: `ARG ..`
+abbrev pub done_said : ℕ → List ℕ → List Word → Option Said
+done_said session word words =
+    identifier_of word >>= λ name. data_of words >>= λ arguments. Some (a_do session name arguments)
+
+-- behind `do`: `sK OP ARG ..`
+abbrev pub do_said : List Word → Option Said
+do_said words =
+    bare_of words >>= λ first. session_of first.0 >>= λ session. bare_of first.1 >>= λ second.
+    done_said session second.0 second.1
+
 -- whether a step works
 abbrev pub works_of : List ℕ → Option Bool
 works_of word =
@@ -76,6 +88,7 @@ resume_said words = only_bare words >>= λ word. session_of word >>= λ session.
 abbrev pub said_by : List ℕ → List Word → Option Said
 said_by verb words =
     if bytes_eq verb (codes "call") then call_said words
+    else if bytes_eq verb (codes "do") then do_said words
     else if bytes_eq verb (codes "step") then step_said words
     else if bytes_eq verb (codes "steps") then numbered all_steps words
     else if bytes_eq verb (codes "finish") then numbered a_finish words

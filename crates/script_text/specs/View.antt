@@ -8,6 +8,7 @@ use Rattle.script_text.specs.Said as lines
 abbrev pub said_view : Said → lines.Said
 said_view (said.Call session name arguments) = lines.a_call session name.now arguments.items
 said_view (said.CallKey session key name arguments) = lines.a_keyed_call session key name.now arguments.items
+said_view (said.Do session name arguments) = lines.a_do session name.now arguments.items
 said_view (said.Step number works) = lines.a_step number works
 said_view (said.Steps number) = lines.all_steps number
 said_view (said.Finish number) = lines.a_finish number

@@ -23,8 +23,8 @@ fn first_bare(line: &[u8]) -> Option<(&[u8], &[u8])>
     }
 }
 
-// The one word of a line, where it stands bare.
-fn one_bare(line: &[u8]) -> Option<&[u8]>
+/// The one word of a line, where it has no other one, and that stands bare; else `None`.
+pub fn one_bare(line: &[u8]) -> Option<&[u8]>
     ensures { MatchOption result ((word : List ℕ) → AreWords line.now (bare word ∷ []) → ⊥)
         (λ r. AreWords line.now (bare r.now ∷ [])) }
 {

@@ -5,7 +5,8 @@ ghost use Rattle.word_core.specs.View.{words_of as words_in};
 ghost use Rattle.word_core.specs.Data.{at_end};
 ghost use Rattle.script_text.specs.Said.{IsSkipped, said_of as said_of_words, said_by as said_in, call_said as call_in};
 ghost use Rattle.script_text.specs.Said.{call_by as call_by_in, named_said as named_in, digits_said as digits_in};
-ghost use Rattle.script_text.specs.Said.{keyed_said as keyed_in, resume_said as resume_in, works_of as works_in};
+ghost use Rattle.script_text.specs.Said.{keyed_said as keyed_in, do_said as do_in, done_said as done_in};
+ghost use Rattle.script_text.specs.Said.{resume_said as resume_in, works_of as works_in};
 ghost use Rattle.script_text.specs.Said.{step_said as step_in, drop_said as drop_in, numbered, all_steps, a_finish};
 ghost use Rattle.script_text.specs.Said.{a_cancel, a_show, a_trace};
 ghost use Rattle.script_text.specs.View.{said_view, IsReadOf};
@@ -25,6 +26,8 @@ pub enum Said<'a> {
     Call(u32, &'a str, Vec<Datum>),
     /// `call sK #J OP ARG ..`: the same, with the key before the operation.
     CallKey(u32, u32, &'a str, Vec<Datum>),
+    /// `do sK OP ARG ..`: the session, the name of the operation as it is written, an identifier, and the arguments.
+    Do(u32, &'a str, Vec<Datum>),
     /// `step N ok` and `step N fail`: the call, and whether the device call of the step is to work.
     Step(u32, bool),
     /// `steps N`.
@@ -90,6 +93,9 @@ fn said_by<'a>(
 {
     if is_same_word(verb, b"call") {
         return call_said(alloc, words);
+    }
+    if is_same_word(verb, b"do") {
+        return do_said(alloc, words);
     }
     if is_same_word(verb, b"step") {
         return Ok(step_said(words));
@@ -197,6 +203,39 @@ fn keyed_said<'a>(
     };
     match data_of(alloc, words)? {
         Some(arguments) => Ok(Some(Said::CallKey(session, key, name, arguments))),
+        None => Ok(None),
+    }
+}
+
+fn do_said<'a>(alloc: Global, words: &[Word<'a>]) -> Result<Option<Said<'a>>, AllocError>
+    ensures { IfOk result (λ found. option_map said_view found ≡ do_in (words_in words.now)) }
+{
+    let Some((session, rest)) = bare_of(words) else {
+        return Ok(None);
+    };
+    let Some(session) = session_of(session) else {
+        return Ok(None);
+    };
+    let Some((word, rest)) = bare_of(rest) else {
+        return Ok(None);
+    };
+    done_said(alloc, session, word, rest)
+}
+
+// What a call of this session that is to be done says by this word and those behind it.
+fn done_said<'a>(
+    alloc: Global,
+    session: u32,
+    word: &'a [u8],
+    words: &[Word<'a>],
+) -> Result<Option<Said<'a>>, AllocError>
+    ensures { IfOk result (λ found. option_map said_view found ≡ done_in session word.now (words_in words.now)) }
+{
+    let Some(name) = identifier_of(word) else {
+        return Ok(None);
+    };
+    match data_of(alloc, words)? {
+        Some(arguments) => Ok(Some(Said::Do(session, name, arguments))),
         None => Ok(None),
     }
 }

@@ -1,15 +1,18 @@
 //! What the lines of a script do, and the lines that answer them.
 
-ghost use Rattle.std.specs.Prelude.{◌≡◌, ◌++◌, ℕ, List, OnOk, drop, map};
+ghost use Rattle.std.specs.Prelude.{◌≡◌, ◌++◌, ℕ, List, IfOk, OnOk, MatchOption, true, false, drop, map};
 ghost use Rattle.std.specs.List.{flat_map};
 ghost use Rattle.board_core.specs.Sound.{event_number};
-ghost use Rattle.script_text.specs.Answers.{refused_line, started_line};
-ghost use Rattle.script_text.specs.Said.{all_steps, a_trace};
+ghost use Rattle.ask_core.specs.Answers.{runs_in};
+ghost use Rattle.script_text.specs.Answers.{refused_line, started_line, all_stepped_line};
+ghost use Rattle.script_text.specs.Said.{a_do, all_steps, a_trace};
 ghost use Rattle.script_text.specs.View.{said_view};
 ghost use Rattle.world_core.specs.Names.{refusal_name};
-ghost use Rattle.world_core.specs.Events.{event_of};
-ghost use Rattle.script_core.specs.Does.{Does, Happens, IsNoWant, IsTold, answer_lines, cancel_name, has_gone};
-ghost use Rattle.script_core.specs.Does.{repeat_line};
+ghost use Rattle.world_core.specs.Scene.{Scene};
+ghost use Rattle.world_core.specs.declared.event.Answer.TheVariants.{Number};
+ghost use Rattle.world_core.specs.Events.{event_of, finish};
+ghost use Rattle.script_core.specs.Does.{Does, Happens, IsNoWant, IsTold, StepsOn, answer_lines, call_of, cancel_name};
+ghost use Rattle.script_core.specs.Does.{event_lines, has_gone, next_number, repeat_line};
 
 use crate::script::steps::step_to_end;
 use ask_core::answer::{CallState, Cancelled, Kept, KeyedFault, SubmitFault};
@@ -23,6 +26,7 @@ use script_text::answers::{
 };
 use script_text::said::Said;
 use std::alloc::{AllocError, Global};
+use value_core::datum::Datum;
 use world_core::event::{Answer, Event, EventAnswer, Refusal};
 use world_core::world::World;
 
@@ -120,6 +124,23 @@ fn push_starts(out: &mut Vec<u8>, desk: &Desk, from: usize) -> Result<(), AllocE
     Ok(())
 }
 
+// Adds what an event of this call or session was answered, in the world that it left.
+fn push_told(
+    alloc: Global,
+    world: &World,
+    number: u32,
+    told: &EventAnswer,
+    out: &mut Vec<u8>,
+) -> Result<(), AllocError>
+    ensures told { OnOk result (out.new.items ≡ out.old.items ++ event_lines world.now number told.now) }
+    ensures memory { OnOk result (IsTold told.now.answer) }
+{
+    let desk = world.desk();
+    push_answer(alloc, out, desk.accepted().object(), number, &told.answer)?;
+    push_starts(out, desk, desk.trace().len().saturating_sub(told.starts))?;
+    Ok(())
+}
+
 // Lets an event of this call or session happen, and adds its answer.
 fn tell_event(
     alloc: Global,
@@ -131,11 +152,82 @@ fn tell_event(
     ensures { OnOk result ((text : List ℕ) × (out.new.items ≡ out.old.items ++ text)
         × Happens (event_of event.entry) number world.old text world.new) }
 {
-    let EventAnswer { answer, starts } = world.event(event);
-    let desk = world.desk();
-    push_answer(alloc, out, desk.accepted().object(), number, &answer)?;
-    push_starts(out, desk, desk.trace().len().saturating_sub(starts))?;
-    Ok(())
+    let told = world.event(event);
+    push_told(alloc, world, number, &told, out)
+}
+
+// The number of a call that was answered so, if it runs now.
+fn running(world: &World, told: &EventAnswer) -> Option<u32>
+    ensures { MatchOption result
+        ((number : ℕ) → told.now.answer ≡ Number number → runs_in world.now.board number ≡ false)
+        (λ number. (told.now.answer ≡ Number number) × (runs_in world.now.board number ≡ true)) }
+{
+    let Answer::Number(number) = told.answer else {
+        return None;
+    };
+    if world.desk().runs(number) {
+        return Some(number);
+    }
+    None
+}
+
+// Lets a session call, and adds the answer. Its number, where the call runs then.
+fn tell_call(
+    alloc: Global,
+    world: &mut World,
+    session: u32,
+    op: &str,
+    arguments: &[Datum],
+    out: &mut Vec<u8>,
+) -> Result<Option<u32>, AllocError>
+    ensures told { OnOk result ((text : List ℕ) × (out.new.items ≡ out.old.items ++ text)
+        × Happens (call_of session op.now arguments.now) 0 world.old text world.new) }
+    ensures runs { IfOk result (λ found. MatchOption found (runs_in world.new.board (next_number world.old) ≡ false)
+        (λ number. (number ≡ next_number world.old) × (runs_in world.new.board number ≡ true))) }
+{
+    // Its board is sound: the number of a call that runs has been given.
+    world.desk().history();
+    let told = world.event(Event::Call(session, op, arguments));
+    push_told(alloc, world, 0, &told, out)?;
+    let found = running(world, &told);
+    Ok(found)
+}
+
+// Lets a call that runs make its steps to the end and finish, and adds the answers.
+fn tell_end(
+    alloc: Global,
+    world: &mut World,
+    number: u32,
+    out: &mut Vec<u8>,
+) -> Result<(), AllocError>
+    requires { runs_in world.old.board number ≡ true }
+    ensures { OnOk result ((count : ℕ) × (far : Scene) × (text : List ℕ)
+        × (out.new.items ≡ out.old.items ++ all_stepped_line number count ++ text)
+        × StepsOn number world.old count far × Happens (finish number) number far text world.new) }
+{
+    let count = step_to_end(world, number);
+    push_all_stepped(out, number, count)?;
+    tell_event(alloc, world, Event::Finish(number), number, out)
+}
+
+// Lets a session call and, where the call starts at once, the call be done to its end, and adds the answers.
+fn tell_done(
+    alloc: Global,
+    world: &mut World,
+    session: u32,
+    op: &str,
+    arguments: &[Datum],
+    out: &mut Vec<u8>,
+) -> Result<(), AllocError>
+    ensures { OnOk result ((text : List ℕ) × (out.new.items ≡ out.old.items ++ text)
+        × Does (a_do session op.now arguments.now) world.old text world.new) }
+{
+    let Some(number) = tell_call(alloc, world, session, op, arguments, out)? else {
+        return Ok(());
+    };
+    // Its history is sequential, and its board is sound.
+    world.desk().history();
+    tell_end(alloc, world, number, out)
 }
 
 // Lets a run make its steps to the end, and adds the answer.
@@ -177,6 +269,9 @@ pub fn answer_said(
         Said::CallKey(session, key, op, arguments) => {
             let event = Event::CallKey(session, key, op, &arguments);
             tell_event(alloc, world, event, 0, out)
+        }
+        Said::Do(session, op, arguments) => {
+            tell_done(alloc, world, session, op, &arguments, out)
         }
         Said::Step(number, works) => {
             tell_event(alloc, world, Event::Step(number, works), number, out)
