@@ -1,0 +1,187 @@
+//! The answer to `who`.
+
+ghost use Rattle.std.specs.Prelude.{◌≡◌, ◌++◌, [], flat_map, OnOk, Option, Some, None};
+ghost use Rattle.decl_core.specs.ObjectMap.{object_of};
+ghost use Rattle.word_core.specs.Words.{words_text, behind_word};
+ghost use Rattle.why_core.specs.Found.{why_of, whys_of};
+ghost use Rattle.inside_text.specs.Why.{node_words};
+ghost use Rattle.inside_text.specs.Who.{who_line, seat_line, call_words, waits_line};
+
+use crate::name::name_of;
+use decl_core::object::Object;
+use path_tree::name::Name;
+use path_tree::node::OpId;
+use std::alloc::AllocError;
+use why_core::reason::{Lack, Reason};
+use word_core::line::{push_line, push_more, push_words};
+use word_core::word::Written;
+
+/// A session, for how many seconds it is there, and how many calls it made.
+#[derive(Clone, Copy, Debug, PartialEq, Eq)]
+pub struct Seat {
+    /// Its number.
+    pub session: u64,
+    /// The seconds.
+    pub seconds: u64,
+    /// Its calls.
+    pub calls: u64,
+}
+
+/// A call that waits: its number, its session, its operation by the place in the object, from 0, and for how many seconds
+/// it waits, where that is known.
+#[derive(Clone, Copy, Debug, PartialEq, Eq)]
+pub struct Waiting {
+    /// Its number.
+    pub number: u64,
+    /// Its session.
+    pub session: u64,
+    /// Its operation.
+    pub operation: OpId,
+    /// The seconds.
+    pub seconds: Option<u64>,
+}
+
+/// Adds `who L`: so many lines stand behind it.
+pub fn push_who(out: &mut Vec<u8>, lines: u64) -> Result<(), AllocError>
+    ensures { OnOk result (out.new.items ≡ out.old.items ++ who_line lines) }
+{
+    push_line(out, &[Written::Bare(b"who"), Written::Integer(lines)])
+}
+
+// Adds `session sS for T calls C`.
+fn push_nameless(out: &mut Vec<u8>, seat: Seat) -> Result<(), AllocError>
+    ensures { OnOk result (out.new.items ≡ out.old.items ++ seat_line seat None) }
+{
+    push_line(
+        out,
+        &[
+            Written::Bare(b"session"),
+            Written::Session(seat.session),
+            Written::Bare(b"for"),
+            Written::Integer(seat.seconds),
+            Written::Bare(b"calls"),
+            Written::Integer(seat.calls),
+        ],
+    )
+}
+
+// Adds `session sS for T calls C name NAME`.
+fn push_named(out: &mut Vec<u8>, seat: Seat, name: &Name) -> Result<(), AllocError>
+    ensures { OnOk result (out.new.items ≡ out.old.items ++ seat_line seat (Some name.now)) }
+{
+    push_line(
+        out,
+        &[
+            Written::Bare(b"session"),
+            Written::Session(seat.session),
+            Written::Bare(b"for"),
+            Written::Integer(seat.seconds),
+            Written::Bare(b"calls"),
+            Written::Integer(seat.calls),
+            Written::Bare(b"name"),
+            Written::Bare(name.as_bytes()),
+        ],
+    )
+}
+
+/// Adds the line of a session, which has a name or none.
+pub fn push_seat(out: &mut Vec<u8>, seat: Seat, name: Option<&Name>) -> Result<(), AllocError>
+    ensures { OnOk result (out.new.items ≡ out.old.items ++ seat_line seat (option_map (λ n. n.now) name)) }
+{
+    match name {
+        None => push_nameless(out, seat),
+        Some(name) => push_named(out, seat, name),
+    }
+}
+
+// Adds `waits N sS OP`, and for how long where that is known.
+fn push_call(out: &mut Vec<u8>, object: &Object, call: Waiting) -> Result<(), AllocError>
+    ensures { OnOk result (out.new.items ≡ out.old.items ++ words_text (call_words (object_of object.now) call)) }
+{
+    match call.seconds {
+        None => push_words(
+            out,
+            &[
+                Written::Bare(b"waits"),
+                Written::Integer(call.number),
+                Written::Session(call.session),
+                Written::Bare(name_of(object, call.operation)),
+            ],
+        ),
+        Some(seconds) => push_words(
+            out,
+            &[
+                Written::Bare(b"waits"),
+                Written::Integer(call.number),
+                Written::Session(call.session),
+                Written::Bare(name_of(object, call.operation)),
+                Written::Bare(b"for"),
+                Written::Integer(seconds),
+            ],
+        ),
+    }
+}
+
+// Adds ` path P node K full` or ` path P node K turn J`.
+fn push_node(out: &mut Vec<u8>, reason: &Reason) -> Result<(), AllocError>
+    ensures { OnOk result (out.new.items ≡ out.old.items ++ behind_word (node_words (why_of reason.now) [])) }
+{
+    match reason.lack {
+        Lack::Full => push_more(
+            out,
+            &[
+                Written::Bare(b"path"),
+                Written::Integer(reason.path as u64),
+                Written::Bare(b"node"),
+                Written::Integer(reason.node as u64),
+                Written::Bare(b"full"),
+            ],
+        ),
+        Lack::Turn(turn) => push_more(
+            out,
+            &[
+                Written::Bare(b"path"),
+                Written::Integer(reason.path as u64),
+                Written::Bare(b"node"),
+                Written::Integer(reason.node as u64),
+                Written::Bare(b"turn"),
+                Written::Integer(turn as u64),
+            ],
+        ),
+    }
+}
+
+// Adds the line of a call that waits, and of a node that refuses it.
+fn push_wait(
+    out: &mut Vec<u8>,
+    object: &Object,
+    call: Waiting,
+    reason: &Reason,
+) -> Result<(), AllocError>
+    ensures { OnOk result (out.new.items ≡ out.old.items
+        ++ waits_line (object_of object.now) call (why_of reason.now)) }
+{
+    push_call(out, object, call)?;
+    push_node(out, reason)?;
+    out.push(b'\n')?;
+    Ok(())
+}
+
+/// Adds the lines of a call that waits, one for each node that refuses it, in order.
+pub fn push_waits(
+    out: &mut Vec<u8>,
+    object: &Object,
+    call: Waiting,
+    reasons: &[Reason],
+) -> Result<(), AllocError>
+    ensures { OnOk result (out.new.items ≡ out.old.items
+        ++ flat_map (waits_line (object_of object.now) call) (whys_of reasons.now)) }
+{
+    match reasons {
+        [] => Ok(()),
+        [first, more @ ..] => {
+            push_wait(out, object, call, first)?;
+            push_waits(out, object, call, more)
+        }
+    }
+}

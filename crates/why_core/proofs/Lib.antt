@@ -1,0 +1,5 @@
+pub mod Beginning
+pub mod Lacking
+pub mod Ordering
+pub mod Refusing
+pub mod Telling

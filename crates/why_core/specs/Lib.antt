@@ -1,0 +1,5 @@
+pub mod Begins
+pub mod Found
+pub mod Lacks
+pub mod Reasons
+pub mod Tells
