@@ -1,6 +1,6 @@
 //! The answer to `who`.
 
-ghost use Rattle.std.specs.Prelude.{◌≡◌, ◌++◌, [], flat_map, OnOk, Option, Some, None};
+ghost use Rattle.std.specs.Prelude.{◌≡◌, ◌++◌, [], flat_map, OnOk, option_map, Some, None};
 ghost use Rattle.decl_core.specs.ObjectMap.{object_of};
 ghost use Rattle.word_core.specs.Words.{words_text, behind_word};
 ghost use Rattle.why_core.specs.Found.{why_of, whys_of};

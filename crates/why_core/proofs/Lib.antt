@@ -1,3 +1,4 @@
+pub mod Allowing
 pub mod Beginning
 pub mod Lacking
 pub mod Ordering

@@ -7,5 +7,6 @@
 #![tactic(auto)]
 
 pub mod find;
+pub mod laws;
 mod nodes;
 pub mod reason;
