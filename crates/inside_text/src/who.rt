@@ -86,7 +86,7 @@ fn push_named(out: &mut Vec<u8>, seat: Seat, name: &Name) -> Result<(), AllocErr
 
 /// Adds the line of a session, which has a name or none.
 pub fn push_seat(out: &mut Vec<u8>, seat: Seat, name: Option<&Name>) -> Result<(), AllocError>
-    ensures { OnOk result (out.new.items ≡ out.old.items ++ seat_line seat (option_map (λ n. n.now) name)) }
+    ensures { OnOk result (out.new.items ≡ out.old.items ++ seat_line seat (option_map (λ n. n.now) name.entry)) }
 {
     match name {
         None => push_nameless(out, seat),

@@ -1,15 +1,15 @@
 -- A start begins an activation exactly where the counters say so.
-use Rattle.std.proofs.Common.{◌≡◌, ℕ, suc, ◌+◌, ◌-◌, ◌≤◌, ◌⊎◌, inl, inr, Bool, true, false, List, ◌∷◌, refl, sym, ap, arith, ◌∙◌, get_or}
+use Rattle.std.proofs.Common.{◌≡◌, ℕ, ◌+◌, inl, inr, Bool, true, false, List, ◌∷◌, refl, sym, ap, arith, ◌∙◌, get_or}
 use Rattle.std.specs.Prelude.{◌==◌, nat_lt, ◌&&◌, ◌||◌, if◌then◌else◌}
 use Rattle.std.proofs.lemmas.Bool.Decides.{nat_tests}
 use Rattle.path_tree.specs.Path.{Path, Paths, name, list, sequence, bound, burst, two, more}
 use Rattle.path_tree.specs.Trace.{Call, Event, Start, IsTrace}
 use Rattle.path_tree.specs.Counts.{started, first_started}
-use Rattle.path_tree.specs.Satisfies.{Holds, EachHolds, InTurn}
+use Rattle.path_tree.specs.Satisfies.{Holds, EachHolds}
 use Rattle.path_tree.specs.Names.{names, some_names, NamesOnce, EachOnce}
 use Rattle.path_tree.proofs.StartLaws.{absent_begins, absent_begins_first, either_false}
 use Rattle.path_count.specs.Program.{slots}
-use Rattle.path_count.specs.Kept.{Kept, KeptEach, KeptTurns}
+use Rattle.path_count.specs.Kept.{Kept, KeptTurns}
 use Rattle.path_count.proofs.Walk.{opens, opens_some, opens_first, choose, or_right}
 use Rattle.path_count.proofs.Starting.{start_begins, start_begins_first}
 use Rattle.path_law.proofs.Drains.{either}

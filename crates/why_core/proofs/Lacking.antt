@@ -1,9 +1,9 @@
 -- What nodes lack by their counters is what they lack over the trace.
-use Rattle.std.proofs.Common.{◌≡◌, ℕ, suc, ◌+◌, ◌-◌, ◌<◌, ◌≤◌, ◌⊎◌, inl, inr, Bool, true, false, not, List, [], ◌∷◌, ◌++◌, refl, sym, ap, subst, arith, ◌∙◌, get_or}
-use Rattle.std.specs.Prelude.{◌==◌, nat_lt, ◌&&◌, ◌||◌, ◌↔◌, if◌then◌else◌}
+use Rattle.std.proofs.Common.{◌≡◌, ℕ, suc, ◌+◌, ◌-◌, ◌≤◌, ◌⊎◌, inl, inr, Bool, true, false, not, List, [], ◌∷◌, ◌++◌, refl, sym, ap, subst, arith, ◌∙◌, get_or}
+use Rattle.std.specs.Prelude.{◌==◌, nat_lt, ◌&&◌, ◌↔◌, if◌then◌else◌}
 use Rattle.std.proofs.lemmas.Bool.Decides.{nat_tests}
 use Rattle.path_tree.specs.Path.{Path, Paths, name, list, sequence, bound, burst, two, more}
-use Rattle.path_tree.specs.Trace.{Call, Event, Start, IsTrace}
+use Rattle.path_tree.specs.Trace.{Event, Start, IsTrace}
 use Rattle.path_tree.specs.Counts.{started, ended, active, first_started}
 use Rattle.path_tree.specs.Satisfies.{Holds, EachHolds, InTurn}
 use Rattle.path_tree.specs.Names.{NamesOnce, EachOnce}
@@ -11,7 +11,6 @@ use Rattle.path_tree.specs.Limits.{node_count}
 use Rattle.path_count.specs.Program.{slots}
 use Rattle.path_count.specs.Kept.{Kept, KeptEach, KeptTurns}
 use Rattle.path_law.specs.Calls.{called}
-use Rattle.path_law.specs.Needs.{WouldBegin}
 use Rattle.stuck_core.specs.Nodes.{enders}
 use Rattle.why_core.specs.declared.reason.Lack.{Lack}
 use Rattle.why_core.specs.declared.reason.Lack.TheVariants as lacks

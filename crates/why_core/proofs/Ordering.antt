@@ -1,6 +1,6 @@
 -- Reasons are told in the order of paths and nodes, each node once.
-use Rattle.std.proofs.Common.{◌≡◌, ℕ, ◌+◌, ◌<◌, ◌≤◌, ◌⊎◌, inl, inr, Bool, true, false, List, [], ◌∷◌, ◌++◌, refl, sym, ap, subst, arith, ◌∙◌, get_or}
-use Rattle.std.specs.Prelude.{◌==◌, ◌&&◌, ◌||◌, if◌then◌else◌}
+use Rattle.std.proofs.Common.{◌≡◌, ℕ, ◌+◌, ◌<◌, ◌≤◌, inl, inr, Bool, true, false, List, [], ◌∷◌, ◌++◌, refl, sym, ap, subst, arith, ◌∙◌, get_or}
+use Rattle.std.specs.Prelude.{◌==◌, ◌&&◌, ◌||◌}
 use Rattle.path_tree.specs.Path.{Path, Paths, name, list, sequence, bound, burst, two, more}
 use Rattle.path_tree.specs.Names.{names, some_names, NamesOnce, EachOnce}
 use Rattle.path_tree.specs.Limits.{node_count, count_of_all}

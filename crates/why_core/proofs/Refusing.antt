@@ -1,8 +1,8 @@
 -- A path refuses a start exactly where one of its nodes lacks something, and until what that node needs has ended.
-use Rattle.std.proofs.Common.{◌≡◌, ℕ, suc, ◌+◌, ◌-◌, ◌<◌, ◌≤◌, ◌⊎◌, inl, inr, Bool, true, false, List, [], ◌∷◌, refl, sym, subst, arith, ◌∙◌}
+use Rattle.std.proofs.Common.{◌≡◌, ℕ, suc, ◌+◌, ◌≤◌, inl, inr, false, List, [], ◌∷◌, refl, subst, arith}
 use Rattle.std.proofs.lemmas.Bool.Decides.{leb_tells}
 use Rattle.path_tree.specs.Path.{Path, Paths, name, list, sequence, bound, burst, two, more}
-use Rattle.path_tree.specs.Trace.{Call, Event, Start, End, IsTrace}
+use Rattle.path_tree.specs.Trace.{Event, Start, IsTrace}
 use Rattle.path_tree.specs.Counts.{started, ended, active, first_started}
 use Rattle.path_tree.specs.Satisfies.{Holds, EachHolds, InTurn, Satisfies}
 use Rattle.path_tree.specs.Names.{NamesOnce, EachOnce}
@@ -10,7 +10,7 @@ use Rattle.path_tree.specs.Limits.{node_count}
 use Rattle.path_tree.proofs.StartLaws.{start_finishes}
 use Rattle.path_count.proofs.Starting.{le_now}
 use Rattle.path_law.specs.Calls.{called}
-use Rattle.path_law.specs.Needs.{ends_by, GoesOnWithout, same, start, end, WouldBegin}
+use Rattle.path_law.specs.Needs.{ends_by, GoesOnWithout, same, start, end}
 use Rattle.path_law.proofs.NeedsEnd.{full, turn}
 use Rattle.path_law.proofs.KeptApart.{begins_once, begins_once_first}
 use Rattle.stuck_core.specs.Nodes.{enders}
@@ -18,7 +18,7 @@ use Rattle.stuck_core.specs.Waits.{is_among}
 use Rattle.stuck_core.proofs.Forms.{among_enders}
 use Rattle.why_core.specs.declared.reason.Lack.{Lack}
 use Rattle.why_core.specs.declared.reason.Lack.TheVariants as lacks
-use Rattle.why_core.specs.Lacks.{Why, IsOf, IsFull, HasNoFinish, first_of, Lacks, EachLacks, TurnLacks, WaitsFor}
+use Rattle.why_core.specs.Lacks.{Why, first_of, Lacks, EachLacks, TurnLacks, WaitsFor}
 use Rattle.why_core.proofs.Lacking.{first_is}
 
 -- ---- a node that lacks something refuses the start ----

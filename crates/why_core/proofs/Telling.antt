@@ -1,18 +1,17 @@
 -- What is told of an operation that waits is so.
-use Rattle.std.proofs.Common.{◌≡◌, ℕ, zero, suc, ◌+◌, ◌<◌, ◌≤◌, ◌⊎◌, inl, inr, Bool, true, false, List, [], ◌∷◌, ◌++◌, Option, Some, None, refl, sym, ap, subst, arith, ◌∙◌, length}
+use Rattle.std.proofs.Common.{◌≡◌, ℕ, zero, suc, ◌+◌, ◌≤◌, ◌⊎◌, inl, inr, List, [], ◌∷◌, ◌++◌, Some, None, refl, sym, subst, arith}
 use Rattle.std.specs.Prelude.{◌↔◌, slice_get}
-use Rattle.path_tree.specs.Path.{Path, Paths, name, list, sequence, bound, burst, two, more}
+use Rattle.path_tree.specs.Path.{Path}
 use Rattle.path_tree.specs.Trace.{Event, Start, IsTrace}
-use Rattle.path_tree.specs.Satisfies.{Holds, Satisfies, SatisfiesAll}
+use Rattle.path_tree.specs.Satisfies.{Satisfies, SatisfiesAll}
 use Rattle.path_tree.specs.Names.{NamesOnce}
 use Rattle.path_tree.proofs.CountLaws.{holds_now}
 use Rattle.path_count.specs.Program.{slots}
 use Rattle.path_count.specs.Object.{KeptAll, AllOnce}
-use Rattle.path_count.specs.Kept.{Kept}
 use Rattle.path_law.specs.Calls.{called}
 use Rattle.why_core.specs.Lacks.{Why, Lacks, SomeLacks, WaitsFor}
 use Rattle.why_core.specs.Reasons.{whys, all_whys}
-use Rattle.why_core.specs.Tells.{IsCounted, IsOneOf, IsPathOf, AreInOrder, Tells}
+use Rattle.why_core.specs.Tells.{IsCounted, IsOneOf, IsPathOf, Tells}
 use Rattle.why_core.proofs.Lacking.{one_left, one_right, one_either, Are, are}
 use Rattle.why_core.proofs.Refusing.{refuses, allows, waits}
 use Rattle.why_core.proofs.Ordering.{all_in_order}
