@@ -121,7 +121,8 @@ fn is_said(alloc: Global, object: &Object, row: &Row) -> bool {
     let mut out = Vec::new(alloc);
     match reasons(alloc, &object.paths, row.words, row.operation) {
         Err(_) => false,
-        Ok(found) => push_why(&mut out, object, 9, &found, &[]).is_ok() && out == row.text,
+        Ok(found) => push_why(&mut out, object, 9, &found, &[]).is_ok()
+            && out.as_slice() == row.text,
     }
 }
 
@@ -151,10 +152,11 @@ fn others(alloc: Global, object: &Object) -> Option<Vec<u8>> {
 #[test]
 fn calls_that_run_are_told(rt: HostRuntime) {
     let object = object_of(&rt, rt.alloc(), BUFFER);
-    let text = b"why 2 Waiting 1\nruns 1 s3 deposit\nwhy 1 Running\nwhy 7 Ended\nwhy 8 Unknown\n";
+    let text: &[u8] =
+        b"why 2 Waiting 1\nruns 1 s3 deposit\nwhy 1 Running\nwhy 7 Ended\nwhy 8 Unknown\n";
     match others(rt.alloc(), &object) {
         None => panic!(rt; "memory"),
-        Some(out) => assert!(rt; out == text),
+        Some(out) => assert!(rt; out.as_slice() == text),
     }
 }
 
@@ -188,7 +190,7 @@ fn seats(alloc: Global, object: &Object) -> Option<Vec<u8>> {
 #[test]
 fn sessions_and_their_calls_are_told(rt: HostRuntime) {
     let object = object_of(&rt, rt.alloc(), BUFFER);
-    let text = b"who 4
+    let text: &[u8] = b"who 4
 session s4 for 60 calls 7 name alice
 session s4 for 60 calls 7
 waits 12 s4 remove for 3 path 1 node 1 turn 1
@@ -198,7 +200,7 @@ waits 12 s4 remove path 2 node 0 full
 ";
     match seats(rt.alloc(), &object) {
         None => panic!(rt; "memory"),
-        Some(out) => assert!(rt; out == text),
+        Some(out) => assert!(rt; out.as_slice() == text),
     }
 }
 
@@ -206,7 +208,8 @@ waits 12 s4 remove path 2 node 0 full
 fn operations_are_told(rt: HostRuntime) {
     let object = object_of(&rt, rt.alloc(), BOOK);
     let mut out = Vec::new(rt.alloc());
-    let text = b"list 3\nobject book\nprocedure write k:text x:text\nfunction find:text k:text\n";
+    let text: &[u8] =
+        b"list 3\nobject book\nprocedure write k:text x:text\nfunction find:text k:text\n";
     assert!(rt; push_only(&mut out, &object).is_ok());
-    assert!(rt; out == text);
+    assert!(rt; out.as_slice() == text);
 }
