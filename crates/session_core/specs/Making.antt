@@ -25,21 +25,23 @@ pub record IsCallOf (name : List ℕ) (args : List Datum) (call : Call) : Type 0
   pub named : HasName name call.operation
   pub arguments : call.arguments ≡ args
 
--- one more receipt came, and it is of such a call
-pub record AddsOne (name : List ℕ) (args : List Datum) (old new : List Told) : Type 0 where
+-- one more receipt came, and it is of such a call by this session
+pub record AddsOne (session : ℕ) (name : List ℕ) (args : List Datum) (old new : List Told) : Type 0 where
   pub receipt : Told
+  pub by : receipt.session ≡ session
   pub of : IsCallOf name args receipt.call
   pub behind : new ≡ old ++ receipt ∷ []
 
--- a call was made once, or not: a receipt of it came, or none did
-abbrev pub MakesOnce : List ℕ → List Datum → List Told → List Told → Type 0
-MakesOnce name args old new = (new ≡ old) ⊎ AddsOne name args old new
+-- a call was made once by this session, or not: a receipt of it came, or none did
+abbrev pub MakesOnce : ℕ → List ℕ → List Datum → List Told → List Told → Type 0
+MakesOnce session name args old new = (new ≡ old) ⊎ AddsOne session name args old new
 
 -- the same of a call under this key, or none, by the seat that is there; and only one that is to be made is
 abbrev pub MakesCall : Option Entered → Option ℕ → List ℕ → List Datum → List Told → List Told → Type 0
 MakesCall seat key name args old new =
     (new ≡ old)
-    ⊎ ((e : Entered) × (seat ≡ Some e) × IsNew (asked_by e.seat.session name args) key × AddsOne name args old new)
+    ⊎ ((e : Entered) × (seat ≡ Some e) × IsNew (asked_by e.seat.session name args) key
+        × AddsOne e.seat.session name args old new)
 
 -- what a line asks for was done: the call that it asks for, and no other
 abbrev pub MakesFor : Action → Option Entered → List Told → List Told → Type 0

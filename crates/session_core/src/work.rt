@@ -310,8 +310,8 @@ fn keep(receipts: &mut Vec<Slip>, room: &mut SlipRoom, place: usize, session: u3
     }
 }
 
-// One call, where there is room for its receipt. What earlier calls left is retired before it is submitted, while no
-// other call waits for this one.
+// One call, where there is room for its receipt, which tells of the seat's own session: one of another would not stand at
+// the close. What earlier calls left is retired before it is submitted, while no other call waits for this one.
 fn serve_at<R: Wait + Clock, I: Read + Drop, W: Write + Drop, H: Hand + Drop, J: Start>(
     service: Service<'_, R, Office, W, J>,
     reading: &mut Reading<'_, I>,
@@ -324,8 +324,9 @@ fn serve_at<R: Wait + Clock, I: Read + Drop, W: Write + Drop, H: Hand + Drop, J:
     ensures told { AreTrue H.agrees worked.old.hand worked.old.receipts.items →
         AreTrue H.agrees worked.new.hand worked.new.receipts.items }
     ensures works { WorksOn H.makes worked.old.hand worked.old.free.items worked.new.hand worked.new.free.items }
-    ensures made { MakesOnce op.now args.now worked.old.receipts.items worked.new.receipts.items }
+    ensures made { MakesOnce seat.old.session op.now args.now worked.old.receipts.items worked.new.receipts.items }
 {
+    let own = seat.session();
     retire_left(service.alloc, &mut worked.hand, &mut worked.free);
     if !make_room(service, &mut worked.receipts, &mut worked.room, args) {
         say(service, Line::Unsubmitted(SubmitFault::Memory));
@@ -342,14 +343,14 @@ fn serve_at<R: Wait + Clock, I: Read + Drop, W: Write + Drop, H: Hand + Drop, J:
         .say_ended(service.rt, outcome.number(), outcome.reply());
     let Finished {
         place,
-        session,
+        session: _,
         free,
     } = finished;
     keep(
         &mut worked.receipts,
         &mut worked.room,
         place,
-        session,
+        own,
         outcome,
     );
     put_off(&mut worked.hand, free, &mut worked.free);

@@ -1,5 +1,7 @@
+use Rattle.std.proofs.Common.{ℕ, subst}
 use Rattle.slip_core.specs.Slips.{told_by}
 use Rattle.talk_core.proofs.Truths.{more_true}
+use Rattle.session_core.specs.Making.{MakesOnce}
 use Rattle.session_core.proofs.Making.{one_made}
 use Rattle.session_core.proofs.Telling.{as_true}
 use Rattle.session_core.proofs.Working.{handed_out, worked_on}
@@ -9,15 +11,16 @@ pub returns-clause-told : goal.returns-clause-told
 returns-clause-told g c =
     let f = c.completed-finished.result in
     let o = c.completed-finished.new.outcome in
-    more_true g.H.Hand.agrees c.args.worked.now.hand c.performed-outcome.new.hand c.put_off.new.hand c.args.worked.now.receipts.items c.make_room.new.receipts.items c.keep.new.receipts.items (told_by f.place f.session o)
+    more_true g.H.Hand.agrees c.args.worked.now.hand c.performed-outcome.new.hand c.put_off.new.hand c.args.worked.now.receipts.items c.make_room.new.receipts.items c.keep.new.receipts.items (told_by f.place c.session-own.result o)
     c.make_room.ensures.same c.keep.ensures (λ a later. c.retire_left.ensures.kept a (c.performed-outcome.ensures.kept a later)) c.put_off.ensures.kept
     (λ a later. as_true a c.performed-outcome.result o c.completed-finished.ensures.same (c.performed-outcome.ensures.told a later))
 
 pub returns-clause-made : goal.returns-clause-made
 returns-clause-made g c =
     let f = c.completed-finished.result in
-    one_made c.args.op.now c.args.args.now c.in-Some.ticket c.performed-outcome.result c.completed-finished.new.outcome f.place f.session c.args.worked.now.receipts.items c.make_room.new.receipts.items c.keep.new.receipts.items
-    c.in-Some.ensures.named c.in-Some.ensures.arguments c.performed-outcome.ensures.call c.completed-finished.ensures.same c.make_room.ensures.same c.keep.ensures
+    subst (λ (n : ℕ). MakesOnce n c.args.op.now c.args.args.now c.args.worked.now.receipts.items c.keep.new.receipts.items) c.session-own.ensures
+    (one_made c.args.op.now c.args.args.now c.in-Some.ticket c.performed-outcome.result c.completed-finished.new.outcome f.place c.session-own.result c.args.worked.now.receipts.items c.make_room.new.receipts.items c.keep.new.receipts.items
+    c.in-Some.ensures.named c.in-Some.ensures.arguments c.performed-outcome.ensures.call c.completed-finished.ensures.same c.make_room.ensures.same c.keep.ensures)
 
 pub returns-clause-works : goal.returns-clause-works
 returns-clause-works g c =
