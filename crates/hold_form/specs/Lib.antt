@@ -1,0 +1,2 @@
+pub mod HoldForm
+pub mod HoldMap

@@ -1,0 +1,5 @@
+pub mod HoldSteps
+pub mod HoldsFit
+pub mod HoldsExact
+pub mod Ruled
+pub mod Reading
