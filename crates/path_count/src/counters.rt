@@ -109,6 +109,14 @@ impl Counters {
         self.running[at]
     }
 
+    /// What they hold: for each bound and each burst how many of its activations are open, and for each semicolon how many
+    /// finishes no start has used, in the order of the paths.
+    pub fn words(&self) -> &[u64]
+        ensures { result.now ≡ self.now.words }
+    {
+        &self.words
+    }
+
     /// Whether other counters have counted the same: of two traces that leave the same counters, what may follow the one
     /// may follow the other.
     pub fn leaves_same(&self, other: &Counters) -> bool

@@ -1,11 +1,12 @@
 //! Which paths refuse a start now, and where.
 
-ghost use Rattle.std.specs.Prelude.{◌≡◌, ◌++◌, ◌∷◌, [], ◌+◌, ◌<◌, ◌≤◌, ◌^◌, List, length, IfOk, OnOk};
+ghost use Rattle.std.specs.Prelude.{◌≡◌, ◌++◌, ◌∷◌, [], ◌+◌, ◌<◌, ◌≤◌, ◌^◌, ℕ, List, length, IfOk, OnOk};
 ghost use Rattle.path_tree.specs.Path.{path_of, paths_of};
 ghost use Rattle.path_tree.specs.Trace.{Event};
 ghost use Rattle.path_tree.specs.Limits.{node_count, count_of_all};
 ghost use Rattle.path_count.specs.Program.{slots, slots_of};
 ghost use Rattle.path_count.specs.Object.{all_slots};
+ghost use Rattle.path_count.specs.Stands.{StandsFor};
 ghost use Rattle.why_core.specs.Reasons.{one_why, is_full, is_used_up, whys, each_whys, turn_whys, all_whys};
 ghost use Rattle.why_core.specs.Found.{whys_of};
 ghost use Rattle.why_core.specs.Tells.{IsCounted, Tells};
@@ -13,6 +14,7 @@ ghost use Rattle.why_core.specs.declared.reason.Lack.TheVariants as lacks;
 
 use crate::nodes::{begins, begins_first, counters, nodes_of, push_enders, word};
 use crate::reason::{Lack, Reason};
+use path_count::counters::Counters;
 use path_tree::node::{Members, Node, OpId};
 use path_tree::tree::PathTree;
 use std::alloc::{AllocError, Global};
@@ -227,5 +229,19 @@ pub fn reasons(
 {
     let mut found = Vec::new(alloc);
     push_paths(alloc, paths, op, words, &mut found)?;
+    Ok(found)
+}
+
+/// The same by the counters of the paths: where these stand for a trace, it is told of that trace.
+pub fn reasons_by(
+    alloc: Global,
+    paths: &[PathTree],
+    counters: &Counters,
+    op: OpId,
+) -> Result<Vec<Reason>, AllocError>
+    ensures { IfOk result (λ found. (n : ℕ) (t : List Event) → StandsFor counters.now n paths.now t →
+        Tells paths.now op t (whys_of found.items)) }
+{
+    let found = reasons(alloc, paths, counters.words(), op)?;
     Ok(found)
 }
