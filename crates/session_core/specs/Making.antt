@@ -41,7 +41,7 @@ abbrev pub MakesCall : Option Entered → Option ℕ → List ℕ → List Datum
 MakesCall seat key name args old new =
     (new ≡ old)
     ⊎ ((e : Entered) × (seat ≡ Some e) × IsNew (asked_by e.seat.session name args) key
-        × AddsOne e.seat.session name args old new)
+    × AddsOne e.seat.session name args old new)
 
 -- what a line asks for was done: the call that it asks for, and no other
 abbrev pub MakesFor : Action → Option Entered → List Told → List Told → Type 0

@@ -346,13 +346,7 @@ fn serve_at<R: Wait + Clock, I: Read + Drop, W: Write + Drop, H: Hand + Drop, J:
         session: _,
         free,
     } = finished;
-    keep(
-        &mut worked.receipts,
-        &mut worked.room,
-        place,
-        own,
-        outcome,
-    );
+    keep(&mut worked.receipts, &mut worked.room, place, own, outcome);
     put_off(&mut worked.hand, free, &mut worked.free);
 }
 
