@@ -1,18 +1,26 @@
 #!/usr/bin/env python3
-"""Measures what a call takes in an audit, by how many entries the part has on which it is done.
+"""Measures what a call takes by how many entries its part has, and how long they are.
 
-usage: bench/size.py [--program FILE] [--bytes N]
+usage: bench/size.py [--program FILE] [--only WORD] [--ways WORD,..] [--bytes N,..] [--sizes N,..] [--calls N] [--instructions]
 
-Of each operation on a queue or a table of texts: microseconds of a processor a call, on a part of 1, 10, 100 and 1,000
-entries. A trace of 20,000 calls is audited, its lines are read and all; what a trace of 10 calls takes is taken off, and the
-least of three runs counts. Texts have N bytes (8), keys 8. The program is the one that ./pathserve runs, or FILE.
+Of a queue of texts, a table of integers, a table of texts and an array of texts, with 1, 10, 100 and 1,000 entries of 10 and of
+200 bytes (the keys of a table of integers are as long; other keys have 8): microseconds of a processor a call for each form of
+body, in `run`, `serve`, `keep` and `audit`, and beside it those of Redis for the like call, of which it keeps nothing on a
+disk. A part is filled, and then N calls (1,000; in an audit 20 times as many) are made. Of `run` and `audit` the process is
+taken, less that of a script or a trace without the N calls; of a server its threads, from the first of the N calls to the
+answer to the last one, sent in lots. Each answer is looked at, and the least of three runs counts. The last column is the
+figure of the most entries over that of the fewest, and behind it stands the same of the steps of a call, as `run` tells them.
 
-Where `redis-server` is installed, the like calls of one follow: 20,000 in lots of 100, of which it keeps nothing on a disk.
-It is no part of the gate.
+--ways has those of run, serve, keep, audit and redis that are wanted. With --instructions it is `run` alone, and what is
+counted is instructions of the program, by valgrind's callgrind: on a busy machine that tells more. The program is the one that
+./pathserve runs, or FILE; Redis is measured where `redis-server` is installed. The folders are made where TMPDIR says. It is no
+part of the gate.
 """
 import argparse
+import contextlib
 import os
 import pathlib
+import re
 import shutil
 import socket
 import subprocess
@@ -21,7 +29,8 @@ import tempfile
 import time
 
 sys.dont_write_bytecode = True
-sys.path.insert(0, str(pathlib.Path(__file__).resolve().parent.parent / "tools"))
+sys.path.insert(0, str(pathlib.Path(__file__).resolve().parent))
+import keys  # noqa: E402  (and the path of tools/)
 from ready import given_words, program  # noqa: E402
 
 OBJECTS = """object line;
@@ -34,83 +43,57 @@ OBJECTS = """object line;
   entry function oldest : text; begin oldest := first(items) end;
   entry function size : integer; begin size := count(items) end;
 end;
+object tally;
+  path 1:(look, known, put, cut, lose, size) end;
+  var items : table of integer;
+  entry function look(k : text) : integer; begin look := lookup(items, k) end;
+  entry function known(k : text) : integer; begin if has(items, k) then known := 1 else known := 0 end;
+  entry procedure put(k : text; x : integer); begin store(items, k, x) end;
+  entry procedure cut(k : text); begin erase(items, k) end;
+  entry procedure lose(k : text; x : integer); begin store(items, k, x); refuse('lost') end;
+  entry function size : integer; begin size := count(items) end;
+end;
 object book;
-  path 1:(look, known, put, cut) end;
+  path 1:(look, known, put, cut, lose, size) end;
   var items : table of text;
   entry function look(k : text) : text; begin look := lookup(items, k) end;
   entry function known(k : text) : integer; begin if has(items, k) then known := 1 else known := 0 end;
   entry procedure put(k, x : text); begin store(items, k, x) end;
   entry procedure cut(k : text); begin erase(items, k) end;
+  entry procedure lose(k, x : text); begin store(items, k, x); refuse('lost') end;
+  entry function size : integer; begin size := count(items) end;
+end;
+object shelf;
+  path 1:(put, lose, look) end;
+  var items : array [SIZE] of text;
+  entry procedure put(i : integer; x : text); begin items[i] := x end;
+  entry procedure lose(i : integer; x : text); begin items[i] := x; refuse('lost') end;
+  entry function look(i : integer) : text; begin look := items[i] end;
 end;
 """
 SIZES = (1, 10, 100, 1_000)
-CALLS = 20_000
-FEW = 10
+BYTES = (10, 200)
+WAYS = ("run", "serve", "keep", "audit", "redis")
 RUNS = 3
-LOT = 100
+LOT = 16
+ENDED = re.compile(rb"(?:done|refused) \d+ ?(.*)")
 
 
 def text(number, length):
     return f"{number:0{length}}"
 
 
-def spelled(words):
-    """The bytes of texts in a value, each behind its length."""
-    return b"".join(len(it).to_bytes(2, "big") + it.encode() for it in words)
+class Row:
+    """A form of body on an object: its title, call N (from 0) with its answer, the calls that fill the part, and the like request of
+    Redis with its answer, and those that fill it, where there is one."""
 
-
-def opening(name, size, length):
-    """The bytes of the part: the kind of a queue or a table of texts, how many entries it has, and these."""
-    rows = [text(it, length) for it in range(size)]
-    if name == "book":
-        rows = [it for row, value in enumerate(rows) for it in (text(row, 8), value)]
-    return (b"\2\4" if name == "line" else b"\2\6") + size.to_bytes(2, "big") + spelled(rows)
-
-
-def queue_calls(size, length):
-    """Of each operation on the queue its title, and call N (from 0) with its answer."""
-    new = lambda n: text(size + n, length)
-    return {
-        "append, take, in turn": lambda n: (f"put '{new(n)}'", "done") if n % 2 == 0 else ("drop", "done"),
-        "append and take in one body": lambda n: (f"pass '{new(n)}'", "done"),
-        "the same, refused": lambda n: (f"lose '{new(n)}'", "refused lost"),
-        "first": lambda n: ("oldest", f"done '{text(0, length)}'"),
-        "count": lambda n: ("size", f"done {size}"),
-    }
-
-
-def table_calls(size, length):
-    """The same of the table. A new key stands in its middle."""
-    key, value, new = lambda n: text(n % size, 8), lambda n: text(n % size, length), text(size // 2, 8) + "x"
-    return {
-        "lookup": lambda n: (f"look '{key(n)}'", f"done '{value(n)}'"),
-        "has": lambda n: (f"known '{key(n)}'", "done 1"),
-        "store, the key there": lambda n: (f"put '{key(n)}' '{value(n)}'", "done"),
-        "store a new key, erase it, in turn": lambda n: (f"put '{new}' ''" if n % 2 == 0 else f"cut '{new}'", "done"),
-    }
-
-
-def seconds(folder, name, part, call, count):
-    """The processor time of an audit of so many calls."""
-    trace = folder / "trace"
-    with open(trace, "w", encoding="ascii") as out:
-        out.write(f"object {name}\npart items {part.hex()}\n")
-        for number in range(count):
-            asked, answer = call(number)
-            out.write(f"start {number + 1} s1 {asked}\nend {number + 1} {answer}\n")
-    times = []
-    for _ in range(RUNS):
-        process = subprocess.Popen([program(), "audit", folder / "objects", trace], stdout=subprocess.PIPE)
-        said = process.stdout.read()
-        _, _, used = os.wait4(process.pid, 0)
-        if said != f"legal {count}\n".encode():
-            raise SystemExit(f"another answer: {said!r}")
-        times.append(used.ru_utime + used.ru_stime)
-    return min(times)
+    def __init__(self, name, title, call, fill, request=None, filling=None):
+        self.name, self.title, self.call, self.fill, self.request, self.filling = name, title, call, fill, request, filling
 
 
 def asked(*words):
-    """A call of Redis."""
+    """A request of Redis."""
+    words = [str(it) for it in words]
     return f"*{len(words)}\r\n".encode() + b"".join(f"${len(it)}\r\n{it}\r\n".encode() for it in words)
 
 
@@ -119,92 +102,278 @@ def told(value):
     return f":{value}\r\n".encode() if isinstance(value, int) else f"${len(value)}\r\n{value}\r\n".encode()
 
 
-def redis_calls(size, length):
-    """Of each operation of Redis its title, and call N (from 0) with its answer: on a list and a hash of so many entries."""
-    key, value, new = lambda n: text(n % size, 8), lambda n: text(n % size, length), text(size // 2, 8) + "x"
-    queued = lambda n: text(n if n < size else size + 2 * (n - size), length)
-    pushes = lambda n: (asked("RPUSH", "line", text(size + n, length)), told(size + 1))
-    pops = lambda n: (asked("LPOP", "line"), told(queued(n // 2)))
-    return {
-        "RPUSH, LPOP, in turn": lambda n: pushes(n) if n % 2 == 0 else pops(n),
-        "LINDEX 0": lambda n: (asked("LINDEX", "line", "0"), told(text(0, length))),
-        "HGET": lambda n: (asked("HGET", "book", key(n)), told(value(n))),
-        "HSET, the key there": lambda n: (asked("HSET", "book", key(n), value(n)), told(0)),
-        "HSET a new key, HDEL it, in turn": lambda n: (asked("HSET", "book", new, ""), told(1)) if n % 2 == 0 else (asked("HDEL", "book", new), told(1)),
-    }
+def queue_rows(size, length):
+    new, old = lambda n: text(size + n, length), lambda n: text(n, length)
+    fill = [f"put '{old(it)}'" for it in range(size)]
+    filling = [(asked("RPUSH", "line", old(it)), told(it + 1)) for it in range(size)]
+    kept = lambda n: text(n if n < size else size + 2 * (n - size), length)
+    turns = lambda n: (asked("RPUSH", "line", new(n)), told(size + 1)) if n % 2 == 0 else (asked("LPOP", "line"), told(kept(n // 2)))
+    for title, call, request in (
+        ("append, take, in turn", lambda n: (f"put '{new(n)}'", "") if n % 2 == 0 else ("drop", ""), turns),
+        ("append and take in one body", lambda n: (f"pass '{new(n)}'", ""), None),
+        ("the same, refused", lambda n: (f"lose '{new(n)}'", "lost"), None),
+        ("first", lambda n: ("oldest", f"'{old(0)}'"), lambda n: (asked("LINDEX", "line", 0), told(old(0)))),
+        ("count", lambda n: ("size", f"{size}"), lambda n: (asked("LLEN", "line"), told(size))),
+    ):
+        yield Row("line", title, call, fill, request, filling)
 
 
-class Redis:
-    """A server of Redis in a folder, which keeps nothing."""
+def table_rows(name, size, length):
+    wide = length if name == "tally" else 8
+    key = lambda n: text(n % size, wide)
+    value = (lambda n: str(n + 1)) if name == "tally" else (lambda n: text(n, length))
+    word = (lambda n: value(n)) if name == "tally" else (lambda n: f"'{value(n)}'")
+    new = text(size // 2, wide) + "x"
+    fill = [f"put '{key(it)}' {word(it)}" for it in range(size)]
+    filling = [(asked("HSET", name, key(it), value(it)), told(1)) for it in range(size)]
+    turns = lambda n: (asked("HSET", name, new, value(n)), told(1)) if n % 2 == 0 else (asked("HDEL", name, new), told(1))
+    for title, call, request in (
+        ("lookup", lambda n: (f"look '{key(n)}'", word(n % size)), lambda n: (asked("HGET", name, key(n)), told(value(n % size)))),
+        ("has", lambda n: (f"known '{key(n)}'", "1"), lambda n: (asked("HEXISTS", name, key(n)), told(1))),
+        ("has, no such key", lambda n: (f"known '{new}'", "0"), lambda n: (asked("HEXISTS", name, new), told(0))),
+        ("count", lambda n: ("size", f"{size}"), lambda n: (asked("HLEN", name), told(size))),
+        ("store, the key there", lambda n: (f"put '{key(n)}' {word(size + n)}", ""), lambda n: (asked("HSET", name, key(n), value(size + n)), told(0))),
+        ("store a new key, erase it, in turn", lambda n: (f"put '{new}' {word(n)}", "") if n % 2 == 0 else (f"cut '{new}'", ""), turns),
+        ("store, refused", lambda n: (f"lose '{key(n)}' {word(size + n)}", "lost"), None),
+    ):
+        yield Row(name, title, call, fill, request, filling)
 
-    def __init__(self, folder):
-        path = folder / "redis.sock"
-        words = ["--port", "0", "--unixsocket", path, "--save", "", "--appendonly", "no", "--dir", folder]
-        self.process = subprocess.Popen(["redis-server", *words], stdout=subprocess.DEVNULL)
-        self.wire = socket.socket(socket.AF_UNIX)
-        while self.wire.connect_ex(os.fspath(path)):
-            time.sleep(0.05)
 
-    def __enter__(self):
-        return self
+def array_rows(size, length):
+    old, new = lambda n: text(n % size, length), lambda n: text(size + n, length)
+    fill = [f"put {it} '{old(it)}'" for it in range(size)]
+    filling = [(asked("RPUSH", "shelf", old(it)), told(it + 1)) for it in range(size)]
+    for title, call, request in (
+        ("v[i]", lambda n: (f"look {n % size}", f"'{old(n)}'"), lambda n: (asked("LINDEX", "shelf", n % size), told(old(n)))),
+        ("v[i] := x", lambda n: (f"put {n % size} '{new(n)}'", ""), lambda n: (asked("LSET", "shelf", n % size, new(n)), b"+OK\r\n")),
+        ("v[i] := x, refused", lambda n: (f"lose {n % size} '{new(n)}'", "lost"), None),
+    ):
+        yield Row("shelf", title, call, fill, request, filling)
 
-    def __exit__(self, *_):
-        self.wire.close()
-        self.process.terminate()
-        self.process.wait()
 
-    def say(self, calls):
-        """Makes calls, each with its answer, and returns the seconds of a processor that they took."""
-        begun = self.used()
+def rows(size, length):
+    return [*queue_rows(size, length), *table_rows("tally", size, length), *table_rows("book", size, length), *array_rows(size, length)]
+
+
+class Running:
+    """The program on scripts."""
+
+    def __init__(self, folder, options):
+        self.folder, self.options, self.steps = folder, options, {}
+
+    def used(self, row, count):
+        """What a script of so many calls on a part that was filled takes: seconds of a processor, or instructions."""
+        script, counts, answers, notes = (self.folder / it for it in ("script", "counts", "answers", "notes"))
+        calls = row.fill + [row.call(it)[0] for it in range(count)]
+        with open(script, "w", encoding="ascii") as out:
+            out.write(f"object {row.name}\n")
+            for number, call in enumerate(calls, 1):
+                out.write(f"call s1 {call}\nsteps {number}\nfinish {number}\n")
+        tool = ["valgrind", "--tool=callgrind", f"--callgrind-out-file={counts}"] if self.options.instructions else []
+        with open(answers, "wb") as out, open(notes, "wb") as err:
+            ran = subprocess.Popen([*tool, program(), "run", self.folder / "objects", script], stdout=out, stderr=err)
+            _, _, usage = os.wait4(ran.pid, 0)
+        said = answers.read_bytes().split(b"\n")
+        ends = [ENDED.fullmatch(it)[1].decode() for it in said if ENDED.fullmatch(it)]
+        if ends[len(row.fill) :] != [row.call(it)[1] for it in range(count)]:
+            raise SystemExit(f"another answer: {said[-3:]!r}")
+        if count:
+            self.steps[row.title] = [int(it.split()[2]) for it in said if it.startswith(b"steps ")][-2:]
+        return int(re.search(rb"Collected : (\d+)", notes.read_bytes())[1]) if tool else usage.ru_utime + usage.ru_stime
+
+    def measure(self, row, calls):
+        runs = 1 if self.options.instructions else RUNS
+        least = [min(self.used(row, it) for _ in range(runs)) for it in (calls, 0)]
+        return (least[0] - least[1]) / calls * (1 if self.options.instructions else 1e6)
+
+
+def spelled(words):
+    """The bytes of texts in a value, each behind its length."""
+    return b"".join(len(it).to_bytes(2, "big") + it.encode() for it in words)
+
+
+def opening(name, size, length):
+    """The bytes of a part that is filled: its kind, how many entries it has, and these."""
+    old = lambda n: text(n, length)
+    kind, entry = {
+        "line": (4, lambda n: spelled([old(n)])),
+        "tally": (5, lambda n: spelled([old(n)]) + (n + 1).to_bytes(4, "big")),
+        "book": (6, lambda n: spelled([text(n, 8), old(n)])),
+        "shelf": (2, lambda n: spelled([old(n)])),
+    }[name]
+    return bytes([2, kind]) + size.to_bytes(2, "big") + b"".join(map(entry, range(size)))
+
+
+class Auditing:
+    """The program on traces."""
+
+    def __init__(self, folder, size, length):
+        self.folder, self.size, self.length = folder, size, length
+
+    def used(self, row, count):
+        """The processor time of an audit of so many calls."""
+        trace, end = self.folder / "trace", "refused" if row.title.endswith("refused") else "done"
+        with open(trace, "w", encoding="ascii") as out:
+            out.write(f"object {row.name}\npart items {opening(row.name, self.size, self.length).hex()}\n")
+            for number in range(count):
+                call, answer = row.call(number)
+                out.write(f"start {number + 1} s1 {call}\nend {number + 1} {f'{end} {answer}'.strip()}\n")
+        process = subprocess.Popen([program(), "audit", self.folder / "objects", trace], stdout=subprocess.PIPE)
+        said = process.stdout.read()
+        _, _, usage = os.wait4(process.pid, 0)
+        if said != f"legal {count}\n".encode():
+            raise SystemExit(f"another answer: {said!r}")
+        return usage.ru_utime + usage.ru_stime
+
+    def measure(self, row, calls):
+        # (a call of an audit takes little beside the start of a process)
+        calls *= 20
+        least = [min(self.used(row, it) for _ in range(RUNS)) for it in (calls, 0)]
+        return (least[0] - least[1]) / calls * 1e6
+
+
+class Server:
+    """A server over a connection, which sends requests in lots."""
+
+    def __init__(self, process, port):
+        self.process, self.wire = process, socket.create_connection(("127.0.0.1", port))
+        self.held = b""
+
+    def used(self):
+        """The processor time of its threads so far, in microseconds."""
+        tasks = pathlib.Path(f"/proc/{self.process}/task").glob("*/schedstat")
+        return sum(int(it.read_text(encoding="ascii").split()[0]) for it in tasks) / 1000
+
+    def line(self):
+        while b"\n" not in self.held:
+            more = self.wire.recv(1 << 16)
+            if not more:
+                raise SystemExit("the server has left")
+            self.held += more
+        line, _, self.held = self.held.partition(b"\n")
+        return line
+
+    def call(self, calls):
+        """Makes calls, and answers how each ended."""
+        found = []
         for at in range(0, len(calls), LOT):
             lot = calls[at : at + LOT]
+            self.wire.sendall(b"".join(f"call {it}\n".encode() for it in lot))
+            while len(found) < at + len(lot):
+                if end := ENDED.fullmatch(self.line()):
+                    found.append(end[1].decode())
+        return found
+
+    def ask(self, pairs):
+        """Sends requests of Redis, each of which has this answer."""
+        for at in range(0, len(pairs), LOT):
+            lot = pairs[at : at + LOT]
             self.wire.sendall(b"".join(it for it, _ in lot))
             wanted, said = b"".join(it for _, it in lot), b""
             while len(said) < len(wanted):
                 said += self.wire.recv(1 << 16)
             if said != wanted:
                 raise SystemExit(f"another answer: {said!r}")
-        return self.used() - begun
-
-    def used(self):
-        return int(pathlib.Path(f"/proc/{self.process.pid}/schedstat").read_text().split()[0]) / 1e9
-
-    def seconds(self, size, length, call):
-        """The processor time of a call on parts of so many entries."""
-        times = []
-        for _ in range(RUNS):
-            made = [(asked("FLUSHALL"), b"+OK\r\n")]
-            made += [(asked("RPUSH", "line", text(it, length)), told(it + 1)) for it in range(size)]
-            made += [(asked("HSET", "book", text(it, 8), text(it, length)), told(1)) for it in range(size)]
-            self.say(made)
-            times.append(self.say([call(it) for it in range(CALLS)]))
-        return min(times) / CALLS
 
 
-def print_row(title, row):
-    print(f"| {title} | " + " | ".join(f"{it * 1e6:.1f}" for it in row) + " |", flush=True)
+@contextlib.contextmanager
+def begun(words, port, ready):
+    """A server, from when it says that it is ready, to the end of the block."""
+    with subprocess.Popen([os.fspath(it) for it in words], stdout=subprocess.PIPE, stderr=subprocess.STDOUT) as ran:
+        try:
+            for line in ran.stdout:
+                if ready in line:
+                    break
+            else:
+                raise SystemExit(f"{words[0]} does not serve")
+            yield Server(ran.pid, port)
+        finally:
+            ran.kill()
+
+
+class Serving:
+    """The program as a server of one session, by the way `serve` or `keep`."""
+
+    def __init__(self, folder, way):
+        self.folder, self.way = folder, way
+
+    def once(self, row, calls):
+        with tempfile.TemporaryDirectory(dir=self.folder) as place:
+            port = keys.free_port()
+            more = ["--sync", "1000"] if self.way == "keep" else ["--sessions", "1"]
+            with begun([program(), self.way, self.folder / "objects", place, str(port), *more], port, b"listening ") as it:
+                it.wire.sendall(f"open {row.name}\n".encode())
+                it.line()
+                it.call(row.fill)
+                used = it.used()
+                if it.call([row.call(n)[0] for n in range(calls)]) != [row.call(n)[1] for n in range(calls)]:
+                    raise SystemExit(f"another answer to {row.title}")
+                return (it.used() - used) / calls
+
+    def measure(self, row, calls):
+        return min(self.once(row, calls) for _ in range(RUNS))
+
+
+class Beside:
+    """Redis, which keeps nothing."""
+
+    def __init__(self, folder):
+        self.folder = folder
+
+    def once(self, row, calls):
+        port = keys.free_port()
+        words = ["redis-server", "--port", str(port), "--save", "", "--appendonly", "no", "--dir", self.folder]
+        with begun(words, port, b"eady to accept connections") as it:
+            it.ask(row.filling)
+            used = it.used()
+            it.ask([row.request(n) for n in range(calls)])
+            return (it.used() - used) / calls
+
+    def measure(self, row, calls):
+        return min(self.once(row, calls) for _ in range(RUNS)) if row.request else None
+
+
+def measured(way, size, length, options):
+    """Of each form of body its figure by this way, and the steps of its last calls where it is `run`."""
+    with tempfile.TemporaryDirectory(prefix="size-") as made:
+        folder = pathlib.Path(made)
+        (folder / "objects").write_text(OBJECTS.replace("SIZE", str(size)), encoding="ascii")
+        ways = {"run": lambda: Running(folder, options), "audit": lambda: Auditing(folder, size, length), "redis": lambda: Beside(folder)}
+        by = ways.get(way, lambda: Serving(folder, way))()
+        found = {}
+        for row in rows(size, length):
+            if options.only in f"{row.name}: {row.title}":
+                found[f"{row.name}: {row.title}"] = by.measure(row, options.calls), getattr(by, "steps", {}).get(row.title)
+        return found
+
+
+def shown(figure):
+    return "" if figure is None else f"{figure:,.1f}" if figure < 1_000 else f"{figure:,.0f}"
 
 
 def main(words):
+    numbers = lambda text: tuple(int(it) for it in text.split(","))
     parser = argparse.ArgumentParser(usage=__doc__.split("\n\n")[1].removeprefix("usage: "))
-    parser.add_argument("--bytes", type=int, default=8)
-    length = parser.parse_args(words).bytes
-    print("| Microseconds a call | " + " | ".join(f"{it:,}" for it in SIZES) + " |")
-    print("|---" * (1 + len(SIZES)) + "|")
-    with tempfile.TemporaryDirectory() as made:
-        folder = pathlib.Path(made)
-        (folder / "objects").write_text(OBJECTS, encoding="ascii")
-        for name, calls in (("line", queue_calls), ("book", table_calls)):
-            for title in calls(1, length):
-                row = []
-                for size in SIZES:
-                    call, part = calls(size, length)[title], opening(name, size, length)
-                    row.append((seconds(folder, name, part, call, CALLS) - seconds(folder, name, part, call, FEW)) / (CALLS - FEW))
-                print_row(title, row)
-        if shutil.which("redis-server"):
-            with Redis(folder) as redis:
-                for title in redis_calls(1, length):
-                    print_row(title, [redis.seconds(size, length, redis_calls(size, length)[title]) for size in SIZES])
+    parser.add_argument("--only", default="")
+    parser.add_argument("--ways", default=",".join(WAYS))
+    parser.add_argument("--bytes", type=numbers, default=BYTES)
+    parser.add_argument("--sizes", type=numbers, default=SIZES)
+    parser.add_argument("--calls", type=int, default=1_000)
+    parser.add_argument("--instructions", action="store_true")
+    options = parser.parse_args(words)
+    ways = ["run"] if options.instructions else [it for it in options.ways.split(",") if it != "redis" or shutil.which("redis-server")]
+    for length in options.bytes:
+        for way in ways:
+            print(f"{way}, entries of {length} bytes, {'instructions' if options.instructions else 'microseconds'} a call")
+            found = [measured(way, it, length, options) for it in options.sizes]
+            print("| Body | " + " | ".join(f"{it:,}" for it in options.sizes) + " | Ratio |\n" + "|---" * (2 + len(options.sizes)) + "|")
+            for title in found[0]:
+                row = [it[title][0] for it in found]
+                if row[0] is None:
+                    continue
+                steps = [sum(it[title][1]) for it in found] if way == "run" else []
+                ratio = (f"{row[-1] / row[0]:.2f}" if row[0] > 0 else "") + (f" (steps {steps[-1] / steps[0]:.2f})" if steps else "")
+                print(f"| {title} | " + " | ".join(shown(it) for it in row) + f" | {ratio} |", flush=True)
 
 
 if __name__ == "__main__":
