@@ -23,7 +23,7 @@ use value_core::datum::Datum;
 /// A call that is held: its number, its session, the place of its hold in the object, and what it is held with.
 #[derive(Drop)]
 pub struct HeldCall {
-    number: u32,
+    number: u64,
     session: u32,
     rule: usize,
     values: Vec<Datum>,
@@ -38,6 +38,36 @@ impl Model for HeldCall {
     ghost coded = { Prim.hlevel (codes) };
 
     ghost view = { λ h. record { number = h.number; session = h.session; rule = h.rule; values = h.values.items } };
+}
+
+impl HeldCall {
+    /// Its number.
+    pub fn number(&self) -> u64
+        ensures { result ≡ self.now.number }
+    {
+        self.number
+    }
+
+    /// Its session.
+    pub fn session(&self) -> u32
+        ensures { result ≡ self.now.session }
+    {
+        self.session
+    }
+
+    /// The place of its hold in the object, from 0.
+    pub fn rule(&self) -> usize
+        ensures { result ≡ self.now.rule }
+    {
+        self.rule
+    }
+
+    /// What it is held with: its arguments, and its reply behind them.
+    pub fn values(&self) -> &[Datum]
+        ensures { result.now ≡ self.now.values }
+    {
+        &self.values
+    }
 }
 
 /// What is held of an object, the oldest first.
@@ -61,7 +91,7 @@ impl Model for Holds {
 /// A call that has ended: its number, its session, its operation and its arguments.
 #[derive(Clone, Copy)]
 pub struct EndedCall<'a> {
-    pub number: u32,
+    pub number: u64,
     pub session: u32,
     pub operation: OpId,
     pub arguments: &'a [Datum],
@@ -261,6 +291,29 @@ impl Holds {
         &self.held
     }
 
+    /// One call more is held, with these values. The error is that memory was refused, and nothing changes.
+    pub fn add(
+        &mut self,
+        alloc: Global,
+        number: u64,
+        session: u32,
+        rule: usize,
+        values: &[Datum],
+    ) -> Result<(), AllocError>
+        ensures ok { OnOk result (self.new ≡ self.old
+            ++ (record { number = number; session = session; rule = rule; values = values.now }) ∷ []) }
+        ensures err { IsErr result → self.new ≡ self.old }
+    {
+        let values = values.to_vec(alloc)?;
+        self.held.push(HeldCall {
+            number,
+            session,
+            rule,
+            values,
+        })?;
+        Ok(())
+    }
+
     /// Whether a session may call an operation: where it ends a hold that not anybody may end, the session holds what it
     /// would end.
     pub fn may_undo(
@@ -336,7 +389,7 @@ impl Holds {
             × (self.new ≡ left ++ begun (holds_of holds.now) (called_of call.entry) reply.now)) }
         ensures kept { IsErr result → self.new ≡ self.old }
     {
-        let count = self.held.len();
+        let count = self.all().len();
         self.begin(alloc, holds, call, reply)?;
         if let Some(rule) = hold_ended(holds, call.operation) {
             self.give(count, rule, call.session, call.arguments);
