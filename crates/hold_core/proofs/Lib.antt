@@ -1,0 +1,4 @@
+pub mod Given
+pub mod Ending
+pub mod Undoing
+pub mod Newest

@@ -1,0 +1,5 @@
+pub mod Held
+pub mod Places
+pub mod Undo
+pub mod Laws
+pub mod Views
