@@ -1,3 +1,4 @@
+pub mod Beside
 pub mod Forms
 pub mod Going
 pub mod Held
