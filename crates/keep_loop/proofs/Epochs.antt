@@ -1,13 +1,13 @@
 -- Journals that begin anew, turn by turn.
-use Rattle.std.proofs.Common.{◌≡◌, ◌≢◌, ◌⊎◌, inl, inr, ℕ, ◌<◌, List, [], ◌∷◌, ◌++◌, refl, sym, ◌∙◌, ap, subst, append_assoc, length, eqb-true, arith}
+use Rattle.std.proofs.Common.{◌≡◌, ◌⊎◌, inl, inr, ℕ, List, [], ◌∷◌, ◌++◌, refl, sym, ◌∙◌, ap, subst, append_assoc, length, eqb-true, arith}
 use Rattle.std.specs.Prelude.{Bool, true, false, Option, Some, None, if◌then◌else◌, ◌==◌}
 use Rattle.std.proofs.lemmas.Bool.{eqb-false}
 use Rattle.std.proofs.lemmas.List.{append-nil, append_cancel_left, length-append, nil_from_length}
 use Rattle.post_core.specs.Texts.{Begins}
-use Rattle.post_core.specs.Turns.{Asked, Turn, added_by}
+use Rattle.post_core.specs.Turns.{Turn, added_by}
 use Rattle.keep_loop.specs.Seen.{Happened, added_in, stored_in}
 use Rattle.keep_loop.specs.Seen.Happened.{Came, Ended, Broke, Wrote, Noticed, Added, Stored, Changed}
-use Rattle.keep_loop.specs.Epochs.{front_in, before_in, since_in, stored_since, BeginsNot, BeginsNone, change_to, LastBegan, Agrees, AgreesIn, IsAhead, HasBegun}
+use Rattle.keep_loop.specs.Epochs.{front_in, before_in, since_in, stored_since, BeginsNot, BeginsNone, change_to, Agrees, AgreesIn, IsAhead, HasBegun}
 
 none_of_none : (r t : List ℕ) → r ++ t ≡ [] → r ≡ []
 none_of_none r t is = nil_from_length r (let e = sym (length-append r t) ∙ ap length is in omega (arith, e))

@@ -1,5 +1,5 @@
 -- Objects that go on, turn by turn.
-use Rattle.std.proofs.Common.{◌≡◌, ◌≢◌, ◌⊎◌, inl, inr, ◌∙◌, ap, sym, subst, refl, arith, ℕ, zero, suc, ◌<◌, List, [], ◌∷◌, ◌++◌, length, append_assoc, append-nil, eqb-true}
+use Rattle.std.proofs.Common.{◌≡◌, ◌≢◌, ◌⊎◌, inl, inr, ◌∙◌, ap, sym, subst, refl, arith, ℕ, zero, suc, ◌<◌, List, [], ◌∷◌, ◌++◌, length, append_assoc, eqb-true}
 use Rattle.std.specs.Prelude.{Bool, true, false, ◌==◌, Option, Some, None, slice_get, slice_set}
 use Rattle.std.proofs.lemmas.Bool.{eqb-false}
 use Rattle.std.proofs.lemmas.List.{append_cancel_left}
@@ -8,7 +8,6 @@ use Rattle.decl_core.specs.ObjectForm.{ObjectForm}
 use Rattle.front_core.specs.Front.{Opening}
 use Rattle.live_core.specs.Epochs.{numbered_from}
 use Rattle.replay_core.specs.Steps.{nothing_heard}
-use Rattle.recover_core.specs.Playing.{begun_by}
 use Rattle.hosted_core.specs.Fronts.{IsNextFront}
 use Rattle.hosted_core.specs.Scene.{Scene, next_base, next_epoch}
 use Rattle.hosted_core.specs.Steps.{Steps, rests, goes_on}
@@ -22,8 +21,6 @@ use Rattle.written_law.proofs.Telling.{steps_are_told}
 use Rattle.post_core.specs.Texts.{Begins, to}
 use Rattle.post_core.specs.Turns.{Asked, Turn, Runs, added_by}
 use Rattle.post_core.specs.Turns.Asked.{Heard, Noted, Changes}
-use Rattle.keep_loop.specs.declared.keep.Limits.{Limits}
-use Rattle.keep_loop.specs.Seen.{Happened}
 use Rattle.keep_loop.specs.Epochs.{front_in, before_in, BeginsNot, BeginsNone, change_to, Agrees, LastBegan}
 use Rattle.keep_loop.specs.Stands.{SurvivesSince}
 use Rattle.keep_loop.proofs.Crashed.{survives_since}

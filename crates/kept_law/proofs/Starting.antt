@@ -1,5 +1,5 @@
 -- Objects that begin.
-use Rattle.std.proofs.Common.{◌≡◌, ℕ, ◌≤◌, sym, ap, subst}
+use Rattle.std.proofs.Common.{◌≤◌, sym, ap, subst}
 use Rattle.decl_core.specs.ObjectMap.{object_of}
 use Rattle.live_core.specs.Epochs.{told_behind}
 use Rattle.live_core.specs.Hall.{IsHeld}

@@ -15,7 +15,7 @@ use Rattle.recover_core.specs.Lines.{IsLine, AreLines, joined}
 use Rattle.recover_core.specs.Playing.{begun_by}
 use Rattle.hosted_core.specs.Steps as hosted
 use Rattle.written_law.specs.Happens.{all_happen}
-use Rattle.written_law.specs.Read.{Adds, AddsTwice, FrontIsRead, AllIsRead, StoredIsRead, NoFaultIsFound}
+use Rattle.written_law.specs.Read.{Adds, FrontIsRead, AllIsRead, StoredIsRead, NoFaultIsFound}
 use Rattle.written_law.specs.Told.{heard_of, AreTold}
 use Rattle.written_law.proofs.Telling.{steps_are_told}
 
