@@ -126,12 +126,16 @@ ended_word before (Err w) word by is =
     let same : w ≡ word = cc in
     subst IsRefusalWord same by
 
+-- the word of a reply by which a body is refused
+pub refused_told : (types : Types) (word : List ℕ) (body : Body) (args : List Datum) (parts : List Contents) → StatementsTyped types body.statements → IsReplyOn (Refused word) body args parts → IsRefusalWord word
+refused_told types word body args parts typed is =
+    let before : Changed = record { parts = parts; reply = reply_before body.result } in
+    ended_word parts (after_all args body.statements before) word (all_word types args body.statements before typed) is
+
 reply_told : (types : Types) (reply : Reply) (body : Body) (args : List Datum) (parts : List Contents) → StatementsTyped types body.statements → IsReplyOn reply body args parts → TellsDatum reply → IsReply reply
 reply_told types (Done None) body args parts typed is datum = tt
 reply_told types (Done (Some d)) body args parts typed is datum = datum
-reply_told types (Refused word) body args parts typed is datum =
-    let before : Changed = record { parts = parts; reply = reply_before body.result } in
-    ended_word parts (after_all args body.statements before) word (all_word types args body.statements before typed) is
+reply_told types (Refused word) body args parts typed is datum = refused_told types word body args parts typed is
 reply_told types (Failed failure) body args parts typed is datum = tt
 
 -- each reply of a legal history is one that a line can tell, where the data are data

@@ -1,12 +1,13 @@
 -- What is known of clients while their calls are made.
 use Rattle.std.proofs.Common.{◌≡◌, ◌∙◌, ap, sym, subst, refl, arith, ℕ, zero, suc, inl, inr, ◌⊎◌, List, [], ◌∷◌, ◌++◌, Bool, true, false, Some, None, Ok, Err}
-use Rattle.std.specs.Prelude.{slice_get, slice_set}
+use Rattle.std.specs.Prelude.{All, slice_get, slice_set}
 use Rattle.value_core.specs.declared.datum.Datum.{Datum}
+use Rattle.value_core.specs.Datum.{IsDatum}
 use Rattle.decl_core.specs.ObjectMap.{object_of}
 use Rattle.trace_core.specs.Events.{Called}
 use Rattle.live_core.specs.declared.call.Ran.{Ran}
 use Rattle.live_core.specs.declared.live.Taken.{Taken}
-use Rattle.live_core.specs.Hall.{Hall, Told, IsHeld}
+use Rattle.live_core.specs.Hall.{Hall, Told, Every, IsHeld}
 use Rattle.live_core.specs.Lines.{all_lines}
 use Rattle.live_core.specs.Steps.{Leaves}
 use Rattle.guest_core.specs.declared.guest.Guest.{Guest}
@@ -16,7 +17,7 @@ use Rattle.guest_core.specs.Guests.{Guests, IsNamed, HasNoName, with_keys}
 use Rattle.guest_core.specs.Keys.{Keys, asks, Asks, Ends, withdrawn}
 use Rattle.guest_core.specs.Steps.{AtName}
 use Rattle.guest_core.proofs.Changing.{set_same}
-use Rattle.hosted_core.specs.Calls.{IsAsked, IsRemembered, AreRemembered, LetsGo, seat_of, Takes, Calls}
+use Rattle.hosted_core.specs.Calls.{IsAsked, IsRemembered, AreRemembered, LetsGo, seat_of, Takes, RepliesDatum, Calls}
 use Rattle.hosted_core.specs.Scene.{Scene, told_of, with_guests}
 
 -- a session is that of a name, or of none
@@ -164,15 +165,22 @@ remembered_then old first mid new r all more same one left rest is =
     whole : AreRemembered first first.guests (r ∷ more) new.guests
     whole = (mid.guests, one, along more mid.guests (subst (λ (s : Scene). AreRemembered s mid.guests more new.guests) left rest))
 
+-- what these replied that ran can be written
+abbrev pub Replied : List Ran → Type 0
+Replied all = Every (λ (r : Ran). RepliesDatum r.reply) all
+
 -- a call is made
 pub did : (old first mid told new : Scene) (session operation : ℕ) (arguments : List Datum) (a : Taken) (all more : List Ran) (before after : List ℕ) →
     first ≡ old → Takes first session operation arguments a mid → told ≡ mid → all ≡ a.ran.items → more ≡ a.ran.items →
     after ≡ before ++ all_lines (object_of mid.hall.object) all → AreRemembered told told.guests more new.guests → new ≡ with_guests told new.guests →
+    All IsDatum arguments → Replied a.ran.items →
     Calls old session operation arguments before (Ok a) after new
-did old first mid told new session operation arguments a all more before after same takes told_is all_is more_is added remembered left = (
+did old first mid told new session operation arguments a all more before after same takes told_is all_is more_is added remembered left values replies = (
   record {
     mid = told;
     takes = subst (λ (s : Scene). Takes old session operation arguments a s) (sym told_is) takes_old;
+    values = values;
+    replies = replies;
     remembered = subst (λ (l : List Ran). AreRemembered told told.guests l new.guests) more_is remembered;
     left = left;
   },

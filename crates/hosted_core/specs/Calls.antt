@@ -1,7 +1,10 @@
 -- What a call does to an object and to what is known of its client.
-use Rattle.std.specs.Prelude.{◌≡◌, ◌≢◌, ℕ, ◌+◌, List, [], ◌∷◌, ◌++◌, Bool, Option, Some, None, Result, Ok, Err, if◌then◌else◌}
+use Rattle.std.specs.Prelude.{◌≡◌, ◌≢◌, ℕ, ◌+◌, List, [], ◌∷◌, ◌++◌, All, Bool, Option, Some, None, Result, Ok, Err, if◌then◌else◌}
 use Rattle.std.specs.Prelude.{nat_lt, slice_get}
 use Rattle.value_core.specs.declared.datum.Datum.{Datum}
+use Rattle.value_core.specs.Datum.{IsDatum}
+use Rattle.apply_core.specs.declared.reply.Reply.{Reply}
+use Rattle.apply_core.specs.declared.reply.Reply.TheVariants.{Done, Refused, Failed}
 use Rattle.decl_core.specs.ObjectMap.{object_of}
 use Rattle.word_core.specs.Words.{line_of}
 use Rattle.trace_core.specs.Events.{Called}
@@ -59,10 +62,19 @@ pub record Takes (old : Scene) (session operation : ℕ) (arguments : List Datum
   pub given : new.given ≡ a.number
   pub tells : TellsSame old new
 
--- the same, and each that ran is remembered
+-- what a function replied is an integer or a text that can be written
+abbrev pub RepliesDatum : Reply → Type 0
+RepliesDatum (Done None) = Unit {0}
+RepliesDatum (Done (Some datum)) = IsDatum datum
+RepliesDatum (Refused word) = Unit {0}
+RepliesDatum (Failed failure) = Unit {0}
+
+-- the same, and each that ran is remembered; what was asked with and what functions replied can be written
 pub record Does (old : Scene) (session operation : ℕ) (arguments : List Datum) (a : Taken) (new : Scene) : Type 0 where
   pub mid : Scene
   pub takes : Takes old session operation arguments a mid
+  pub values : All IsDatum arguments
+  pub replies : Every (λ (r : Ran). RepliesDatum r.reply) a.ran.items
   pub remembered : AreRemembered mid mid.guests a.ran.items new.guests
   pub left : new ≡ with_guests mid new.guests
 

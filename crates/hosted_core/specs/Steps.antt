@@ -1,5 +1,6 @@
 -- What happens to an object with its clients, and the lines that tell of it.
 use Rattle.std.specs.Prelude.{◌≡◌, ℕ, ◌-◌, ◌^◌, List, [], ◌++◌, Bool, Result, length, map, min}
+use Rattle.path_tree.specs.Identifier.{IsName}
 use Rattle.value_core.specs.declared.datum.Datum.{Datum}
 use Rattle.decl_core.specs.ObjectMap.{object_of}
 use Rattle.trace_core.specs.Events.{Called}
@@ -21,6 +22,7 @@ use Rattle.hosted_core.specs.Scene.{Scene, told_of, next_base, next_epoch, with_
 -- What it answers where a client comes by its name, and the line that it adds.
 pub record Comes (old : Scene) (name : List ℕ) (now : ℕ) (before : List ℕ) (a : Result Entered EnterFault) (after : List ℕ)
     (new : Scene) : Type 0 where
+  pub is_name : IsName name
   pub enters : Enters old.guests name now a new.guests
   pub left : new ≡ with_guests old new.guests
   pub added : after ≡ before ++ entered_lines name a
@@ -28,7 +30,7 @@ pub record Comes (old : Scene) (name : List ℕ) (now : ℕ) (before : List ℕ)
 -- One thing that happens to an object, and the lines that tell of it: a client comes by its name; a session without a name
 -- gets a number; a session leaves; a call is taken; a waiting call is cancelled.
 pub data Step : Scene → List ℕ → Scene → Type 0 where
-  comes : {old : Scene} (name : List ℕ) (now : ℕ) (a : Result Entered EnterFault) (guests : Guests) →
+  comes : {old : Scene} (name : List ℕ) (now : ℕ) (a : Result Entered EnterFault) (guests : Guests) → IsName name →
       Enters old.guests name now a guests → Step old (entered_lines name a) (with_guests old guests)
   gets_number : {old : Scene} (session : ℕ) → IsLeastFree old.guests.seats session →
       Step old [] (with_guests old (with_seat old.guests session Nameless))

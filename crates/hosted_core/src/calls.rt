@@ -13,6 +13,7 @@ ghost use Rattle.hosted_core.specs.Lines.{name_words};
 ghost use Rattle.hosted_core.specs.Steps.{Comes};
 ghost use Rattle.hosted_core.specs.Scene.{with_guests};
 
+use crate::data::{are_data, reply_data};
 use crate::event::{push_cancelled, push_name};
 use crate::hosted::Hosted;
 use crate::size::most_lines;
@@ -80,6 +81,8 @@ impl Hosted {
     ) -> Result<Result<Entered, EnterFault>, AllocError>
         ensures { IfOk result (λ r. Comes self.old name.now now lines.old.items r lines.new.items self.new) }
     {
+        // Called for its contract alone: it is a name.
+        name.as_bytes();
         match self.come(name, now) {
             Err(fault) => Ok(Err(fault)),
             Ok(entered) => {
@@ -146,9 +149,11 @@ impl Hosted {
             self.new) }
     {
         self.look_back(is_first);
+        are_data(&arguments);
         match self.submit(session, operation, arguments) {
             Err(fault) => Ok(Err(fault)),
             Ok(taken) => {
+                reply_data(&taken.ran);
                 self.tell_ran(&taken.ran, lines)?;
                 self.remember_all(&taken.ran)?;
                 Ok(Ok(taken))

@@ -7,6 +7,7 @@
 #![tactic(auto)]
 
 pub mod calls;
+mod data;
 pub mod epoch;
 pub mod event;
 pub mod hosted;

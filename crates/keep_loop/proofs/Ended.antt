@@ -1,8 +1,8 @@
 -- What stands at an end.
-use Rattle.std.proofs.Common.{◌≡◌, ℕ, ◌<◌, ◌≤◌, ◌+◌, List, [], ◌∷◌, ◌++◌, refl, sym, ◌∙◌, ap, subst, append_assoc, length, arith}
+use Rattle.std.proofs.Common.{◌≡◌, ℕ, ◌<◌, ◌≤◌, ◌+◌, List, [], ◌∷◌, ◌++◌, refl, sym, ◌∙◌, ap, subst, length, arith}
 use Rattle.std.proofs.lemmas.Bool.{eqb-false}
 use Rattle.std.specs.Prelude.{Bool, true, false, Option, if◌then◌else◌, ◌==◌, IfSome}
-use Rattle.std.proofs.lemmas.List.{append-nil, append_cancel_left, length-append, nil_from_length}
+use Rattle.std.proofs.lemmas.List.{append-nil}
 use Rattle.post_core.specs.Texts.{text_at}
 use Rattle.post_core.specs.Turns.{Turn, Gives, Runs, heard_of, notes_by, added_by}
 use Rattle.keep_loop.specs.Seen.{Happened, Grows, Always, ended_in, came_from, added_in, stored_in, kept_in}
@@ -11,6 +11,7 @@ use Rattle.keep_loop.specs.Cuts.{IsCut}
 use Rattle.keep_loop.specs.Stands.{Stands, Rests, IsHonest, HasEnded, Honest, Good, Rested, Ended, Ends, EndsRested, Settles, Fails, FailsRested}
 use Rattle.keep_loop.specs.declared.keep.Keep.{Keep}
 use Rattle.keep_loop.specs.declared.keep.Limits.{Limits}
+use Rattle.keep_loop.proofs.Epochs.{nothing_more}
 use Rattle.keep_loop.proofs.Grown.{grown, same}
 use Rattle.keep_loop.proofs.Honest.{honest, honest_none}
 use Rattle.keep_loop.proofs.Stood.{rests_synced}
@@ -28,14 +29,6 @@ stored_one : (b : Bool) (journal j n : ℕ) (seen : List Happened) → (journal 
     (if b then added_in j seen else stored_in j seen) ≡ added_in j seen
 stored_one true journal j n seen it is at are = refl
 stored_one false journal j n seen it is at are = are j (let apart = eqb-false journal j it in omega (arith, is, at, apart))
-
-none_of_none : (r t : List ℕ) → r ++ t ≡ [] → r ≡ []
-none_of_none r t is = nil_from_length r (let e = sym (length-append r t) ∙ ap length is in omega (arith, e))
-
--- nothing more stands where as much stands as before
-nothing_more : (a r t : List ℕ) → (a ++ r) ++ t ≡ a → a ++ r ≡ a
-nothing_more a r t is =
-    ap (λ l. a ++ l) (none_of_none r t (append_cancel_left a (r ++ t) [] (sym (append_assoc a r t) ∙ is ∙ sym (append-nil a)))) ∙ append-nil a
 
 module _ {S : Type 0} (gives : Gives S) where
   pub stores_none : (before : Option (List Happened)) (keep : Keep S) → StoresFirst gives 0 before before keep
@@ -58,10 +51,10 @@ module _ {S : Type 0} (gives : Gives S) where
       (stores first limits rested)
 
   pub fails_stores : (n : ℕ) (before mid after : Option (List Happened)) (keep : Keep S) → StoresFirst gives n before mid keep →
-      Fails gives mid keep after → FailsRested gives before keep after
+      FailsRested gives mid keep after → FailsRested gives before keep after
   fails_stores n before mid after keep stores fails first limits rested =
       fails first limits (same mid mid refl (λ s. Rests gives first limits s keep × Always (IsHonest gives first limits) s × AreStored n s)
-      (λ s. Stands gives first limits s keep × Always (IsHonest gives first limits) s) (λ seen p. (p.0.stands, p.1)) (stores first limits rested))
+      (λ s. Rests gives first limits s keep × Always (IsHonest gives first limits) s) (λ seen p. (p.0, p.1)) (stores first limits rested))
 
   module _ (first : S) (limits : Limits) where
     ended : (seen : List Happened) (keep : Keep S) → AreStored limits.journals seen → Rests gives first limits seen keep → HasEnded gives first limits seen keep.object

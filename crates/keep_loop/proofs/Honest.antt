@@ -1,12 +1,13 @@
 -- What is seen is honest, event by event.
-use Rattle.std.proofs.Common.{◌≡◌, ℕ, ◌<◌, ◌≤◌, ◌+◌, List, [], ◌∷◌, ◌++◌, refl, sym, ◌∙◌, ap, subst, append_assoc, take, drop, take-append-drop, eqb-true, arith}
+use Rattle.std.proofs.Common.{◌≡◌, inl, ℕ, ◌<◌, ◌≤◌, ◌+◌, List, [], ◌∷◌, ◌++◌, refl, sym, ◌∙◌, ap, subst, append_assoc, take, drop, take-append-drop, eqb-true, arith}
 use Rattle.std.specs.Prelude.{Bool, true, false, if◌then◌else◌, ◌==◌}
 use Rattle.std.proofs.lemmas.List.{append-nil}
 use Rattle.post_core.specs.Texts.{Begins, text_at}
 use Rattle.post_core.specs.Turns.{Turn, Gives, Runs, heard_of, notes_by, is_joining, added_by, said_to}
 use Rattle.keep_loop.specs.Seen.{Happened, came_from, ended_in, written_to, notes_in, added_in, stored_in, kept_in, comings, read_of}
-use Rattle.keep_loop.specs.Seen.Happened.{Came, Ended, Broke, Wrote, Noticed, Added}
+use Rattle.keep_loop.specs.Seen.Happened.{Came, Ended, Broke, Wrote, Noticed, Added, Changed}
 use Rattle.keep_loop.specs.Cuts.{IsCut}
+use Rattle.keep_loop.specs.Epochs.{HasBegun}
 use Rattle.post_core.specs.Posts.{is_here, hears, owed_to}
 use Rattle.keep_loop.specs.Stands.{Owes, Stands, Rests, IsHonest}
 use Rattle.keep_loop.specs.declared.keep.Keep.{Keep}
@@ -17,6 +18,7 @@ use Rattle.post_core.specs.declared.post.Post.{Post}
 use Rattle.post_core.specs.declared.served.Note.{Note}
 use Rattle.keep_loop.proofs.Turns.{comings_last, begins_more}
 use Rattle.keep_loop.proofs.Cuts.{cut_more, cut_later}
+use Rattle.keep_loop.proofs.Epochs.{ahead}
 use Rattle.post_core.proofs.Places.{by_who, is_same}
 
 more_ended : (b : Bool) (n : ℕ) → n ≤ (if b then 1 else 0) + n
@@ -40,8 +42,9 @@ module _ {S : Type 0} (gives : Gives S) (first : S) (limits : Limits) where
   pub honest_by : (seen : List Happened) (base : ℕ) (post : Post) (kept_turns later : List Turn) (last : S) → Runs gives first (kept_turns ++ later) last →
       ((c : ℕ) → IsCut (ended_in c seen) (came_from c seen) (heard_of c (kept_turns ++ later))) →
       ((rest : List Note) × (notes_in seen ≡ notes_by (kept_turns ++ later) ++ rest)) → ((c : ℕ) → comings c (notes_in seen) ≤ 1) →
-      Owes limits (λ c. written_to c seen) (λ j. kept_in limits.waits j seen) (λ j. added_in j seen) post base kept_turns later → IsHonest gives first limits seen
-  honest_by seen base post kept_turns later last runs heard noted once o = record {
+      Owes limits (λ c. written_to c seen) (λ j. kept_in limits.waits j seen) (λ j. added_in j seen) post base kept_turns later →
+      ((j : ℕ) → j < limits.journals → HasBegun j seen (kept_turns ++ later)) → IsHonest gives first limits seen
+  honest_by seen base post kept_turns later last runs heard noted once o begun = record {
     kept_turns = kept_turns;
     later = later;
     last = last;
@@ -52,11 +55,13 @@ module _ {S : Type 0} (gives : Gives S) (first : S) (limits : Limits) where
     kept = o.begun_kept;
     added = λ j is. (text_at post.lines.items j, sym (o.lines j is));
     written = o.begun;
+    begun = begun;
   }
 
   pub honest : (seen : List Happened) (keep : Keep S) → Stands gives first limits seen keep → IsHonest gives first limits seen
   honest seen keep s =
       honest_by seen keep.base keep.post s.kept_turns s.later keep.object s.runs s.heeds.heard ([], s.heeds.noted ∙ sym (append-nil (notes_by (s.kept_turns ++ s.later)))) s.heeds.once s.owes
+      (λ j is. inl (s.begun j is))
 
   pub honest_came : (seen : List Happened) (keep : Keep S) (who : ℕ) (bytes : List ℕ) → hears keep.post.places.items who ≡ true →
       Stands gives first limits seen keep → IsHonest gives first limits (Came who bytes ∷ seen)
@@ -69,18 +74,27 @@ module _ {S : Type 0} (gives : Gives S) (first : S) (limits : Limits) where
       (subst (λ n. IsCut n (came_from who seen) (heard_of who all)) (s.heeds.unended who hearing) (s.heeds.heard who))))
       (λ not. subst (λ b. IsCut (ended_in c seen) (came_from c seen ++ (if b then bytes else [])) (heard_of c all)) (sym not)
       (subst (λ l. IsCut (ended_in c seen) l (heard_of c all)) (sym (append-nil (came_from c seen))) (s.heeds.heard c))))
-      ([], s.heeds.noted ∙ sym (append-nil (notes_by all))) s.heeds.once s.owes
+      ([], s.heeds.noted ∙ sym (append-nil (notes_by all))) s.heeds.once s.owes (λ j is. inl (s.begun j is))
 
   pub honest_ended : (seen : List Happened) (keep : Keep S) (who : ℕ) → Stands gives first limits seen keep → IsHonest gives first limits (Ended who ∷ seen)
   honest_ended seen keep who s =
       let all : List Turn = s.kept_turns ++ s.later in
       honest_by (Ended who ∷ seen) keep.base keep.post s.kept_turns s.later keep.object s.runs
       (λ c. cut_later (ended_in c seen) ((if who == c then 1 else 0) + ended_in c seen) (more_ended (who == c) (ended_in c seen)) (came_from c seen) (heard_of c all) (s.heeds.heard c))
-      ([], s.heeds.noted ∙ sym (append-nil (notes_by all))) s.heeds.once s.owes
+      ([], s.heeds.noted ∙ sym (append-nil (notes_by all))) s.heeds.once s.owes (λ j is. inl (s.begun j is))
 
   pub honest_broke : (seen : List Happened) (keep : Keep S) (who : ℕ) → Stands gives first limits seen keep → IsHonest gives first limits (Broke who ∷ seen)
   honest_broke seen keep who s =
       honest_by (Broke who ∷ seen) keep.base keep.post s.kept_turns s.later keep.object s.runs s.heeds.heard ([], s.heeds.noted ∙ sym (append-nil (notes_by (s.kept_turns ++ s.later)))) s.heeds.once s.owes
+      (λ j is. inl (s.begun j is))
+
+  -- a journal has begun anew, of which the object was not told
+  pub honest_changed : (seen : List Happened) (keep : Keep S) (journal : ℕ) (front : List ℕ) → Stands gives first limits seen keep →
+      IsHonest gives first limits (Changed journal front ∷ seen)
+  honest_changed seen keep journal front s =
+      honest_by (Changed journal front ∷ seen) keep.base keep.post s.kept_turns s.later keep.object s.runs s.heeds.heard
+      ([], s.heeds.noted ∙ sym (append-nil (notes_by (s.kept_turns ++ s.later)))) s.heeds.once s.owes
+      (λ j is. ahead journal front seen s.kept_turns s.later j (s.begun j is))
 
   -- a piece was read, or an end
   pub honest_read : (seen : List Happened) (keep : Keep S) (who : ℕ) (bytes : List ℕ) (read : Read) → hears keep.post.places.items who ≡ true →
@@ -96,7 +110,7 @@ module _ {S : Type 0} (gives : Gives S) (first : S) (limits : Limits) where
   honest_noticed seen keep note joining s =
       honest_by (Noticed note ∷ seen) keep.base keep.post s.kept_turns s.later keep.object s.runs s.heeds.heard (note ∷ [], ap (λ l. l ++ note ∷ []) s.heeds.noted)
       (λ c. one_more (is_joining c note) (comings c (notes_in seen)) (comings c (notes_in seen ++ note ∷ [])) (comings_last c (notes_in seen) note) (s.heeds.once c) (λ is. s.heeds.fresh c (joining c is)))
-      s.owes
+      s.owes (λ j is. inl (s.begun j is))
 
   -- lines were handed to a journal
   pub honest_added : (seen : List Happened) (keep : Keep S) (journal : ℕ) (lines : List ℕ) → lines ≡ text_at keep.post.lines.items journal →
@@ -114,6 +128,7 @@ module _ {S : Type 0} (gives : Gives S) (first : S) (limits : Limits) where
         kept = λ j is. kept_more limits.waits (added_by j s.kept_turns) (stored_in j seen) (added_in j seen) (if journal == j then lines else []) (s.owes.begun_kept j is);
         added = λ j is. handed j is (journal == j) refl;
         written = s.owes.begun;
+        begun = λ j is. inl (s.begun j is);
       }
     where
       handed : (j : ℕ) → j < limits.journals → (b : Bool) → (journal == j) ≡ b → Begins (added_in j seen ++ (if b then lines else [])) (added_by j (s.kept_turns ++ s.later))
@@ -150,6 +165,7 @@ module _ {S : Type 0} (gives : Gives S) (first : S) (limits : Limits) where
             ))
             (λ not. subst (λ b. Begins (written_to c seen ++ (if b then take n owed else [])) (said_to c s.kept_turns)) (sym not)
             (subst (λ (l : List ℕ). Begins l (said_to c s.kept_turns)) (sym (append-nil (written_to c seen))) (s.owes.begun c)));
+        begun = λ j is. inl (s.begun j is);
       }
 
   pub honest_none : IsHonest gives first limits []
@@ -164,4 +180,5 @@ module _ {S : Type 0} (gives : Gives S) (first : S) (limits : Limits) where
     kept = λ j is. ([], both_same limits.waits []);
     added = λ j is. ([], refl);
     written = λ c. ([], refl);
+    begun = λ j is. inl (tt, refl);
   }

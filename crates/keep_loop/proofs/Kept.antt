@@ -6,14 +6,14 @@ use Rattle.post_core.specs.Turns.{Gives, is_joining}
 use Rattle.keep_loop.specs.Seen.{Happened, Grows, GrowsIf, Always, read_of}
 use Rattle.keep_loop.specs.Seen.Happened.{Broke, Wrote, Noticed, Added, Stored, Changed}
 use Rattle.post_core.specs.Posts.{is_here, hears, owed_to}
-use Rattle.keep_loop.specs.Stands.{Stands, Rests, IsHonest, Good, Rested, Keeps, Settles, Sends, Fails, FailsRested}
+use Rattle.keep_loop.specs.Stands.{Stands, Rests, IsHonest, Good, Rested, Keeps, Settles, Sends, Renews, Fails, FailsRested}
 use Rattle.keep_loop.specs.declared.keep.Keep.{Keep}
 use Rattle.keep_loop.specs.declared.keep.Limits.{Limits}
 use Rattle.keep_loop.specs.declared.outside.Read.{Read}
 use Rattle.post_core.specs.declared.served.Note.{Note}
 use Rattle.keep_loop.proofs.Grown.{grown, same}
-use Rattle.keep_loop.proofs.Stood.{rests_kept, stands_added, stands_stored, stands_changed, stands_synced}
-use Rattle.keep_loop.proofs.Honest.{honest, honest_broke, honest_read, honest_noticed, honest_added, honest_wrote}
+use Rattle.keep_loop.proofs.Stood.{rests_kept, stands_added, stands_stored, rests_synced}
+use Rattle.keep_loop.proofs.Honest.{honest, honest_broke, honest_changed, honest_read, honest_noticed, honest_added, honest_wrote}
 
 module _ {S : Type 0} (gives : Gives S) where
   -- nothing was seen
@@ -167,26 +167,37 @@ module _ {S : Type 0} (gives : Gives S) where
       same b b refl (λ s. Stands gives first limits s two × Always (IsHonest gives first limits) s) (λ s. Rests gives first limits s two × Always (IsHonest gives first limits) s)
       (λ seen p. (rests_kept gives first limits seen two (λ j is. none j (subst (λ n. j < n) (sym p.0.owes.journals) is)) p.0, p.1)) (step first limits good)
 
-  changed_by : (journal : ℕ) (front : List ℕ) (went : Bool) (before after : Option (List Happened)) (old new : Keep S) → GrowsIf went (Changed journal front) before after →
-      ((first : S) (limits : Limits) (seen : List Happened) → Stands gives first limits seen old → Stands gives first limits seen new) → Keeps gives before old after new
-  changed_by journal front true before after old new is step =
-      keeps_event (Changed journal front) before after old new is (λ first limits seen s. step first limits (Changed journal front ∷ seen) (stands_changed gives first limits seen old journal front s))
-  changed_by journal front false before after old new is step = keeps_quiet before after old new is step
+  -- a journal has begun anew, where all lines are kept, or could not
+  pub renews_changed : (journal : ℕ) (front : List ℕ) (went : Bool) (before after : Option (List Happened)) (old new : Keep S) → GrowsIf went (Changed journal front) before after →
+      (went ≡ true → (first : S) (limits : Limits) (seen : List Happened) → Rests gives first limits seen old → Stands gives first limits (Changed journal front ∷ seen) new) →
+      (went ≡ false → (first : S) (limits : Limits) (seen : List Happened) → Stands gives first limits seen old → Stands gives first limits seen new) → Renews gives before old after new
+  renews_changed journal front true before after old new is renewed stays first limits =
+      grown (Changed journal front) before after is (λ s. Rests gives first limits s old × Always (IsHonest gives first limits) s)
+      (λ s. Stands gives first limits s new × Always (IsHonest gives first limits) s)
+      (λ seen p. (let now = renewed refl first limits seen p.0 in (now, (honest gives first limits (Changed journal front ∷ seen) new now, p.1))))
+  renews_changed journal front false before after old new is renewed stays first limits =
+      same before after is (λ s. Rests gives first limits s old × Always (IsHonest gives first limits) s)
+      (λ s. Stands gives first limits s new × Always (IsHonest gives first limits) s)
+      (λ seen p. (stays refl first limits seen p.0.stands, p.1))
 
-  -- a journal has begun anew, or could not
-  pub keeps_changed : (journal : ℕ) (front : List ℕ) (went : Bool) (before after : Option (List Happened)) (old new : Keep S) → GrowsIf went (Changed journal front) before after →
-      ((first : S) (limits : Limits) (seen : List Happened) → Stands gives first limits seen old → Stands gives first limits seen new) → Keeps gives before old after new
-  keeps_changed journal front went before after old new is step = changed_by journal front went before after old new is step
-
-  pub fails_changed : (journal : ℕ) (front : List ℕ) (before after : Option (List Happened)) (old : Keep S) → Grows (Changed journal front) before after → Fails gives before old after
+  pub fails_changed : (journal : ℕ) (front : List ℕ) (before after : Option (List Happened)) (old : Keep S) → Grows (Changed journal front) before after → FailsRested gives before old after
   fails_changed journal front before after old is =
-      fails_event (Changed journal front) before after old is (λ first limits seen s. honest gives first limits (Changed journal front ∷ seen) old (stands_changed gives first limits seen old journal front s))
+      fails_rested_event (Changed journal front) before after old is (λ first limits seen r. honest_changed gives first limits seen old journal front r.stands)
+
+  pub fails_changed_if : (journal : ℕ) (front : List ℕ) (went : Bool) (before after : Option (List Happened)) (old : Keep S) → GrowsIf went (Changed journal front) before after →
+      FailsRested gives before old after
+  fails_changed_if journal front true before after old is = fails_changed journal front before after old is
+  fails_changed_if journal front false before after old is = fails_rested_quiet before after old is
+
+  -- none is due
+  pub renews_none : (a : Option (List Happened)) (one : Keep S) → Renews gives a one a one
+  renews_none a one first limits = good_of_rested a one first limits
 
   -- a journal was stored for which no answer waits
-  pub keeps_synced : (journal : ℕ) (before after : Option (List Happened)) (old : Keep S) → old.limits.waits ≡ false → Grows (Stored journal) before after → Keeps gives before old after old
-  keeps_synced journal before after old waits is =
-      keeps_event (Stored journal) before after old old is
-      (λ first limits seen s. stands_synced gives first limits seen old journal (sym (ap (λ l. l.waits) s.limited) ∙ waits) s)
+  pub sends_synced : (journal : ℕ) (before after : Option (List Happened)) (old : Keep S) → old.limits.waits ≡ false → Grows (Stored journal) before after → Sends gives before old after old
+  sends_synced journal before after old waits is =
+      sends_event (Stored journal) before after old old is
+      (λ first limits seen r. rests_synced gives first limits seen old journal (sym (ap (λ l. l.waits) r.stands.limited) ∙ waits) r)
 
 pub on_err : {T E X : Type 0} (r : Result T E) → X → OnErr r X
 on_err (Ok t) x = tt

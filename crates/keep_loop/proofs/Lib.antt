@@ -1,6 +1,7 @@
 pub mod Crashed
 pub mod Cuts
 pub mod Ended
+pub mod Epochs
 pub mod Grown
 pub mod Heeded
 pub mod Honest

@@ -3,11 +3,12 @@ use Rattle.std.proofs.Common.{◌≡◌, ◌⊎◌, inl, inr, ℕ, ◌<◌, ◌�
 use Rattle.std.specs.Prelude.{Bool, true, false, if◌then◌else◌, ◌==◌}
 use Rattle.std.proofs.lemmas.List.{append-nil}
 use Rattle.post_core.specs.Texts.{NoLineFeed, text_at, to}
-use Rattle.post_core.specs.Turns.{Turn, Gives, Runs, Asked, heard_of, notes_by, is_joining, joins}
+use Rattle.post_core.specs.Turns.{Turn, Gives, Runs, Asked, heard_of, added_by, notes_by, is_joining, joins}
 use Rattle.post_core.specs.Turns.Asked.{Heard, Noted, Changes}
 use Rattle.keep_loop.specs.Seen.{Happened, came_from, ended_in, written_to, notes_in, added_in, stored_in, kept_in}
 use Rattle.keep_loop.specs.Seen.Happened.{Came, Ended, Broke, Wrote, Noticed, Added, Stored, Changed}
 use Rattle.keep_loop.specs.Cuts.{IsCut, IsFed, most_line}
+use Rattle.keep_loop.specs.Epochs.{AgreesIn, change_to}
 use Rattle.post_core.specs.declared.post.Stage.TheVariants.{Gone}
 use Rattle.post_core.specs.Posts.{is_here_in, hears_in, stage_of, is_here, hears, owed_to, Tells, Opens, Closes, Writes, Does}
 use Rattle.keep_loop.specs.Stands.{Owes, Heeds, Stands, Rests, held_of}
@@ -20,6 +21,7 @@ use Rattle.post_core.specs.declared.served.LineEnd.TheVariants.{Feed, Input, Too
 use Rattle.post_core.specs.declared.served.Note.{Note}
 use Rattle.post_core.specs.declared.served.Note.TheVariants.{Joins}
 use Rattle.keep_loop.proofs.Turns.{runs_last, heard_last, notes_last}
+use Rattle.keep_loop.proofs.Epochs.{nothing_more, agrees_on, agrees_changed}
 use Rattle.keep_loop.proofs.Cuts.{cut_of_fed, fed_more, fed_line, cut_long, cut_last, cut_more, cut_later}
 use Rattle.post_core.proofs.Places.{same_place, here_of_hears, is_same}
 use Rattle.keep_loop.proofs.Owed.{owes_turn, owes_same, owes_handed, owes_kept, owes_stored, owes_wrote}
@@ -86,6 +88,7 @@ module _ {S : Type 0} (gives : Gives S) (first : S) (limits : Limits) where
         (subst (λ h. Heeds (λ c. came_from c seen) (λ c. ended_in c seen) (notes_in seen) new.post h.items keep.base (s.kept_turns ++ s.later)) (sym held)
         (heeds_same (λ c. came_from c seen) (λ c. ended_in c seen) (notes_in seen) keep.post new.post keep.held.items keep.base (s.kept_turns ++ s.later) tells.places
         (λ c is. sym (tells.here c) ∙ is) tells.hears s.heeds));
+    begun = s.begun;
   }
 
   -- a note, other than that a connection comes
@@ -114,6 +117,7 @@ module _ {S : Type 0} (gives : Gives S) (first : S) (limits : Limits) where
             (λ c is. inl (does.tells.hears c is, refl))
             (λ c is. inl (sym (does.tells.here c) ∙ is))
             (λ c is. absurd (true≢false (sym is ∙ not c))) (λ c far. not c) s.heeds)));
+        begun = λ j is. agrees_on j seen s.kept_turns s.later t tt (s.begun j is);
       }
 
   -- a connection comes
@@ -147,6 +151,7 @@ module _ {S : Type 0} (gives : Gives S) (first : S) (limits : Limits) where
             (λ c is. there c (opens.here c (sym (does.tells.here c) ∙ is)))
             (λ c is. subst (λ k. keep.base ≤ k) (eqb-true who c is) from)
             (λ c far. later_not c far (who == c) refl) s.heeds));
+        begun = λ j is. agrees_on j seen s.kept_turns s.later t tt (s.begun j is);
       }
     where
       later_not : (c : ℕ) → next ≤ c → (b : Bool) → (who == c) ≡ b → b ≡ false
@@ -230,6 +235,7 @@ module _ {S : Type 0} (gives : Gives S) (first : S) (limits : Limits) where
             (subst (λ l. IsFed l (heard_of who all ++ (line, end) ∷ []) (held_of new.held.items who)) (sym now)
             (subst (λ l. IsFed (was ++ more) (heard_of who all ++ (line, end) ∷ []) l) (sym held_none) (fed is was (heard_of who all) before))))
             (λ is. unended) s.heeds));
+        begun = λ j is. agrees_on j seen s.kept_turns s.later t tt (s.begun j is);
       }
     where
       held_none : held_of new.held.items who ≡ []
@@ -290,6 +296,7 @@ module _ {S : Type 0} (gives : Gives S) (first : S) (limits : Limits) where
             (subst (λ n. IsCut n (was ++ more) (heard_of who all)) (sym unended) (cut_more was more (heard_of who all) (subst (λ n. IsCut n was (heard_of who all)) unended (s.heeds.heard who)))))
             (λ is. subst (λ l. IsFed l (heard_of who all) (held_of new.held.items who)) (sym now) (fed is was (heard_of who all) (s.heeds.fed who is)))
             (λ is. unended) s.heeds));
+        begun = s.begun;
       }
 
   -- it is held
@@ -323,11 +330,12 @@ module _ {S : Type 0} (gives : Gives S) (first : S) (limits : Limits) where
     owes = s.owes;
     heeds = heeds_came (λ c. came_from c seen) (λ c. ended_in c seen) (notes_in seen) (λ c. came_from c seen ++ (if who == c then [] else [])) keep.post keep.held.items keep.base
         (s.kept_turns ++ s.later) (λ c. came_none (who == c) (came_from c seen)) s.heeds;
+    begun = s.begun;
   }
 
   -- a connection broke
   pub stands_broke : (seen : List Happened) (keep : Keep S) (who : ℕ) → Stands gives first limits seen keep → Stands gives first limits (Broke who ∷ seen) keep
-  stands_broke seen keep who s = record { kept_turns = s.kept_turns; later = s.later; limited = s.limited; runs = s.runs; owes = s.owes; heeds = s.heeds }
+  stands_broke seen keep who s = record { kept_turns = s.kept_turns; later = s.later; limited = s.limited; runs = s.runs; owes = s.owes; heeds = s.heeds; begun = s.begun }
 
   -- the input of a connection has ended, of which nothing is held
   pub stands_ended : (seen : List Happened) (keep new : Keep S) (who : ℕ) → hears keep.post.places.items who ≡ true → hears new.post.places.items who ≡ false →
@@ -351,6 +359,7 @@ module _ {S : Type 0} (gives : Gives S) (first : S) (limits : Limits) where
             (λ c not. (refl, ended_other (who == c) (ended_in c seen) not, refl)) (λ c not is. refl)
             (cut_later (ended_in who seen) ((if who == who then 1 else 0) + ended_in who seen) (more_ended (who == who) (ended_in who seen)) (came_from who seen) (heard_of who all) (s.heeds.heard who))
             (λ is. absurd (true≢false (sym is ∙ deaf))) (λ is. absurd (true≢false (sym is ∙ deaf))) s.heeds));
+        begun = s.begun;
       }
 
   -- or of which there is a last line
@@ -386,6 +395,7 @@ module _ {S : Type 0} (gives : Gives S) (first : S) (limits : Limits) where
             (subst (λ l. IsCut ended (came_from who seen) (heard_of who all ++ (l, Input) ∷ [])) (sym is_line)
             (cut_last ended (came_from who seen) (heard_of who all) (held_of keep.held.items who) (s.heeds.fed who hearing) (ended_one (who == who) (ended_in who seen) (is_same who)))))
             (λ is. absurd (true≢false (sym is ∙ deaf))) (λ is. absurd (true≢false (sym is ∙ deaf))) s.heeds));
+        begun = λ j is. agrees_on j seen s.kept_turns s.later t tt (s.begun j is);
       }
 
   -- some connections are closed
@@ -403,6 +413,7 @@ module _ {S : Type 0} (gives : Gives S) (first : S) (limits : Limits) where
         (subst (λ h. Heeds (λ c. came_from c seen) (λ c. ended_in c seen) (notes_in seen) new.post h.items keep.base (s.kept_turns ++ s.later)) (sym held)
         (heeds_same (λ c. came_from c seen) (λ c. ended_in c seen) (notes_in seen) keep.post new.post keep.held.items keep.base (s.kept_turns ++ s.later) closes.places
         closes.here closes.hears s.heeds));
+    begun = s.begun;
   }
 
   -- a connection was written a front of what it is owed
@@ -424,6 +435,7 @@ module _ {S : Type 0} (gives : Gives S) (first : S) (limits : Limits) where
               (subst (λ h. Heeds (λ c. came_from c seen) (λ c. ended_in c seen) (notes_in seen) new.post h.items keep.base (s.kept_turns ++ s.later)) (sym held)
               (heeds_same (λ c. came_from c seen) (λ c. ended_in c seen) (notes_in seen) keep.post new.post keep.held.items keep.base (s.kept_turns ++ s.later) writes.places
               (λ c is. sym (ap is_here_in (writes.stages c)) ∙ is) (λ c is. sym (ap hears_in (writes.stages c)) ∙ is) s.heeds));
+          begun = s.begun;
         };
         none = r.none;
       }
@@ -441,6 +453,7 @@ module _ {S : Type 0} (gives : Gives S) (first : S) (limits : Limits) where
           runs = subst (λ ts. Runs gives first ts keep.object) (sym same) s.runs;
           owes = owes_kept limits (λ c. written_to c seen) (λ j. kept_in limits.waits j seen) (λ j. added_in j seen) keep.post keep.base s.kept_turns s.later none s.owes;
           heeds = subst (λ ts. Heeds (λ c. came_from c seen) (λ c. ended_in c seen) (notes_in seen) keep.post keep.held.items keep.base ts) (sym same) s.heeds;
+          begun = λ j is. subst (λ ts. AgreesIn j seen ts) (sym same) (s.begun j is);
         };
         none = refl;
       }
@@ -480,6 +493,7 @@ module _ {S : Type 0} (gives : Gives S) (first : S) (limits : Limits) where
       fresh = λ c is. refl;
       unheard = λ c is. (refl, refl, refl);
     };
+    begun = λ j is. (tt, refl);
   }
 
   pub rests_same : (seen : List Happened) (keep new : Keep S) → new.object ≡ keep.object → new.held ≡ keep.held → new.base ≡ keep.base → new.limits ≡ keep.limits →
@@ -516,6 +530,7 @@ module _ {S : Type 0} (gives : Gives S) (first : S) (limits : Limits) where
         (subst (λ h. Heeds (λ c. came_from c seen) (λ c. ended_in c seen) (notes_in seen) new.post h.items keep.base (s.kept_turns ++ s.later)) (sym held)
         (heeds_same (λ c. came_from c seen) (λ c. ended_in c seen) (notes_in seen) keep.post new.post keep.held.items keep.base (s.kept_turns ++ s.later) (ap (λ p. length p.items) places)
         (λ c is. ap (λ p. is_here p.items c) (sym places) ∙ is) (λ c is. ap (λ p. hears p.items c) (sym places) ∙ is) s.heeds));
+    begun = s.begun;
   }
 
   even_stored : (seen : List Happened) (journal j : ℕ) (lines : List ℕ) → stored_in j seen ≡ added_in j seen → (b : Bool) → (journal == j) ≡ b →
@@ -544,35 +559,78 @@ module _ {S : Type 0} (gives : Gives S) (first : S) (limits : Limits) where
         (subst (λ h. Heeds (λ c. came_from c seen) (λ c. ended_in c seen) (notes_in seen) new.post h.items keep.base (s.kept_turns ++ s.later)) (sym held)
         (heeds_same (λ c. came_from c seen) (λ c. ended_in c seen) (notes_in seen) keep.post new.post keep.held.items keep.base (s.kept_turns ++ s.later) (ap (λ p. length p.items) places)
         (λ c is. ap (λ p. is_here p.items c) (sym places) ∙ is) (λ c is. ap (λ p. hears p.items c) (sym places) ∙ is) s.heeds));
+    begun = s.begun;
   }
 
-  -- a journal has begun anew, or could not
-  pub stands_changes : (seen : List Happened) (keep new : Keep S) (journal : ℕ) (front : List ℕ) (went : Bool) → new.post ≡ keep.post → new.held ≡ keep.held → new.base ≡ keep.base →
-      new.limits ≡ keep.limits → gives keep.object (Changes journal front went) [] [] new.object → Stands gives first limits seen keep → Stands gives first limits seen new
-  stands_changes seen keep new journal front went post held base limited step s =
+  -- all lines were handed on
+  all_handed : (seen : List Happened) (keep : Keep S) (r : Rests gives first limits seen keep) (j : ℕ) → j < limits.journals →
+      added_in j seen ≡ added_by j (r.stands.kept_turns ++ r.stands.later)
+  all_handed seen keep r j is =
+      let s = r.stands in
+      let begun = s.owes.begun_kept j is in
+      let only : s.kept_turns ++ s.later ≡ s.kept_turns = ap (λ ts. s.kept_turns ++ ts) r.none ∙ append-nil s.kept_turns in
+      let kept_is : added_in j seen ≡ added_by j s.kept_turns ++ begun.0 = sym (s.owes.even j is) ∙ begun.1 in
+      kept_is ∙ nothing_more (added_by j s.kept_turns) begun.0 (text_at keep.post.lines.items j)
+      (ap (λ (l : List ℕ). l ++ text_at keep.post.lines.items j) (sym kept_is) ∙ s.owes.lines j is ∙ ap (added_by j) only) ∙ sym (ap (added_by j) only)
+
+  -- the turn in which a journal has begun anew, or could not
+  turned : (seen : List Happened) (keep new : Keep S) (journal : ℕ) (front : List ℕ) (went : Bool) → new.post ≡ keep.post → new.held ≡ keep.held → new.base ≡ keep.base →
+      gives keep.object (Changes journal front went) [] [] new.object → (s : Stands gives first limits seen keep) →
+      Runs gives first (s.kept_turns ++ (s.later ++ record { asked = Changes journal front went; said = []; added = [] } ∷ [])) new.object
+      × Owes limits (λ c. written_to c seen) (λ j. kept_in limits.waits j seen) (λ j. added_in j seen) new.post new.base s.kept_turns
+      (s.later ++ record { asked = Changes journal front went; said = []; added = [] } ∷ [])
+      × Heeds (λ c. came_from c seen) (λ c. ended_in c seen) (notes_in seen) new.post new.held.items new.base
+      (s.kept_turns ++ (s.later ++ record { asked = Changes journal front went; said = []; added = [] } ∷ []))
+  turned seen keep new journal front went post held base step s =
       let t : Turn = record { asked = Changes journal front went; said = []; added = [] } in
       let all : List Turn = s.kept_turns ++ s.later in
-      let on : all ++ t ∷ [] ≡ s.kept_turns ++ (s.later ++ t ∷ []) = append_assoc s.kept_turns s.later (t ∷ []) in
-      record {
-        kept_turns = s.kept_turns;
-        later = s.later ++ t ∷ [];
-        limited = limited ∙ s.limited;
-        runs = subst (λ ts. Runs gives first ts new.object) on (runs_last gives first all keep.object t new.object s.runs step);
-        owes = subst (λ b. Owes limits (λ c. written_to c seen) (λ j. kept_in limits.waits j seen) (λ j. added_in j seen) new.post b s.kept_turns (s.later ++ t ∷ [])) (sym base)
+      let on : all ++ t ∷ [] ≡ s.kept_turns ++ (s.later ++ t ∷ []) = append_assoc s.kept_turns s.later (t ∷ []) in (
+        subst (λ ts. Runs gives first ts new.object) on (runs_last gives first all keep.object t new.object s.runs step),
+        subst (λ b. Owes limits (λ c. written_to c seen) (λ j. kept_in limits.waits j seen) (λ j. added_in j seen) new.post b s.kept_turns (s.later ++ t ∷ [])) (sym base)
             (subst (λ p. Owes limits (λ c. written_to c seen) (λ j. kept_in limits.waits j seen) (λ j. added_in j seen) p keep.base s.kept_turns (s.later ++ t ∷ [])) (sym post)
             (owes_turn limits (λ c. written_to c seen) (λ j. kept_in limits.waits j seen) (λ j. added_in j seen) keep.post keep.post keep.base keep.base s.kept_turns s.later t (omega arith)
             refl (λ j is. sym (append-nil (text_at keep.post.lines.items j)))
-            (λ c is. inl (is, sym (append-nil (owed_to keep.post.places.items c)))) (λ c far. refl) s.owes));
-        heeds = subst (λ ts. Heeds (λ c. came_from c seen) (λ c. ended_in c seen) (notes_in seen) new.post new.held.items new.base ts) on
+            (λ c is. inl (is, sym (append-nil (owed_to keep.post.places.items c)))) (λ c far. refl) s.owes)),
+        subst (λ ts. Heeds (λ c. came_from c seen) (λ c. ended_in c seen) (notes_in seen) new.post new.held.items new.base ts) on
             (subst (λ b. Heeds (λ c. came_from c seen) (λ c. ended_in c seen) (notes_in seen) new.post new.held.items b (all ++ t ∷ [])) (sym base)
             (subst (λ p. Heeds (λ c. came_from c seen) (λ c. ended_in c seen) (notes_in seen) p new.held.items keep.base (all ++ t ∷ [])) (sym post)
             (subst (λ h. Heeds (λ c. came_from c seen) (λ c. ended_in c seen) (notes_in seen) keep.post h.items keep.base (all ++ t ∷ [])) (sym held)
             (heeds_turn (λ c. came_from c seen) (λ c. ended_in c seen) (notes_in seen) keep.post keep.held.items keep.base all (all ++ t ∷ [])
-            (λ c. heard_last c all t ∙ append-nil (heard_of c all)) (notes_last all t ∙ append-nil (notes_by all)) s.heeds))));
+            (λ c. heard_last c all t ∙ append-nil (heard_of c all)) (notes_last all t ∙ append-nil (notes_by all)) s.heeds)))),
+      )
+
+  -- a journal could not begin anew
+  pub stands_stays : (seen : List Happened) (keep new : Keep S) (journal : ℕ) (front : List ℕ) → new.post ≡ keep.post → new.held ≡ keep.held → new.base ≡ keep.base →
+      new.limits ≡ keep.limits → gives keep.object (Changes journal front false) [] [] new.object → Stands gives first limits seen keep → Stands gives first limits seen new
+  stands_stays seen keep new journal front post held base limited step s =
+      let t : Turn = record { asked = Changes journal front false; said = []; added = [] } in
+      let now = turned seen keep new journal front false post held base step s in
+      record {
+        kept_turns = s.kept_turns;
+        later = s.later ++ t ∷ [];
+        limited = limited ∙ s.limited;
+        runs = now.0;
+        owes = now.1;
+        heeds = now.2;
+        begun = λ j is. agrees_on j seen s.kept_turns s.later t tt (s.begun j is);
       }
 
-  pub stands_changed : (seen : List Happened) (keep : Keep S) (journal : ℕ) (front : List ℕ) → Stands gives first limits seen keep → Stands gives first limits (Changed journal front ∷ seen) keep
-  stands_changed seen keep journal front s = record { kept_turns = s.kept_turns; later = s.later; limited = s.limited; runs = s.runs; owes = s.owes; heeds = s.heeds }
+  -- it has, where all lines are kept
+  pub stands_renewed : (seen : List Happened) (keep new : Keep S) (journal : ℕ) (front : List ℕ) → new.post ≡ keep.post → new.held ≡ keep.held → new.base ≡ keep.base →
+      new.limits ≡ keep.limits → gives keep.object (Changes journal front true) [] [] new.object → Rests gives first limits seen keep →
+      Stands gives first limits (Changed journal front ∷ seen) new
+  stands_renewed seen keep new journal front post held base limited step r =
+      let s = r.stands in
+      let now = turned seen keep new journal front true post held base step s in
+      record {
+        kept_turns = s.kept_turns;
+        later = s.later ++ change_to journal front ∷ [];
+        limited = limited ∙ s.limited;
+        runs = now.0;
+        owes = now.1;
+        heeds = now.2;
+        begun = λ j is. agrees_changed journal front seen s.kept_turns s.later j (all_handed seen keep r j is) (s.begun j is);
+      }
 
   -- a journal was stored for which no answer waits
   pub stands_synced : (seen : List Happened) (keep : Keep S) (journal : ℕ) → limits.waits ≡ false → Stands gives first limits seen keep → Stands gives first limits (Stored journal ∷ seen) keep
@@ -586,6 +644,7 @@ module _ {S : Type 0} (gives : Gives S) (first : S) (limits : Limits) where
         (λ j. ap (λ w. if w then (if journal == j then added_in j seen else stored_in j seen) else added_in j seen) waits ∙ sym (ap (λ w. if w then stored_in j seen else added_in j seen) waits))
         s.owes;
     heeds = s.heeds;
+    begun = s.begun;
   }
 
   pub rests_synced : (seen : List Happened) (keep : Keep S) (journal : ℕ) → limits.waits ≡ false → Rests gives first limits seen keep → Rests gives first limits (Stored journal ∷ seen) keep

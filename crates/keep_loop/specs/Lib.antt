@@ -1,3 +1,4 @@
 pub mod Cuts
+pub mod Epochs
 pub mod Seen
 pub mod Stands

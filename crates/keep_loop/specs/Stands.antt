@@ -1,6 +1,7 @@
 -- What a server owes, and what a loop keeps.
 use Rattle.std.specs.Prelude.{◌≡◌, ◌<◌, ◌≤◌, ◌%◌, ℕ, true, false, List, [], ◌++◌, Option, IfSome, length}
 use Rattle.keep_loop.specs.Cuts.{IsCut, IsFed}
+use Rattle.keep_loop.specs.Epochs.{before_in, AgreesIn, HasBegun}
 use Rattle.post_core.specs.Posts.{is_here, hears, owed_to}
 use Rattle.keep_loop.specs.Seen.{Happened, came_from, ended_in, written_to, notes_in, added_in, stored_in, kept_in, comings, Always}
 use Rattle.post_core.specs.Texts.{Begins, text_at}
@@ -13,7 +14,7 @@ use Rattle.post_core.specs.declared.served.Note.{Note}
 
 -- There is one sequential history, such that what each connection said begins with its lines in it, and what each was
 -- written is a front of what the history tells it, no further than the lines of all turns up to there are kept. Numbers of
--- connections never come twice
+-- connections never come twice. Each journal last began anew in a turn of the history, or has just done so
 pub record IsHonest {S : Type 0} (gives : Gives S) (first : S) (limits : Limits) (seen : List Happened) : Type 0 where
   pub kept_turns : List Turn
   pub later : List Turn
@@ -25,6 +26,7 @@ pub record IsHonest {S : Type 0} (gives : Gives S) (first : S) (limits : Limits)
   pub kept : (j : ℕ) → j < limits.journals → Begins (added_by j kept_turns) (kept_in limits.waits j seen)
   pub added : (j : ℕ) → j < limits.journals → Begins (added_in j seen) (added_by j (kept_turns ++ later))
   pub written : (c : ℕ) → Begins (written_to c seen) (said_to c kept_turns)
+  pub begun : (j : ℕ) → j < limits.journals → HasBegun j seen (kept_turns ++ later)
 
 -- what is found of a journal after a crash: all that was stored, and of what it was handed since a front
 pub record IsBetween (stored text found : List ℕ) : Type 0 where
@@ -42,6 +44,12 @@ pub record Survives {S : Type 0} (gives : Gives S) (first : S) (limits : Limits)
   pub written : (c : ℕ) → Begins (written_to c seen) (said_to c answered)
   pub all : (j : ℕ) → j < limits.journals → Begins (added_by j answered) (found j)
   pub only : (j : ℕ) → j < limits.journals → Begins (found j) (added_by j (answered ++ later))
+
+-- The same, where of each journal the front is found by which it last began anew, and these lines behind it; and in this
+-- history it last began anew by that front
+pub record SurvivesSince {S : Type 0} (gives : Gives S) (first : S) (limits : Limits) (seen : List Happened) (found : ℕ → List ℕ) : Type 0 where
+  pub survives : Survives gives first limits seen (λ j. before_in j seen ++ found j)
+  pub begun : (j : ℕ) → j < limits.journals → HasBegun j seen (survives.answered ++ survives.later)
 
 -- The server has ended, and this is what it leaves of what it served: one history leads there, which has each note. What each
 -- connection said begins with its lines in it, and what each was written is a front of what it tells it. Each journal was
@@ -92,6 +100,7 @@ pub record Stands {S : Type 0} (gives : Gives S) (first : S) (limits : Limits) (
   pub runs : Runs gives first (kept_turns ++ later) keep.object
   pub owes : Owes limits (λ c. written_to c seen) (λ j. kept_in limits.waits j seen) (λ j. added_in j seen) keep.post keep.base kept_turns later
   pub heeds : Heeds (λ c. came_from c seen) (λ c. ended_in c seen) (notes_in seen) keep.post keep.held.items keep.base (kept_turns ++ later)
+  pub begun : (j : ℕ) → j < limits.journals → AgreesIn j seen (kept_turns ++ later)
 
 -- and the lines of all turns are kept
 pub record Rests {S : Type 0} (gives : Gives S) (first : S) (limits : Limits) (seen : List Happened) (keep : Keep S) : Type 0 where
@@ -109,7 +118,7 @@ abbrev pub Rested : {S : Type 0} → Gives S → S → Limits → Option (List H
 Rested gives first limits seen keep = IfSome seen (λ s. Rests gives first limits s keep × Always (IsHonest gives first limits) s)
 
 -- what a step keeps: from a state that says what was seen to one, to one all of whose lines are kept, from one of these to
--- another, and to an end
+-- another, and to one that says what was seen
 abbrev pub Keeps : {S : Type 0} → Gives S → Option (List Happened) → Keep S → Option (List Happened) → Keep S → Type 0
 Keeps {S} gives before old after new = (first : S) (limits : Limits) → Good gives first limits before old → Good gives first limits after new
 
@@ -118,6 +127,9 @@ Settles {S} gives before old after new = (first : S) (limits : Limits) → Good 
 
 abbrev pub Sends : {S : Type 0} → Gives S → Option (List Happened) → Keep S → Option (List Happened) → Keep S → Type 0
 Sends {S} gives before old after new = (first : S) (limits : Limits) → Rested gives first limits before old → Rested gives first limits after new
+
+abbrev pub Renews : {S : Type 0} → Gives S → Option (List Happened) → Keep S → Option (List Happened) → Keep S → Type 0
+Renews {S} gives before old after new = (first : S) (limits : Limits) → Rested gives first limits before old → Good gives first limits after new
 
 abbrev pub Fails : {S : Type 0} → Gives S → Option (List Happened) → Keep S → Option (List Happened) → Type 0
 Fails {S} gives before old after = (first : S) (limits : Limits) → Good gives first limits before old → Honest gives first limits after

@@ -5,7 +5,7 @@ ghost use Rattle.std.specs.Prelude.{if◌then◌else◌, ◌==◌};
 ghost use Rattle.keep_loop.specs.Cuts.{most_line};
 ghost use Rattle.post_core.specs.Posts.{Does, is_here, hears, owed_to};
 ghost use Rattle.keep_loop.specs.Seen.{Happened, ended_in, read_of};
-ghost use Rattle.keep_loop.specs.Seen.Happened.{Came, Ended, Broke, Wrote, Noticed};
+ghost use Rattle.keep_loop.specs.Seen.Happened.{Came, Ended, Broke, Wrote, Noticed, Changed};
 ghost use Rattle.keep_loop.specs.Stands.{Stands, Rests, held_of};
 ghost use Rattle.post_core.specs.Texts.{NoLineFeed, text_at};
 ghost use Rattle.post_core.specs.Turns.{is_joining};
@@ -196,7 +196,9 @@ impl<O: Served> Keep<O> {
         went: bool,
     ) -> Result<(), AllocError>
         requires { O.fronts self.old.object journal front.now }
-        ensures stands { OnOk result ((first : O) (limits : Limits) (seen : List Happened) → Stands O.gives first limits seen self.old
+        ensures renewed { OnOk result (went ≡ true → (first : O) (limits : Limits) (seen : List Happened) → Rests O.gives first limits seen self.old
+            → Stands O.gives first limits (Changed journal front.now ∷ seen) self.new) }
+        ensures stays { OnOk result (went ≡ false → (first : O) (limits : Limits) (seen : List Happened) → Stands O.gives first limits seen self.old
             → Stands O.gives first limits seen self.new) }
     {
         self.object.changed(journal, front, went)?;

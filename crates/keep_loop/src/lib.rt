@@ -9,7 +9,7 @@ mod outside;
 mod rounds;
 
 pub use keep::{Limits, MOST_LINE};
-pub use laws::crash_keeps_what_was_answered;
+pub use laws::{crash_keeps_the_last_epoch, crash_keeps_what_was_answered};
 pub use outside::{Fault, Outside, Read};
 pub use post_core::post::{Place, Post, Stage, Text};
 pub use post_core::served::{LineEnd, Note, Served};

@@ -4,7 +4,7 @@ ghost use Rattle.std.specs.Prelude.{◌≡◌, ◌<◌, [], ℕ, List, true, fal
 ghost use Rattle.post_core.specs.Posts.{is_here};
 ghost use Rattle.keep_loop.specs.Seen.{Happened, Grows, Always};
 ghost use Rattle.keep_loop.specs.Seen.Happened.{Stored};
-ghost use Rattle.keep_loop.specs.Stands.{IsHonest, HasEnded, Stands, Keeps, Settles, Sends, Ends, EndsRested, Fails, FailsRested};
+ghost use Rattle.keep_loop.specs.Stands.{IsHonest, HasEnded, Stands, Keeps, Settles, Sends, Renews, Ends, EndsRested, Fails, FailsRested};
 ghost use Rattle.post_core.specs.Texts.{text_at};
 
 use crate::keep::{Keep, Limits};
@@ -376,8 +376,8 @@ fn change_one<O: Served, W: Outside>(
     front: &[u8],
 ) -> Result<(), Fault>
     requires { O.fronts keep.old.object journal front.now }
-    ensures ok { OnOk result (Keeps O.gives (W.seen outside.old) keep.old (W.seen outside.new) keep.new) }
-    ensures err { OnErr result (Fails O.gives (W.seen outside.old) keep.old (W.seen outside.new)) }
+    ensures ok { OnOk result (Renews O.gives (W.seen outside.old) keep.old (W.seen outside.new) keep.new) }
+    ensures err { OnErr result (FailsRested O.gives (W.seen outside.old) keep.old (W.seen outside.new)) }
 {
     let went = outside.change(journal, front)?;
     keep.changed(journal, front, went)?;
@@ -390,8 +390,8 @@ fn change<O: Served, W: Outside>(
     outside: &mut W,
     front: &mut Vec<u8>,
 ) -> Result<(), Fault>
-    ensures ok { OnOk result (Keeps O.gives (W.seen outside.old) keep.old (W.seen outside.new) keep.new) }
-    ensures err { OnErr result (Fails O.gives (W.seen outside.old) keep.old (W.seen outside.new)) }
+    ensures ok { OnOk result (Renews O.gives (W.seen outside.old) keep.old (W.seen outside.new) keep.new) }
+    ensures err { OnErr result (FailsRested O.gives (W.seen outside.old) keep.old (W.seen outside.new)) }
 {
     match keep.object.due(front)? {
         Some(journal) => change_one(keep, outside, journal, front.as_slice()),
@@ -406,9 +406,9 @@ fn store_one<O: Served, W: Outside>(
     journal: usize,
 ) -> Result<(), Fault>
     requires { keep.now.limits.waits ≡ false }
-    ensures ok { OnOk result (Keeps O.gives (W.seen outside.old) keep.now (W.seen outside.new) keep.now) }
+    ensures ok { OnOk result (Sends O.gives (W.seen outside.old) keep.now (W.seen outside.new) keep.now) }
     ensures stored { OnOk result (Grows (Stored journal) (W.seen outside.old) (W.seen outside.new)) }
-    ensures err { OnErr result (Fails O.gives (W.seen outside.old) keep.now (W.seen outside.new)) }
+    ensures err { OnErr result (FailsRested O.gives (W.seen outside.old) keep.now (W.seen outside.new)) }
 {
     outside.sync(journal)?;
     Ok(())
@@ -416,8 +416,8 @@ fn store_one<O: Served, W: Outside>(
 
 // Stores all journals, where no answer waits for that and it is time.
 fn store<O: Served, W: Outside>(keep: &Keep<O>, outside: &mut W) -> Result<(), Fault>
-    ensures ok { OnOk result (Keeps O.gives (W.seen outside.old) keep.now (W.seen outside.new) keep.now) }
-    ensures err { OnErr result (Fails O.gives (W.seen outside.old) keep.now (W.seen outside.new)) }
+    ensures ok { OnOk result (Sends O.gives (W.seen outside.old) keep.now (W.seen outside.new) keep.now) }
+    ensures err { OnErr result (FailsRested O.gives (W.seen outside.old) keep.now (W.seen outside.new)) }
 {
     if keep.limits.waits || !outside.is_sync_due() {
         return Ok(());

@@ -1,83 +1,122 @@
--- What a crash leaves of an object that a loop serves.
-use Rattle.std.specs.Prelude.{◌≡◌, ◌≢◌, ◌<◌, ℕ, true, false, List, [], ◌∷◌, ◌++◌, Some, slice_get}
+-- What a crash leaves of the objects of a table that a loop serves.
+use Rattle.std.specs.Prelude.{◌≡◌, ◌⊎◌, ◌<◌, ℕ, true, Option, Some, None, List, [], ◌∷◌, ◌++◌, slice_get}
 use Rattle.decl_core.specs.ObjectForm.{ObjectForm}
+use Rattle.past_core.specs.declared.past.PastEvent.{PastEvent}
 use Rattle.front_core.specs.Front.{Opening}
 use Rattle.audit_core.specs.declared.verdict.Fault.{Fault}
-use Rattle.replay_core.specs.Steps.{Step, nothing_heard}
+use Rattle.replay_core.specs.Steps.{Step, Begun, Heard, nothing_heard}
 use Rattle.recover_core.specs.declared.recover.House.{House}
 use Rattle.recover_core.specs.declared.recover.Recovered.{Recovered}
 use Rattle.recover_core.specs.declared.recover.RecoverFault.TheVariants as faults
 use Rattle.recover_core.specs.Playing.{begun_by}
 use Rattle.recover_core.specs.Recovered.{IsBehind, RefusesBehind}
-use Rattle.hosted_core.specs.Scene.{Scene}
+use Rattle.hosted_core.specs.Fronts.{front_of, IsNextFront}
+use Rattle.hosted_core.specs.Scene.{Scene, next_base, next_epoch}
 use Rattle.hosted_core.specs.Steps.{Steps}
 use Rattle.written_law.specs.Stands.{IsNamed, Stands}
-use Rattle.written_law.specs.Happens.{AllCanBeTold}
 use Rattle.written_law.specs.Read.{AddsTwice, IsReadOf}
-use Rattle.post_core.specs.Texts.{to}
-use Rattle.post_core.specs.Turns.{Asked, Turn, Gives, added_by}
-use Rattle.post_core.specs.Turns.Asked.{Heard, Noted, Changes}
+use Rattle.post_core.specs.Texts.{Begins}
+use Rattle.post_core.specs.Turns.{Turn, Runs, added_by}
 use Rattle.keep_loop.specs.declared.keep.Limits.{Limits}
 use Rattle.keep_loop.specs.Seen.{Happened}
-use Rattle.keep_loop.specs.Stands.{Survives}
+use Rattle.keep_loop.specs.Epochs.{front_in, since_in, stored_since, BeginsNone, change_to, AgreesIn}
+use Rattle.keep_loop.specs.Stands.{IsHonest, IsBetween, SurvivesSince}
+use Rattle.table_core.specs.Moves.{Gives}
+use Rattle.table_core.specs.declared.table.Table.{Table}
 
--- an object goes by steps that lines can tell, and these are their lines
-pub record Goes (old : Scene) (lines : List ℕ) (new : Scene) : Type 0 where
-  pub steps : Steps old lines new
-  pub can : AllCanBeTold steps
+-- An object that begins no epoch goes by steps, and the lines that turns add to its journal are those of them.
+abbrev pub RunsAreSteps : Type 0
+RunsAreSteps =
+    (first last : Table) (turns : List Turn) (j : ℕ) (old : Scene) → Runs Gives first turns last → BeginsNone j turns →
+    slice_get first.objects.items j ≡ Some old →
+    (new : Scene) × (slice_get last.objects.items j ≡ Some new) × Steps old (added_by j turns) new
 
--- what was asked makes this of the object at a place: it goes on; where another one begins an epoch, or it could not begin
--- its own, it stays as it is, and nothing is added to its journal
-abbrev pub MovesBy : ℕ → Scene → Asked → List ℕ → Scene → Type 0
-MovesBy j old (Heard who line end) lines new = Goes old lines new
-MovesBy j old (Noted note) lines new = Goes old lines new
-MovesBy j old (Changes journal front true) lines new = journal ≢ j → (new ≡ old) × (lines ≡ [])
-MovesBy j old (Changes journal front false) lines new = (new ≡ old) × (lines ≡ [])
+-- An object at a place of a table stands behind what lines told.
+pub record Stood (t : Table) (j : ℕ) (o : ObjectForm) : Type 0 where
+  pub scene : Scene
+  pub there : slice_get t.objects.items j ≡ Some scene
+  pub names : IsNamed o
+  pub begun : Begun
+  pub heard : Heard
+  pub stands : Stands o begun heard scene
 
--- so does each turn
-abbrev pub MovesAt : {S : Type 0} → Gives S → (S → List Scene) → ℕ → Type 0
-MovesAt {S} gives scenes j = (old new : S) (asked : Asked) (said added : List (ℕ × List ℕ)) (s : Scene) →
-    gives old asked said added new → slice_get (scenes old) j ≡ Some s →
-    (t : Scene) × (slice_get (scenes new) j ≡ Some t) × MovesBy j s asked (to j added) t
-
--- the object at a place begins no epoch by what was asked
-abbrev pub BeginsNot : ℕ → Asked → Type 0
-BeginsNot j (Heard who line end) = Unit {0}
-BeginsNot j (Noted note) = Unit {0}
-BeginsNot j (Changes journal front true) = journal ≢ j
-BeginsNot j (Changes journal front false) = Unit {0}
-
--- so in none of these turns
-abbrev pub BeginsNone : ℕ → List Turn → Type 0
-BeginsNone j [] = Unit {0}
-BeginsNone j (t ∷ turns) = BeginsNot j t.asked × BeginsNone j turns
+-- So it does at the end of turns in which it has begun any number of epochs.
+abbrev pub ObjectsStand : Type 0
+ObjectsStand = (first last : Table) (turns : List Turn) (j : ℕ) (o : ObjectForm) → Runs Gives first turns last → Stood first j o → Stood last j o
 
 -- An object at a place, which stands behind a front when the history begins, and begins no epoch in it.
-pub record IsServed {S : Type 0} (gives : Gives S) (first : S) (scenes : S → List Scene) (j : ℕ) (o : ObjectForm) (f : Opening)
-    (turns : List Turn) : Type 0 where
-  pub moves : MovesAt gives scenes j
+pub record IsServed (first : Table) (j : ℕ) (o : ObjectForm) (f : Opening) (turns : List Turn) : Type 0 where
   pub scene : Scene
-  pub there : slice_get (scenes first) j ≡ Some scene
+  pub there : slice_get first.objects.items j ≡ Some scene
   pub names : IsNamed o
   pub stands : Stands o (begun_by f) nothing_heard scene
   pub goes_on : BeginsNone j turns
 
--- What happened to an object in the turns of which a connection may have read an answer, and in those behind them; and
--- these steps are all of the former, and the first of the latter.
-pub record IsRecovered (o : ObjectForm) (f : Opening) (j : ℕ) (answered later : List Turn) (steps : List Step) : Type 0 where
-  pub adds : AddsTwice o f (added_by j answered) (added_by j later)
+-- What happened to an object in some turns, and in those behind them; and these steps are all of the former, and the first
+-- of the latter.
+pub record IsRecovered (o : ObjectForm) (f : Opening) (j : ℕ) (ts us : List Turn) (steps : List Step) : Type 0 where
+  pub adds : AddsTwice o f (added_by j ts) (added_by j us)
   pub read : IsReadOf adds steps
 
--- What is recovered of an object behind a crash is that.
-abbrev pub CrashIsRecovered : {S : Type 0} → Gives S → Type 0
-CrashIsRecovered {S} gives =
-    (first : S) (limits : Limits) (seen : List Happened) (found : ℕ → List ℕ) (l : Survives gives first limits seen found) (scenes : S → List Scene)
-    (j : ℕ) (o : ObjectForm) (h : House) (f : Opening) (bytes : ℕ) (r : Recovered) → j < limits.journals →
-    IsServed gives first scenes j o f (l.answered ++ l.later) → (b : IsBehind o h f bytes (found j) r) → IsRecovered o f j l.answered l.later b.steps
+-- What is recovered of lines that have those of some turns, and of those of the turns behind them the first bytes, is that;
+-- and no line with a fault is found.
+pub record AreRead (first : Table) (j : ℕ) (ts us : List Turn) (found : List ℕ) : Type 0 where
+  pub recovered : (o : ObjectForm) (h : House) (f : Opening) (bytes : ℕ) (r : Recovered) → IsServed first j o f (ts ++ us) →
+      (b : IsBehind o h f bytes found r) → IsRecovered o f j ts us b.steps
+  pub readable : (o : ObjectForm) (h : House) (f : Opening) (before line : ℕ) (fault : Fault) → IsServed first j o f (ts ++ us) →
+      RefusesBehind o h f before found (faults.Line line fault) → ⊥
 
--- No line with a fault is found.
-abbrev pub CrashIsReadable : {S : Type 0} → Gives S → Type 0
-CrashIsReadable {S} gives =
-    (first : S) (limits : Limits) (seen : List Happened) (found : ℕ → List ℕ) (l : Survives gives first limits seen found) (scenes : S → List Scene)
-    (j : ℕ) (o : ObjectForm) (h : House) (f : Opening) (before line : ℕ) (fault : Fault) → j < limits.journals →
-    IsServed gives first scenes j o f (l.answered ++ l.later) → RefusesBehind o h f before (found j) (faults.Line line fault) → ⊥
+abbrev pub LinesAreRead : Type 0
+LinesAreRead =
+    (first last : Table) (j : ℕ) (ts us : List Turn) (found : List ℕ) → Runs Gives first (ts ++ us) last →
+    Begins (added_by j ts) found → Begins found (added_by j (ts ++ us)) → AreRead first j ts us found
+
+-- An object has begun its next epoch by this front, which stands for it as it then was, and turns go on from there. Where
+-- the past of the front is that with which the epoch began it stands behind that front.
+pub record GoesOnBehind (j : ℕ) (o : ObjectForm) (front : List ℕ) (since : List Turn) (last : Table) : Type 0 where
+  pub mid : Table
+  pub runs : Runs Gives mid since last
+  pub before : Scene
+  pub written : IsNextFront before front
+  pub past : List PastEvent
+  pub served : written.past ≡ past → IsServed mid j o (front_of before (next_epoch before) written.tells.runs (next_base before)) since
+
+-- So it is behind each change of epochs.
+abbrev pub NextIsServed : Type 0
+NextIsServed =
+    (first last : Table) (j : ℕ) (o : ObjectForm) (earlier since : List Turn) (front : List ℕ) →
+    Runs Gives first (earlier ++ change_to j front ∷ since) last → Stood first j o → BeginsNone j since →
+    GoesOnBehind j o front since last
+
+-- What is found behind the front by which an object last began an epoch. The turns since are two parts: the first has all
+-- those of which a connection may have read an answer, and each that is not in it but was answered stood before the front.
+pub record AreReadBehind (j : ℕ) (o : ObjectForm) (front : List ℕ) (answered later : List Turn) (last : Table) (found : List ℕ) : Type 0 where
+  pub earlier : List Turn
+  pub ts : List Turn
+  pub us : List Turn
+  pub cut : answered ++ later ≡ earlier ++ change_to j front ∷ (ts ++ us)
+  pub all : (answered ≡ earlier ++ change_to j front ∷ ts) ⊎ ((rest : List Turn) × (earlier ≡ answered ++ rest) × (ts ≡ []))
+  pub goes : GoesOnBehind j o front (ts ++ us) last
+  pub read : AreRead goes.mid j ts us found
+
+abbrev pub ReadsIn : Table → ℕ → ObjectForm → Option (List ℕ) → List Turn → List Turn → Table → List ℕ → Type 0
+ReadsIn first j o None answered later last found = AreRead first j answered later found
+ReadsIn first j o (Some front) answered later last found = AreReadBehind j o front answered later last found
+
+-- What is found behind a crash is of one history, in which each turn does what its line asks for. Each connection was
+-- written a front of what it is told there, no further than turns whose lines are all found, or stand before a front that
+-- is. Of each object, but of one that has just begun anew and does not know it, what is recovered behind its last front is
+-- all that happened in these turns since, and the first of what happened in those behind them; no line with a fault is found.
+pub record LeavesAnswered (first : Table) (limits : Limits) (seen : List Happened) (found : ℕ → List ℕ) : Type 0 where
+  pub left : SurvivesSince Gives first limits seen found
+  pub read : (j : ℕ) (o : ObjectForm) → j < limits.journals → Stood first j o →
+      AgreesIn j seen (left.survives.answered ++ left.survives.later) →
+      ReadsIn first j o (front_in j seen) left.survives.answered left.survives.later left.survives.last (found j)
+
+-- So it is after a crash at each moment of a loop that is honest, where answers wait for the disk.
+abbrev pub CrashLeavesAnswered : Type 0
+CrashLeavesAnswered =
+    (first : Table) (limits : Limits) (seen : List Happened) (found : ℕ → List ℕ) → limits.waits ≡ true →
+    IsHonest Gives first limits seen →
+    ((j : ℕ) → j < limits.journals → IsBetween (stored_since j seen) (since_in j seen) (found j)) →
+    LeavesAnswered first limits seen found

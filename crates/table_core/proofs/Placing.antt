@@ -44,6 +44,7 @@ entered scenes at old new name now (Ok came) before line there none c = record {
   object = old;
   there = there;
   guests = new.guests;
+  is_name = c.is_name;
   enters = c.enters;
   told = c.added ∙ ap (λ (l : List ℕ). l ++ entered_lines name (Ok came)) none;
   left = ap (λ s. slice_set scenes at s) c.left;

@@ -1,5 +1,6 @@
 -- What is done with the object at a place of a list.
 use Rattle.std.specs.Prelude.{◌≡◌, ◌⊎◌, ℕ, List, [], Option, Some, None, Result, Ok, Err, Bool, IfSome, slice_get, slice_set}
+use Rattle.path_tree.specs.Identifier.{IsName}
 use Rattle.value_core.specs.declared.datum.Datum.{Datum}
 use Rattle.decl_core.specs.ObjectMap.{object_of}
 use Rattle.trace_core.specs.Events.{Called}
@@ -35,6 +36,7 @@ pub record HasEntered (old : List Scene) (at : ℕ) (client : List ℕ) (now : �
   pub object : Scene
   pub there : slice_get old at ≡ Some object
   pub guests : Guests
+  pub is_name : IsName client
   pub enters : Enters object.guests client now (Ok entered) guests
   pub told : line ≡ entered_lines client (Ok entered)
   pub left : new ≡ slice_set old at (with_guests object guests)

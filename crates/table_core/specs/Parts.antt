@@ -1,5 +1,6 @@
 -- Parts of what is done for one that asks.
 use Rattle.std.specs.Prelude.{◌≡◌, ◌⊎◌, ℕ, List, [], ◌∷◌, ◌++◌, Option, Some, None, Result, Ok, Err, slice_get}
+use Rattle.path_tree.specs.Identifier.{IsName}
 use Rattle.value_core.specs.declared.datum.Datum.{Datum}
 use Rattle.decl_core.specs.ObjectMap.{object_of}
 use Rattle.script_text.specs.Answers.{cancelled_line}
@@ -48,6 +49,7 @@ pub record HasCome (at : ℕ) (client : List ℕ) (entered : Entered) (before : 
   pub there : slice_get old.objects at ≡ Some object
   pub now : ℕ
   pub guests : Guests
+  pub is_name : IsName client
   pub enters : Enters object.guests client now (Ok entered) guests
   pub adds : Adds at (with_guests object guests) (entered_lines client (Ok entered)) before old after new
 

@@ -5,7 +5,8 @@ ghost use Rattle.ask_core.specs.declared.answer.Cancelled.TheVariants as answers
 ghost use Rattle.hosted_core.specs.declared.hosted.Keyed.TheVariants as keys;
 ghost use Rattle.hosted_core.specs.Keys.{Says, WaitsAs};
 ghost use Rattle.hosted_core.specs.Scene.{Scene, told_of};
-ghost use Rattle.told_core.specs.Moves.{Begins};
+ghost use Rattle.hosted_core.specs.Fronts.{IsNextFront};
+ghost use Rattle.told_core.specs.Moves.{Begins, IsFrontAt};
 ghost use Rattle.table_core.specs.Objects.{IsNamed, HasOperation, EntersAt, SeatsAt, LeavesAt, CallsAt, CancelsAt};
 
 use ask_core::answer::{Cancelled, SubmitFault};
@@ -306,6 +307,41 @@ pub(crate) fn cancel_at(
             Ok(told)
         }
     }
+}
+
+// Writes the front of the next epoch of an object, where one is due and can begin.
+fn writes_next(object: &Hosted, front: &mut Vec<u8>) -> bool
+    ensures { result ≡ true → IsNextFront object.now front.new.items }
+{
+    if !object.is_due() {
+        return false;
+    }
+    match object.write_next(front) {
+        Ok(is_written) => is_written,
+        Err(_) => false,
+    }
+}
+
+// The same, of the object at a place.
+fn writes_at(objects: &[Hosted], place: usize, front: &mut Vec<u8>) -> bool
+    ensures { result ≡ true → IsFrontAt objects.now place front.new.items }
+{
+    match objects.get(place) {
+        None => false,
+        Some(object) => writes_next(object, front),
+    }
+}
+
+/// The place of the first object that is to begin its next epoch and can. Its front is put in place of what is in `front`.
+pub(crate) fn next_front(objects: &[Hosted], front: &mut Vec<u8>) -> Option<usize>
+    ensures { IfSome result (λ at. IsFrontAt objects.now at front.new.items) }
+{
+    for place in 0..objects.len() {
+        if writes_at(objects, place, front) {
+            return Some(place);
+        }
+    }
+    None
 }
 
 /// Begins the next epoch of the object at a place. False: none could begin, and nothing changes.

@@ -13,7 +13,7 @@ ghost use Rattle.client_core.specs.declared.ask.Ask.TheVariants as asks;
 ghost use Rattle.table_core.specs.Brings.{Brings, Continues, EndsSome};
 ghost use Rattle.table_core.specs.Seen.{seen};
 
-use crate::objects::{begin_at, put_off_at};
+use crate::objects::{begin_at, next_front, put_off_at};
 use crate::peers::{
     come, count, goes_on, hold, must_hold, next, opened_at, place_of, stall, take, taken_by, wake,
     who_at,
@@ -21,7 +21,6 @@ use crate::peers::{
 use crate::table::{MOST_OWED, Table};
 use ask_core::answer::SubmitFault;
 use client_core::ask::{Ask, ask_of, cancel_of};
-use hosted_core::hosted::Hosted;
 use keep_loop::{LineEnd, Note, Post, Served};
 use session_text::line::{Line, Refusal};
 use std::alloc::AllocError;
@@ -496,14 +495,6 @@ fn quits(ask: &Result<Ask, AllocError>) -> bool
     }
 }
 
-// Writes the front of the next epoch of an object, where one can begin.
-fn writes_next(object: &Hosted, front: &mut Vec<u8>) -> bool {
-    match object.write_next(front) {
-        Ok(is_written) => is_written,
-        Err(_) => false,
-    }
-}
-
 // A line without its CR.
 fn without_cr(line: &[u8]) -> &[u8]
     ensures { result.now ≡ strip_carriage_return line.now }
@@ -517,11 +508,11 @@ fn without_cr(line: &[u8]) -> &[u8]
 }
 
 impl Served for Table {
-    ghost use Rattle.table_core.specs.Moves.{Gives};
+    ghost use Rattle.table_core.specs.Moves.{Fronts, Gives};
 
     ghost gives = { Gives };
 
-    ghost fronts = { λ scenes journal front. Unit {0} };
+    ghost fronts = { Fronts };
 
     fn hear(
         &mut self,
@@ -554,14 +545,7 @@ impl Served for Table {
     }
 
     fn due(&self, front: &mut Vec<u8>) -> Result<Option<usize>, AllocError> {
-        for at in 0..self.objects.len() {
-            if self.objects[at].is_due() {
-                if writes_next(&self.objects[at], front) {
-                    return Ok(Some(at));
-                }
-            }
-        }
-        Ok(None)
+        Ok(next_front(&self.objects, front))
     }
 
     fn changed(&mut self, journal: usize, _front: &[u8], went: bool) -> Result<(), AllocError> {

@@ -56,7 +56,7 @@ opens_as_moves : (place : ℕ) (name client : List ℕ) → MovesBy (OpensAs pla
 opens_as_moves place name client old new said added is =
     subst (λ (a : Texts). Moves old.objects a new.objects) (sym is.lines)
     (subst (λ (s : State). Moves old.objects ((is.at, entered_lines client (Ok is.entered)) ∷ []) s.objects) (sym is.left)
-    (moves_one old.objects is.at is.object _ _ is.there (does (comes client is.now (Ok is.entered) is.guests is.enters))))
+    (moves_one old.objects is.at is.object _ _ is.there (does (comes client is.now (Ok is.entered) is.guests is.is_name is.enters))))
 
 opens_moves : (place : ℕ) (name : List ℕ) (client : Option (List ℕ)) → MovesBy (Opens place name client)
 opens_moves place name None old new said added (inl is) = opens_bare_moves place name old new said added is

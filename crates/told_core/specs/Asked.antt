@@ -1,6 +1,7 @@
 -- What is done for one that asks, what it is told, and which lines are added.
 use Rattle.std.specs.Prelude.{◌≡◌, ◌≢◌, ◌⊎◌, ℕ, Bool, true, false, List, [], ◌∷◌, ◌++◌, Option, Some, None, Result, Ok, Err, IfSome, codes, slice_get}
 use Rattle.std.specs.declared.alloc.AllocError.{AllocError}
+use Rattle.path_tree.specs.Identifier.{IsName}
 use Rattle.value_core.specs.declared.datum.Datum.{Datum}
 use Rattle.decl_core.specs.ObjectMap.{object_of}
 use Rattle.trace_core.specs.Text.{operation_name}
@@ -61,6 +62,7 @@ pub record OpensAs (place : ℕ) (name client : List ℕ) (old : State) (said ad
   pub now : ℕ
   pub entered : Entered
   pub guests : Guests
+  pub is_name : IsName client
   pub enters : Enters object.guests client now (Ok entered) guests
   pub told : said ≡ told_to old.peers place (opened_text name (Some entered.next))
   pub lines : added ≡ (at, entered_lines client (Ok entered)) ∷ []

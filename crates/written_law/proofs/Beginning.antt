@@ -2,20 +2,24 @@
 use Rattle.std.proofs.Common.{◌≡◌, ℕ, suc, ◌+◌, ◌-◌, ◌≤◌, List, [], ◌∷◌, length, refl, sym, ap, ◌∙◌, subst, arith}
 use Rattle.std.specs.Prelude.{All, Some, slice_get, unwrap_or}
 use Rattle.value_core.specs.Datum.{IsDatum}
+use Rattle.decl_core.specs.ObjectForm.{ObjectForm}
 use Rattle.decl_core.specs.ObjectMap.{object_of}
 use Rattle.trace_core.specs.Events.{Called}
 use Rattle.live_core.specs.Epochs.{numbered_from, told_behind}
 use Rattle.live_core.specs.Hall.{Every, IsHeld}
 use Rattle.live_core.proofs.Beginning.{length_numbered}
 use Rattle.live_core.proofs.Listing.{every_map}
-use Rattle.replay_core.specs.Steps.{Begun, told_by}
+use Rattle.past_core.specs.declared.past.PastEvent.{PastEvent}
+use Rattle.front_core.specs.Past.{events_in}
+use Rattle.replay_core.specs.Steps.{Begun, Heard, nothing_heard, told_by}
 use Rattle.replay_core.specs.Tells.{IsSession}
 use Rattle.recover_core.specs.Carried.{calls_of}
 use Rattle.recover_core.specs.Playing.{begun_by}
 use Rattle.hosted_core.specs.Fronts.{carried_from, front_of}
 use Rattle.hosted_core.specs.Scene.{Scene}
-use Rattle.written_law.specs.Stands.{IsAwaited, AreSeated}
-use Rattle.written_law.specs.Begins.{FollowedStands, AgainStands}
+use Rattle.hosted_core.specs.Steps.{IsFollowed}
+use Rattle.written_law.specs.Stands.{IsAwaited, AreSeated, Stands}
+use Rattle.written_law.specs.Begins.{BegunStands, FollowedStands, AgainStands}
 use Rattle.written_law.proofs.Seating.{seated_renewed}
 
 -- the calls of a front have the numbers that they have in its epoch
@@ -51,34 +55,52 @@ all_awaited e calls is all = awaited_from e 0 calls all (λ k d there.
     let place : 0 + k ≡ k = omega arith in
     subst (λ (xs : List Called). slice_get xs k ≡ Some d) is (subst (λ m. slice_get e.carried m ≡ Some d) place there))
 
-pub followed_stands : FollowedStands
-followed_stands o e heard old new past runs epoch base s followed is =
-    let b = begun_by (front_of old epoch runs base) in
+-- the epoch that follows, whatever its front says
+pub followed_begun : (o : ObjectForm) (e : Begun) (heard : Heard) (old new : Scene) (past : List PastEvent) → Stands o e heard old → IsFollowed old past new →
+    Stands o (record { past = past; opening = old.hall.contents; carried = numbered_from 0 old.hall.waiting }) nothing_heard new
+followed_begun o e heard old new past s followed =
+    let b : Begun = record { past = past; opening = old.hall.contents; carried = numbered_from 0 old.hall.waiting } in
     let begun = followed.begun in
-    let carried : b.carried ≡ numbered_from 0 old.hall.waiting = calls_numbered old 0 old.hall.waiting in
     record {
       object = ap object_of begun.object ∙ s.object;
       rests = refl;
-      held = subst (λ p. IsHeld new.hall (told_behind p old.hall.contents)) (sym is) (followed.held (told_by e heard.steps) s.held);
+      held = followed.held (told_by e heard.steps) s.held;
       waiting = subst (Every (IsAwaited b [])) (sym begun.waiting)
-          (all_awaited b old.hall.waiting carried (every_map (IsAwaited e heard.steps) CanWait (λ c w. (w.session, w.values)) old.hall.waiting s.waiting));
+          (all_awaited b old.hall.waiting refl (every_map (IsAwaited e heard.steps) CanWait (λ c w. (w.session, w.values)) old.hall.waiting s.waiting));
       later = λ number more. tt;
-      carried = omega (arith, ap length carried, length_numbered 0 old.hall.waiting, begun.given);
+      carried = omega (arith, length_numbered 0 old.hall.waiting, begun.given);
       sessions = subst (λ n. n ≤ 65535) (sym begun.sessions) s.sessions;
       seated = subst AreSeated (sym followed.guests) (seated_renewed old.guests s.seated);
     }
 
-pub again_stands : AgainStands
-again_stands object ended source limits s again runs epoch base few seated is =
+pub followed_stands : FollowedStands
+followed_stands o e heard old new past runs epoch base s followed is =
+    subst (λ (cs : List Called). Stands o (record { past = events_in runs; opening = old.hall.contents; carried = cs }) nothing_heard new)
+    (sym (calls_numbered old 0 old.hall.waiting))
+    (subst (λ (p : List PastEvent). Stands o (record { past = p; opening = old.hall.contents; carried = numbered_from 0 old.hall.waiting }) nothing_heard new) (sym is)
+    (followed_begun o e heard old new past s followed))
+
+pub begun_stands : BegunStands
+begun_stands o past s runs epoch base begun is =
     let b = begun_by (front_of s epoch runs base) in
     let carried : b.carried ≡ numbered_from 0 s.hall.waiting = calls_numbered s 0 s.hall.waiting in
     record {
-      object = ap object_of again.set_up.object_is;
+      object = begun.object;
       rests = refl;
-      held = subst (λ p. IsHeld s.hall (told_behind p s.hall.contents)) (sym is) (subst (λ c. IsHeld s.hall (told_behind again.past c)) (sym again.held.kept.contents) again.held);
-      waiting = subst (Every (IsAwaited b [])) (sym again.waiting) tt;
+      held = subst (λ p. IsHeld s.hall (told_behind p s.hall.contents)) (sym is) begun.held;
+      waiting = subst (Every (IsAwaited b [])) (sym begun.waiting) tt;
       later = λ number more. tt;
-      carried = omega (arith, ap length carried, length_numbered 0 s.hall.waiting, ap length again.waiting);
+      carried = omega (arith, ap length carried, length_numbered 0 s.hall.waiting, ap length begun.waiting);
+      sessions = begun.sessions;
+      seated = begun.seated;
+    }
+
+pub again_stands : AgainStands
+again_stands object ended source limits s again runs epoch base few seated is =
+    begun_stands (object_of object) again.past s runs epoch base (record {
+      object = ap object_of again.set_up.object_is;
+      held = subst (λ c. IsHeld s.hall (told_behind again.past c)) (sym again.held.kept.contents) again.held;
+      waiting = again.waiting;
       sessions = subst (λ n. n ≤ 65535) (sym again.set_up.sessions_are) few;
       seated = subst AreSeated (sym again.guests) (seated_renewed ended.guests seated);
-    }
+    }) is

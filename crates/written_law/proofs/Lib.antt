@@ -4,4 +4,5 @@ pub mod Seating
 pub mod Telling
 pub mod Beginning
 pub mod Reading
+pub mod Replying
 pub mod Recovering

@@ -15,7 +15,7 @@ use Rattle.recover_core.specs.Lines.{IsLine, AreLines, joined}
 use Rattle.recover_core.specs.Playing.{begun_by}
 use Rattle.hosted_core.specs.Steps as hosted
 use Rattle.written_law.specs.Happens.{all_happen}
-use Rattle.written_law.specs.Read.{Adds, AddsTwice, FrontIsRead, AllIsRead, StoredIsRead, NoFaultIsFound}
+use Rattle.written_law.specs.Read.{Adds, FrontIsRead, AllIsRead, StoredIsRead, NoFaultIsFound}
 use Rattle.written_law.specs.Told.{heard_of, AreTold}
 use Rattle.written_law.proofs.Telling.{steps_are_told}
 
@@ -199,7 +199,7 @@ module _ (o : ObjectForm) (e : Begun) where
 
 -- the lines of what happened
 told_of : (o : ObjectForm) (f : Opening) (text : List ℕ) (a : Adds o f text) → AreTold o (begun_by f) nothing_heard text (all_happen a.all []) a.new
-told_of o f text a = steps_are_told o (begun_by f) nothing_heard a.old a.new text a.all a.names a.stands a.can
+told_of o f text a = steps_are_told o (begun_by f) nothing_heard a.old a.new text a.all a.names a.stands
 
 pub front_is_read : FrontIsRead
 front_is_read o h f bytes text found more r a cut b =
@@ -226,11 +226,10 @@ stored_is_read o h f bytes stored more found extra lost r a begins cut b =
       old = a.old;
       new = a.new;
       all = hosted.goes_on a.first a.later;
-      can = (a.can_first, a.can_later);
       stands = a.stands;
     } in
     let front = front_is_read o h f bytes (stored ++ more) found lost r both cut b in
-    let told = steps_are_told o (begun_by f) nothing_heard a.old a.mid stored a.first a.names a.stands a.can_first in
+    let told = steps_are_told o (begun_by f) nothing_heard a.old a.mid stored a.first a.names a.stands in
     let same : joined b.lines ++ b.rest ≡ joined told.lines ++ extra = sym b.cut ∙ begins ∙ ap (λ x. x ++ extra) told.cut in
     let lines = lines_begin_open told.lines b.lines b.rest extra told.each b.each b.open_end same in
     let back = stored_told o (begun_by f) told.lines lines.0 b.lines b.played.kept (all_happen a.first []) b.steps told.told lines.1 b.played.cut b.played.told in

@@ -13,8 +13,6 @@ use Rattle.decl_core.specs.ObjectMap.{object_of}
 use Rattle.apply_core.specs.History.{IsLegal}
 use Rattle.word_core.specs.Words.{line_of, words_text}
 use Rattle.trace_core.specs.Events.{Called, history_of}
-use Rattle.trace_core.specs.Laws.{IsReply}
-use Rattle.live_core.specs.declared.call.Ran.{Ran}
 use Rattle.live_core.specs.declared.live.Taken.{Taken}
 use Rattle.live_core.specs.Answers.{asked, IsTaken}
 use Rattle.live_core.specs.Hall.{Hall, Every, EachPair, Told, IsHeld, IsWaiting, IsCallOf}
@@ -40,9 +38,10 @@ use Rattle.hosted_core.specs.Lines.{cancel_words, name_words, entered_lines}
 use Rattle.hosted_core.specs.Scene.{Scene, with_guests}
 use Rattle.hosted_core.specs.Steps as hosted
 use Rattle.written_law.specs.Stands.{IsNamed, IsAwaited, AreSeated, Stands}
-use Rattle.written_law.specs.Happens.{with_ran, with_entered, with_cancelled, happens, all_happen, CanBeTold}
+use Rattle.written_law.specs.Happens.{with_ran, with_entered, with_cancelled, happens, all_happen}
 use Rattle.written_law.specs.Told.{heard_of, AreTold, StepIsTold, StepsAreTold}
 use Rattle.written_law.proofs.Saying.{cancel_written, name_written}
+use Rattle.written_law.proofs.Replying.{replies_written}
 use Rattle.written_law.proofs.Running.{IsReady, Going, can_be_written, may_be_told, apart, ran_told, told_ran}
 use Rattle.written_law.proofs.Seating.{seated_enters, seated_number, seated_leaves, seated_keys, seated_remembered, named_at, unnamed_by, void_named, free_named, nameless_named, retired_named, no_seat, not_0, free_void}
 
@@ -158,8 +157,8 @@ module _ (o : ObjectForm) (e : Begun) where
 
   -- a call was taken, and these ran
   took : (steps : List Step) (old : Scene) (session operation : ℕ) (arguments : List Datum) (a : Taken) (new : Scene) → Does old session operation arguments a new → IsNamed o → Stands o e (heard_of steps) old →
-      All IsDatum arguments → Every (λ (r : Ran). IsReply r.reply) a.ran.items → AreTold o e (heard_of steps) (all_lines (object_of old.hall.object) a.ran.items) (with_ran a.ran.items steps) new
-  took steps old session operation arguments a new does known s values replies =
+      AreTold o e (heard_of steps) (all_lines (object_of old.hall.object) a.ran.items) (with_ran a.ran.items steps) new
+  took steps old session operation arguments a new does known s =
       let h = old.hall in
       let c = asked h session operation arguments in
       let j = hall.joined h c in
@@ -168,8 +167,10 @@ module _ (o : ObjectForm) (e : Begun) where
       let all = a.ran.items in
       let t = told_by e steps in
       let after = with_ran all steps in
-      let settles : Settles o t j.waiting all mid.hall.waiting = subst (λ x. Settles x t j.waiting all mid.hall.waiting) s.object (takes.settles t s.held).settles in
-      let lines = ran_told o e (h.given + 1) t j.waiting mid.hall.waiting all steps known settles (joined_going steps old session operation arguments s takes.taken values) replies in
+      let ran = (takes.settles t s.held).settles in
+      let replies = replies_written h.object t j.waiting mid.hall.waiting all ran does.replies in
+      let settles : Settles o t j.waiting all mid.hall.waiting = subst (λ x. Settles x t j.waiting all mid.hall.waiting) s.object ran in
+      let lines = ran_told o e (h.given + 1) t j.waiting mid.hall.waiting all steps known settles (joined_going steps old session operation arguments s takes.taken does.values) replies in
       let object : object_of mid.hall.object ≡ o = ap object_of takes.same.fixed.object ∙ s.object in
       let held : IsHeld mid.hall (told_by e after) = subst (IsHeld mid.hall) (sym (told_ran e all steps)) (takes.held t s.held) in
       let given : mid.hall.given ≡ h.given + 1 = takes.same.given in
@@ -299,12 +300,12 @@ module _ (o : ObjectForm) (e : Begun) where
     was_cancelled = by_seat (slice_get old.guests.seats session) refl
 
   -- one thing that happens, behind these steps
-  one_told : (steps : List Step) (old new : Scene) (text : List ℕ) (step : hosted.Step old text new) → IsNamed o → Stands o e (heard_of steps) old → CanBeTold step → AreTold o e (heard_of steps) text (happens step steps) new
-  one_told steps old new text (hosted.comes name now a guests enters) known s can = came steps old name now a guests enters known s can
-  one_told steps old new text (hosted.gets_number session least) known s can = silent steps old _ s (seated_number old.guests session least s.seated)
-  one_told steps old new text (hosted.leaves session now was_here guests leaves) known s can = silent steps old guests s (seated_leaves old.guests session now was_here guests leaves s.seated)
-  one_told steps old new text (hosted.calls session operation arguments a does) known s can = took steps old session operation arguments a new does known s can.0 can.1
-  one_told steps old new text (hosted.cancels session told lines gone) known s can = was_cancelled steps old new session told text gone known s
+  one_told : (steps : List Step) (old new : Scene) (text : List ℕ) (step : hosted.Step old text new) → IsNamed o → Stands o e (heard_of steps) old → AreTold o e (heard_of steps) text (happens step steps) new
+  one_told steps old new text (hosted.comes name now a guests is_name enters) known s = came steps old name now a guests enters known s is_name
+  one_told steps old new text (hosted.gets_number session least) known s = silent steps old _ s (seated_number old.guests session least s.seated)
+  one_told steps old new text (hosted.leaves session now was_here guests leaves) known s = silent steps old guests s (seated_leaves old.guests session now was_here guests leaves s.seated)
+  one_told steps old new text (hosted.calls session operation arguments a does) known s = took steps old session operation arguments a new does known s
+  one_told steps old new text (hosted.cancels session told lines gone) known s = was_cancelled steps old new session told text gone known s
 
   -- where nothing runs
   at_rest : (heard : Heard) (s : Scene) → Stands o e heard s → Stands o e (heard_of heard.steps) s
@@ -344,14 +345,14 @@ module _ (o : ObjectForm) (e : Begun) where
   }
 
 pub step_is_told : StepIsTold
-step_is_told o e heard old new text step known s can =
-    subst (λ h. AreTold o e h text (happens step heard.steps) new) (rested heard s.rests) (one_told o e heard.steps old new text step known (at_rest o e heard old s) can)
+step_is_told o e heard old new text step known s =
+    subst (λ h. AreTold o e h text (happens step heard.steps) new) (rested heard s.rests) (one_told o e heard.steps old new text step known (at_rest o e heard old s))
 
 pub steps_are_told : StepsAreTold
-steps_are_told o e heard old new text hosted.rests known s can =
+steps_are_told o e heard old new text hosted.rests known s =
     subst (λ h. AreTold o e h [] heard.steps old) (rested heard s.rests) (silent o e heard.steps old old.guests (at_rest o e heard old s) s.seated)
-steps_are_told o e heard old new text (hosted.does step) known s can = step_is_told o e heard old new text step known s can
-steps_are_told o e heard old new text (hosted.goes_on {mid = mid} {lines = first} {added = added} all more) known s can =
-    let a = steps_are_told o e heard old mid first all known s can.0 in
-    let b = steps_are_told o e (heard_of (all_happen all heard.steps)) mid new added more known a.stands can.1 in
+steps_are_told o e heard old new text (hosted.does step) known s = step_is_told o e heard old new text step known s
+steps_are_told o e heard old new text (hosted.goes_on {mid = mid} {lines = first} {added = added} all more) known s =
+    let a = steps_are_told o e heard old mid first all known s in
+    let b = steps_are_told o e (heard_of (all_happen all heard.steps)) mid new added more known a.stands in
     both_told o e heard first added (all_happen all heard.steps) (all_happen more (all_happen all heard.steps)) mid new a b

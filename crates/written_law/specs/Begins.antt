@@ -1,5 +1,5 @@
 -- An epoch that begins: no line stands behind its front.
-use Rattle.std.specs.Prelude.{◌≡◌, ℕ, ◌≤◌, List}
+use Rattle.std.specs.Prelude.{◌≡◌, ℕ, ◌≤◌, List, []}
 use Rattle.decl_core.specs.declared.object.Object.{Object}
 use Rattle.decl_core.specs.ObjectForm.{ObjectForm}
 use Rattle.decl_core.specs.ObjectMap.{object_of}
@@ -8,6 +8,8 @@ use Rattle.front_core.specs.declared.past.PastRun.{PastRun}
 use Rattle.front_core.specs.Front.{Opening}
 use Rattle.front_core.specs.Past.{events_in}
 use Rattle.live_core.specs.declared.call.Limits.{Limits}
+use Rattle.live_core.specs.Epochs.{told_behind}
+use Rattle.live_core.specs.Hall.{IsHeld}
 use Rattle.replay_core.specs.Steps.{Step, Begun, Heard, nothing_heard}
 use Rattle.recover_core.specs.declared.recover.House.{House}
 use Rattle.recover_core.specs.declared.recover.Recovered.{Recovered}
@@ -19,6 +21,20 @@ use Rattle.hosted_core.specs.Fronts.{front_of}
 use Rattle.hosted_core.specs.Scene.{Scene}
 use Rattle.hosted_core.specs.Steps.{IsFollowed}
 use Rattle.written_law.specs.Stands.{AreSeated, Stands}
+
+-- An object at the beginning of an epoch: this past stands behind it, no call waits, and its clients have their places.
+pub record HasBegun (o : ObjectForm) (past : List PastEvent) (s : Scene) : Type 0 where
+  pub object : object_of s.hall.object ≡ o
+  pub held : IsHeld s.hall (told_behind past s.hall.contents)
+  pub waiting : s.hall.waiting ≡ []
+  pub sessions : s.hall.sessions ≤ 65535
+  pub seated : AreSeated s.guests
+
+-- It stands behind the front with that past.
+abbrev pub BegunStands : Type 0
+BegunStands =
+    (o : ObjectForm) (past : List PastEvent) (s : Scene) (runs : List PastRun) (epoch base : ℕ) → HasBegun o past s →
+    events_in runs ≡ past → Stands o (begun_by (front_of s epoch runs base)) nothing_heard s
 
 -- An object that has begun its next epoch stands behind the front that was written for it.
 abbrev pub FollowedStands : Type 0

@@ -1,11 +1,7 @@
 -- What happens to an object with its clients, as the steps that lines tell.
-use Rattle.std.specs.Prelude.{ℕ, List, [], ◌∷◌, All, Option, Some, None, Result, Ok, Err, slice_get, if◌then◌else◌}
-use Rattle.path_tree.specs.Identifier.{IsName}
-use Rattle.value_core.specs.Datum.{IsDatum}
+use Rattle.std.specs.Prelude.{ℕ, List, [], ◌∷◌, Option, Some, None, Result, Ok, Err, slice_get, if◌then◌else◌}
 use Rattle.trace_core.specs.Events.{Called}
-use Rattle.trace_core.specs.Laws.{IsReply}
 use Rattle.live_core.specs.declared.call.Ran.{Ran}
-use Rattle.live_core.specs.Hall.{Every}
 use Rattle.guest_core.specs.declared.guests.Entered.{Entered}
 use Rattle.guest_core.specs.declared.guests.EnterFault.{EnterFault}
 use Rattle.guest_core.specs.declared.seats.Seat.{Seat}
@@ -36,7 +32,7 @@ with_cancelled None c steps = steps
 -- what one thing that happens puts in front of the steps before it, the newest first; a session that gets a number or
 -- leaves is not told of
 abbrev pub happens : {old new : Scene} {lines : List ℕ} → hosted.Step old lines new → List Step → List Step
-happens (hosted.comes name now a guests enters) steps = with_entered name a steps
+happens (hosted.comes name now a guests is_name enters) steps = with_entered name a steps
 happens (hosted.gets_number session least) steps = steps
 happens (hosted.leaves session now was_here guests left) steps = steps
 happens (hosted.calls session operation arguments a does) steps = with_ran a.ran.items steps
@@ -48,18 +44,3 @@ abbrev pub all_happen : {old new : Scene} {lines : List ℕ} → hosted.Steps ol
 all_happen hosted.rests steps = steps
 all_happen (hosted.does step) steps = happens step steps
 all_happen (hosted.goes_on first more) steps = all_happen more (all_happen first steps)
-
--- What lines can tell: a client's name is one, arguments are integers and texts, and so are replies, or words of refusals.
--- So are values of these types: `path_tree::name::Name`, `value_core::datum::Datum`, `apply_core::reply::Reply`.
-abbrev pub CanBeTold : {old new : Scene} {lines : List ℕ} → hosted.Step old lines new → Type 0
-CanBeTold (hosted.comes name now a guests enters) = IsName name
-CanBeTold (hosted.gets_number session least) = Unit {0}
-CanBeTold (hosted.leaves session now was_here guests left) = Unit {0}
-CanBeTold (hosted.calls session operation arguments a does) =
-    All IsDatum arguments × Every (λ (r : Ran). IsReply r.reply) a.ran.items
-CanBeTold (hosted.cancels session told lines gone) = Unit {0}
-
-abbrev pub AllCanBeTold : {old new : Scene} {lines : List ℕ} → hosted.Steps old lines new → Type 0
-AllCanBeTold hosted.rests = Unit {0}
-AllCanBeTold (hosted.does step) = CanBeTold step
-AllCanBeTold (hosted.goes_on first more) = AllCanBeTold first × AllCanBeTold more

@@ -12,7 +12,7 @@ use Rattle.recover_core.specs.Recovered.{IsBehind, RefusesBehind}
 use Rattle.hosted_core.specs.Scene.{Scene}
 use Rattle.hosted_core.specs.Steps as hosted
 use Rattle.written_law.specs.Stands.{IsNamed, Stands}
-use Rattle.written_law.specs.Happens.{all_happen, AllCanBeTold}
+use Rattle.written_law.specs.Happens.{all_happen}
 
 -- What happened to an object since this front was written, and the bytes that this added behind it.
 pub record Adds (o : ObjectForm) (f : Opening) (text : List ℕ) : Type 0 where
@@ -20,7 +20,6 @@ pub record Adds (o : ObjectForm) (f : Opening) (text : List ℕ) : Type 0 where
   pub old : Scene
   pub new : Scene
   pub all : hosted.Steps old text new
-  pub can : AllCanBeTold all
   pub stands : Stands o (begun_by f) nothing_heard old
 
 -- What is recovered of the first of these bytes, however many, is the first steps of what happened.
@@ -43,8 +42,6 @@ pub record AddsTwice (o : ObjectForm) (f : Opening) (stored more : List ℕ) : T
   pub new : Scene
   pub first : hosted.Steps old stored mid
   pub later : hosted.Steps mid more new
-  pub can_first : AllCanBeTold first
-  pub can_later : AllCanBeTold later
   pub stands : Stands o (begun_by f) nothing_heard old
 
 -- What is recovered is all of the first part, and of the second one its first steps, however many.

@@ -8,7 +8,7 @@ use Rattle.recover_core.specs.Lines.{AreLines, joined}
 use Rattle.hosted_core.specs.Scene.{Scene}
 use Rattle.hosted_core.specs.Steps as hosted
 use Rattle.written_law.specs.Stands.{IsNamed, Stands}
-use Rattle.written_law.specs.Happens.{happens, all_happen, CanBeTold, AllCanBeTold}
+use Rattle.written_law.specs.Happens.{happens, all_happen}
 
 -- what was heard where lines told these steps, and nothing runs
 abbrev pub heard_of : List Step → Heard
@@ -28,10 +28,10 @@ pub record AreTold (o : ObjectForm) (e : Begun) (heard : Heard) (text : List ℕ
 abbrev pub StepIsTold : Type 0
 StepIsTold =
     (o : ObjectForm) (e : Begun) (heard : Heard) (old new : Scene) (text : List ℕ) (step : hosted.Step old text new) →
-    IsNamed o → Stands o e heard old → CanBeTold step → AreTold o e heard text (happens step heard.steps) new
+    IsNamed o → Stands o e heard old → AreTold o e heard text (happens step heard.steps) new
 
 -- So are those of more, one after the other.
 abbrev pub StepsAreTold : Type 0
 StepsAreTold =
     (o : ObjectForm) (e : Begun) (heard : Heard) (old new : Scene) (text : List ℕ) (all : hosted.Steps old text new) →
-    IsNamed o → Stands o e heard old → AllCanBeTold all → AreTold o e heard text (all_happen all heard.steps) new
+    IsNamed o → Stands o e heard old → AreTold o e heard text (all_happen all heard.steps) new

@@ -1,7 +1,7 @@
 //! The laws, each a function without a body whose contract it is.
 
 ghost use Rattle.written_law.specs.Told.{StepIsTold, StepsAreTold};
-ghost use Rattle.written_law.specs.Begins.{FollowedStands, AgainStands, RecoveredAreSeated};
+ghost use Rattle.written_law.specs.Begins.{BegunStands, FollowedStands, AgainStands, RecoveredAreSeated};
 ghost use Rattle.written_law.specs.Read.{FrontIsRead, AllIsRead, StoredIsRead, NoFaultIsFound};
 
 /// The lines of one thing that happens to an object with its clients tell just that.
@@ -12,6 +12,11 @@ pub fn step_is_told()
 /// So do the lines of more such things, one after the other.
 pub fn steps_are_told()
     ensures { StepsAreTold }
+{}
+
+/// An object at the beginning of an epoch stands behind the front with the past that stands behind it.
+pub fn begun_stands()
+    ensures { BegunStands }
 {}
 
 /// An object that has begun its next epoch stands behind the front that was written for it.

@@ -1,4 +1,4 @@
-use Rattle.keep_loop.proofs.Kept.{keeps_changed, fails_of_keeps, fails_changed, on_err}
+use Rattle.keep_loop.proofs.Kept.{renews_changed, fails_changed, fails_changed_if, on_err}
 use Rattle.keep_loop.proofs.rounds.change_one.Goals as goal
 
 pub returns-in_err-went-clause-err : goal.returns-in_err-went-clause-err
@@ -7,11 +7,10 @@ returns-in_err-went-clause-err g c =
 
 pub returns-in_err-changed-clause-err : goal.returns-in_err-changed-clause-err
 returns-in_err-changed-clause-err g c =
-    on_err _ (fails_of_keeps g.O.Served.gives (g.W.Outside.seen c.args.outside.now) (g.W.Outside.seen c.change.new.self) c.args.keep.now c.args.keep.now
-    (keeps_changed g.O.Served.gives c.args.journal c.args.front.now c.in_ok-went.went (g.W.Outside.seen c.args.outside.now) (g.W.Outside.seen c.change.new.self) c.args.keep.now c.args.keep.now c.in_ok-went.ensures.ok
-    (λ first limits seen s. s)))
+    on_err _ (fails_changed_if g.O.Served.gives c.args.journal c.args.front.now c.in_ok-went.went (g.W.Outside.seen c.args.outside.now) (g.W.Outside.seen c.change.new.self) c.args.keep.now
+    c.in_ok-went.ensures.ok)
 
 pub returns-clause-ok : goal.returns-clause-ok
 returns-clause-ok g c =
-    keeps_changed g.O.Served.gives c.args.journal c.args.front.now c.in_ok-went.went (g.W.Outside.seen c.args.outside.now) (g.W.Outside.seen c.change.new.self) c.args.keep.now c.changed.new.self c.in_ok-went.ensures.ok
-    c.in_ok-changed.ensures.stands
+    renews_changed g.O.Served.gives c.args.journal c.args.front.now c.in_ok-went.went (g.W.Outside.seen c.args.outside.now) (g.W.Outside.seen c.change.new.self) c.args.keep.now c.changed.new.self c.in_ok-went.ensures.ok
+    c.in_ok-changed.ensures.renewed c.in_ok-changed.ensures.stays

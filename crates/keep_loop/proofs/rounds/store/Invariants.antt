@@ -1,7 +1,7 @@
-use Rattle.keep_loop.specs.Stands.{Keeps}
+use Rattle.keep_loop.specs.Stands.{Sends}
 use Rattle.keep_loop.proofs.rounds.store.Given as goal
 
 abbrev pub invariant-loop-journal : goal.invariant-loop-journal
 invariant-loop-journal g l = record {
-  goes : Keeps g.O.Served.gives (g.W.Outside.seen l.fn.outside) l.fn.keep (g.W.Outside.seen l.outside) l.fn.keep;
+  goes : Sends g.O.Served.gives (g.W.Outside.seen l.fn.outside) l.fn.keep (g.W.Outside.seen l.outside) l.fn.keep;
 }

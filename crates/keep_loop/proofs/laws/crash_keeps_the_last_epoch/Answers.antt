@@ -1,0 +1,5 @@
+use Rattle.keep_loop.proofs.Crashed.{survives_since}
+use Rattle.keep_loop.proofs.laws.crash_keeps_the_last_epoch.Goals as goal
+
+pub returns : goal.returns
+returns g c first limits seen found waits h between = survives_since g.O.Served.gives first limits seen found waits h between
