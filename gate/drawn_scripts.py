@@ -18,6 +18,9 @@ BAD_RETURNS = ("resume", "resume 1", "resume s1 2", "Resume s1", "resume s1 #1",
 # Lines that say nothing, and look like those of calls that are done at once.
 BAD_DOS = ("do", "do s1", "do 1 get", "do s1 1", "do s1 'get'", "do s1 get x", "do s1 #1 get", "Do s1 get", "do get s1", "done s1 get",
            "do s1 get 4294967296", "do s1 g-t", "do s get")
+# Lines that say nothing, and look like those that ask.
+BAD_QUESTIONS = ("why", "why s1", "why 1 2", "why x", "why '1'", "why -1", "why 4294967296", "who 1", "who s1", "Who", "Why 1", "list 1",
+                 "whys 1")
 
 
 class Drawer:
@@ -385,14 +388,41 @@ class DoingInTurn(InTurn):
         self.add(["do", session, self.cased(op), *self.texts(arguments)], [finish_line(number, ending)])
 
 
+class Asking(Doing):
+    """A drawn script that asks now and then why calls wait, and which do."""
+
+    def __init__(self, seed):
+        super().__init__(seed)
+        self.bad_lines, self.bad_in = BAD_QUESTIONS, 4
+
+    def why_number(self):
+        """Mostly that of a call that waits."""
+        found = self.world.numbered("waiting")
+        return self.draw.of(found) if found and not self.draw.one_in(3) else self.any_number()
+
+    def draw_line(self):
+        if not self.draw.one_in(4):
+            super().draw_line()
+        elif self.draw.one_in(3):
+            self.add(["who"], self.world.who())
+        else:
+            number = self.why_number()
+            answer = self.world.why(number)
+            self.dones.append(f"why: {answer[0].split()[2]}")
+            self.add(["why", self.number(number)], answer)
+
+
 FIRST_RETURN = 331
 FIRST_DO = 501
+FIRST_ASK = 641
 
 
 def script_of(seed):
     """The script of a seed: one of seven is in turn. From a seed on sessions come back, and calls have keys; from a later
-    one on many calls are done at once."""
+    one on many calls are done at once; and from the last one on it is asked why calls wait."""
     kinds = (Script, InTurn) if seed < FIRST_RETURN else (Returning, InTurnAgain) if seed < FIRST_DO else (Doing, DoingInTurn)
+    if seed >= FIRST_ASK:
+        kinds = (Asking, DoingInTurn)
     script = kinds[seed % 7 == 3](seed)
     script.draw_lines()
     return script

@@ -107,6 +107,35 @@ def node_of(written):
     return Name(written) if isinstance(written, str) else written
 
 
+def inner_of(node):
+    """The nodes that stand in a node."""
+    if isinstance(node, Name):
+        return []
+    return node.members if isinstance(node, (Any, Sequence)) else [node.inner]
+
+
+def enders(node):
+    """The operations whose end may end an activation of a node."""
+    if isinstance(node, Name):
+        return [node.op]
+    return [op for it in (node.members[-1:] if isinstance(node, Sequence) else inner_of(node)) for op in enders(it)]
+
+
+def broken(node, trace):
+    """What the last event of a trace breaks at a node itself, each with the operations of which one has to end first."""
+    if isinstance(node, Bound) and node.started(trace)[-1] - node.ended(trace)[-1] > node.most:
+        yield "full", enders(node.inner)
+    if isinstance(node, Sequence):
+        for turn, (before, after) in enumerate(zip(node.members, node.members[1:]), 1):
+            if after.started(trace)[-1] > before.ended(trace)[-1]:
+                yield f"turn {turn}", enders(before)
+
+
+def nodes_of(node):
+    """The nodes of a path, each before those in it."""
+    return [node, *(it for inner in inner_of(node) for it in nodes_of(inner))]
+
+
 def running_sum(events, counts):
     """How many of the events count, for each front of them."""
     sums = [0]
@@ -482,6 +511,40 @@ class World:
             return [f"cancel {number} {'Running' if call.state == 'running' else 'Ended'}"]
         call.state = "cancelled"
         return [f"cancel {number} Cancelled", *self.admitted()]
+
+    def refusals(self, op):
+        """The nodes that refuse a start of an operation now: path, node, what is lacking, and whose end is needed."""
+        trace = [*self.events(), ("start", op)]
+        return [
+            (f"path {number} node {at} {lack}", needs)
+            for number, path in enumerate(self.made.paths, 1)
+            for at, node in enumerate(nodes_of(path))
+            for lack, needs in broken(node, trace)
+        ]
+
+    def why(self, number):
+        """What keeps a call waiting, and which calls run there; or that it does not wait."""
+        call = self.call_of(number)
+        if call is None:
+            return [f"why {number} Unknown"]
+        if call.state != "waiting":
+            return [f"why {number} {'Running' if call.state == 'running' else 'Ended'}"]
+        found = self.refusals(call.op)
+        needs = {op for _, ops in found for op in ops}
+        lines = [" ".join([place, "needs", *ops]) for place, ops in found]
+        for other in self.numbered("running"):
+            it = self.calls[other - 1]
+            if it.op in needs:
+                lines.append(f"runs {other} s{it.session} {it.op}")
+        return [f"why {number} Waiting {len(lines)}", *lines]
+
+    def who(self):
+        """The calls that wait, each with the nodes that refuse it."""
+        lines = []
+        for number in self.numbered("waiting"):
+            it = self.calls[number - 1]
+            lines += [f"waits {number} s{it.session} {it.op} {place}" for place, _ in self.refusals(it.op)]
+        return [f"who {len(lines)}", *lines]
 
     def drop(self, session):
         if not 1 <= session <= 1024:

@@ -2,7 +2,7 @@
 use Rattle.std.proofs.Common.{◌≡◌, ◌++◌, Bool, true, false, List, [], ◌∷◌, Some, None, codes}
 use Rattle.std.specs.Prelude.{⊤}
 use Rattle.clap.specs.Walk.{Rule, Text}
-use Rattle.command_line.specs.Forms.{Verb, paths, check, run, audit, serve, keep, Given, IsNumber, has_sessions, has_stop, has_stuck, has_keeping}
+use Rattle.command_line.specs.Forms.{Verb, paths, check, run, audit, attempt, serve, keep, Given, IsNumber, has_sessions, has_stop, has_stuck, has_keeping}
 use Rattle.command_line.proofs.Levels.{sessions_built, at_once_built, sync_built, traces_built, past_built}
 
 pub data Choice : Type 0 where
@@ -83,30 +83,35 @@ by_choice P a b c d e of_sessions paths has = absurd (clash has)
 by_choice P a b c d e of_sessions check has = absurd (clash has)
 by_choice P a b c d e of_sessions run has = absurd (clash has)
 by_choice P a b c d e of_sessions audit has = absurd (clash has)
+by_choice P a b c d e of_sessions attempt has = absurd (clash has)
 by_choice P a b c d e of_sessions keep has = absurd (clash has)
 by_choice P a b c d e of_at_once keep has = b
 by_choice P a b c d e of_at_once paths has = absurd (clash has)
 by_choice P a b c d e of_at_once check has = absurd (clash has)
 by_choice P a b c d e of_at_once run has = absurd (clash has)
 by_choice P a b c d e of_at_once audit has = absurd (clash has)
+by_choice P a b c d e of_at_once attempt has = absurd (clash has)
 by_choice P a b c d e of_at_once serve has = absurd (clash has)
 by_choice P a b c d e of_sync keep has = c
 by_choice P a b c d e of_sync paths has = absurd (clash has)
 by_choice P a b c d e of_sync check has = absurd (clash has)
 by_choice P a b c d e of_sync run has = absurd (clash has)
 by_choice P a b c d e of_sync audit has = absurd (clash has)
+by_choice P a b c d e of_sync attempt has = absurd (clash has)
 by_choice P a b c d e of_sync serve has = absurd (clash has)
 by_choice P a b c d e of_traces keep has = d
 by_choice P a b c d e of_traces paths has = absurd (clash has)
 by_choice P a b c d e of_traces check has = absurd (clash has)
 by_choice P a b c d e of_traces run has = absurd (clash has)
 by_choice P a b c d e of_traces audit has = absurd (clash has)
+by_choice P a b c d e of_traces attempt has = absurd (clash has)
 by_choice P a b c d e of_traces serve has = absurd (clash has)
 by_choice P a b c d e of_past keep has = e
 by_choice P a b c d e of_past paths has = absurd (clash has)
 by_choice P a b c d e of_past check has = absurd (clash has)
 by_choice P a b c d e of_past run has = absurd (clash has)
 by_choice P a b c d e of_past audit has = absurd (clash has)
+by_choice P a b c d e of_past attempt has = absurd (clash has)
 by_choice P a b c d e of_past serve has = absurd (clash has)
 
 -- what holds of each subcommand that stops with its input
@@ -117,6 +122,7 @@ by_stop P a b paths has = absurd (clash has)
 by_stop P a b check has = absurd (clash has)
 by_stop P a b run has = absurd (clash has)
 by_stop P a b audit has = absurd (clash has)
+by_stop P a b attempt has = absurd (clash has)
 
 -- what holds of the subcommand that has `--stuck`
 pub by_stuck : (P : Verb → Type 0) → P check → (v : Verb) → has_stuck v ≡ true → P v
@@ -124,5 +130,6 @@ by_stuck P a check has = a
 by_stuck P a paths has = absurd (clash has)
 by_stuck P a run has = absurd (clash has)
 by_stuck P a audit has = absurd (clash has)
+by_stuck P a attempt has = absurd (clash has)
 by_stuck P a serve has = absurd (clash has)
 by_stuck P a keep has = absurd (clash has)

@@ -14,7 +14,7 @@ use Rattle.clap.specs.declared.parser.matches.SubCommand.{SubCommand}
 use Rattle.clap.specs.declared.parser.matches.Found.{Found}
 use Rattle.clap.proofs.WalkLemmas.{first_value-rows, one_text-rows}
 use Rattle.command_line.specs.declared.request.Address.{Address}
-use Rattle.command_line.specs.Forms.{Verb, paths, check, run, audit, serve, keep, name_of, Given, Makes, IsAddressOf, IsSyncOf, IsNumber, number_of, sync_of}
+use Rattle.command_line.specs.Forms.{Verb, paths, check, run, audit, attempt, serve, keep, name_of, Given, Makes, IsAddressOf, IsSyncOf, IsNumber, number_of, sync_of}
 use Rattle.command_line.specs.declared.request.Sync.{Sync}
 use Rattle.command_line.specs.declared.request.Request.{Request}
 use Rattle.command_line.specs.declared.request.Request.TheVariants as requests
@@ -64,8 +64,8 @@ number_read G k low high t None reads parses small is = absurd (parses t (Err re
 
 verb_in : Text → Option Verb
 verb_in t = cond (bytes_eq t (codes "paths")) (Some paths) (cond (bytes_eq t (codes "check")) (Some check) (cond (bytes_eq t (codes "run")) (Some run)
-    (cond (bytes_eq t (codes "audit")) (Some audit) (cond (bytes_eq t (codes "serve")) (Some serve)
-    (cond (bytes_eq t (codes "keep")) (Some keep) None)))))
+    (cond (bytes_eq t (codes "audit")) (Some audit) (cond (bytes_eq t (codes "try")) (Some attempt) (cond (bytes_eq t (codes "serve")) (Some serve)
+    (cond (bytes_eq t (codes "keep")) (Some keep) None))))))
 
 verb_named : (v : Verb) → verb_in (name_of v) ≡ Some v
 unfolding verb_in
@@ -73,6 +73,7 @@ verb_named paths = refl
 verb_named check = refl
 verb_named run = refl
 verb_named audit = refl
+verb_named attempt = refl
 verb_named serve = refl
 verb_named keep = refl
 

@@ -11,7 +11,7 @@ use Rattle.clap.specs.declared.builder.value_parser.ValueParser.{ValueParser}
 use Rattle.clap.specs.declared.builder.value_parser.ValueParser.TheVariants as parsers
 use Rattle.clap.specs.declared.builder.value_parser.Reading.TheVariants.{AsWritten}
 use Rattle.clap.specs.declared.parser.matches.ValueSource.TheVariants.{CommandLine}
-use Rattle.command_line.specs.Forms.{Verb, paths, check, run, audit, serve, keep, name_of, Takes, IsNumber}
+use Rattle.command_line.specs.Forms.{Verb, paths, check, run, audit, attempt, serve, keep, name_of, Takes, IsNumber}
 use Rattle.command_line.specs.Commands.{at_once_rule, flag_rule, own_rules, past_rule, program, sessions_rule, sync_rule, traces_rule}
 use Rattle.command_line.proofs.Rows.{seen, row_with, seen_new, seen_other, more_other}
 
@@ -32,7 +32,7 @@ top = record (new_shape (codes "pathserve")) {
 }
 
 abbrev pub leaves : List Shape
-leaves = leaf paths ∷ leaf check ∷ leaf run ∷ leaf audit ∷ leaf serve ∷ leaf keep ∷ built_leaf help_shape ∷ []
+leaves = leaf paths ∷ leaf check ∷ leaf run ∷ leaf audit ∷ leaf attempt ∷ leaf serve ∷ leaf keep ∷ built_leaf help_shape ∷ []
 
 abbrev pub whole : App
 whole = record { top = top; subs = leaves }
@@ -40,9 +40,9 @@ whole = record { top = top; subs = leaves }
 pub built_is : built program ≡ whole
 built_is = refl
 
--- a word at place i
-abbrev pub place_rule : ℕ → Text → ValueParser → Rule
-place_rule i name parser = record {
+-- a word at place i, which has to be there or not
+abbrev pub place_rule : ℕ → Text → ValueParser → Bool → Rule
+place_rule i name parser must = record {
   id = name;
   long = None;
   aliases = [];
@@ -57,7 +57,7 @@ place_rule i name parser = record {
   trailing_var_arg = false;
   parser = Some parser;
   ignore_case = false;
-  required = true;
+  required = must;
   is_simple = true;
   is_free = true;
 }
@@ -99,6 +99,7 @@ place_names paths = []
 place_names check = codes "FILE" ∷ []
 place_names run = codes "FILE" ∷ codes "SCRIPT" ∷ []
 place_names audit = codes "FILE" ∷ codes "TRACE" ∷ []
+place_names attempt = codes "FILE" ∷ codes "NAME" ∷ []
 place_names serve = codes "FILE" ∷ codes "DIR" ∷ codes "PLACE" ∷ []
 place_names keep = codes "FILE" ∷ codes "DIR" ∷ codes "PLACE" ∷ []
 
@@ -132,9 +133,10 @@ places_kept (n ∷ ns) (w ∷ ws) rows r others h = (seen_other n r rows others.
 pub record Place (v : Verb) (words : List Text) : Type 0 where
   pub name : Text
   pub parser : ValueParser
-  pub indexed : arg_by_index (rules v) (place_after words) ≡ Some (place_rule (place_after words) name parser)
-  pub by_id : arg_by_id (rules v) name ≡ Some (place_rule (place_after words) name parser)
-  pub next : (w : Text) → next_position (place_rule (place_after words) name parser) (place_after words) ≡ place_after (words ++ w ∷ [])
+  pub must : Bool
+  pub indexed : arg_by_index (rules v) (place_after words) ≡ Some (place_rule (place_after words) name parser must)
+  pub by_id : arg_by_id (rules v) name ≡ Some (place_rule (place_after words) name parser must)
+  pub next : (w : Text) → next_position (place_rule (place_after words) name parser must) (place_after words) ≡ place_after (words ++ w ∷ [])
   pub read : reading_of parser ≡ AsWritten
   pub takes : (w : Text) → Takes v words w → accepts false parser w ≡ true
   pub only : (w : Text) → accepts false parser w ≡ true → Takes v words w
@@ -172,6 +174,7 @@ place paths (a ∷ b ∷ c ∷ more) = inr refl
 place check [] = inl (record {
   name = codes "FILE";
   parser = parsers.String;
+  must = true;
   indexed = refl;
   by_id = refl;
   next = λ w. refl;
@@ -196,6 +199,7 @@ place check (a ∷ b ∷ c ∷ more) = inr refl
 place run [] = inl (record {
   name = codes "FILE";
   parser = parsers.String;
+  must = true;
   indexed = refl;
   by_id = refl;
   next = λ w. refl;
@@ -217,6 +221,7 @@ place run [] = inl (record {
 place run (a ∷ []) = inl (record {
   name = codes "SCRIPT";
   parser = parsers.String;
+  must = true;
   indexed = refl;
   by_id = refl;
   next = λ w. refl;
@@ -240,6 +245,7 @@ place run (a ∷ b ∷ c ∷ more) = inr refl
 place audit [] = inl (record {
   name = codes "FILE";
   parser = parsers.String;
+  must = true;
   indexed = refl;
   by_id = refl;
   next = λ w. refl;
@@ -261,6 +267,7 @@ place audit [] = inl (record {
 place audit (a ∷ []) = inl (record {
   name = codes "TRACE";
   parser = parsers.String;
+  must = true;
   indexed = refl;
   by_id = refl;
   next = λ w. refl;
@@ -281,9 +288,56 @@ place audit (a ∷ []) = inl (record {
 })
 place audit (a ∷ b ∷ []) = inr refl
 place audit (a ∷ b ∷ c ∷ more) = inr refl
+place attempt [] = inl (record {
+  name = codes "FILE";
+  parser = parsers.String;
+  must = true;
+  indexed = refl;
+  by_id = refl;
+  next = λ w. refl;
+  read = refl;
+  takes = λ w t. refl;
+  only = λ w e. tt;
+  unseen = λ rows h. h.0;
+  adds = λ w rows h. (new_row (codes "FILE") w refl rows h.0, (seen_other (codes "NAME") (text_row (codes "FILE") w) rows refl ∙ h.1.0, tt));
+  no_explain = refl;
+  no_silence = refl;
+  no_stop = refl;
+  no_stuck = refl;
+  no_sessions = refl;
+  no_at_once = refl;
+  no_sync = refl;
+  no_traces = refl;
+  no_past = refl;
+})
+place attempt (a ∷ []) = inl (record {
+  name = codes "NAME";
+  parser = parsers.String;
+  must = false;
+  indexed = refl;
+  by_id = refl;
+  next = λ w. refl;
+  read = refl;
+  takes = λ w t. refl;
+  only = λ w e. tt;
+  unseen = λ rows h. h.1.0;
+  adds = λ w rows h. (seen_other (codes "FILE") (text_row (codes "NAME") w) rows refl ∙ h.0, (new_row (codes "NAME") w refl rows h.1.0, tt));
+  no_explain = refl;
+  no_silence = refl;
+  no_stop = refl;
+  no_stuck = refl;
+  no_sessions = refl;
+  no_at_once = refl;
+  no_sync = refl;
+  no_traces = refl;
+  no_past = refl;
+})
+place attempt (a ∷ b ∷ []) = inr refl
+place attempt (a ∷ b ∷ c ∷ more) = inr refl
 place serve [] = inl (record {
   name = codes "FILE";
   parser = parsers.String;
+  must = true;
   indexed = refl;
   by_id = refl;
   next = λ w. refl;
@@ -305,6 +359,7 @@ place serve [] = inl (record {
 place serve (a ∷ []) = inl (record {
   name = codes "DIR";
   parser = parsers.String;
+  must = true;
   indexed = refl;
   by_id = refl;
   next = λ w. refl;
@@ -326,6 +381,7 @@ place serve (a ∷ []) = inl (record {
 place serve (a ∷ b ∷ []) = inl (record {
   name = codes "PLACE";
   parser = parsers.String;
+  must = true;
   indexed = refl;
   by_id = refl;
   next = λ w. refl;
@@ -348,6 +404,7 @@ place serve (a ∷ b ∷ c ∷ more) = inr refl
 place keep [] = inl (record {
   name = codes "FILE";
   parser = parsers.String;
+  must = true;
   indexed = refl;
   by_id = refl;
   next = λ w. refl;
@@ -369,6 +426,7 @@ place keep [] = inl (record {
 place keep (a ∷ []) = inl (record {
   name = codes "DIR";
   parser = parsers.String;
+  must = true;
   indexed = refl;
   by_id = refl;
   next = λ w. refl;
@@ -390,6 +448,7 @@ place keep (a ∷ []) = inl (record {
 place keep (a ∷ b ∷ []) = inl (record {
   name = codes "PLACE";
   parser = parsers.String;
+  must = true;
   indexed = refl;
   by_id = refl;
   next = λ w. refl;
@@ -437,6 +496,7 @@ long_rule keep explain silence stop stuck sessions at_once sync traces past more
 long_rule check explain silence stop stuck sessions at_once sync traces past more = stuck_rule stuck (explain_rule explain silence more)
 long_rule run explain silence stop stuck sessions at_once sync traces past more = explain_rule explain silence more
 long_rule audit explain silence stop stuck sessions at_once sync traces past more = explain_rule explain silence more
+long_rule attempt explain silence stop stuck sessions at_once sync traces past more = explain_rule explain silence more
 
 abbrev pub shown_by : Text → Option Rule
 shown_by name = shown_rule (bytes_eq (codes "help") name) (bytes_eq (codes "version") name)
@@ -451,6 +511,7 @@ long_is paths name = refl
 long_is check name = refl
 long_is run name = refl
 long_is audit name = refl
+long_is attempt name = refl
 long_is serve name = refl
 long_is keep name = refl
 
@@ -459,5 +520,6 @@ short_is paths x = refl
 short_is check x = refl
 short_is run x = refl
 short_is audit x = refl
+short_is attempt x = refl
 short_is serve x = refl
 short_is keep x = refl

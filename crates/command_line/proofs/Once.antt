@@ -10,7 +10,7 @@ use Rattle.command_line.specs.declared.request.Address.{Address}
 use Rattle.command_line.specs.declared.request.Address.TheVariants as addresses
 use Rattle.command_line.specs.declared.request.Sync.{Sync}
 use Rattle.command_line.specs.declared.request.Sync.TheVariants as syncs
-use Rattle.command_line.specs.Forms.{Verb, paths, check, run, audit, serve, keep, name_of, Given, IsNumber, number_of, explain_of, has_slash, IsAddressOf, IsSyncOf, Makes, Asks}
+use Rattle.command_line.specs.Forms.{Verb, paths, check, run, audit, attempt, serve, keep, name_of, Given, IsNumber, number_of, explain_of, has_slash, IsAddressOf, IsSyncOf, AreTried, Makes, Asks}
 use Rattle.command_line.specs.Commands.{Holds, HoldsExplain, program}
 use Rattle.command_line.specs.Laws.{IsSame, IsSameAddress, AsksOnce}
 use Rattle.command_line.proofs.Found.{same_verb, some_same}
@@ -62,6 +62,22 @@ same_sync u w (syncs.Millis n) (syncs.Millis k) e one other = ap syncs.Millis (o
 same_sync u w syncs.Always (syncs.Millis k) e one other = absurd (no_number (subst (IsNumber 1 60000) (sym e ∙ one) other.0))
 same_sync u w (syncs.Millis n) syncs.Always e one other = absurd (no_number (subst (IsNumber 1 60000) (e ∙ other) one.0))
 
+one_same : (f f2 : Text) → (f ∷ []) ≡ (f2 ∷ []) → f ≡ f2
+one_same f f2 e = cc
+
+one_two : (f f2 y : Text) → (f ∷ []) ≡ (f2 ∷ y ∷ []) → ⊥
+one_two f f2 y e = cc
+
+both_same : (f f2 x y : Text) → (f ∷ x ∷ []) ≡ (f2 ∷ y ∷ []) → (f ≡ f2) × (Some x ≡ Some y)
+both_same f f2 x y e = (cc, cc)
+
+-- the words of `try` are of one file, and of one name or of none
+same_tried : (words : List Text) (f f2 : Text) (n n2 : Option Text) → AreTried words f n → AreTried words f2 n2 → (f ≡ f2) × (n ≡ n2)
+same_tried words f f2 None None a b = (one_same f f2 (sym a ∙ b), refl)
+same_tried words f f2 None (Some y) a b = absurd (one_two f f2 y (sym a ∙ b))
+same_tried words f f2 (Some x) None a b = absurd (one_two f2 f x (sym b ∙ a))
+same_tried words f f2 (Some x) (Some y) a b = both_same f f2 x y (sym a ∙ b)
+
 same_made : (v : Verb) (g h : Given) (rows : List Row) (p q : Request) → Holds v g rows → Holds v h rows → Makes v g p → Makes v h q → IsSame p q
 same_made paths g h rows requests.Paths requests.Paths a b m n = tt
 same_made paths g h rows requests.Paths q a b m n = absurd n
@@ -91,6 +107,13 @@ same_made audit g h rows (requests.Audit file trace explain) (requests.Audit fil
     )
 same_made audit g h rows (requests.Audit file trace explain) q a b m n = absurd n
 same_made audit g h rows p q a b m n = absurd m
+same_made attempt g h rows (requests.Try file name explain) (requests.Try file2 name2 explain2) a b m n =
+    let first = same_first rows (codes "FILE") a.0 b.0 a.1 b.1 in
+    let mine = same_tried g.words file.now a.0 (option_map (λ w. w.now) name) (first_of (codes "NAME") rows) m.0 a.2 in
+    let other = same_tried h.words file2.now b.0 (option_map (λ w. w.now) name2) (first_of (codes "NAME") rows) n.0 b.2 in
+    (mine.0 ∙ first ∙ sym other.0, mine.1 ∙ sym other.1, m.1 ∙ same_explain g h rows a.3 b.3 ∙ sym n.1)
+same_made attempt g h rows (requests.Try file name explain) q a b m n = absurd n
+same_made attempt g h rows p q a b m n = absurd m
 same_made serve g h rows (requests.Serve s) (requests.Serve t) a b m n =
     let first = same_first rows (codes "FILE") a.0 b.0 a.5 b.5 in
     let second = same_first rows (codes "DIR") a.1 b.1 a.6 b.6 in

@@ -10,7 +10,7 @@ use Rattle.clap.specs.declared.error.kind.ErrorKind.TheVariants as kinds
 use Rattle.clap.specs.declared.error.kind.ErrorKind.TheVariants.{OutOfMemory}
 use Rattle.clap.specs.Faults.{fault_of, level_fault, turn_fault, walk_fault, built_fault}
 use Rattle.clap.proofs.WalkLemmas.{both}
-use Rattle.command_line.specs.Forms.{Verb, paths, check, run, audit, serve, keep, name_of, Given, nothing, is_bare, Gives, ends, word, explain, silence, stop, stuck, sessions, joined, at_once, at_once_joined, sync, sync_joined, traces, traces_joined, past, past_joined, hyphens as ends_flags, Topic, help, version, word_for, kind_for, has_no_hyphens, Shows, of_program, of_verb}
+use Rattle.command_line.specs.Forms.{Verb, paths, check, run, audit, attempt, serve, keep, name_of, Given, nothing, is_bare, Gives, ends, word, explain, silence, stop, stuck, sessions, joined, at_once, at_once_joined, sync, sync_joined, traces, traces_joined, past, past_joined, hyphens as ends_flags, Topic, help, version, word_for, kind_for, has_no_hyphens, Shows, of_program, of_verb}
 use Rattle.command_line.specs.Commands.{program}
 use Rattle.command_line.proofs.Turns.{long_turn, neither, some_fault}
 use Rattle.command_line.proofs.Levels.{rules, leaf, top, whole, place_after, place, flag}
@@ -36,6 +36,7 @@ module _ (k : ℕ) (rows : List Row) (q : Option (Text × List Text)) where
   help_turn check valid = long_turn (leaf check) [] k (held rows q) idle (codes "--help") refl refl (codes "help", None) refl ∙ first_shown (settle check rows q) kinds.DisplayHelp _ valid
   help_turn run valid = long_turn (leaf run) [] k (held rows q) idle (codes "--help") refl refl (codes "help", None) refl ∙ first_shown (settle run rows q) kinds.DisplayHelp _ valid
   help_turn audit valid = long_turn (leaf audit) [] k (held rows q) idle (codes "--help") refl refl (codes "help", None) refl ∙ first_shown (settle audit rows q) kinds.DisplayHelp _ valid
+  help_turn attempt valid = long_turn (leaf attempt) [] k (held rows q) idle (codes "--help") refl refl (codes "help", None) refl ∙ first_shown (settle attempt rows q) kinds.DisplayHelp _ valid
   help_turn serve valid = long_turn (leaf serve) [] k (held rows q) idle (codes "--help") refl refl (codes "help", None) refl ∙ first_shown (settle serve rows q) kinds.DisplayHelp _ valid
   help_turn keep valid = long_turn (leaf keep) [] k (held rows q) idle (codes "--help") refl refl (codes "help", None) refl ∙ first_shown (settle keep rows q) kinds.DisplayHelp _ valid
 
@@ -44,6 +45,7 @@ module _ (k : ℕ) (rows : List Row) (q : Option (Text × List Text)) where
   version_turn check valid = long_turn (leaf check) [] k (held rows q) idle (codes "--version") refl refl (codes "version", None) refl ∙ first_shown (settle check rows q) kinds.DisplayVersion _ valid
   version_turn run valid = long_turn (leaf run) [] k (held rows q) idle (codes "--version") refl refl (codes "version", None) refl ∙ first_shown (settle run rows q) kinds.DisplayVersion _ valid
   version_turn audit valid = long_turn (leaf audit) [] k (held rows q) idle (codes "--version") refl refl (codes "version", None) refl ∙ first_shown (settle audit rows q) kinds.DisplayVersion _ valid
+  version_turn attempt valid = long_turn (leaf attempt) [] k (held rows q) idle (codes "--version") refl refl (codes "version", None) refl ∙ first_shown (settle attempt rows q) kinds.DisplayVersion _ valid
   version_turn serve valid = long_turn (leaf serve) [] k (held rows q) idle (codes "--version") refl refl (codes "version", None) refl ∙ first_shown (settle serve rows q) kinds.DisplayVersion _ valid
   version_turn keep valid = long_turn (leaf keep) [] k (held rows q) idle (codes "--version") refl refl (codes "version", None) refl ∙ first_shown (settle keep rows q) kinds.DisplayVersion _ valid
 

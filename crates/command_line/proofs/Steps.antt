@@ -11,7 +11,7 @@ use Rattle.clap.specs.declared.builder.value_parser.ValueParser.{ValueParser}
 use Rattle.clap.specs.declared.builder.value_parser.ValueParser.TheVariants as parsers
 use Rattle.clap.specs.declared.builder.value_parser.Reading.TheVariants.{AsWritten}
 use Rattle.clap.specs.declared.parser.matches.ValueSource.TheVariants.{CommandLine}
-use Rattle.command_line.specs.Forms.{Verb, paths, check, run, audit, serve, keep, Given, Takes, IsNumber}
+use Rattle.command_line.specs.Forms.{Verb, paths, check, run, audit, attempt, serve, keep, Given, Takes, IsNumber}
 use Rattle.command_line.proofs.Rows.{seen, row_with, seen_new, seen_other, no_row, any_found, again_row, again_more, more_other}
 use Rattle.command_line.proofs.Turns.{some_fault, first_of, then_of, neither}
 use Rattle.command_line.proofs.Levels.{rules, place_rule, place_names, text_row, Places, AreOthers, places_kept, places_more, Place, number_passes, passes_number, flag}
@@ -67,15 +67,15 @@ pub or_false : (b : Bool) → (b || false) ≡ b
 or_false true = refl
 or_false false = refl
 
-pub word_use : (i : ℕ) (name : Text) (parser : ValueParser) (w : Text) (rows : List Row) → seen name rows ≡ None → accepts false parser w ≡ true
-    → use_fault false (place_rule i name parser) (w ∷ []) rows ≡ []
-word_use i name parser w rows none ok =
+pub word_use : (i : ℕ) (name : Text) (parser : ValueParser) (must : Bool) (w : Text) (rows : List Row) → seen name rows ≡ None → accepts false parser w ≡ true
+    → use_fault false (place_rule i name parser must) (w ∷ []) rows ≡ []
+word_use i name parser must w rows none ok =
     neither _ _ (ap (λ b. cond (b && true) (kinds.ArgumentConflict ∷ []) []) (no_row name rows none))
     (ap (λ b. or_else (cond b [] (refused_kind parser ∷ [])) []) ok)
 
-pub word_accepted : (i : ℕ) (name : Text) (parser : ValueParser) (w : Text) (rows : List Row)
-    → use_fault false (place_rule i name parser) (w ∷ []) rows ≡ [] → accepts false parser w ≡ true
-word_accepted i name parser w rows e = go (accepts false parser w) (first_of _ [] (then_of (cond (has_row name rows && true) (kinds.ArgumentConflict ∷ []) []) _ e))
+pub word_accepted : (i : ℕ) (name : Text) (parser : ValueParser) (must : Bool) (w : Text) (rows : List Row)
+    → use_fault false (place_rule i name parser must) (w ∷ []) rows ≡ [] → accepts false parser w ≡ true
+word_accepted i name parser must w rows e = go (accepts false parser w) (first_of _ [] (then_of (cond (has_row name rows && true) (kinds.ArgumentConflict ∷ []) []) _ e))
   where
     go : (b : Bool) → cond b [] (refused_kind parser ∷ []) ≡ [] → b ≡ true
     go true e = refl
@@ -157,6 +157,7 @@ others x a b c d e paths = tt
 others x a b c d e check = (a, tt)
 others x a b c d e run = (a, (b, tt))
 others x a b c d e audit = (a, (c, tt))
+others x a b c d e attempt = (a, (c, tt))
 others x a b c d e serve = (a, (d, (e, tt)))
 others x a b c d e keep = (a, (d, (e, tt)))
 

@@ -4,7 +4,7 @@ use Rattle.std.proofs.lemmas.Slice.Eq.{bytes_eq-Decides}
 use Rattle.clap.specs.Walk.{Held, Rule, Text, arg_by_long, settled}
 use Rattle.clap.specs.Kinds.{Kinds as Faults}
 use Rattle.clap.specs.Faults.{long_fault, settle_fault, short_fault, react_fault, use_fault}
-use Rattle.command_line.specs.Forms.{Verb, paths, check, run, audit, serve, keep, has_explain, has_stop, has_stuck}
+use Rattle.command_line.specs.Forms.{Verb, paths, check, run, audit, attempt, serve, keep, has_explain, has_stop, has_stuck}
 use Rattle.command_line.proofs.Turns.{some_fault, first_of, then_of}
 use Rattle.command_line.proofs.Levels.{rules, flag, sessions_built, at_once_built, sync_built, traces_built, past_built, help_built, version_built, explain_rule, stop_rule, stuck_rule, shown_rule, shown_by, long_rule, long_is}
 use Rattle.command_line.proofs.Choices.{Choice, of_sessions, of_at_once, of_sync, of_traces, of_past, id_of, built_of, has_choice}
@@ -138,6 +138,7 @@ passes v h name o e = go v (sym (ap (λ r. long_fault (rules v) false r o h) (lo
     go check e = by_stuck (rules check) h check name o (shown_by name) (fails check) refl refl (bytes_eq (codes "stuck") name) (bytes_eq (codes "explain") name) (bytes_eq (codes "no-explain") name) refl refl refl e
     go run e = by_explain (rules run) h run name o (shown_by name) (fails run) refl (bytes_eq (codes "explain") name) (bytes_eq (codes "no-explain") name) refl refl e
     go audit e = by_explain (rules audit) h audit name o (shown_by name) (fails audit) refl (bytes_eq (codes "explain") name) (bytes_eq (codes "no-explain") name) refl refl e
+    go attempt e = by_explain (rules attempt) h attempt name o (shown_by name) (fails attempt) refl (bytes_eq (codes "explain") name) (bytes_eq (codes "no-explain") name) refl refl e
     go serve e = by_serve (rules serve) h serve name o (shown_by name) (fails serve) refl refl refl (bytes_eq (codes "sessions") name) (bytes_eq (codes "stop-with-input") name) (bytes_eq (codes "explain") name)
         (bytes_eq (codes "no-explain") name) refl refl refl refl e
     go keep e = by_keep (rules keep) h keep name o (shown_by name) (fails keep) refl refl refl refl refl refl (bytes_eq (codes "at-once") name) (bytes_eq (codes "sync") name) (bytes_eq (codes "traces") name)

@@ -11,7 +11,7 @@ use Rattle.clap.specs.Faults.{positional_fault, settle_fault, short_fault, step_
 use Rattle.clap.specs.declared.builder.value_parser.Reading.TheVariants.{AsWritten}
 use Rattle.clap.specs.declared.parser.matches.ValueSource.TheVariants.{CommandLine}
 use Rattle.clap.proofs.LexerLemmas.{name_and_value-at}
-use Rattle.command_line.specs.Forms.{Verb, paths, check, run, audit, serve, keep, has_explain, has_stop, has_stuck, is_bare, Given, Takes, Gives, ends, word, explain, silence, stop, stuck, sessions, joined, at_once, at_once_joined, sync, sync_joined, traces, traces_joined, past, past_joined, hyphens as ends_flags}
+use Rattle.command_line.specs.Forms.{Verb, paths, check, run, audit, attempt, serve, keep, has_explain, has_stop, has_stuck, is_bare, Given, Takes, Gives, ends, word, explain, silence, stop, stuck, sessions, joined, at_once, at_once_joined, sync, sync_joined, traces, traces_joined, past, past_joined, hyphens as ends_flags}
 use Rattle.command_line.proofs.Choices.{Choice, of_sessions, of_at_once, of_sync, of_traces, of_past, id_of, word_of, joined_of, built_of, has_choice, Open, choose, Allows, by_choice, by_stop, by_stuck}
 use Rattle.command_line.proofs.Rows.{seen, row_with, used_new}
 use Rattle.command_line.proofs.Sorts.{bare, hyphens, long, short, kind, bare_word, dashes, Cut, whole, parts, cut, sessions_lacks, at_once_lacks, sync_lacks, traces_lacks, past_lacks}
@@ -51,8 +51,8 @@ module _ (v : Verb) (W : Walk) (w : Text) (ws : List Text) where
 -- ---- a word
 
 module _ (v : Verb) (words : List Text) (p : Place v words) (rows : List Row) (q : Option (Text × List Text)) where
-  several : (h : Held) → (is_pending (place_rule (place_after words) p.name p.parser) h.pending && takes_several (place_rule (place_after words) p.name p.parser)) ≡ false
-  several h = and_false (is_pending (place_rule (place_after words) p.name p.parser) h.pending)
+  several : (h : Held) → (is_pending (place_rule (place_after words) p.name p.parser p.must) h.pending && takes_several (place_rule (place_after words) p.name p.parser p.must)) ≡ false
+  several h = and_false (is_pending (place_rule (place_after words) p.name p.parser p.must) h.pending)
 
   step_is : step_fault (leaf v) (place_after words) (held rows q) value ≡ settle v rows q
   step_is = ap (λ a. option_map_or (λ a. positional_fault (rules v) false a (held rows q)) a (stray_fault (leaf v))) p.indexed
@@ -65,11 +65,11 @@ module _ (v : Verb) (words : List Text) (p : Place v words) (rows : List Row) (q
   goes_to : (free : Bool) (w : Text) → to_positional (rules v) (arg_by_index (rules v) (place_after words)) w (at free (place_after words) (held rows q)) (held rows q)
       ≡ at free (place_after (words ++ w ∷ [])) (held (rows_now v rows q) (Some (p.name, w ∷ [])))
   goes_to free w =
-      let kept : positional_held (rules v) (place_rule (place_after words) p.name p.parser) w (held rows q) ≡ held (rows_now v rows q) (Some (p.name, w ∷ [])) =
+      let kept : positional_held (rules v) (place_rule (place_after words) p.name p.parser p.must) w (held rows q) ≡ held (rows_now v rows q) (Some (p.name, w ∷ [])) =
       ap (λ b. pushed p.name w (cond b (held rows q) (settled (rules v) (held rows q)))) (several (held rows q)) in
       let place_next = p.next w in
       let closed = or_false (not free) in
-      let made : to_positional (rules v) (Some (place_rule (place_after words) p.name p.parser)) w (at free (place_after words) (held rows q)) (held rows q)
+      let made : to_positional (rules v) (Some (place_rule (place_after words) p.name p.parser p.must)) w (at free (place_after words) (held rows q)) (held rows q)
       ≡ at free (place_after (words ++ w ∷ [])) (held (rows_now v rows q) (Some (p.name, w ∷ []))) =
       λ i. record { held = kept i; waiting = idle; position = place_next i; is_trailing = closed i; stopped = None } in
       ap (λ a. to_positional (rules v) a w (at free (place_after words) (held rows q)) (held rows q)) p.indexed ∙ made
@@ -81,7 +81,7 @@ module _ (v : Verb) (words : List Text) (p : Place v words) (rows : List Row) (q
   word_after false w is = goes_to false w
 
   -- what is pending then
-  pending_is : (w : Text) (now : List Row) → settle v now (Some (p.name, w ∷ [])) ≡ use_fault false (place_rule (place_after words) p.name p.parser) (w ∷ []) now
+  pending_is : (w : Text) (now : List Row) → settle v now (Some (p.name, w ∷ [])) ≡ use_fault false (place_rule (place_after words) p.name p.parser p.must) (w ∷ []) now
   pending_is w now = ap (λ o. option_map_or (λ a. use_fault false a (w ∷ []) now) o []) p.by_id
 
   rows_then : (w : Text) (now : List Row) → seen p.name now ≡ None → rows_now v now (Some (p.name, w ∷ [])) ≡ now ++ text_row p.name w ∷ []
@@ -94,7 +94,7 @@ pub word_stands : (v : Verb) (g : Given) (rows : List Row) (q : Option (Text × 
     → Stands v (record g { words = g.words ++ w ∷ [] }) (rows_now v rows q) (Some (p.name, w ∷ []))
 word_stands v g rows q p w st takes =
     let none = p.unseen (rows_now v rows q) st.holds.places in record {
-      valid = pending_is v g.words p rows q w (rows_now v rows q) ∙ word_use (place_after g.words) p.name p.parser w (rows_now v rows q) none (p.takes w takes);
+      valid = pending_is v g.words p rows q w (rows_now v rows q) ∙ word_use (place_after g.words) p.name p.parser p.must w (rows_now v rows q) none (p.takes w takes);
       holds = subst (Holding v (record g { words = g.words ++ w ∷ [] })) (sym (rows_then v g.words p rows q w (rows_now v rows q) none))
           (holds_word v g (rows_now v rows q) st.holds p w takes);
     }
@@ -142,6 +142,7 @@ module _ (k : ℕ) (rows : List Row) (q : Option (Text × List Text)) where
   explain_turn check has = long_turn (leaf check) [] k (held rows q) idle (codes "--explain") refl refl (codes "explain", None) refl
   explain_turn run has = long_turn (leaf run) [] k (held rows q) idle (codes "--explain") refl refl (codes "explain", None) refl
   explain_turn audit has = long_turn (leaf audit) [] k (held rows q) idle (codes "--explain") refl refl (codes "explain", None) refl
+  explain_turn attempt has = long_turn (leaf attempt) [] k (held rows q) idle (codes "--explain") refl refl (codes "explain", None) refl
   explain_turn serve has = long_turn (leaf serve) [] k (held rows q) idle (codes "--explain") refl refl (codes "explain", None) refl
   explain_turn keep has = long_turn (leaf keep) [] k (held rows q) idle (codes "--explain") refl refl (codes "explain", None) refl
 
@@ -154,6 +155,7 @@ module _ (k : ℕ) (rows : List Row) (q : Option (Text × List Text)) where
   explain_after check has = long_after (leaf check) [] k (held rows q) idle (codes "--explain") refl refl (codes "explain", None) refl
   explain_after run has = long_after (leaf run) [] k (held rows q) idle (codes "--explain") refl refl (codes "explain", None) refl
   explain_after audit has = long_after (leaf audit) [] k (held rows q) idle (codes "--explain") refl refl (codes "explain", None) refl
+  explain_after attempt has = long_after (leaf attempt) [] k (held rows q) idle (codes "--explain") refl refl (codes "explain", None) refl
   explain_after serve has = long_after (leaf serve) [] k (held rows q) idle (codes "--explain") refl refl (codes "explain", None) refl
   explain_after keep has = long_after (leaf keep) [] k (held rows q) idle (codes "--explain") refl refl (codes "explain", None) refl
 
@@ -166,6 +168,7 @@ module _ (k : ℕ) (rows : List Row) (q : Option (Text × List Text)) where
   silence_turn check has = long_turn (leaf check) [] k (held rows q) idle (codes "--no-explain") refl refl (codes "no-explain", None) refl
   silence_turn run has = long_turn (leaf run) [] k (held rows q) idle (codes "--no-explain") refl refl (codes "no-explain", None) refl
   silence_turn audit has = long_turn (leaf audit) [] k (held rows q) idle (codes "--no-explain") refl refl (codes "no-explain", None) refl
+  silence_turn attempt has = long_turn (leaf attempt) [] k (held rows q) idle (codes "--no-explain") refl refl (codes "no-explain", None) refl
   silence_turn serve has = long_turn (leaf serve) [] k (held rows q) idle (codes "--no-explain") refl refl (codes "no-explain", None) refl
   silence_turn keep has = long_turn (leaf keep) [] k (held rows q) idle (codes "--no-explain") refl refl (codes "no-explain", None) refl
 
@@ -178,6 +181,7 @@ module _ (k : ℕ) (rows : List Row) (q : Option (Text × List Text)) where
   silence_after check has = long_after (leaf check) [] k (held rows q) idle (codes "--no-explain") refl refl (codes "no-explain", None) refl
   silence_after run has = long_after (leaf run) [] k (held rows q) idle (codes "--no-explain") refl refl (codes "no-explain", None) refl
   silence_after audit has = long_after (leaf audit) [] k (held rows q) idle (codes "--no-explain") refl refl (codes "no-explain", None) refl
+  silence_after attempt has = long_after (leaf attempt) [] k (held rows q) idle (codes "--no-explain") refl refl (codes "no-explain", None) refl
   silence_after serve has = long_after (leaf serve) [] k (held rows q) idle (codes "--no-explain") refl refl (codes "no-explain", None) refl
   silence_after keep has = long_after (leaf keep) [] k (held rows q) idle (codes "--no-explain") refl refl (codes "no-explain", None) refl
 
@@ -358,8 +362,11 @@ none_left run w [] t e = cc
 none_left run w (a ∷ []) t e = cc
 none_left run w (a ∷ b ∷ more) t e = t
 none_left audit w [] t e = cc
+none_left attempt w [] t e = cc
 none_left audit w (a ∷ []) t e = cc
+none_left attempt w (a ∷ []) t e = cc
 none_left audit w (a ∷ b ∷ more) t e = t
+none_left attempt w (a ∷ b ∷ more) t e = t
 none_left serve w [] t e = cc
 none_left serve w (a ∷ []) t e = cc
 none_left serve w (a ∷ b ∷ []) t e = cc
@@ -555,7 +562,7 @@ module _ (v : Verb) (g : Given) (rows : List Row) (q : Option (Text × List Text
         let goes = word_after v g.words p rows q free w is in
         let later = follows free (at free (place_after (g.words ++ w ∷ [])) (held (rows_now v rows q) (Some (p.name, w ∷ [])))) w ws goes e in
         let pending = settles v free (g.words ++ w ∷ []) (rows_now v rows q) (Some (p.name, w ∷ [])) ws later in
-        let takes = p.only w (word_accepted (place_after g.words) p.name p.parser w (rows_now v rows q) (sym (pending_is v g.words p rows q w (rows_now v rows q)) ∙ pending)) in
+        let takes = p.only w (word_accepted (place_after g.words) p.name p.parser p.must w (rows_now v rows q) (sym (pending_is v g.words p rows q w (rows_now v rows q)) ∙ pending)) in
         let found = rest free (record g { words = g.words ++ w ∷ [] }) (rows_now v rows q) (Some (p.name, w ∷ [])) (word_stands v g rows q p w st takes) later in
         (found.0, word free g found.0 w ws is takes found.1, ended_back (here free) _ w ws found.0 goes found.2)
     | inr none ↦ absurd (some_fault _ _ (sym (ap (λ a. option_map_or (λ a. positional_fault (rules v) false a (held rows q)) a (stray_fault (leaf v))) none) ∙ sym (turn_is free is) ∙ (next_tail v (here free) w ws e).0))

@@ -17,7 +17,7 @@ use Rattle.clap.specs.declared.builder.value_parser.Reading.TheVariants.{AsWritt
 use Rattle.clap.specs.declared.parser.matches.ValueSource.TheVariants.{DefaultValue}
 use Rattle.clap.proofs.WalkLemmas.{both, walk_stopped}
 use Rattle.clap.proofs.FaultLemmas.{stopped_fault}
-use Rattle.command_line.specs.Forms.{Verb, paths, check, run, audit, serve, keep, name_of, Given, nothing, Gives, IsNumber, number_of, sessions_of, at_once_of, sync_of, traces_of, Makes, Asks}
+use Rattle.command_line.specs.Forms.{Verb, paths, check, run, audit, attempt, serve, keep, name_of, Given, nothing, Gives, IsNumber, number_of, sessions_of, at_once_of, sync_of, traces_of, AreTried, Makes, Asks}
 use Rattle.command_line.specs.Commands.{Holds, HoldsTraces, past_in, program}
 use Rattle.command_line.specs.declared.request.Request.{Request}
 use Rattle.command_line.specs.declared.request.Request.TheVariants as requests
@@ -65,6 +65,7 @@ defaults_ok paths = refl
 defaults_ok check = refl
 defaults_ok run = refl
 defaults_ok audit = refl
+defaults_ok attempt = refl
 defaults_ok serve = refl
 defaults_ok keep = refl
 
@@ -76,6 +77,8 @@ IsFull paths ws = ⊤
 IsFull check (a ∷ []) = ⊤
 IsFull run (a ∷ b ∷ []) = ⊤
 IsFull audit (a ∷ b ∷ []) = ⊤
+IsFull attempt (a ∷ []) = ⊤
+IsFull attempt (a ∷ b ∷ []) = ⊤
 IsFull serve (a ∷ b ∷ c ∷ []) = ⊤
 IsFull keep (a ∷ b ∷ c ∷ []) = ⊤
 IsFull v ws = ⊥
@@ -111,6 +114,9 @@ module _ (v : Verb) (R : List Row) where
 
   word_last : (id w : Text) → seen id R ≡ Some (text_row id w) → first_in id last ≡ Some w
   word_last id w e = ap (option_and_then (λ (r : Row). slice_get r.values 0)) (seen_last id w e)
+
+  no_word_last : (id : Text) → default_seen id (rules v) ≡ None → seen id R ≡ None → first_in id last ≡ None
+  no_word_last id none e = ap (option_and_then (λ (r : Row). slice_get r.values 0)) (unseen_last id none e)
 
   one_last : (id w : Text) → seen id R ≡ Some (text_row id w) → one_of id last ≡ Some w
   one_last id w e = ap (option_and_then row_text) (seen_last id w e)
@@ -209,6 +215,12 @@ holds_all audit g (a ∷ []) R e places h none = absurd (lacks_this _ _ (missing
 holds_all audit g (a ∷ b ∷ []) R e places h none =
     (tt, (a, b, e, word_last audit R FILE a places.0, word_last audit R (codes "TRACE") b places.1.0, (flag_last audit R (codes "explain") g.explains refl h.explains, flag_last audit R (codes "no-explain") g.silent refl h.silent)))
 holds_all audit g (a ∷ b ∷ c ∷ more) R e places h none = absurd places.1.1
+holds_all attempt g [] R e places h none = absurd (lacks_this _ _ (missing_last attempt R FILE refl places.0) none)
+holds_all attempt g (a ∷ []) R e places h none =
+    (tt, (a, word_last attempt R FILE a places.0, subst (AreTried g.words a) (sym (no_word_last attempt R (codes "NAME") refl places.1.0)) e, (flag_last attempt R (codes "explain") g.explains refl h.explains, flag_last attempt R (codes "no-explain") g.silent refl h.silent)))
+holds_all attempt g (a ∷ b ∷ []) R e places h none =
+    (tt, (a, word_last attempt R FILE a places.0, subst (AreTried g.words a) (sym (word_last attempt R (codes "NAME") b places.1.0)) e, (flag_last attempt R (codes "explain") g.explains refl h.explains, flag_last attempt R (codes "no-explain") g.silent refl h.silent)))
+holds_all attempt g (a ∷ b ∷ c ∷ more) R e places h none = absurd places.1.1
 holds_all serve g [] R e places h none = absurd (lacks_this _ _ (missing_last serve R FILE refl places.0) none)
 holds_all serve g (a ∷ []) R e places h none = absurd (lacks_this _ _ (missing_last serve R (codes "DIR") refl places.1.0) (lacks_later _ _ none))
 holds_all serve g (a ∷ b ∷ []) R e places h none = absurd (lacks_this _ _ (missing_last serve R (codes "PLACE") refl places.1.1.0) (lacks_later _ _ (lacks_later _ _ none)))
@@ -277,6 +289,10 @@ full_lacks_none audit (a ∷ []) R places full = absurd full
 full_lacks_none audit (a ∷ b ∷ []) R places full =
     lacks_one _ _ (given_last audit R FILE a places.0) ∙ lacks_one _ _ (given_last audit R (codes "TRACE") b places.1.0)
 full_lacks_none audit (a ∷ b ∷ c ∷ more) R places full = absurd full
+full_lacks_none attempt [] R places full = absurd full
+full_lacks_none attempt (a ∷ []) R places full = lacks_one _ _ (given_last attempt R FILE a places.0)
+full_lacks_none attempt (a ∷ b ∷ []) R places full = lacks_one _ _ (given_last attempt R FILE a places.0)
+full_lacks_none attempt (a ∷ b ∷ c ∷ more) R places full = absurd full
 full_lacks_none serve [] R places full = absurd full
 full_lacks_none serve (a ∷ []) R places full = absurd full
 full_lacks_none serve (a ∷ b ∷ []) R places full = absurd full
@@ -306,6 +322,7 @@ nothing_stands v = record {
     none_placed check = (refl, tt)
     none_placed run = (refl, (refl, tt))
     none_placed audit = (refl, (refl, tt))
+    none_placed attempt = (refl, (refl, tt))
     none_placed serve = (refl, (refl, (refl, tt)))
     none_placed keep = (refl, (refl, (refl, tt)))
 
@@ -365,6 +382,7 @@ verb_turn paths = refl
 verb_turn check = refl
 verb_turn run = refl
 verb_turn audit = refl
+verb_turn attempt = refl
 verb_turn serve = refl
 verb_turn keep = refl
 
@@ -374,6 +392,7 @@ verb_after paths = refl
 verb_after check = refl
 verb_after run = refl
 verb_after audit = refl
+verb_after attempt = refl
 verb_after serve = refl
 verb_after keep = refl
 
@@ -392,6 +411,7 @@ entered_is paths ws = refl
 entered_is check ws = refl
 entered_is run ws = refl
 entered_is audit ws = refl
+entered_is attempt ws = refl
 entered_is serve ws = refl
 entered_is keep ws = refl
 
@@ -400,6 +420,7 @@ below_is paths ws = refl
 below_is check ws = refl
 below_is run ws = refl
 below_is audit ws = refl
+below_is attempt ws = refl
 below_is serve ws = refl
 below_is keep ws = refl
 
@@ -436,27 +457,28 @@ data First (w : Text) : Type 0 where
   help : w ≡ codes "help" → First w
   other : subcommand_met names idle w ≡ None → First w
 
-abbrev pick : Bool → Bool → Bool → Bool → Bool → Bool → Bool → Option Text
-pick a b c d e k f = option_map (λ (s : Text × List Text). s.0) (cond (a || false) (Some (codes "paths", [])) (cond (b || false) (Some (codes "check", [])) (cond (c || false) (Some (codes "run", []))
-    (cond (d || false) (Some (codes "audit", [])) (cond (e || false) (Some (codes "serve", [])) (cond (k || false) (Some (codes "keep", [])) (cond (f || false) (Some (codes "help", [])) None)))))))
+abbrev pick : Bool → Bool → Bool → Bool → Bool → Bool → Bool → Bool → Option Text
+pick a b c d n e k f = option_map (λ (s : Text × List Text). s.0) (cond (a || false) (Some (codes "paths", [])) (cond (b || false) (Some (codes "check", [])) (cond (c || false) (Some (codes "run", []))
+    (cond (d || false) (Some (codes "audit", [])) (cond (n || false) (Some (codes "try", [])) (cond (e || false) (Some (codes "serve", [])) (cond (k || false) (Some (codes "keep", [])) (cond (f || false) (Some (codes "help", [])) None))))))))
 
 first : (w : Text) → First w
-first w = go (bytes_eq (codes "paths") w) (bytes_eq (codes "check") w) (bytes_eq (codes "run") w) (bytes_eq (codes "audit") w) (bytes_eq (codes "serve") w) (bytes_eq (codes "keep") w)
-    (bytes_eq (codes "help") w) refl refl refl refl refl refl refl refl
+first w = go (bytes_eq (codes "paths") w) (bytes_eq (codes "check") w) (bytes_eq (codes "run") w) (bytes_eq (codes "audit") w) (bytes_eq (codes "try") w) (bytes_eq (codes "serve") w) (bytes_eq (codes "keep") w)
+    (bytes_eq (codes "help") w) refl refl refl refl refl refl refl refl refl
   where
     is : (n : Text) → bytes_eq n w ≡ true → w ≡ n
     is n e = sym ((bytes_eq-Decides n w).0 e)
 
-    go : (a b c d e k f : Bool) → bytes_eq (codes "paths") w ≡ a → bytes_eq (codes "check") w ≡ b → bytes_eq (codes "run") w ≡ c → bytes_eq (codes "audit") w ≡ d → bytes_eq (codes "serve") w ≡ e
-        → bytes_eq (codes "keep") w ≡ k → bytes_eq (codes "help") w ≡ f → subcommand_met names idle w ≡ pick a b c d e k f → First w
-    go true b c d e k f p q r s t v u m = verb paths (is (codes "paths") p)
-    go false true c d e k f p q r s t v u m = verb check (is (codes "check") q)
-    go false false true d e k f p q r s t v u m = verb run (is (codes "run") r)
-    go false false false true e k f p q r s t v u m = verb audit (is (codes "audit") s)
-    go false false false false true k f p q r s t v u m = verb serve (is (codes "serve") t)
-    go false false false false false true f p q r s t v u m = verb keep (is (codes "keep") v)
-    go false false false false false false true p q r s t v u m = help (is (codes "help") u)
-    go false false false false false false false p q r s t v u m = other m
+    go : (a b c d n e k f : Bool) → bytes_eq (codes "paths") w ≡ a → bytes_eq (codes "check") w ≡ b → bytes_eq (codes "run") w ≡ c → bytes_eq (codes "audit") w ≡ d → bytes_eq (codes "try") w ≡ n → bytes_eq (codes "serve") w ≡ e
+        → bytes_eq (codes "keep") w ≡ k → bytes_eq (codes "help") w ≡ f → subcommand_met names idle w ≡ pick a b c d n e k f → First w
+    go true b c d n e k f p q r s x t v u m = verb paths (is (codes "paths") p)
+    go false true c d n e k f p q r s x t v u m = verb check (is (codes "check") q)
+    go false false true d n e k f p q r s x t v u m = verb run (is (codes "run") r)
+    go false false false true n e k f p q r s x t v u m = verb audit (is (codes "audit") s)
+    go false false false false true e k f p q r s x t v u m = verb attempt (is (codes "try") x)
+    go false false false false false true k f p q r s x t v u m = verb serve (is (codes "serve") t)
+    go false false false false false false true f p q r s x t v u m = verb keep (is (codes "keep") v)
+    go false false false false false false false true p q r s x t v u m = help (is (codes "help") u)
+    go false false false false false false false false p q r s x t v u m = other m
 
 top_shown : (name : Text) → arg_by_long top.rules name ≡ shown_by name
 top_shown name = refl
@@ -573,7 +595,10 @@ full_from check g q m = absurd m
 full_from run g (requests.Run file script when) m = subst (IsFull run) (sym m.0) tt
 full_from run g q m = absurd m
 full_from audit g (requests.Audit file trace when) m = subst (IsFull audit) (sym m.0) tt
+full_from attempt g (requests.Try file None when) m = subst (IsFull attempt) (sym m.0) tt
+full_from attempt g (requests.Try file (Some name) when) m = subst (IsFull attempt) (sym m.0) tt
 full_from audit g q m = absurd m
+full_from attempt g q m = absurd m
 full_from serve g (requests.Serve s) m = subst (IsFull serve) (sym m.1) tt
 full_from serve g q m = absurd m
 full_from keep g (requests.Keep k) m = subst (IsFull keep) (sym m.1) tt

@@ -9,12 +9,16 @@ use Rattle.clap.specs.declared.builder.action.ArgAction.TheVariants.{Append, Set
 use Rattle.clap.specs.declared.builder.value_parser.ValueParser.TheVariants as parsers
 use Rattle.clap.specs.declared.error.kind.ErrorKind.TheVariants as kinds
 use Rattle.clap.specs.declared.parser.matches.ArgMatches.{ArgMatches}
-use Rattle.command_line.specs.Forms.{Text, Verb, paths, check, run, audit, serve, keep, name_of, Given, IsNumber}
-use Rattle.command_line.specs.Forms.{number_of, sessions_of, at_once_of, sync_of, traces_of}
+use Rattle.command_line.specs.Forms.{Text, Verb, paths, check, run, audit, attempt, serve, keep, name_of, Given, IsNumber}
+use Rattle.command_line.specs.Forms.{AreTried, number_of, sessions_of, at_once_of, sync_of, traces_of}
 
 -- a word that has to be there
 abbrev pub required_rule : Text → Rule
 required_rule name = record (new_rule name) { required = true }
+
+-- a word that may be there
+abbrev pub optional_rule : Text → Rule
+optional_rule name = new_rule name
 
 abbrev pub flag_rule : Text → Rule
 flag_rule name = record (new_rule name) { long = Some name; action = Some SetTrue }
@@ -69,6 +73,7 @@ own_rules paths = []
 own_rules check = required_rule (codes "FILE") ∷ flag_rule (codes "stuck") ∷ explain_rules
 own_rules run = required_rule (codes "FILE") ∷ required_rule (codes "SCRIPT") ∷ explain_rules
 own_rules audit = required_rule (codes "FILE") ∷ required_rule (codes "TRACE") ∷ explain_rules
+own_rules attempt = required_rule (codes "FILE") ∷ optional_rule (codes "NAME") ∷ explain_rules
 own_rules serve =
     required_rule (codes "FILE") ∷ required_rule (codes "DIR") ∷ required_rule (codes "PLACE") ∷ sessions_rule
     ∷ flag_rule (codes "stop-with-input") ∷ explain_rules
@@ -84,10 +89,11 @@ abbrev pub app_for : Verb → App
 app_for v = with_rules (new_app (name_of v)) (own_rules v)
 
 abbrev pub program : App
-program = with_subcommand (with_subcommand (with_subcommand (with_subcommand (with_subcommand (with_subcommand
+program = with_subcommand (with_subcommand (with_subcommand (with_subcommand (with_subcommand (with_subcommand (with_subcommand
     (on_top (λ s. record s { subcommand_required = true; has_version = true; propagate_version = true })
     (new_app (codes "pathserve")))
-    (app_for paths).top) (app_for check).top) (app_for run).top) (app_for audit).top) (app_for serve).top)
+    (app_for paths).top) (app_for check).top) (app_for run).top) (app_for audit).top) (app_for attempt).top)
+    (app_for serve).top)
     (app_for keep).top
 
 -- the flags about explanations, as what is found has them
@@ -114,6 +120,8 @@ Holds run g rows = (file script : Text) × (g.words ≡ file ∷ script ∷ []) 
     × (first_of (codes "SCRIPT") rows ≡ Some script) × HoldsExplain g rows
 Holds audit g rows = (file trace : Text) × (g.words ≡ file ∷ trace ∷ []) × (first_of (codes "FILE") rows ≡ Some file)
     × (first_of (codes "TRACE") rows ≡ Some trace) × HoldsExplain g rows
+Holds attempt g rows = (file : Text) × (first_of (codes "FILE") rows ≡ Some file)
+    × AreTried g.words file (first_of (codes "NAME") rows) × HoldsExplain g rows
 Holds serve g rows =
     (file folder place sessions : Text) × (g.words ≡ file ∷ folder ∷ place ∷ [])
     × (first_of (codes "FILE") rows ≡ Some file)

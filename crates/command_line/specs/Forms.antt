@@ -1,6 +1,6 @@
 -- What the words of a command line ask for.
 use Rattle.std.specs.Prelude.{◌≡◌, ◌≤◌, ◌++◌, ◌||◌, ⊤, ℕ, ◌==◌, Bool, true, false, not, List, [], ◌∷◌, length, Option}
-use Rattle.std.specs.Prelude.{Some, None, codes}
+use Rattle.std.specs.Prelude.{Some, None, codes, option_map}
 use Rattle.std.specs.List.{list_all, list_any}
 use Rattle.std.specs.Str.{bytes_eq, chars}
 use Rattle.std.specs.Str.Parse.{IsNumeral, digits_value, without_leading_plus}
@@ -24,6 +24,7 @@ pub data Verb : Type 0 where
   check : Verb
   run : Verb
   audit : Verb
+  attempt : Verb
   serve : Verb
   keep : Verb
 
@@ -32,6 +33,7 @@ name_of paths = codes "paths"
 name_of check = codes "check"
 name_of run = codes "run"
 name_of audit = codes "audit"
+name_of attempt = codes "try"
 name_of serve = codes "serve"
 name_of keep = codes "keep"
 
@@ -71,14 +73,16 @@ pub record IsNumber (low high : ℕ) (text : Text) : Type 0 where
   pub above : low ≤ number_of text
   pub below : number_of text ≤ high
 
--- behind these words a subcommand takes one more: FILE of `check`, FILE SCRIPT of `run`, FILE TRACE of `audit`,
--- FILE DIR PLACE of `serve` and of `keep`
+-- behind these words a subcommand takes one more: FILE of `check`, FILE SCRIPT of `run`, FILE TRACE of `audit`, FILE and
+-- then NAME of `try`, FILE DIR PLACE of `serve` and of `keep`
 abbrev pub Takes : Verb → List Text → Text → Type 0
 Takes check [] w = ⊤
 Takes run [] w = ⊤
 Takes run (file ∷ []) w = ⊤
 Takes audit [] w = ⊤
 Takes audit (file ∷ []) w = ⊤
+Takes attempt [] w = ⊤
+Takes attempt (file ∷ []) w = ⊤
 Takes serve [] w = ⊤
 Takes serve (file ∷ []) w = ⊤
 Takes serve (file ∷ folder ∷ []) w = ⊤
@@ -210,6 +214,11 @@ abbrev pub IsAddressOf : Text → Address → Type 0
 IsAddressOf w (addresses.Port n) = (has_slash w ≡ false) × IsNumber 1 65535 w × (n ≡ number_of w)
 IsAddressOf w (addresses.Path p) = (has_slash w ≡ true) × (p.now ≡ w)
 
+-- the words of `try`: FILE, and NAME where one is given
+abbrev pub AreTried : List Text → Text → Option Text → Type 0
+AreTried words file None = words ≡ file ∷ []
+AreTried words file (Some name) = words ≡ file ∷ name ∷ []
+
 -- the table: what a subcommand asks for with all that it was given
 abbrev pub Makes : Verb → Given → Request → Type 0
 Makes paths g requests.Paths = ⊤
@@ -219,6 +228,8 @@ Makes run g (requests.Run file script when) =
     (g.words ≡ file.now ∷ script.now ∷ []) × (when ≡ explain_of g.explains g.silent)
 Makes audit g (requests.Audit file trace when) =
     (g.words ≡ file.now ∷ trace.now ∷ []) × (when ≡ explain_of g.explains g.silent)
+Makes attempt g (requests.Try file name when) =
+    AreTried g.words file.now (option_map (λ n. n.now) name) × (when ≡ explain_of g.explains g.silent)
 Makes serve g (requests.Serve s) =
     (place : Text) × (g.words ≡ s.file.now ∷ s.folder.now ∷ place ∷ []) × IsAddressOf place s.address
     × (s.sessions ≡ sessions_of g.sessions) × (g.stops ≡ s.stops)

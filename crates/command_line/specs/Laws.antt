@@ -1,5 +1,5 @@
 -- Laws of what the words of a command line ask for.
-use Rattle.std.specs.Prelude.{◌≡◌, ⊤, List}
+use Rattle.std.specs.Prelude.{◌≡◌, ⊤, List, option_map}
 use Rattle.command_line.specs.declared.request.Request.{Request}
 use Rattle.command_line.specs.declared.request.Request.TheVariants as requests
 use Rattle.command_line.specs.declared.request.Address.{Address}
@@ -21,6 +21,8 @@ IsSame (requests.Run file script explain) (requests.Run file2 script2 explain2) 
     (file.now ≡ file2.now) × (script.now ≡ script2.now) × (explain ≡ explain2)
 IsSame (requests.Audit file trace explain) (requests.Audit file2 trace2 explain2) =
     (file.now ≡ file2.now) × (trace.now ≡ trace2.now) × (explain ≡ explain2)
+IsSame (requests.Try file name explain) (requests.Try file2 name2 explain2) =
+    (file.now ≡ file2.now) × (option_map (λ n. n.now) name ≡ option_map (λ n. n.now) name2) × (explain ≡ explain2)
 IsSame (requests.Serve s) (requests.Serve t) =
     (s.file.now ≡ t.file.now) × (s.folder.now ≡ t.folder.now) × IsSameAddress s.address t.address
     × (s.sessions ≡ t.sessions)

@@ -18,7 +18,8 @@ until all paths let it start, and is done as a whole or not at all. What
 happened is kept in a trace, which can be audited.
 
 Try `pathserve paths` to play with paths by hand, `pathserve check FILE` on a
-file of objects, `pathserve run FILE SCRIPT` to call one of them,
+file of objects, `pathserve try FILE` to call one of them by hand,
+`pathserve run FILE SCRIPT` to do so by a script,
 `pathserve serve FILE DIR PLACE` to let many clients call,
 `pathserve keep FILE DIR PLACE` to have the objects live on over starts and
 crashes, and `pathserve audit FILE TRACE` on what a run or a server left.
@@ -145,6 +146,11 @@ each line to standard output before it waits for more.
   resume sK          session K is back                 resume sK
   show               what the parts hold               PART = VALUE, each
   trace              all that happened so far          its lines
+  why N              what keeps call N waiting         why N Waiting L, and L
+                                                       lines, Running, Ended or
+                                                       Unknown
+  who                which calls wait, and where       who L, and L lines
+  list               the operations of the object      list L, and L lines
 
 After each answer comes `started N` for each call that could start then. Behind
 `repeat` stands what became of the call of that key. Empty lines, and lines that
@@ -179,6 +185,63 @@ closest to; and of the first 16 calls that the object does not take
 
 Exit status: 0 each line was answered, refusals included, 1 there was no object
 to run on, or a bad line.";
+
+/// What `try` does.
+pub const TRY: &str = "Calls an object of a file line by line, at a prompt";
+
+/// What the second argument of `try` is.
+pub const TRY_NAME: &str =
+    "The object that is called, by its name: the first one where it is not given";
+
+/// What the flag `--explain` of `try` does.
+pub const TRY_EXPLAIN: &str = "Explains on standard error a refusal, also where no person reads it";
+
+/// What `help` tells at the prompt of `try`.
+pub const TRY_LINES: &str = "do sK OP ARG ..    session K calls an operation, and it is done
+call sK OP ARG ..  session K calls an operation: steps N, finish N end it
+steps N            the run of call N makes the steps that are left
+finish N           its result is published
+cancel N           call N is called off if it waits
+why N              what keeps call N waiting
+who                which calls wait, and where
+show               what the parts hold
+list               the objects, and the operations of this one
+trace              all that happened so far
+help               these lines; Ctrl-D ends
+The others are those of a script: step N ok, step N fail, drop sK, resume sK,
+call sK #J OP ARG ..
+";
+
+/// What `try` reads and writes.
+pub const TRY_MORE: &str = "Reads FILE, and then standard input, whose lines are those of a script
+(`pathserve run --help` has them), but for the one that names the object.
+Answers each line before it waits for more. A line that a script may not have
+gives `bad line K`, and the next one is read. Where standard input is a
+terminal a prompt, the name of the object and `>`, stands before each line.
+`help` tells the lines, and `list` also the other objects of FILE.
+
+Nothing is saved. `rlwrap pathserve try FILE` edits lines and remembers them.
+
+Example:
+
+  $ printf 'do s1 put 7\\ndo s2 bump 3\\nshow\\n' >three.lines
+  $ pathserve try examples/objects/cell.pp <three.lines
+  call 1
+  started 1
+  steps 1 4
+  done 1
+  call 2
+  started 2
+  steps 2 4
+  done 2
+  v = [10]
+
+Standard error gets what is wrong with a bad line, and with a call that the
+object does not take, as from `run --explain`; with `--no-explain` it does not.
+Of a refused FILE or object it gets what it gets from `run`.
+
+Exit status: 0 the lines ended, whatever they were answered, 1 there is nothing
+to call: a fault of FILE, an object that it lacks, or one that is refused.";
 
 /// What `audit` does.
 pub const AUDIT: &str = "Audits a trace: was each start allowed, and is each reply right?";

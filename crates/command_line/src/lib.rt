@@ -1,7 +1,7 @@
 //! The command line of `pathserve`: what it asks for, and the help that it shows.
 #![tactic(auto)]
 
-mod help;
+pub mod help;
 pub mod laws;
 pub mod past;
 pub mod request;

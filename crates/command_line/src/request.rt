@@ -9,11 +9,13 @@ ghost use Rattle.clap.specs.Walk.{rows_of, rule_of};
 ghost use Rattle.clap.specs.Kinds.{HasKind};
 ghost use Rattle.clap.specs.Values.{bool_text, kind_of};
 ghost use Rattle.command_line.specs.Forms.{Asks, Given, IsNumber, Makes, number_of, Verb, paths, check as check_verb};
-ghost use Rattle.command_line.specs.Forms.{run as run_verb, audit as audit_verb, serve as serve_verb};
+ghost use Rattle.command_line.specs.Forms.{run as run_verb, audit as audit_verb, attempt as try_verb};
+ghost use Rattle.command_line.specs.Forms.{serve as serve_verb};
 ghost use Rattle.command_line.specs.Forms.{keep as keep_verb, explain_of, sync_of};
 ghost use Rattle.command_line.specs.Forms.{IsAddressOf, IsSyncOf, Shows, Text, Topic, kind_for};
 ghost use Rattle.command_line.specs.Commands.{Holds, HoldsExplain, IsMatched, app_for, faults, flag_rule, past_in, program};
-ghost use Rattle.command_line.specs.Commands.{at_once_rule, past_rule, required_rule, sessions_rule, sync_rule};
+ghost use Rattle.command_line.specs.Commands.{at_once_rule, past_rule, required_rule, optional_rule, sessions_rule};
+ghost use Rattle.command_line.specs.Commands.{sync_rule};
 ghost use Rattle.command_line.specs.Commands.{traces_rule};
 
 use crate::help;
@@ -47,6 +49,9 @@ pub enum Request<'a> {
     /// `pathserve audit FILE TRACE`, with the paths of the two, and when a refusal of the source, and a fault of the
     /// trace, are explained.
     Audit(&'a str, &'a str, Explain),
+    /// `pathserve try FILE` and `pathserve try FILE NAME`, with the path of the file, the name of an object, and when a
+    /// refusal of the source, and a line, are explained.
+    Try(&'a str, Option<&'a str>, Explain),
     /// `pathserve serve FILE DIR PLACE --sessions N`.
     Serve(Serving<'a>),
     /// `pathserve keep FILE DIR PLACE --at-once N --sync WORD --traces MB`; `--past` is [`pasts_of`]'s.
@@ -148,6 +153,14 @@ fn required<'a>(alloc: Global, name: &'a str, help: &'a str) -> Arg<'a>
     Arg::new(alloc, name).required(true).help(help)
 }
 
+// An argument that may be there.
+fn optional<'a>(alloc: Global, name: &'a str, help: &'a str) -> Arg<'a>
+    ensures rule { rule_of result ≡ optional_rule name.entry.now }
+    ensures local { result.global ≡ false }
+{
+    Arg::new(alloc, name).help(help)
+}
+
 // The flag `--explain`.
 fn explain_flag<'a>(alloc: Global, help: &'a str) -> Arg<'a>
     ensures rule { rule_of result ≡ flag_rule (codes "explain") }
@@ -237,6 +250,19 @@ fn audit_command<'a>(alloc: Global) -> Result<Command<'a>, AllocError>
         .arg(required(alloc, "FILE", help::AUDIT_FILE))?
         .arg(required(alloc, "TRACE", help::AUDIT_TRACE))?
         .arg(explain_flag(alloc, help::AUDIT_EXPLAIN))?
+        .arg(silence_flag(alloc))
+}
+
+// `pathserve try`.
+fn try_command<'a>(alloc: Global) -> Result<Command<'a>, AllocError>
+    ensures { IfOk result (λ c. (app_of c ≡ app_for try_verb) × ((out-Command c).has_globals ≡ false)) }
+{
+    Command::new(alloc, "try")
+        .about(help::TRY)
+        .after_help(help::TRY_MORE)
+        .arg(required(alloc, "FILE", help::RUN_FILE))?
+        .arg(optional(alloc, "NAME", help::TRY_NAME))?
+        .arg(explain_flag(alloc, help::TRY_EXPLAIN))?
         .arg(silence_flag(alloc))
 }
 
@@ -362,6 +388,7 @@ fn command<'a>(alloc: Global) -> Result<Command<'a>, AllocError>
         .subcommand(named(check_command(alloc)?)?)?
         .subcommand(named(run_command(alloc)?)?)?
         .subcommand(named(audit_command(alloc)?)?)?
+        .subcommand(named(try_command(alloc)?)?)?
         .subcommand(named(serve_command(alloc)?)?)?
         .subcommand(named(keep_command(alloc)?)?)
 }
@@ -431,6 +458,18 @@ fn audit_request<'a>(audit: &ArgMatches<'a>) -> Request<'a>
         word_of(audit, "FILE"),
         word_of(audit, "TRACE"),
         explain_in(audit),
+    )
+}
+
+// What the words of `try` ask for.
+fn try_request<'a>(tried: &ArgMatches<'a>) -> Request<'a>
+    requires { (g : Given) × Holds try_verb g (rows_of (found_of tried.now)) }
+    ensures { (g : Given) → Holds try_verb g (rows_of (found_of tried.now)) → Makes try_verb g result }
+{
+    Request::Try(
+        word_of(tried, "FILE"),
+        tried.get_str("NAME"),
+        explain_in(tried),
     )
 }
 
@@ -602,6 +641,9 @@ fn matched_request<'a>(matches: &ArgMatches<'a>) -> Result<Request<'a>, Odd<'a>>
     }
     if let Some(audit) = matches.subcommand_matches("audit") {
         return Ok(audit_request(audit));
+    }
+    if let Some(tried) = matches.subcommand_matches("try") {
+        return Ok(try_request(tried));
     }
     if let Some(serve) = matches.subcommand_matches("serve") {
         return serve_request(serve);

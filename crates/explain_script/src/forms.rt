@@ -84,7 +84,7 @@ fn wrong_line(verb: Verb, words: &LineWords<'_>) -> Option<Finding> {
         Verb::Call => wrong_call_line(words),
         Verb::Do => wrong_do_line(words),
         Verb::Step => wrong_step_line(words),
-        Verb::Steps | Verb::Finish | Verb::Cancel => match wrong_call(words, 1) {
+        Verb::Steps | Verb::Finish | Verb::Cancel | Verb::Why => match wrong_call(words, 1) {
             Some(found) => Some(found),
             None => surplus(words, 2, verb.form()),
         },
@@ -92,7 +92,7 @@ fn wrong_line(verb: Verb, words: &LineWords<'_>) -> Option<Finding> {
             Some(found) => Some(found),
             None => surplus(words, 2, verb.form()),
         },
-        Verb::Show | Verb::Trace => surplus(words, 1, verb.form()),
+        Verb::Show | Verb::Trace | Verb::Who | Verb::List => surplus(words, 1, verb.form()),
     }
 }
 
@@ -160,7 +160,7 @@ fn of_first_word(words: &LineWords<'_>, object: &Object) -> Said {
     say(
         "no line of a script begins with `%`",
         "the lines are `call sK OP ARG ..`, `call sK #J OP ARG ..`, `do sK OP ARG ..`, `step N ok`, `step N fail`, \
-            `steps N`, `finish N`, `cancel N`, `drop sK`, `resume sK`, `show` and `trace`",
+            `steps N`, `finish N`, `cancel N`, `drop sK`, `resume sK`, `show`, `trace`, `why N`, `who` and `list`",
     )
 }
 

@@ -7,6 +7,7 @@ use explain_line::files::Files;
 use explain_line::finding::{only, push_finding};
 use explain_line::lacking::{push_lacking, push_unnamed};
 use explain_line::line_words::words_at;
+use inside_desk::question::question_of;
 use line_core::next_line;
 use note_core::page::{Page, push_help};
 use note_core::span::Span;
@@ -28,6 +29,14 @@ enum Does {
     Other,
 }
 
+// What a line does that says nothing that is done: it asks something, or ends the script.
+fn asked_by(alloc: Global, line: &[u8]) -> Result<Does, AllocError> {
+    match question_of(alloc, line)? {
+        Some(_) => Ok(Does::Other),
+        None => Ok(Does::Ends),
+    }
+}
+
 // What a line does.
 fn done_by(alloc: Global, line: &[u8]) -> Result<Does, AllocError> {
     if is_skipped(line) {
@@ -35,7 +44,7 @@ fn done_by(alloc: Global, line: &[u8]) -> Result<Does, AllocError> {
     }
     let said = read_line(alloc, line)?;
     match &said {
-        None => Ok(Does::Ends),
+        None => asked_by(alloc, line),
         Some(Said::Call(_, _, _) | Said::Do(_, _, _)) => Ok(Does::Calls(2)),
         Some(Said::CallKey(_, _, _, _)) => Ok(Does::Calls(3)),
         Some(_) => Ok(Does::Other),
@@ -103,6 +112,40 @@ fn push_lines(
         rest = behind;
     }
     Ok(())
+}
+
+/// Adds what is wrong with a line, before which so many others came: why it says nothing, or why the object does not
+/// take the call.
+pub(crate) fn push_why(
+    alloc: Global,
+    out: &mut Vec<u8>,
+    object: &Object,
+    before: usize,
+    line: &[u8],
+) -> Result<(), AllocError> {
+    // A text in which the line has its number.
+    let mut text = Vec::new(alloc);
+    for _ in 0..before {
+        text.push(b'\n')?;
+    }
+    text.extend_from_slice(line)?;
+    let page = Page {
+        file: b"input",
+        source: &text,
+        tokens: &[],
+    };
+    let place = Span {
+        start: before,
+        end: text.len(),
+    };
+    match done_by(alloc, line)? {
+        Does::Ends => push_line(alloc, out, page, object, place),
+        Does::Calls(number) => {
+            push_called(alloc, out, page, object, place, number)?;
+            Ok(())
+        }
+        Does::Other => Ok(()),
+    }
 }
 
 /// What a person is told of the line that ended a script, if one did, and of the first 16 calls before it that are of

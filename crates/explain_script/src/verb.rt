@@ -15,6 +15,9 @@ pub(crate) enum Verb {
     Resume,
     Show,
     Trace,
+    Why,
+    Who,
+    List,
 }
 
 impl Verb {
@@ -31,6 +34,9 @@ impl Verb {
             Verb::Resume => b"resume",
             Verb::Show => b"show",
             Verb::Trace => b"trace",
+            Verb::Why => b"why",
+            Verb::Who => b"who",
+            Verb::List => b"list",
         }
     }
 
@@ -47,6 +53,9 @@ impl Verb {
             Verb::Resume => "the line is `resume sK`, as in `resume s1`",
             Verb::Show => "the line is `show`, and nothing else",
             Verb::Trace => "the line is `trace`, and nothing else",
+            Verb::Why => "the line is `why N`, as in `why 2`",
+            Verb::Who => "the line is `who`, and nothing else",
+            Verb::List => "the line is `list`, and nothing else",
         }
     }
 }
@@ -63,12 +72,15 @@ fn verb_number(number: usize) -> Verb {
         6 => Verb::Drop,
         7 => Verb::Resume,
         8 => Verb::Show,
-        _ => Verb::Trace,
+        9 => Verb::Trace,
+        10 => Verb::Why,
+        11 => Verb::Who,
+        _ => Verb::List,
     }
 }
 
 // How many there are.
-const VERBS: usize = 10;
+const VERBS: usize = 13;
 
 /// The verb that this word is.
 pub(crate) fn verb_of(word: &[u8]) -> Option<Verb> {

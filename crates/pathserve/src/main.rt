@@ -4,6 +4,7 @@
 //! `pathserve check FILE` says of each object of a file whether its paths keep operations that conflict
 //! apart, and by which nodes.
 //! `pathserve run FILE SCRIPT` runs a script of calls, device steps and finishes on an object of a file.
+//! `pathserve try FILE` answers such calls line by line, at a prompt.
 //! `pathserve audit FILE TRACE` says whether a trace of an object of a file is legal, or which line of it is not;
 //! `pathserve audit FILE DIR` whether the epochs of each object of a file can have happened, one after another.
 //! `pathserve serve FILE DIR PLACE` serves the objects of a file to clients on this machine.
@@ -20,6 +21,7 @@ ghost use Rattle.std.specs.Prelude.{◌≡◌};
 ghost use Rattle.std.specs.Process.{exit_status as code};
 ghost use Rattle.answer_core.specs.Status.{exit_status_of};
 
+mod attempt;
 mod ending;
 mod keep;
 mod lack;
@@ -36,6 +38,7 @@ use answer_core::failure::{Failure, exit_status, words_end};
 use answer_core::script::answer_script;
 use answer_core::source::read_source;
 use answer_core::stuck::check_stuck;
+use attempt::run_try;
 use command_line::past::Past;
 use command_line::request::{Address, Explain, Keeping, Request, Serving, request_of};
 use ending::{KeepEnd, status_of_keep};
@@ -640,6 +643,7 @@ fn run(rt: &HostRuntime, request: Request<'_>) -> Result<u8, Failure> {
         Request::Check(path, when, stuck) => run_check(rt, path, when, stuck),
         Request::Run(source, text, when) => run_script(rt, Files { source, text }, when),
         Request::Audit(source, text, when) => run_audit(rt, Files { source, text }, when),
+        Request::Try(path, name, when) => run_try(rt, path, name, when),
         // `prepare` has them: they do not come here.
         Request::Keep(_) | Request::Serve(_) => Ok(REFUSED),
     }

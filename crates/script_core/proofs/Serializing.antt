@@ -537,7 +537,8 @@ on_line told s number line text goes new legal_by leads_by fails m (Writes.skipp
 on_line told s number line text goes new legal_by leads_by fails m (Writes.done {new = world} said named not_skipped says does kept) =
     let next = on_said said text world legal_by leads_by fails m kept does in
     (next.0, WritesSerially.done said (m.named ∙ named) not_skipped says next.1, next.2)
-on_line told s number line text goes new legal_by leads_by fails m (Writes.bad named not_skipped says_none) = (s, WritesSerially.bad (m.named ∙ named) not_skipped says_none, m)
+on_line told s number line text goes new legal_by leads_by fails m (Writes.asked question named other says tells) = (s, WritesSerially.asked question (m.named ∙ named) other says, m)
+on_line told s number line text goes new legal_by leads_by fails m (Writes.bad named other asks_none) = (s, WritesSerially.bad (m.named ∙ named) other asks_none, m)
 
 on_lines : {o : Object} (told : Told) (s : Serial) (number : ℕ) (ls : List (List ℕ)) (text : List ℕ) (new : Told) → LegalByOne → LeadsByOne → FailsOnlyWithItsDevice → Matches o told s → Runs Writes told number ls text new
     → (next : Serial) × Runs WritesSerially s number ls text next × Matches o new next

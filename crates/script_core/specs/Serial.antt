@@ -25,9 +25,10 @@ use Rattle.script_text.specs.Said.{Said, a_call, a_keyed_call, a_do, a_step, all
 use Rattle.script_text.specs.Said.{a_resume, a_show, a_trace, said_of, IsSkipped}
 use Rattle.script_text.specs.Answers.{called_line, refused_line, all_stepped_line, finished_line, kept_line}
 use Rattle.script_text.specs.Answers.{repeated_line, started_line, shown_lines, bad_line}
+use Rattle.inside_desk.specs.Asked.{Asked, asked_of}
 use Rattle.script_core.specs.declared.script.ScriptEnd.{ScriptEnd}
 use Rattle.script_core.specs.declared.script.ScriptEnd.TheVariants.{Whole, BadLine}
-use Rattle.script_core.specs.Writes.{NamesObject}
+use Rattle.script_core.specs.Writes.{NamesObject, IsOther}
 
 -- Whether the first line has named the object, the calls that were given numbers, from 1, the values of the parts, the
 -- calls that have finished, each with its reply, and those of which a step was to fail.
@@ -146,7 +147,10 @@ pub data WritesSerially (s : Serial) (number : ℕ) (line : List ℕ) : List ℕ
   skipped : s.named ≡ true → IsSkipped line → WritesSerially s number line [] true s
   done : {text : List ℕ} {new : Serial} (said : Said) → s.named ≡ true → (IsSkipped line → ⊥) → Says said_of line said →
       Serially said s text new → WritesSerially s number line text true new
-  bad : s.named ≡ true → (IsSkipped line → ⊥) → ((said : Said) → Says said_of line said → ⊥) →
+  -- what a line asks is not told by the sequential object: it changes nothing
+  asked : {text : List ℕ} (question : Asked) → s.named ≡ true → IsOther line → Says asked_of line question →
+      WritesSerially s number line text true s
+  bad : s.named ≡ true → IsOther line → ((question : Asked) → Says asked_of line question → ⊥) →
       WritesSerially s number line (bad_line number) false s
 
 -- What a script over an object writes, by the sequential object: its lines on calls, finishes and values.

@@ -7,6 +7,8 @@ use Rattle.world_core.specs.Scene.{Scene, IsNew}
 use Rattle.script_text.specs.Said.{Said, said_of, IsSkipped}
 use Rattle.script_text.specs.First.{IsObjectLine}
 use Rattle.script_text.specs.Answers.{bad_line}
+use Rattle.inside_desk.specs.Asked.{Asked, asked_of}
+use Rattle.inside_desk.specs.Told.{IsTold}
 use Rattle.script_core.specs.Does.{Does, IsKept}
 use Rattle.script_core.specs.declared.script.machine.Script.{Script}
 
@@ -30,6 +32,11 @@ pub record NamesObject (o : Object) (line : List ℕ) : Type 0 where
   pub stands : IsObjectLine line name
   pub same : str_to_ascii_lowercase name ≡ o.name
 
+-- a line that is not skipped, and says nothing that is done
+pub record IsOther (line : List ℕ) : Type 0 where
+  pub not_skipped : IsSkipped line → ⊥
+  pub says_nothing : (said : Said) → Says said_of line said → ⊥
+
 -- the answer to the line of this number: its text, whether the script goes on, and what holds then
 pub data Writes (told : Told) (number : ℕ) (line : List ℕ) : List ℕ → Bool → Told → Type 0 where
   -- the first line names the object
@@ -43,7 +50,10 @@ pub data Writes (told : Told) (number : ℕ) (line : List ℕ) : List ℕ → Bo
   done : {text : List ℕ} {new : Scene} (said : Said) → told.named ≡ true → (IsSkipped line → ⊥) →
       Says said_of line said → Does said told.world text new → IsKept new
       → Writes told number line text true (record told { world = new })
-  bad : told.named ≡ true → (IsSkipped line → ⊥) → ((said : Said) → Says said_of line said → ⊥) →
+  -- a line that asks something is answered of the desk, and changes nothing
+  asked : {text : List ℕ} (question : Asked) → told.named ≡ true → IsOther line → Says asked_of line question →
+      IsTold told.world.board question text → Writes told number line text true told
+  bad : told.named ≡ true → IsOther line → ((question : Asked) → Says asked_of line question → ⊥) →
       Writes told number line (bad_line number) false told
 
 -- the answer to the line of this number, of a state, and the state then

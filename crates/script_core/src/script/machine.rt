@@ -1,11 +1,13 @@
 //! The state of a script, and its answers.
 
 ghost use Rattle.std.specs.Prelude.{◌≡◌, ◌++◌, ◌↔◌, ℕ, List, IfOk, IsTrue, true, false};
-ghost use Rattle.script_core.specs.Writes.{IsBegun, NamesObject, Writes, told_of};
+ghost use Rattle.script_core.specs.Writes.{IsBegun, IsOther, NamesObject, Writes, told_of};
 
 use crate::script::answer::answer_said;
 use decl_core::object::Object;
 use exclude_core::analyse::Accepted;
+use inside_desk::answer::push_answer;
+use inside_desk::question::question_of;
 use line_core::Machine;
 use script_text::answers::push_bad_line;
 use script_text::first::object_line;
@@ -73,6 +75,30 @@ impl Script {
         Ok(false)
     }
 
+    // Answers a line that says nothing that is done.
+    fn answer_other(
+        &mut self,
+        number: u64,
+        line: &[u8],
+        out: &mut Vec<u8>,
+    ) -> Result<bool, AllocError>
+        requires named { self.old.named ≡ true }
+        requires other { IsOther line.now }
+        ensures { IfOk result (λ goes. (text : List ℕ) × (out.new.items ≡ out.old.items ++ text)
+            × Writes (told_of self.old) number line.now text goes (told_of self.new)) }
+    {
+        match question_of(self.alloc, line)? {
+            Some(question) => {
+                push_answer(self.alloc, self.world.desk(), question, out)?;
+                Ok(true)
+            }
+            None => {
+                push_bad_line(out, number)?;
+                Ok(false)
+            }
+        }
+    }
+
     // Answers a line behind the first one.
     fn answer_line(
         &mut self,
@@ -94,10 +120,7 @@ impl Script {
                 self.world.desk().history();
                 Ok(true)
             }
-            None => {
-                push_bad_line(out, number)?;
-                Ok(false)
-            }
+            None => self.answer_other(number, line, out),
         }
     }
 }

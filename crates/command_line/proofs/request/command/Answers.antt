@@ -16,5 +16,6 @@ returns c =
     let two = with_sub _ _ c.in_ok-subcommand-2.field-0 _ _ c.in_ok-subcommand-2.ensures (named_made _ c.in_ok-named-2.field-0 _ c.in_ok-named-2.ensures c.in_ok-check_command.ensures) one in
     let three = with_sub _ _ c.in_ok-subcommand-3.field-0 _ _ c.in_ok-subcommand-3.ensures (named_made _ c.in_ok-named-3.field-0 _ c.in_ok-named-3.ensures c.in_ok-run_command.ensures) two in
     let four = with_sub _ _ c.in_ok-subcommand-4.field-0 _ _ c.in_ok-subcommand-4.ensures (named_made _ c.in_ok-named-4.field-0 _ c.in_ok-named-4.ensures c.in_ok-audit_command.ensures) three in
-    let five = with_sub _ _ c.in_ok-subcommand-5.field-0 _ _ c.in_ok-subcommand-5.ensures (named_made _ c.in_ok-named-5.field-0 _ c.in_ok-named-5.ensures c.in_ok-serve_command.ensures) four in
-    IfOk-weaker c.subcommand-6.result _ _ (λ r h. with_sub _ _ r _ _ h (named_made _ c.in_ok-named-6.field-0 _ c.in_ok-named-6.ensures c.in_ok-keep_command.ensures) five) c.subcommand-6.ensures
+    let five = with_sub _ _ c.in_ok-subcommand-5.field-0 _ _ c.in_ok-subcommand-5.ensures (named_made _ c.in_ok-named-5.field-0 _ c.in_ok-named-5.ensures c.in_ok-try_command.ensures) four in
+    let six = with_sub _ _ c.in_ok-subcommand-6.field-0 _ _ c.in_ok-subcommand-6.ensures (named_made _ c.in_ok-named-6.field-0 _ c.in_ok-named-6.ensures c.in_ok-serve_command.ensures) five in
+    IfOk-weaker c.subcommand-7.result _ _ (λ r h. with_sub _ _ r _ _ h (named_made _ c.in_ok-named-7.field-0 _ c.in_ok-named-7.ensures c.in_ok-keep_command.ensures) six) c.subcommand-7.ensures
