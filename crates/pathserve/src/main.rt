@@ -46,8 +46,8 @@ use explain_line::files::Files;
 use explain_line::kept::Kept;
 use folder_audit::audit::audit_folder;
 use folder_audit::files::FolderFault;
-use hold_read::read::{Look, look_at};
-use holds::{check_held, refuse_faulty, refuse_held};
+use hold_read::read::{Held, Look, look_at};
+use holds::{check_held, refuse_faulty, refuse_held, run_held};
 use keep::{is_kept, keep_objects};
 use lack::{Lack, Lacking, Need, tell_lack};
 use line_core::write_whole;
@@ -556,25 +556,51 @@ fn inputs_of(rt: &HostRuntime, files: Files<'_>, telling: Telling) -> Result<Inp
 fn run_script(rt: &HostRuntime, files: Files<'_>, when: Explain) -> Result<u8, Failure> {
     let telling = telling_of(rt, when);
     let Inputs { source, mut kept } = inputs_of(rt, files, telling)?;
-    let source = match plain_source(
-        rt,
-        source,
-        telling,
-        files.source,
-        b"run does not follow them yet",
-    )? {
-        Taken::Plain(source) => source,
-        Taken::Told(status) => return Ok(status),
+    let (ended, source) = match look_at(rt.alloc(), &source)? {
+        Look::Plain => {
+            let ended = answer_script(
+                rt.alloc(),
+                &source,
+                &mut kept,
+                &mut io::writer(rt),
+                telling,
+                files.source,
+                &mut rt.stderr(),
+            );
+            (ended, source)
+        }
+        Look::Held(
+            Held {
+                cut,
+                objects,
+                rules,
+            },
+        ) => {
+            let ended = run_held(
+                rt.alloc(),
+                &cut,
+                objects,
+                rules,
+                &mut kept,
+                &mut io::writer(rt),
+                telling,
+                files.source,
+                &mut rt.stderr(),
+            );
+            (ended, cut)
+        }
+        Look::Faulty(fault) => {
+            return refuse_faulty(
+                rt.alloc(),
+                &source,
+                fault,
+                telling,
+                files.source,
+                &mut io::writer(rt),
+                &mut rt.stderr(),
+            );
+        }
     };
-    let ended = answer_script(
-        rt.alloc(),
-        &source,
-        &mut kept,
-        &mut io::writer(rt),
-        telling,
-        files.source,
-        &mut rt.stderr(),
-    );
     let ended = told_unread(rt, ended, Need::File, files.text, &kept);
     let text = kept.text();
     explained_run(
