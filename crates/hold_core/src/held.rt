@@ -2,6 +2,7 @@
 
 ghost use Rattle.std.specs.Prelude.{◌≡◌, ◌≢◌, ◌↔◌, ◌++◌, ℕ, All, List, [], ◌∷◌, IsTrue, IsErr, IfOk, IfSome, OnOk, MatchOption, length, drop, take, ◌≤◌, ◌<◌, Some, slice_get};
 ghost use Rattle.apply_core.specs.declared.reply.Reply.TheVariants.{Done};
+ghost use Rattle.value_core.specs.declared.datum.Datum.{Datum as ADatum};
 ghost use Rattle.hold_form.specs.HoldForm.{is_one_of as is_among};
 ghost use Rattle.hold_form.specs.HoldMap.{holds_of};
 ghost use Rattle.hold_core.specs.Held.{HeldCall as AHeldCall, begun, Fits, Gives, GivesOne, MayUndo, NoneFits};
@@ -400,7 +401,7 @@ impl Holds {
 
 // The first of these operations.
 fn first_of(ops: &[OpId]) -> Option<OpId>
-    ensures { IfSome result (λ op. slice_get ops.now 0 ≡ Some op) }
+    ensures { MatchOption result (ops.now ≡ []) (λ op. slice_get ops.now 0 ≡ Some op) }
 {
     match ops {
         [] => None,
@@ -410,7 +411,8 @@ fn first_of(ops: &[OpId]) -> Option<OpId>
 
 // The first operation that ends the hold at a place.
 fn undo_at(holds: &[Hold], place: usize) -> Option<OpId>
-    ensures { IfSome result (λ op. IsFirstUndo (holds_of holds.now) place op) }
+    ensures { MatchOption result ((op : ℕ) → IsFirstUndo (holds_of holds.now) place op → ⊥)
+        (λ op. IsFirstUndo (holds_of holds.now) place op) }
 {
     match holds.get(place) {
         None => None,
@@ -422,13 +424,15 @@ fn undo_at(holds: &[Hold], place: usize) -> Option<OpId>
 }
 
 /// What is to be called for a session that holds this and is gone: the first operation that ends its hold, with what it
-/// is held with, or with nothing where that operation takes nothing. `None`: the object has no such hold.
+/// is held with, or with nothing where that operation takes nothing. `None`: nothing of the object ends it.
 pub fn undo_of<'a>(
     object: &Object,
     holds: &[Hold],
     held: &'a HeldCall,
 ) -> Option<(OpId, &'a [Datum])>
-    ensures { IfSome result (λ u. IsUndoOf (object_of object.now) (holds_of holds.now) held.now u.0 u.1.now) }
+    ensures { MatchOption result ((op : ℕ) → (arguments : List ADatum) →
+        IsUndoOf (object_of object.now) (holds_of holds.now) held.now op arguments → ⊥)
+        (λ u. IsUndoOf (object_of object.now) (holds_of holds.now) held.now u.0 u.1.now) }
 {
     let op = undo_at(holds, held.rule)?;
     match object.operations.get(op as usize) {

@@ -1,0 +1,107 @@
+//! What is said of each `a; b` of a path whose `a` is not held: what happens where a client dies between.
+
+use note_core::page::{Page, push_said};
+use note_core::said::{Words, say};
+use note_core::span::{Span, span_of, text_at};
+use note_core::tokens::{
+    count_to, first_tokens, from_symbol, is_any_name, is_name, is_same_word, is_symbol, name_of,
+    section, tokens_from,
+};
+use path_tree::lex::lex;
+use path_tree::token::{Symbol, Token};
+use std::alloc::{AllocError, Global};
+
+// The most objects of a source, and the most paths of an object.
+const MOST: usize = 16;
+
+// Whether the operation of this name is held, by the tokens of its object.
+fn is_held(object: &[Token], name: &[u8]) -> bool {
+    for (count, token) in object.iter().enumerate() {
+        let here = tokens_from(object, count + 1);
+        if is_name(token, b"hold")
+            && is_same_word(here, name)
+            && is_same_word(tokens_from(here, 1), b"until")
+        {
+            return true;
+        }
+    }
+    false
+}
+
+// Adds what is said of the pair that begins here, where one does, and its first operation is not held.
+fn push_pair(
+    out: &mut Vec<u8>,
+    page: Page<'_>,
+    object: &[Token],
+    here: &[Token],
+) -> Result<(), AllocError> {
+    let [a, sign, b, next, ..] = here else {
+        return Ok(());
+    };
+    if !is_any_name(a) || !is_symbol(sign, Symbol::Semicolon) || !is_any_name(b) {
+        return Ok(());
+    }
+    if is_symbol(next, Symbol::Colon) || is_held(object, name_of(here)) {
+        return Ok(());
+    }
+    let first = span_of(a);
+    let second = span_of(b);
+    let words = Words {
+        first: text_at(page.source, first),
+        second: text_at(page.source, second),
+        third: b"",
+        fourth: b"",
+    };
+    let said = say(
+        "who is gone between `%` and `$` never calls `$`, nor does anybody for it",
+        "`hold % until $;` behind the operations has it called then",
+    );
+    let span = Span {
+        start: first.start,
+        end: second.end,
+    };
+    push_said(out, page, span, said, words)
+}
+
+// Adds what is said of the pairs of one path.
+fn push_path(
+    out: &mut Vec<u8>,
+    page: Page<'_>,
+    object: &[Token],
+    path: &[Token],
+) -> Result<(), AllocError> {
+    for count in 0..path.len() {
+        push_pair(out, page, object, tokens_from(path, count))?;
+    }
+    Ok(())
+}
+
+// Adds what is said of the pairs of one object.
+fn push_object(out: &mut Vec<u8>, page: Page<'_>, object: &[Token]) -> Result<(), AllocError> {
+    for number in 0..MOST {
+        let path = from_symbol(object, Symbol::Path, number);
+        let end = count_to(path, Symbol::End);
+        push_path(out, page, object, first_tokens(path, end))?;
+    }
+    Ok(())
+}
+
+/// What a person is told of an accepted source in this file who asks for more: of each `a; b` of a path whose `a` is not
+/// held what happens where a client dies between the two. It is empty where there is none, and where the source has no
+/// tokens.
+///
+/// The error is that memory was refused.
+pub fn explain_pairs(alloc: Global, file: &[u8], source: &[u8]) -> Result<Vec<u8>, AllocError> {
+    let mut out = Vec::new(alloc);
+    if let Ok(tokens) = lex(alloc, source) {
+        let page = Page {
+            file,
+            source,
+            tokens: &tokens,
+        };
+        for number in 0..MOST {
+            push_object(&mut out, page, section(&tokens, Symbol::Object, number))?;
+        }
+    }
+    Ok(out)
+}

@@ -1,0 +1,5 @@
+pub mod Whole
+pub mod Refusing
+pub mod Noting
+pub mod Giving
+pub mod Acting
