@@ -362,8 +362,8 @@ fn prepare_server(rt: &HostRuntime, asked: Serving<'_>) -> Result<Prepared, Fail
     };
     let telling = telling_of(rt, asked.explain);
     let text = match plain_source(rt, text, telling, asked.file, b"use pathserve keep")? {
-        Taken::Plain(text) => text,
-        Taken::Told(status) => return Ok(Prepared::Ended(status)),
+        WithoutHolds::Plain(text) => text,
+        WithoutHolds::Told(status) => return Ok(Prepared::Ended(status)),
     };
     match take_needs(rt, asked, text) {
         Ok(started) => Ok(Prepared::Serves(started, asked.stops)),
@@ -409,7 +409,7 @@ fn run_paths(rt: &HostRuntime) -> Result<u8, Failure> {
 }
 
 // What to do with a source whose objects have holds, for a command that takes them as objects without.
-enum Taken {
+enum WithoutHolds {
     // Go on with this source, in which no object has holds.
     Plain(Vec<u8>),
     // It is refused, and that is told: the exit status.
@@ -422,11 +422,11 @@ fn without_holds(
     source: Vec<u8>,
     telling: Telling,
     file: &str,
-) -> Result<Taken, Failure> {
+) -> Result<WithoutHolds, Failure> {
     match look_at(rt.alloc(), &source)? {
-        Look::Plain => Ok(Taken::Plain(source)),
-        Look::Held(held) => Ok(Taken::Plain(held.cut)),
-        Look::Faulty(fault) => Ok(Taken::Told(refuse_faulty(
+        Look::Plain => Ok(WithoutHolds::Plain(source)),
+        Look::Held(held) => Ok(WithoutHolds::Plain(held.cut)),
+        Look::Faulty(fault) => Ok(WithoutHolds::Told(refuse_faulty(
             rt.alloc(),
             &source,
             fault,
@@ -446,12 +446,12 @@ fn plain_source(
     telling: Telling,
     file: &str,
     instead: &[u8],
-) -> Result<Taken, Failure> {
+) -> Result<WithoutHolds, Failure> {
     match look_at(rt.alloc(), &source)? {
-        Look::Plain => Ok(Taken::Plain(source)),
+        Look::Plain => Ok(WithoutHolds::Plain(source)),
         Look::Held(held) => {
             let status = refuse_held(rt.alloc(), &held, instead, &mut io::writer(rt))?;
-            Ok(Taken::Told(status))
+            Ok(WithoutHolds::Told(status))
         }
         Look::Faulty(_) => without_holds(rt, source, telling, file),
     }
@@ -467,8 +467,8 @@ fn check_text(
 ) -> Result<u8, Failure> {
     if stuck {
         return match without_holds(rt, source, telling, path)? {
-            Taken::Told(status) => Ok(status),
-            Taken::Plain(source) => check_stuck(
+            WithoutHolds::Told(status) => Ok(status),
+            WithoutHolds::Plain(source) => check_stuck(
                 rt.alloc(),
                 source.as_slice(),
                 &mut io::writer(rt),
@@ -488,8 +488,8 @@ fn check_text(
             &mut rt.stderr(),
         ),
         Look::Faulty(_) => match without_holds(rt, source, telling, path)? {
-            Taken::Told(status) => Ok(status),
-            Taken::Plain(_) => Ok(REFUSED),
+            WithoutHolds::Told(status) => Ok(status),
+            WithoutHolds::Plain(_) => Ok(REFUSED),
         },
         Look::Plain => check_source(
             rt.alloc(),
@@ -652,8 +652,8 @@ fn run_folder(rt: &HostRuntime, files: Files<'_>, when: Explain) -> Result<u8, F
         Err(lacking) => return Err(told(rt, lacking, files.source)),
     };
     let source = match without_holds(rt, source, telling_of(rt, when), files.source)? {
-        Taken::Plain(source) => source,
-        Taken::Told(status) => return Ok(status),
+        WithoutHolds::Plain(source) => source,
+        WithoutHolds::Told(status) => return Ok(status),
     };
     match judge(rt.alloc(), &source)? {
         Judged::Ready(objects) => tell_folder(rt, &objects, files.text),
@@ -747,8 +747,8 @@ fn run_keep(rt: &HostRuntime, asked: Keeping<'_>, words: &[&str]) -> Result<Keep
         asked.file,
         b"keep does not follow them yet",
     )? {
-        Taken::Plain(source) => source,
-        Taken::Told(_) => return Ok(KeepEnd::Refused),
+        WithoutHolds::Plain(source) => source,
+        WithoutHolds::Told(_) => return Ok(KeepEnd::Refused),
     };
     let lock = match lock_folder(rt, asked.folder) {
         Ok(lock) => lock,
@@ -775,8 +775,8 @@ fn run_audit(rt: &HostRuntime, files: Files<'_>, when: Explain) -> Result<u8, Fa
     let telling = telling_of(rt, when);
     let Inputs { source, mut kept } = inputs_of(rt, files, telling)?;
     let source = match without_holds(rt, source, telling, files.source)? {
-        Taken::Plain(source) => source,
-        Taken::Told(status) => return Ok(status),
+        WithoutHolds::Plain(source) => source,
+        WithoutHolds::Told(status) => return Ok(status),
     };
     let ended = audit_trace(rt.alloc(), &source, &mut kept, &mut io::writer(rt));
     let ended = told_unread(rt, ended, Need::File, files.text, &kept);
