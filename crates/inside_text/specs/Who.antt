@@ -17,16 +17,21 @@ abbrev pub client_words : Option (List ℕ) → List Word
 client_words None = []
 client_words (Some name) = bare (codes "name") ∷ bare name ∷ []
 
--- `session sS for T calls C`, and the name
-abbrev pub seat_line : Seat → Option (List ℕ) → List ℕ
-seat_line seat name =
-    line_of (bare (codes "session") ∷ session_word seat.session ∷ bare (codes "for") ∷ bare (decimal seat.seconds)
-    ∷ bare (codes "calls") ∷ bare (decimal seat.calls) ∷ client_words name)
-
 -- `for T`, where it is known
 abbrev pub time_words : Option ℕ → List Word
 time_words None = []
 time_words (Some seconds) = bare (codes "for") ∷ bare (decimal seconds) ∷ []
+
+-- `session sS`, and for how long it is there
+abbrev pub seat_words : Seat → List Word
+seat_words seat = bare (codes "session") ∷ session_word seat.session ∷ time_words seat.seconds
+
+-- `calls C`, and the name
+abbrev pub count_words : ℕ → Option (List ℕ) → List Word
+count_words calls name = bare (codes "calls") ∷ bare (decimal calls) ∷ client_words name
+
+abbrev pub seat_line : Seat → Option (List ℕ) → List ℕ
+seat_line seat name = line_of (seat_words seat ++ count_words seat.calls name)
 
 -- `waits N sS OP`, and for how long
 abbrev pub call_words : ObjectForm → Waiting → List Word

@@ -1,11 +1,11 @@
 //! The answer to `who`.
 
-ghost use Rattle.std.specs.Prelude.{◌≡◌, ◌++◌, [], flat_map, OnOk, option_map, Some, None};
+ghost use Rattle.std.specs.Prelude.{◌≡◌, ◌++◌, [], flat_map, OnOk, option_map};
 ghost use Rattle.decl_core.specs.ObjectMap.{object_of};
 ghost use Rattle.word_core.specs.Words.{words_text, behind_word};
 ghost use Rattle.why_core.specs.Found.{why_of, whys_of};
 ghost use Rattle.inside_text.specs.Why.{node_words};
-ghost use Rattle.inside_text.specs.Who.{who_line, seat_line, call_words, waits_line};
+ghost use Rattle.inside_text.specs.Who.{who_line, seat_words, count_words, seat_line, call_words, waits_line};
 
 use crate::name::name_of;
 use decl_core::object::Object;
@@ -16,13 +16,13 @@ use why_core::reason::{Lack, Reason};
 use word_core::line::{push_line, push_more, push_words};
 use word_core::word::Written;
 
-/// A session, for how many seconds it is there, and how many calls it made.
+/// A session, for how many seconds it is there, where that is known, and how many calls it made.
 #[derive(Clone, Copy, Debug, PartialEq, Eq)]
 pub struct Seat {
     /// Its number.
     pub session: u64,
     /// The seconds.
-    pub seconds: u64,
+    pub seconds: Option<u64>,
     /// Its calls.
     pub calls: u64,
 }
@@ -48,50 +48,54 @@ pub fn push_who(out: &mut Vec<u8>, lines: u64) -> Result<(), AllocError>
     push_line(out, &[Written::Bare(b"who"), Written::Integer(lines)])
 }
 
-// Adds `session sS for T calls C`.
-fn push_nameless(out: &mut Vec<u8>, seat: Seat) -> Result<(), AllocError>
-    ensures { OnOk result (out.new.items ≡ out.old.items ++ seat_line seat None) }
+// Adds `session sS`, and for how long it is there where that is known.
+fn push_session(out: &mut Vec<u8>, seat: Seat) -> Result<(), AllocError>
+    ensures { OnOk result (out.new.items ≡ out.old.items ++ words_text (seat_words seat)) }
 {
-    push_line(
-        out,
-        &[
-            Written::Bare(b"session"),
-            Written::Session(seat.session),
-            Written::Bare(b"for"),
-            Written::Integer(seat.seconds),
-            Written::Bare(b"calls"),
-            Written::Integer(seat.calls),
-        ],
-    )
+    match seat.seconds {
+        None => push_words(
+            out,
+            &[Written::Bare(b"session"), Written::Session(seat.session)],
+        ),
+        Some(seconds) => push_words(
+            out,
+            &[
+                Written::Bare(b"session"),
+                Written::Session(seat.session),
+                Written::Bare(b"for"),
+                Written::Integer(seconds),
+            ],
+        ),
+    }
 }
 
-// Adds `session sS for T calls C name NAME`.
-fn push_named(out: &mut Vec<u8>, seat: Seat, name: &Name) -> Result<(), AllocError>
-    ensures { OnOk result (out.new.items ≡ out.old.items ++ seat_line seat (Some name.now)) }
+// Adds ` calls C`, and the name where there is one.
+fn push_count(out: &mut Vec<u8>, calls: u64, name: Option<&Name>) -> Result<(), AllocError>
+    ensures { OnOk result (out.new.items ≡ out.old.items
+        ++ behind_word (count_words calls (option_map (λ n. n.now) name.entry))) }
 {
-    push_line(
-        out,
-        &[
-            Written::Bare(b"session"),
-            Written::Session(seat.session),
-            Written::Bare(b"for"),
-            Written::Integer(seat.seconds),
-            Written::Bare(b"calls"),
-            Written::Integer(seat.calls),
-            Written::Bare(b"name"),
-            Written::Bare(name.as_bytes()),
-        ],
-    )
+    match name {
+        None => push_more(out, &[Written::Bare(b"calls"), Written::Integer(calls)]),
+        Some(name) => push_more(
+            out,
+            &[
+                Written::Bare(b"calls"),
+                Written::Integer(calls),
+                Written::Bare(b"name"),
+                Written::Bare(name.as_bytes()),
+            ],
+        ),
+    }
 }
 
 /// Adds the line of a session, which has a name or none.
 pub fn push_seat(out: &mut Vec<u8>, seat: Seat, name: Option<&Name>) -> Result<(), AllocError>
     ensures { OnOk result (out.new.items ≡ out.old.items ++ seat_line seat (option_map (λ n. n.now) name.entry)) }
 {
-    match name {
-        None => push_nameless(out, seat),
-        Some(name) => push_named(out, seat, name),
-    }
+    push_session(out, seat)?;
+    push_count(out, seat.calls, name)?;
+    out.push(b'\n')?;
+    Ok(())
 }
 
 // Adds `waits N sS OP`, and for how long where that is known.
