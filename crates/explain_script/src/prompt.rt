@@ -145,7 +145,7 @@ impl<R: Read, E: Write> Asking<R, E> {
     // Tells of the lines that have come with their ends. What is left has come of the next one.
     fn tell_whole(&mut self) {
         if let Some(held) = self.held.take() {
-            let whole = whole_bytes(&held);
+            let whole = whole_bytes(&held).min(held.len());
             self.tell(&held[..whole]);
             self.held = rest_of(self.alloc, &held, whole);
         }
