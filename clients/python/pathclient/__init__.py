@@ -568,6 +568,47 @@ class Object:
         self._run(asked, within)
         return [it.came for it in asked]
 
+    def look(self, *words: Value, within: float = ANSWERS) -> list[str]:
+        """What `pathserve keep` tells of the inside, line by line: `look("why", 5)` says why the call 5 waits, `look("who")` who is
+        there and what waits, `look("list")` what can be called. Of a call that does not wait it is one line that says so. Nothing
+        changes by it. It may take `within` seconds, its turn behind calls of other threads included; so look through another
+        Object where a call of this one waits."""
+        line, end = " ".join(str(it) for it in words), time.monotonic() + within
+        if not self._turn.acquire(timeout=max(within, 0)):
+            raise Lost("a call is under way", line)
+        try:
+            self._go_on()
+            if self._socket is None:
+                self._connect(end)
+            self._send(f"{line}\n".encode("ascii"), end)
+            return self._told(line, end)
+        except Rejected:
+            raise
+        except BaseException:
+            self._drop()
+            raise
+        finally:
+            with self._moment:
+                if self._closed.is_set():
+                    self._drop()
+                self._turn.release()
+
+    def _told(self, asked: str, end: float) -> list[str]:
+        """The lines of an answer, whose first one says how many there are."""
+        head = self._heard(end)
+        kind, number, rest = [*head.split(" ", 2), "", ""][:3]
+        if kind == "no":
+            raise Rejected(number, asked)
+        count = rest.removeprefix("Waiting ") if kind == "why" else number
+        return [self._heard(end) for _ in range(int(count))] if count.isdecimal() else [head]
+
+    def _heard(self, end: float) -> str:
+        """The next line, which has to come by this time."""
+        line = self._line(end)
+        if line is None:
+            raise Lost("the server says nothing")
+        return line
+
     @contextlib.contextmanager
     def holding(self, first: Call, second: Ending, within: float | None = None, patience: float = PATIENCE) -> Iterator[Reply]:
         """Calls `first`, gives its reply to a block, and when that ends, whatever way, calls `second`. Each is an operation, or a tuple

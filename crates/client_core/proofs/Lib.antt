@@ -1,2 +1,3 @@
 pub mod Cancels
+pub mod Insides
 pub mod Numerals

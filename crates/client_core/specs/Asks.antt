@@ -10,6 +10,9 @@ use Rattle.session_text.specs.declared.session.Action.{Action}
 use Rattle.session_text.specs.declared.session.Action.TheVariants as actions
 use Rattle.client_core.specs.declared.ask.Ask.{Ask}
 use Rattle.client_core.specs.declared.ask.Ask.TheVariants as asks
+use Rattle.client_core.specs.declared.ask.Inside.{Inside}
+use Rattle.client_core.specs.declared.ask.Inside.TheVariants as insides
+use Rattle.client_core.specs.Inside.{IsInside}
 use Rattle.client_core.specs.Numbers.{long_of, cancel_in}
 
 -- what the table does for a line, behind which an LF stood or not
@@ -76,14 +79,31 @@ pub record IsLongCancel (line : List ℕ) (number : ℕ) : Type 0 where
   pub all : AreWords line words
   pub number_is : cancel_in words ≡ Some number
 
--- what a line may ask for that is no line of the table: a call under a key and a cancel, where an object is opened and an
--- LF stood behind it; else it is refused
+-- what may be seen where an object is opened, or none is
+abbrev pub may_see : Bool → Inside → Bool
+may_see opened insides.List = true
+may_see opened (insides.Why number) = opened
+may_see opened (insides.Who from) = opened
+
+-- a line asks to see something, where that may be seen
+pub record SeesInside (opened : Bool) (line : List ℕ) (inside : Inside) : Type 0 where
+  pub is : IsInside line inside
+  pub may : may_see opened inside ≡ true
+
+-- it asks to see nothing
+abbrev pub SeesNothing : List ℕ → Type 0
+SeesNothing line = (inside : Inside) → IsInside line inside → ⊥
+
+-- what a line may ask for that is no line of the table: to see something; a call under a key and a cancel, where an object
+-- is opened; each where an LF stood behind it. Else it is refused
 abbrev pub IsWide : Bool → Bool → List ℕ → Ask → Type 0
+IsWide opened true line (asks.Inside inside) = SeesInside opened line inside
 IsWide true true line (asks.Call (Some key) op arguments) = IsKeyedCall line key op arguments.items
 IsWide true true line (asks.Cancel number) = IsLongCancel line number
 IsWide false whole line (asks.Answer refusals.NotOpen) = Unit {0}
 IsWide true false line (asks.Answer refusals.Gone) = Unit {0}
-IsWide opened whole line (asks.Answer refusals.BadLine) = Unit {0}
+IsWide opened true line (asks.Answer refusals.BadLine) = SeesNothing line
+IsWide opened false line (asks.Answer refusals.BadLine) = Unit {0}
 IsWide opened whole line ask = ⊥
 
 -- a line asks for this: what the table does for it, but that a bad line may have a number of 64 bits

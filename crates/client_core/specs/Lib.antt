@@ -1,4 +1,5 @@
 pub mod Asks
 pub mod Held
+pub mod Inside
 pub mod Numbers
 pub mod Places

@@ -6,17 +6,30 @@ ghost use Rattle.session_text.specs.declared.line.Refusal.TheVariants as refusal
 ghost use Rattle.session_text.specs.declared.session.Action.TheVariants as actions;
 ghost use Rattle.client_core.specs.Asks.{TableDoes, asked_by, IsKeyed, IsLongCancel, IsWide, Asks};
 ghost use Rattle.client_core.specs.Asks.{IsCallVerb, IsKey, IsKeyFront, IsBehindKey};
+ghost use Rattle.client_core.specs.Asks.{may_see, SeesInside};
+ghost use Rattle.client_core.specs.Inside.{inside_in, inside_by, why_behind, who_behind, list_behind, IsInside};
 ghost use Rattle.client_core.specs.Numbers.{only_long, cancel_in};
 
 use crate::number::number_of;
 use line_core::words::is_same_word;
 use line_read::arguments::data_of;
-use line_read::front::{next_bare, only_bare};
+use line_read::front::{is_blank, next_bare, only_bare};
 use path_tree::name::Name;
 use session_text::line::Refusal;
 use session_text::session::{Action, Session};
 use std::alloc::{AllocError, Global};
 use value_core::datum::Datum;
+
+/// What a line asks to see, which changes nothing.
+#[derive(Clone, Copy)]
+pub enum Inside {
+    /// Why the call of this number waits.
+    Why(u64),
+    /// Who has sessions of this number and of greater ones, and what waits.
+    Who(u64),
+    /// Which objects there are, and the operations of the one that is open.
+    List,
+}
 
 /// What a line asks for.
 #[derive(Drop)]
@@ -27,6 +40,8 @@ pub enum Ask {
     Call(Option<u64>, Name, Vec<Datum>),
     /// The call of this number is to be cancelled.
     Cancel(u64),
+    /// This is to be seen.
+    Inside(Inside),
     /// The session ends, behind its calls.
     Quit,
     /// The line is refused.
@@ -55,6 +70,78 @@ fn cancelled_by(line: &[u8]) -> Option<u64>
         return None;
     }
     only_number(rest)
+}
+
+// What stands behind `why`: a number alone.
+#[tactic(auto, using(crate::proofs::Insides::why_none, crate::proofs::Insides::why_some))]
+fn why_behind(line: &[u8]) -> Option<Inside>
+    ensures { Reads why_behind (λ i. i) line.now result }
+{
+    match only_number(line) {
+        None => None,
+        Some(number) => Some(Inside::Why(number)),
+    }
+}
+
+// What stands behind `who`: nothing, or a number alone.
+fn who_behind(line: &[u8]) -> Option<Inside>
+    ensures { Reads who_behind (λ i. i) line.now result }
+{
+    if is_blank(line) {
+        return Some(Inside::Who(0));
+    }
+    match only_number(line) {
+        None => None,
+        Some(from) => Some(Inside::Who(from)),
+    }
+}
+
+// What stands behind `list`: nothing.
+fn list_behind(line: &[u8]) -> Option<Inside>
+    ensures { Reads list_behind (λ i. i) line.now result }
+{
+    if !is_blank(line) {
+        return None;
+    }
+    Some(Inside::List)
+}
+
+// What a line asks to see by this word and those behind it.
+fn inside_by(verb: &[u8], line: &[u8]) -> Option<Inside>
+    ensures { Reads (inside_by verb.now) (λ i. i) line.now result }
+{
+    if is_same_word(verb, b"why") {
+        return why_behind(line);
+    }
+    if is_same_word(verb, b"who") {
+        return who_behind(line);
+    }
+    if is_same_word(verb, b"list") {
+        return list_behind(line);
+    }
+    None
+}
+
+/// What a line asks to see, where it does. It takes no memory.
+#[tactic(auto, using(crate::proofs::Insides::no_verb))]
+pub fn inside_of(line: &[u8]) -> Option<Inside>
+    ensures { Reads inside_in (λ i. i) line.now result }
+{
+    match next_bare(line) {
+        None => None,
+        Some((verb, rest)) => inside_by(verb, rest),
+    }
+}
+
+// Whether it may be asked for, of a connection that has opened an object or none.
+fn may_see(is_open: bool, inside: Inside) -> bool
+    ensures { result ≡ may_see is_open inside }
+{
+    match inside {
+        Inside::List => true,
+        Inside::Why(_) => is_open,
+        Inside::Who(_) => is_open,
+    }
 }
 
 // What stands behind `call`.
@@ -158,6 +245,9 @@ fn fed(alloc: Global, is_open: bool, is_whole: bool, line: &[u8]) -> Result<Acti
 fn wide(alloc: Global, is_open: bool, is_whole: bool, line: &[u8]) -> Result<Ask, AllocError>
     ensures { IfOk result (IsWide is_open is_whole line.now) }
 {
+    if let Some(inside) = inside_of(line) {
+        return Ok(wide_inside(is_open, is_whole, line, inside));
+    }
     if let Some(number) = cancelled_by(line) {
         return Ok(wide_cancel(is_open, is_whole, line, number));
     }
@@ -165,6 +255,19 @@ fn wide(alloc: Global, is_open: bool, is_whole: bool, line: &[u8]) -> Result<Ask
         None => Ok(Ask::Answer(Refusal::BadLine)),
         Some(call) => Ok(wide_call(is_open, is_whole, line, call)),
     }
+}
+
+fn wide_inside(is_open: bool, is_whole: bool, line: &[u8], inside: Inside) -> Ask
+    requires { IsInside line.now inside }
+    ensures { IsWide is_open is_whole line.now result }
+{
+    if !may_see(is_open, inside) {
+        return Ask::Answer(Refusal::NotOpen);
+    }
+    if !is_whole {
+        return Ask::Answer(Refusal::BadLine);
+    }
+    Ask::Inside(inside)
 }
 
 fn wide_cancel(is_open: bool, is_whole: bool, line: &[u8], number: u64) -> Ask
@@ -204,7 +307,8 @@ fn is_bad(action: &Action) -> bool
 }
 
 /// What a line asks for, of a connection that has opened an object or none, by the table of sessions; numbers and keys
-/// may have 64 bits. `is_whole`: an LF stood behind it; else it may be the front of a longer line.
+/// may have 64 bits, and `why N`, `who`, `who N` and `list` ask to see something. `is_whole`: an LF stood behind it; else
+/// it may be the front of a longer line.
 ///
 /// The error is that memory was refused.
 pub fn ask_of(alloc: Global, is_open: bool, is_whole: bool, line: &[u8]) -> Result<Ask, AllocError>

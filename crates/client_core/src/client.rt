@@ -7,6 +7,7 @@ ghost use Rattle.client_core.specs.Held.{rest_in, waits_in, IsFirstLine, is_whol
 ghost use Rattle.client_core.specs.Held.{IsHeld, IsPassed, IsSame, IsSetTo};
 ghost use Rattle.client_core.specs.Places.{has_in};
 
+use path_tree::name::Name;
 use std::alloc::{AllocError, Global};
 
 // Where so many bytes of held lines are done they are let go: who always has a line that is held takes no more.
@@ -48,6 +49,11 @@ pub struct Client {
     pub(crate) is_stalled: bool,
     // the place behind it among those whose lines may be done
     pub(crate) next: Option<usize>,
+    // the name by which it opened an object
+    pub(crate) name: Option<Name>,
+    // the second in which it came, and that in which its last call was taken
+    pub(crate) since: u64,
+    pub(crate) called: u64,
 }
 
 // Whether a line had its LF, behind which these stand.
@@ -109,11 +115,14 @@ impl Client {
             is_ready: false,
             is_stalled: false,
             next: None,
+            name: None,
+            since: 0,
+            called: 0,
         }
     }
 
-    /// A connection comes.
-    pub(crate) fn come(&mut self, alloc: Global, who: u64)
+    /// A connection comes in this second.
+    pub(crate) fn come(&mut self, alloc: Global, who: u64, second: u64)
         ensures who { self.new.who ≡ who }
         ensures here { self.new.is_here ≡ true }
         ensures opened { self.new.opened ≡ None }
@@ -122,6 +131,8 @@ impl Client {
         self.who = who;
         self.is_here = true;
         self.opened = None;
+        self.name = None;
+        self.since = second;
         self.let_go(alloc);
     }
 
@@ -133,6 +144,7 @@ impl Client {
     {
         self.is_here = false;
         self.opened = None;
+        self.name = None;
         self.let_go(alloc);
     }
 

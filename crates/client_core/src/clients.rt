@@ -9,6 +9,7 @@ ghost use Rattle.client_core.specs.Places.{has_in, is_here_in, opened_in, held_i
 
 use crate::ask::{Ask, ask_of};
 use crate::client::{Client, Opened};
+use path_tree::name::Name;
 use std::alloc::{AllocError, Global};
 
 /// At most so many bytes of lines of a connection are held; then nothing more is read of it.
@@ -38,8 +39,8 @@ fn no_rows(alloc: Global, count: usize) -> Result<Vec<Client>, AllocError>
     Ok(rows)
 }
 
-// The one at a place comes, under this number.
-fn come(rows: &mut Vec<Client>, at: usize, alloc: Global, who: u64)
+// The one at a place comes in this second, under this number.
+fn come(rows: &mut Vec<Client>, at: usize, alloc: Global, who: u64, second: u64)
     requires { at < length rows.old.items }
     ensures count { length rows.new.items ≡ length rows.old.items }
     ensures here { has_in who (slice_get rows.new.items at) ≡ true }
@@ -47,7 +48,7 @@ fn come(rows: &mut Vec<Client>, at: usize, alloc: Global, who: u64)
     ensures held { held_in (slice_get rows.new.items at) ≡ [] }
     ensures others { (k : ℕ) → (at == k) ≡ false → slice_get rows.new.items k ≡ slice_get rows.old.items k }
 {
-    rows[at].come(alloc, who);
+    rows[at].come(alloc, who, second);
 }
 
 // The one at a place goes.
@@ -143,6 +144,24 @@ fn set_stalled(rows: &mut Vec<Client>, at: usize)
     }
 }
 
+// The client of the one at a place has this name, or none.
+fn set_name(rows: &mut Vec<Client>, at: usize, name: Option<Name>)
+    ensures { AreSameRows rows.old.items rows.new.items }
+{
+    if at < rows.len() {
+        rows[at].name = name;
+    }
+}
+
+// The last call of the one at a place was taken in this second.
+fn set_called(rows: &mut Vec<Client>, at: usize, second: u64)
+    ensures { AreSameRows rows.old.items rows.new.items }
+{
+    if at < rows.len() {
+        rows[at].called = second;
+    }
+}
+
 impl Clients {
     /// So many places, which nobody has. The error is that memory was refused.
     pub fn new(alloc: Global, count: usize) -> Result<Clients, AllocError>
@@ -205,8 +224,8 @@ impl Clients {
         Some(place)
     }
 
-    /// A connection comes, and has its place: the one that had it has it no more, and nothing of it is left.
-    pub fn come(&mut self, who: u64)
+    /// A connection comes in this second, and has its place: the one that had it has it no more, and nothing of it is left.
+    pub fn come(&mut self, who: u64, second: u64)
         ensures here { 0 < length self.old.rows.items → has_in who (place_at self.new (place_for self.old who)) ≡ true }
         ensures opened { opened_in (place_at self.new (place_for self.old who)) ≡ None }
         ensures held { held_in (place_at self.new (place_for self.old who)) ≡ [] }
@@ -216,7 +235,7 @@ impl Clients {
             return;
         };
         let alloc = self.alloc;
-        come(&mut self.rows, place, alloc, who);
+        come(&mut self.rows, place, alloc, who, second);
     }
 
     /// The one at a place has gone, and nothing of it is left.
@@ -262,6 +281,44 @@ impl Clients {
     {
         if place < self.rows.len() {
             set_opened(&mut self.rows, place, opened);
+        }
+    }
+
+    /// The client of the one at a place has this name, or none.
+    pub fn set_name(&mut self, place: usize, name: Option<Name>)
+        ensures { AreSame self.old self.new }
+    {
+        set_name(&mut self.rows, place, name);
+    }
+
+    /// The last call of the one at a place was taken in this second.
+    pub fn set_called(&mut self, place: usize, second: u64)
+        ensures { AreSame self.old self.new }
+    {
+        set_called(&mut self.rows, place, second);
+    }
+
+    /// The name that was set last of the one at a place.
+    pub fn name(&self, place: usize) -> Option<&Name> {
+        match self.rows.get(place) {
+            None => None,
+            Some(client) => client.name.as_ref(),
+        }
+    }
+
+    /// The second in which the one at a place came.
+    pub fn since(&self, place: usize) -> u64 {
+        match self.rows.get(place) {
+            None => 0,
+            Some(client) => client.since,
+        }
+    }
+
+    /// The second that was set last in which its last call was taken.
+    pub fn called(&self, place: usize) -> u64 {
+        match self.rows.get(place) {
+            None => 0,
+            Some(client) => client.called,
         }
     }
 

@@ -1,5 +1,7 @@
 -- Parts of what is done for one that asks.
 use Rattle.std.specs.Prelude.{◌≡◌, ◌⊎◌, ℕ, List, [], ◌∷◌, ◌++◌, Option, Some, None, Result, Ok, Err, slice_get}
+use Rattle.std.specs.Global.{Vec}
+use Rattle.std.specs.declared.alloc.AllocError.{AllocError}
 use Rattle.path_tree.specs.Identifier.{IsName}
 use Rattle.value_core.specs.declared.datum.Datum.{Datum}
 use Rattle.decl_core.specs.ObjectMap.{object_of}
@@ -148,3 +150,12 @@ abbrev pub CancelsOne : ℕ → ℕ → ℕ → ℕ → Deed
 CancelsOne place at session told old said added new =
     CancelsNow place at session told old said added new
     ⊎ (IsNotCancelled place told old said added new ⊎ IsRefused place old said added new)
+
+-- the one at a place is told this, or is refused
+abbrev pub ShowsText : ℕ → List ℕ → Deed
+ShowsText place text old said added new = OnlyTold place text old said added new ⊎ IsRefused place old said added new
+
+-- the same of a text that memory was there for
+abbrev pub Shows : ℕ → Result (Vec ℕ) AllocError → Deed
+Shows place (Ok text) = ShowsText place text.items
+Shows place (Err e) = IsRefused place

@@ -20,7 +20,7 @@ use crate::objects::{
     Keying, Made, admit_at, call_at, cancel_at, key_at, operation_at, owner_at, seat_at, told_at,
     waits_at,
 };
-use crate::peers::{Waiting, open, opened_at, rest, waiter};
+use crate::peers::{Waiting, open, open_called, opened_at, rest, waiter};
 use crate::table::{MOST_LINE, SHORT_LINE, Table};
 use crate::tell::{
     tell_accepted, tell_cancel, tell_ended, tell_kept, tell_line, tell_repeated, tell_withdrawn,
@@ -319,7 +319,7 @@ impl Table {
         let at = seat.object;
         let told = told_at(&self.objects, at, taken.number);
         tell_accepted(&self.clients, &mut self.line, place, told, post)?;
-        open(&mut self.clients, place, counted(seat, told));
+        open_called(&mut self.clients, place, counted(seat, told), self.second);
         self.all_ended(at, &taken.ran, post)?;
         Ok(())
     }

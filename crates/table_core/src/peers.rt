@@ -12,6 +12,7 @@ ghost use Rattle.table_core.specs.Seen.{state_of};
 use client_core::ask::Ask;
 use client_core::client::Opened;
 use client_core::clients::Clients;
+use path_tree::name::Name;
 use std::alloc::AllocError;
 
 /// Who is at a place.
@@ -70,11 +71,25 @@ pub(crate) fn goes_on(clients: &Clients, place: usize) -> bool
     clients.goes_on(place)
 }
 
-/// A connection comes.
-pub(crate) fn come(clients: &mut Clients, who: u64)
+/// A connection comes in this second.
+pub(crate) fn come(clients: &mut Clients, who: u64, second: u64)
     ensures { peers_of clients.new ≡ change (peers_of clients.old) (who % length (peers_of clients.old)) (λ p. comer who) }
 {
-    clients.come(who);
+    clients.come(who, second);
+}
+
+// The client of the one at a place has this name, or none.
+fn name(clients: &mut Clients, place: usize, name: Option<Name>)
+    ensures { peers_of clients.new ≡ peers_of clients.old }
+{
+    clients.set_name(place, name);
+}
+
+// The last call of the one at a place was taken in this second.
+fn called(clients: &mut Clients, place: usize, second: u64)
+    ensures { peers_of clients.new ≡ peers_of clients.old }
+{
+    clients.set_called(place, second);
 }
 
 /// The one at a place has gone.
@@ -89,6 +104,22 @@ pub(crate) fn open(clients: &mut Clients, place: usize, opened: Opened)
     ensures { peers_of clients.new ≡ change (peers_of clients.old) place (opening opened) }
 {
     clients.set_opened(place, opened);
+}
+
+/// The one at a place has opened this, for a client of this name or of none.
+pub(crate) fn open_as(clients: &mut Clients, place: usize, opened: Opened, client: Option<Name>)
+    ensures { peers_of clients.new ≡ change (peers_of clients.old) place (opening opened) }
+{
+    open(clients, place, opened);
+    name(clients, place, client);
+}
+
+/// The same, with a call that was taken in this second.
+pub(crate) fn open_called(clients: &mut Clients, place: usize, opened: Opened, second: u64)
+    ensures { peers_of clients.new ≡ change (peers_of clients.old) place (opening opened) }
+{
+    open(clients, place, opened);
+    called(clients, place, second);
 }
 
 /// No call of the one at a place waits any more: its held lines may be done.

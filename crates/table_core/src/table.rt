@@ -13,7 +13,7 @@ ghost use Rattle.table_core.specs.Parts.{TellsOpened, ComesAt, LeavesOf};
 ghost use Rattle.table_core.specs.Seen.{seen};
 
 use crate::objects::{Comer, enter_at, leave_at, may_come, object_for};
-use crate::peers::{go, open, opened_at, who_at};
+use crate::peers::{go, open_as, opened_at, who_at};
 use crate::tell::{tell_line, tell_opened};
 use ask_core::answer::SubmitFault;
 use client_core::client::Opened;
@@ -167,7 +167,7 @@ impl Table {
                 Ok(())
             }
             Some(client) => {
-                self.enter_as(place, at, name, &client, post)?;
+                self.enter_as(place, at, name, client, post)?;
                 Ok(())
             }
         }
@@ -193,7 +193,7 @@ impl Table {
             calls: 0,
             told: 0,
         };
-        self.open_for(place, name, None, opened, post)?;
+        self.open_for(place, name, None, opened, None, post)?;
         Ok(())
     }
 
@@ -203,14 +203,14 @@ impl Table {
         place: usize,
         at: usize,
         name: &Name,
-        client: &Name,
+        client: Name,
         post: &mut Post,
     ) -> Result<(), AllocError>
         requires { IsNamed self.old.objects.items at name.now }
-        ensures { OnOk result (Brings (Opens place name.now (Some client.now)) post.old (seen self.old) post.new
+        ensures { OnOk result (Brings (Opens place name.now (Some client)) post.old (seen self.old) post.new
             (seen self.new)) }
     {
-        if !may_come(&self.objects, at, client) {
+        if !may_come(&self.objects, at, &client) {
             self.reject(place, SubmitFault::HistoryFull, post)?;
             return Ok(());
         }
@@ -231,14 +231,14 @@ impl Table {
         place: usize,
         at: usize,
         name: &Name,
-        client: &Name,
+        client: Name,
         post: &mut Post,
     ) -> Result<(), AllocError>
         requires { IsNamed self.old.objects.items at name.now }
-        ensures { OnOk result (Brings (Opens place name.now (Some client.now)) post.old (seen self.old) post.new
+        ensures { OnOk result (Brings (Opens place name.now (Some client)) post.old (seen self.old) post.new
             (seen self.new)) }
     {
-        match self.come(place, at, client, post)? {
+        match self.come(place, at, &client, post)? {
             None => {
                 self.refuse(place, Refusal::NoObject, post)?;
                 Ok(())
@@ -256,7 +256,8 @@ impl Table {
                     calls: 0,
                     told: 0,
                 };
-                self.open_for(place, name, Some(entered.next), opened, post)?;
+                let client = Some(client);
+                self.open_for(place, name, Some(entered.next), opened, client, post)?;
                 Ok(())
             }
         }
@@ -294,13 +295,14 @@ impl Table {
         name: &Name,
         next: Option<u64>,
         opened: Opened,
+        client: Option<Name>,
         post: &mut Post,
     ) -> Result<(), AllocError>
         ensures { OnOk result (Brings (TellsOpened place (opened_text name.now next) opened) post.old (seen self.old)
             post.new (seen self.new)) }
     {
         tell_opened(&self.clients, &mut self.line, place, name, next, post)?;
-        open(&mut self.clients, place, opened);
+        open_as(&mut self.clients, place, opened, client);
         Ok(())
     }
 

@@ -18,8 +18,13 @@ use path_tree::name::Name;
 use session_text::line::{Line, push_line};
 use std::alloc::AllocError;
 
-// Tells the one at a place a line that was made.
-fn tell(clients: &Clients, place: usize, line: &[u8], post: &mut Post) -> Result<(), AllocError>
+/// Tells the one at a place a text that was made.
+pub(crate) fn tell(
+    clients: &Clients,
+    place: usize,
+    line: &[u8],
+    post: &mut Post,
+) -> Result<(), AllocError>
     ensures { OnOk result (Tells post.old post.new (told_to (peers_of clients.now) place line.now) []) }
 {
     match clients.who(place) {

@@ -2,11 +2,15 @@
 
 ghost use Rattle.std.specs.Prelude.{◌≡◌, [], List, ℕ, Bool, Some, None, Ok, true, false, OnOk, IfOk, IfSome, length};
 ghost use Rattle.line_read.specs.Reads.{Reads};
+ghost use Rattle.client_core.specs.declared.ask.Inside.{Inside as AnInside};
+ghost use Rattle.client_core.specs.Asks.{Asks};
+ghost use Rattle.client_core.specs.Held.{is_some};
+ghost use Rattle.client_core.specs.Inside.{inside_in};
 ghost use Rattle.client_core.specs.Numbers.{cancel_in};
 ghost use Rattle.std.specs.Str.Lines.{strip_carriage_return};
 ghost use Rattle.told_core.specs.Asked.{Acts, Heeds};
 ghost use Rattle.told_core.specs.Deeds.{Then};
-ghost use Rattle.told_core.specs.State.{State, peers_of};
+ghost use Rattle.told_core.specs.State.{State, opened_at, peers_of};
 ghost use Rattle.told_core.specs.Turns.{IsIdle, HearsLine, HearsLast, HearsAt, GoesOn, EndsAsk, EndsHeld, WithdrawsAt, Leaves};
 ghost use Rattle.told_core.specs.Turns.{LeavesIf, AllLeave, IfHere, Notes, Comes, place_of};
 ghost use Rattle.client_core.specs.declared.ask.Ask.TheVariants as asks;
@@ -20,7 +24,8 @@ use crate::peers::{
 };
 use crate::table::{MOST_OWED, Table};
 use ask_core::answer::SubmitFault;
-use client_core::ask::{Ask, ask_of, cancel_of};
+use client_core::ask::{Ask, Inside, ask_of, cancel_of, inside_of};
+use hosted_core::hosted::Hosted;
 use keep_loop::{LineEnd, Note, Post, Served};
 use session_text::line::{Line, Refusal};
 use std::alloc::AllocError;
@@ -41,6 +46,10 @@ impl Table {
             }
             Ask::Cancel(number) => {
                 self.cancel(place, number, post)?;
+                Ok(())
+            }
+            Ask::Inside(inside) => {
+                self.look(place, inside, post)?;
                 Ok(())
             }
             Ask::Quit => {
@@ -75,7 +84,8 @@ impl Table {
         }
     }
 
-    // Hears a line of the one at a place. Where a call of it waits the line is held, but for a `cancel`.
+    // Hears a line of the one at a place. Where a call of it waits the line is held, but for a `cancel` and what asks to see
+    // something.
     #[tactic(auto, using(crate::proofs::Turning::line_done))]
     fn hear_line(
         &mut self,
@@ -92,8 +102,43 @@ impl Table {
         }
         let is_open = opened_at(&self.clients, place).is_some();
         let ask = ask_of(self.alloc, is_open, is_whole, line);
+        if self.is_for_later(place, &ask, post) {
+            self.put_off(place, line, is_whole, post)?;
+            return Ok(());
+        }
         self.heed(place, ask, post)?;
         Ok(())
+    }
+
+    // Whether what the one at a place asks to see is told later, since too much is owed to it.
+    fn is_for_later(&self, place: usize, ask: &Result<Ask, AllocError>, post: &Post) -> bool
+        ensures { result ≡ true → (inside : AnInside) × (ask.now ≡ Ok (asks.Inside inside)) }
+    {
+        if !looks(ask) {
+            return false;
+        }
+        self.is_owed_much(place, post)
+    }
+
+    // Holds a line of the one at a place that asks to see something.
+    fn put_off(
+        &mut self,
+        place: usize,
+        line: &[u8],
+        is_whole: bool,
+        post: &mut Post,
+    ) -> Result<(), AllocError>
+        requires idle { IsIdle (seen self.old) place }
+        requires asks { (inside : AnInside) × Asks (is_some (opened_at (seen self.old) place)) is_whole line.now (asks.Inside inside) }
+        ensures { OnOk result (Brings (HearsLine place line.now is_whole) post.old (seen self.old) post.new (seen self.new)) }
+    {
+        match hold(&mut self.clients, place, line, is_whole) {
+            Ok(()) => Ok(()),
+            Err(_) => {
+                self.reject(place, SubmitFault::Memory, post)?;
+                Ok(())
+            }
+        }
     }
 
     // Hears a line of the one at a place that has to be held.
@@ -111,11 +156,40 @@ impl Table {
         let is_open = opened_at(&self.clients, place).is_some();
         match asked_cancel(line, is_whole, is_open) {
             None => {
-                self.hold(place, line, is_whole, post)?;
+                self.look_behind(place, line, is_whole, is_open, post)?;
                 Ok(())
             }
             Some(told) => {
                 self.cancel(place, told, post)?;
+                Ok(())
+            }
+        }
+    }
+
+    // The same, where it is no `cancel`.
+    #[tactic(auto, using(crate::proofs::Turning::line_sees))]
+    fn look_behind(
+        &mut self,
+        place: usize,
+        line: &[u8],
+        is_whole: bool,
+        is_open: bool,
+        post: &mut Post,
+    ) -> Result<(), AllocError>
+        requires { IsIdle (seen self.old) place → ⊥ }
+        ensures { OnOk result (Brings (HearsLine place line.now is_whole) post.old (seen self.old) post.new (seen self.new)) }
+    {
+        if self.is_owed_much(place, post) {
+            self.hold(place, line, is_whole, post)?;
+            return Ok(());
+        }
+        match asked_inside(line, is_whole, is_open) {
+            None => {
+                self.hold(place, line, is_whole, post)?;
+                Ok(())
+            }
+            Some(inside) => {
+                self.look(place, inside, post)?;
                 Ok(())
             }
         }
@@ -288,6 +362,10 @@ impl Table {
                 self.cancel(place, number, post)?;
                 Ok(())
             }
+            Ok(Ask::Inside(_)) => {
+                self.reject(place, SubmitFault::Gone, post)?;
+                Ok(())
+            }
             Ok(Ask::Call(_, _, _)) => {
                 self.reject(place, SubmitFault::Gone, post)?;
                 Ok(())
@@ -426,7 +504,7 @@ impl Table {
             post.new (seen self.new)) }
     {
         self.make_way(who, post)?;
-        come(&mut self.clients, who);
+        come(&mut self.clients, who, self.second);
         Ok(())
     }
 
@@ -481,6 +559,32 @@ fn asked_cancel(line: &[u8], is_whole: bool, is_open: bool) -> Option<u64>
     match cancel_of(line) {
         None => None,
         Some(told) => Some(told),
+    }
+}
+
+// What a line asks to see, where an LF stood behind it and an object is opened.
+fn asked_inside(line: &[u8], is_whole: bool, is_open: bool) -> Option<Inside>
+    ensures { IfSome result (λ inside. (is_whole ≡ true) × Reads inside_in (λ i. i) line.now (Some inside)) }
+{
+    if !is_whole {
+        return None;
+    }
+    if !is_open {
+        return None;
+    }
+    match inside_of(line) {
+        None => None,
+        Some(inside) => Some(inside),
+    }
+}
+
+// Whether it is asked to see something.
+fn looks(ask: &Result<Ask, AllocError>) -> bool
+    ensures { result ≡ true → (inside : AnInside) × (ask.now ≡ Ok (asks.Inside inside)) }
+{
+    match ask {
+        Ok(Ask::Inside(_)) => true,
+        _ => false,
     }
 }
 

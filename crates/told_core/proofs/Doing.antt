@@ -5,6 +5,8 @@ use Rattle.value_core.specs.declared.datum.Datum.{Datum}
 use Rattle.live_core.specs.declared.call.Ran.{Ran}
 use Rattle.client_core.specs.declared.ask.Ask.{Ask}
 use Rattle.client_core.specs.declared.ask.Ask.TheVariants as asks
+use Rattle.client_core.specs.declared.ask.Inside.{Inside}
+use Rattle.client_core.specs.declared.ask.Inside.TheVariants as insides
 use Rattle.client_core.specs.declared.client.Opened.{Opened}
 use Rattle.decl_core.specs.ObjectMap.{object_of}
 use Rattle.live_core.specs.Lines.{all_lines}
@@ -13,7 +15,8 @@ use Rattle.hosted_core.specs.Scene.{Scene}
 use Rattle.hosted_core.specs.Steps.{does, comes, gets_number, leaves, calls, cancels}
 use Rattle.told_core.specs.State.{State}
 use Rattle.told_core.specs.Deeds.{Texts, Deed, Nothing, OnlyTold, Then}
-use Rattle.told_core.specs.Asked.{IsRefused, OpensBare, OpensAs, Opens, Ends, AllEnd, Submits, GetsNumber, Sits, Calls, RepeatsUnder, IsTurnedAway, AnswersCall, LetsGo, AnswersCancel, LeavesObject, Goes, Quits, Acts, Heeds}
+use Rattle.told_core.specs.Asked.{IsRefused, OpensBare, OpensAs, Opens, Ends, AllEnd, Submits, GetsNumber, Sits, Calls, RepeatsUnder, IsTurnedAway, AnswersCall, LetsGo, AnswersCancel, AnswersInside, LeavesObject, Goes, Quits, Acts, Heeds}
+use Rattle.told_core.specs.Inside.{Sees}
 use Rattle.told_core.specs.Moves.{Moves}
 use Rattle.told_core.proofs.Moving.{moves_none, moves_one, moves_quiet, moves_then}
 
@@ -124,6 +127,15 @@ cancel_moves place told old new said added (inl is) = lets_go_moves is.opened.ob
 cancel_moves place told old new said added (inr (inl is)) = by_keeping (OnlyTold place _) (told_keeps place _) old new said added is.only
 cancel_moves place told old new said added (inr (inr is)) = by_keeping (IsRefused place) (refused_keeps place) old new said added is
 
+sees_keeps : (place : ℕ) (inside : Inside) → Keeps (Sees place inside)
+sees_keeps place (insides.Why number) old new said added is = told_keeps place is.text old new said added is.only
+sees_keeps place (insides.Who from) old new said added is = told_keeps place is.text old new said added is.only
+sees_keeps place insides.List old new said added is = told_keeps place is.text old new said added is.only
+
+pub inside_moves : (place : ℕ) (inside : Inside) → MovesBy (AnswersInside place inside)
+inside_moves place inside old new said added (inl is) = by_keeping (Sees place inside) (sees_keeps place inside) old new said added is
+inside_moves place inside old new said added (inr is) = by_keeping (IsRefused place) (refused_keeps place) old new said added is
+
 pub leaves_moves : (place : ℕ) (old new : State) → LeavesObject place old new → Moves old.objects [] new.objects
 leaves_moves place old new is =
     subst (λ (s : State). Moves old.objects [] s.objects) (sym is.left)
@@ -144,6 +156,7 @@ pub acts_moves : (place : ℕ) (ask : Ask) → MovesBy (Acts place ask)
 acts_moves place (asks.Open name client) = opens_moves place name client
 acts_moves place (asks.Call key name arguments) = call_moves place key name arguments.items
 acts_moves place (asks.Cancel told) = cancel_moves place told
+acts_moves place (asks.Inside inside) = inside_moves place inside
 acts_moves place asks.Quit = quits_moves place
 acts_moves place (asks.Answer refusal) = by_keeping (OnlyTold place _) (told_keeps place _)
 

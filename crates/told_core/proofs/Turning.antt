@@ -14,12 +14,12 @@ use Rattle.told_core.specs.Deeds.{Texts, Deed, Nothing, OnlyTold, Then}
 use Rattle.told_core.specs.Asked.{Goes}
 use Rattle.told_core.specs.Laws.{TurnsMove}
 use Rattle.told_core.specs.Moves.{Moves}
-use Rattle.told_core.specs.Turns.HearsLine.{does, cancels, holds, refuses}
+use Rattle.told_core.specs.Turns.HearsLine.{does, cancels, sees, puts_off, holds, refuses}
 use Rattle.told_core.specs.Turns.GoesOn.{rests, does as does_more}
 use Rattle.told_core.specs.Turns.EndsHeld.{all, quits, goes_on}
 use Rattle.told_core.specs.Turns.{HearsLine, HearsLast, HearsAt, TakesLine, GoesOn, EndsAsk, EndsHeld, Withdraws, WithdrawsAt, Leaves, LeavesIf, Comes, IfHere, AllLeave, Notes, place_of}
 use Rattle.told_core.proofs.Moving.{moves_none, moves_then}
-use Rattle.told_core.proofs.Doing.{MovesBy, by_keeping, nothing_keeps, told_keeps, then_moves, heeds_moves, cancel_moves, lets_go_moves, goes_moves}
+use Rattle.told_core.proofs.Doing.{MovesBy, by_keeping, nothing_keeps, told_keeps, then_moves, heeds_moves, cancel_moves, inside_moves, lets_go_moves, goes_moves}
 
 nothing_moves : MovesBy Nothing
 nothing_moves = by_keeping Nothing nothing_keeps
@@ -33,6 +33,8 @@ takes_same place asked old new is = ap (λ (s : State). s.objects) is.left
 line_moves : (place : ℕ) (line : List ℕ) (is_whole : Bool) → MovesBy (HearsLine place line is_whole)
 line_moves place line is_whole old new said added (does idle asked asks is) = heeds_moves place asked old new said added is
 line_moves place line is_whole old new said added (cancels busy whole told reads is) = cancel_moves place told old new said added is
+line_moves place line is_whole old new said added (sees busy whole inside reads is) = inside_moves place inside old new said added is
+line_moves place line is_whole old new said added (puts_off inside asks) = moves_none old.objects
 line_moves place line is_whole old new said added (holds busy) = moves_none old.objects
 line_moves place line is_whole old new said added (refuses busy is) = told_moves place _ old new said added is
 
@@ -59,6 +61,7 @@ ends_ask_moves : (place : ℕ) (asked : Result Ask AllocError) → MovesBy (Ends
 ends_ask_moves place (Ok (asks.Open name client)) = told_moves place _
 ends_ask_moves place (Ok (asks.Call key name arguments)) = told_moves place _
 ends_ask_moves place (Ok (asks.Cancel told)) = cancel_moves place told
+ends_ask_moves place (Ok (asks.Inside inside)) = told_moves place _
 ends_ask_moves place (Ok asks.Quit) = told_moves place _
 ends_ask_moves place (Ok (asks.Answer refusal)) = told_moves place _
 ends_ask_moves place (Err e) = told_moves place _

@@ -28,9 +28,11 @@ use Rattle.hosted_core.specs.Lines.{entered_lines}
 use Rattle.hosted_core.specs.Scene.{Scene, told_of, with_guests}
 use Rattle.client_core.specs.declared.ask.Ask.{Ask}
 use Rattle.client_core.specs.declared.ask.Ask.TheVariants as asks
+use Rattle.client_core.specs.declared.ask.Inside.{Inside}
 use Rattle.client_core.specs.declared.client.Opened.{Opened}
 use Rattle.told_core.specs.State.{State, nobody, opening, waiting, opened_at, changed, with_object, told_to, counted, session_by}
 use Rattle.told_core.specs.Deeds.{Texts, Deed, Nothing, OnlyTold}
+use Rattle.told_core.specs.Inside.{Sees}
 
 -- it is refused: it is told why, and nothing changes
 abbrev pub IsRefusal : Line → Type 0
@@ -227,6 +229,11 @@ AnswersCancel place told old said added new =
     IsCancelled place told old said added new
     ⊎ (IsNotCancelled place told old said added new ⊎ IsRefused place old said added new)
 
+-- it is told what it asks to see, or is refused
+abbrev pub AnswersInside : ℕ → Inside → Deed
+AnswersInside place inside old said added new =
+    Sees place inside old said added new ⊎ IsRefused place old said added new
+
 -- its session leaves
 pub record LeavesObject (place : ℕ) (old new : State) : Type 0 where
   pub opened : Opened
@@ -259,6 +266,7 @@ abbrev pub Acts : ℕ → Ask → Deed
 Acts place (asks.Open name client) = Opens place name client
 Acts place (asks.Call key name arguments) = AnswersCall place key name arguments.items
 Acts place (asks.Cancel told) = AnswersCancel place told
+Acts place (asks.Inside inside) = AnswersInside place inside
 Acts place asks.Quit = Quits place
 Acts place (asks.Answer refusal) = OnlyTold place (line_text (lines.Refused refusal))
 

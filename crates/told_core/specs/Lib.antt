@@ -1,5 +1,6 @@
 pub mod Asked
 pub mod Deeds
+pub mod Inside
 pub mod Laws
 pub mod Moves
 pub mod State

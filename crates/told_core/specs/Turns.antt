@@ -19,13 +19,15 @@ use Rattle.post_core.specs.declared.served.Note.{Note}
 use Rattle.post_core.specs.declared.served.Note.TheVariants as notes
 use Rattle.client_core.specs.declared.ask.Ask.{Ask}
 use Rattle.client_core.specs.declared.ask.Ask.TheVariants as asks
+use Rattle.client_core.specs.declared.ask.Inside.{Inside}
 use Rattle.client_core.specs.declared.client.Opened.{Opened}
 use Rattle.client_core.specs.Asks.{Asks}
 use Rattle.client_core.specs.Held.{IsFirstLine, is_some, is_whole_before}
+use Rattle.client_core.specs.Inside.{inside_in}
 use Rattle.client_core.specs.Numbers.{cancel_in}
 use Rattle.told_core.specs.State.{Peer, State, comer, holding, left_with, who_at, opened_at, held_at, waits_at, changed}
 use Rattle.told_core.specs.Deeds.{Texts, Deed, Nothing, OnlyTold, Then}
-use Rattle.told_core.specs.Asked.{AnswersCancel, Heeds, LetsGo, Goes}
+use Rattle.told_core.specs.Asked.{AnswersCancel, AnswersInside, Heeds, LetsGo, Goes}
 use Rattle.told_core.specs.Moves.{Begins, IsFrontAt}
 
 -- no call of the one at a place waits, and no line of it is held
@@ -33,7 +35,8 @@ abbrev pub IsIdle : State → ℕ → Type 0
 IsIdle s place = (waits_at s place ≡ false) × (held_at s place ≡ [])
 
 -- A line of the one at a place is done, where no call of it waits and no line of it is held; else it is held behind these,
--- but for a `cancel`, which is done at once. Where memory is refused to hold it, it is refused.
+-- but for a `cancel` and what asks to see something, which are done at once; though what asks to see something may be held
+-- too, and is where much is owed. Where memory is refused to hold it, it is refused.
 pub data HearsLine (place : ℕ) (line : List ℕ) (is_whole : Bool) : State → Texts → Texts → State → Type 0 where
   does : {old new : State} {said added : Texts} → IsIdle old place → (asked : Result Ask AllocError) →
       IfOk asked (Asks (is_some (opened_at old place)) is_whole line) → Heeds place asked old said added new →
@@ -41,6 +44,11 @@ pub data HearsLine (place : ℕ) (line : List ℕ) (is_whole : Bool) : State →
   cancels : {old new : State} {said added : Texts} → (IsIdle old place → ⊥) → (is_whole ≡ true) → (told : ℕ) →
       Reads cancel_in (λ n. n) line (Some told) → AnswersCancel place told old said added new →
       HearsLine place line is_whole old said added new
+  sees : {old new : State} {said added : Texts} → (IsIdle old place → ⊥) → (is_whole ≡ true) → (inside : Inside) →
+      Reads inside_in (λ i. i) line (Some inside) → AnswersInside place inside old said added new →
+      HearsLine place line is_whole old said added new
+  puts_off : {old : State} (inside : Inside) → Asks (is_some (opened_at old place)) is_whole line (asks.Inside inside) →
+      HearsLine place line is_whole old [] [] (changed old place (holding line is_whole))
   holds : {old : State} → (IsIdle old place → ⊥) →
       HearsLine place line is_whole old [] [] (changed old place (holding line is_whole))
   refuses : {old new : State} {said added : Texts} → (IsIdle old place → ⊥) →
@@ -80,6 +88,7 @@ abbrev pub EndsAsk : ℕ → Result Ask AllocError → Deed
 EndsAsk place (Ok (asks.Open name client)) = OnlyTold place (line_text (lines.Refused refusals.Opened))
 EndsAsk place (Ok (asks.Call key name arguments)) = OnlyTold place (line_text (lines.Unsubmitted faults.Gone))
 EndsAsk place (Ok (asks.Cancel told)) = AnswersCancel place told
+EndsAsk place (Ok (asks.Inside inside)) = OnlyTold place (line_text (lines.Unsubmitted faults.Gone))
 EndsAsk place (Ok asks.Quit) = OnlyTold place bye_text
 EndsAsk place (Ok (asks.Answer refusal)) = OnlyTold place (line_text (lines.Refused refusal))
 EndsAsk place (Err e) = OnlyTold place (line_text (lines.Unsubmitted faults.Gone))

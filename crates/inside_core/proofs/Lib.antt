@@ -1,0 +1,4 @@
+pub mod Adding
+pub mod Listing
+pub mod Sitting
+pub mod Whys

@@ -1,0 +1,21 @@
+-- Lines that are added to an answer to `who`.
+use Rattle.std.specs.Prelude.{◌≡◌, ℕ, List, ◌++◌, map, flat_map, length, sum}
+use Rattle.decl_core.specs.ObjectMap.{object_of}
+use Rattle.trace_core.specs.Events.{Called}
+use Rattle.hosted_core.specs.Scene.{Scene}
+use Rattle.client_core.specs.declared.client.Opened.{Opened}
+use Rattle.inside_text.specs.Who.{Sitting, Refused, seat_line, waits_line}
+use Rattle.told_core.specs.Inside.{AreSeats, AreWaits}
+
+-- the lines of these sessions are added
+pub record AddsSeats (all : List Opened) (before after : List ℕ) : Type 0 where
+  pub rows : List Sitting
+  pub are : AreSeats all rows
+  pub added : after ≡ before ++ flat_map (λ s. seat_line s.seat s.name) rows
+
+-- the lines of these calls are added, so many
+pub record AddsWaits (object : Scene) (calls : List Called) (n : ℕ) (before after : List ℕ) : Type 0 where
+  pub rows : List Refused
+  pub are : AreWaits object calls rows
+  pub count : n ≡ sum (map (λ r. length r.whys) rows)
+  pub added : after ≡ before ++ flat_map (λ r. flat_map (waits_line (object_of object.hall.object) r.call) r.whys) rows
