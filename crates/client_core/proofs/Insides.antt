@@ -5,14 +5,14 @@ use Rattle.word_core.specs.Words.{Word, bare, IsFirst, AreWords}
 use Rattle.word_core.specs.Data.{◌>>=◌, bare_of}
 use Rattle.line_read.specs.Reads.{Reads}
 use Rattle.line_read.proofs.Reading.{behind}
-use Rattle.client_core.specs.declared.ask.Inside.{Inside}
-use Rattle.client_core.specs.declared.ask.Inside.TheVariants as insides
+use Rattle.client_core.specs.declared.ask.Sight.{Sight}
+use Rattle.client_core.specs.declared.ask.Sight.TheVariants as insides
 use Rattle.client_core.specs.Inside.{why_behind, inside_by, inside_in}
 use Rattle.client_core.specs.Numbers.{only_long}
 
 -- a line says this, by what its words say
-abbrev pub Says : (List Word → Option Inside) → List ℕ → Option Inside → Type 0
-Says f line found = Reads f (λ (i : Inside). i) line found
+abbrev pub Says : (List Word → Option Sight) → List ℕ → Option Sight → Type 0
+Says f line found = Reads f (λ (i : Sight). i) line found
 
 abbrev pub HasNumber : List ℕ → Option ℕ → Type 0
 HasNumber line found = Reads only_long (λ (n : ℕ). n) line found
@@ -27,7 +27,7 @@ why_some line n r = ((λ words are. ap (λ o. option_map insides.Why o) (r.0 wor
 pub no_verb : (line : List ℕ) → ((words : List Word) → AreWords line words → bare_of words ≡ None) → Says inside_in line None
 no_verb line none = ((λ words are. sym (ap (λ o. o >>= (λ first. inside_by first.0 first.1)) (none words are))), tt)
 
-pub behind_verb : (line verb rest : List ℕ) (found : Option Inside) → IsFirst line (bare verb) rest → Says (inside_by verb) rest found →
+pub behind_verb : (line verb rest : List ℕ) (found : Option Sight) → IsFirst line (bare verb) rest → Says (inside_by verb) rest found →
     Says inside_in line found
 behind_verb line verb rest found first reads =
-    behind inside_in (inside_by verb) (λ (i : Inside). i) line (bare verb) rest found (λ words. refl) first reads
+    behind inside_in (inside_by verb) (λ (i : Sight). i) line (bare verb) rest found (λ words. refl) first reads

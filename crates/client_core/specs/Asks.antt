@@ -10,8 +10,8 @@ use Rattle.session_text.specs.declared.session.Action.{Action}
 use Rattle.session_text.specs.declared.session.Action.TheVariants as actions
 use Rattle.client_core.specs.declared.ask.Ask.{Ask}
 use Rattle.client_core.specs.declared.ask.Ask.TheVariants as asks
-use Rattle.client_core.specs.declared.ask.Inside.{Inside}
-use Rattle.client_core.specs.declared.ask.Inside.TheVariants as insides
+use Rattle.client_core.specs.declared.ask.Sight.{Sight}
+use Rattle.client_core.specs.declared.ask.Sight.TheVariants as insides
 use Rattle.client_core.specs.Inside.{IsInside}
 use Rattle.client_core.specs.Numbers.{long_of, cancel_in}
 
@@ -80,19 +80,19 @@ pub record IsLongCancel (line : List ℕ) (number : ℕ) : Type 0 where
   pub number_is : cancel_in words ≡ Some number
 
 -- what may be seen where an object is opened, or none is
-abbrev pub may_see : Bool → Inside → Bool
+abbrev pub may_see : Bool → Sight → Bool
 may_see opened insides.List = true
 may_see opened (insides.Why number) = opened
 may_see opened (insides.Who from) = opened
 
 -- a line asks to see something, where that may be seen
-pub record SeesInside (opened : Bool) (line : List ℕ) (inside : Inside) : Type 0 where
+pub record SeesInside (opened : Bool) (line : List ℕ) (inside : Sight) : Type 0 where
   pub is : IsInside line inside
   pub may : may_see opened inside ≡ true
 
 -- it asks to see nothing
 abbrev pub SeesNothing : List ℕ → Type 0
-SeesNothing line = (inside : Inside) → IsInside line inside → ⊥
+SeesNothing line = (inside : Sight) → IsInside line inside → ⊥
 
 -- what a line may ask for that is no line of the table: to see something; a call under a key and a cancel, where an object
 -- is opened; each where an LF stood behind it. Else it is refused

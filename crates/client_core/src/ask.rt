@@ -22,7 +22,7 @@ use value_core::datum::Datum;
 
 /// What a line asks to see, which changes nothing.
 #[derive(Clone, Copy)]
-pub enum Inside {
+pub enum Sight {
     /// Why the call of this number waits.
     Why(u64),
     /// Who has sessions of this number and of greater ones, and what waits.
@@ -41,7 +41,7 @@ pub enum Ask {
     /// The call of this number is to be cancelled.
     Cancel(u64),
     /// This is to be seen.
-    Inside(Inside),
+    Inside(Sight),
     /// The session ends, behind its calls.
     Quit,
     /// The line is refused.
@@ -74,40 +74,40 @@ fn cancelled_by(line: &[u8]) -> Option<u64>
 
 // What stands behind `why`: a number alone.
 #[tactic(auto, using(crate::proofs::Insides::why_none, crate::proofs::Insides::why_some))]
-fn why_behind(line: &[u8]) -> Option<Inside>
+fn why_behind(line: &[u8]) -> Option<Sight>
     ensures { Reads why_behind (λ i. i) line.now result }
 {
     match only_number(line) {
         None => None,
-        Some(number) => Some(Inside::Why(number)),
+        Some(number) => Some(Sight::Why(number)),
     }
 }
 
 // What stands behind `who`: nothing, or a number alone.
-fn who_behind(line: &[u8]) -> Option<Inside>
+fn who_behind(line: &[u8]) -> Option<Sight>
     ensures { Reads who_behind (λ i. i) line.now result }
 {
     if is_blank(line) {
-        return Some(Inside::Who(0));
+        return Some(Sight::Who(0));
     }
     match only_number(line) {
         None => None,
-        Some(from) => Some(Inside::Who(from)),
+        Some(from) => Some(Sight::Who(from)),
     }
 }
 
 // What stands behind `list`: nothing.
-fn list_behind(line: &[u8]) -> Option<Inside>
+fn list_behind(line: &[u8]) -> Option<Sight>
     ensures { Reads list_behind (λ i. i) line.now result }
 {
     if !is_blank(line) {
         return None;
     }
-    Some(Inside::List)
+    Some(Sight::List)
 }
 
 // What a line asks to see by this word and those behind it.
-fn inside_by(verb: &[u8], line: &[u8]) -> Option<Inside>
+fn inside_by(verb: &[u8], line: &[u8]) -> Option<Sight>
     ensures { Reads (inside_by verb.now) (λ i. i) line.now result }
 {
     if is_same_word(verb, b"why") {
@@ -124,7 +124,7 @@ fn inside_by(verb: &[u8], line: &[u8]) -> Option<Inside>
 
 /// What a line asks to see, where it does. It takes no memory.
 #[tactic(auto, using(crate::proofs::Insides::no_verb))]
-pub fn inside_of(line: &[u8]) -> Option<Inside>
+pub fn inside_of(line: &[u8]) -> Option<Sight>
     ensures { Reads inside_in (λ i. i) line.now result }
 {
     match next_bare(line) {
@@ -134,13 +134,13 @@ pub fn inside_of(line: &[u8]) -> Option<Inside>
 }
 
 // Whether it may be asked for, of a connection that has opened an object or none.
-fn may_see(is_open: bool, inside: Inside) -> bool
+fn may_see(is_open: bool, inside: Sight) -> bool
     ensures { result ≡ may_see is_open inside }
 {
     match inside {
-        Inside::List => true,
-        Inside::Why(_) => is_open,
-        Inside::Who(_) => is_open,
+        Sight::List => true,
+        Sight::Why(_) => is_open,
+        Sight::Who(_) => is_open,
     }
 }
 
@@ -257,7 +257,7 @@ fn wide(alloc: Global, is_open: bool, is_whole: bool, line: &[u8]) -> Result<Ask
     }
 }
 
-fn wide_inside(is_open: bool, is_whole: bool, line: &[u8], inside: Inside) -> Ask
+fn wide_inside(is_open: bool, is_whole: bool, line: &[u8], inside: Sight) -> Ask
     requires { IsInside line.now inside }
     ensures { IsWide is_open is_whole line.now result }
 {

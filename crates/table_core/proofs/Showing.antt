@@ -6,8 +6,8 @@ use Rattle.std.specs.declared.alloc.AllocError.{AllocError}
 use Rattle.post_core.specs.declared.post.Post.{Post}
 use Rattle.session_text.specs.declared.line.Line.{Line}
 use Rattle.session_text.specs.Lines.{line_text}
-use Rattle.client_core.specs.declared.ask.Inside.{Inside}
-use Rattle.client_core.specs.declared.ask.Inside.TheVariants as insides
+use Rattle.client_core.specs.declared.ask.Sight.{Sight}
+use Rattle.client_core.specs.declared.ask.Sight.TheVariants as insides
 use Rattle.client_core.specs.declared.client.Opened.{Opened}
 use Rattle.hosted_core.specs.Scene.{Scene}
 use Rattle.told_core.specs.State.{Peer, State, opened_at}
@@ -19,14 +19,14 @@ use Rattle.table_core.specs.Parts.{Shows, ShowsText}
 use Rattle.table_core.proofs.Bringing.{brings_as, refuses}
 
 -- a text, or why not, is told to one that asks for it
-told_or : (place : ℕ) (inside : Inside) (text : List ℕ) (old new : State) (said added : Texts) →
+told_or : (place : ℕ) (inside : Sight) (text : List ℕ) (old new : State) (said added : Texts) →
     (OnlyTold place text old said added new → AnswersInside place inside old said added new) → ShowsText place text old said added new →
     AnswersInside place inside old said added new
 told_or place inside text old new said added each (inl only) = each only
 told_or place inside text old new said added each (inr refused) = inr refused
 
 -- it is refused
-pub look_refused : (a b : Post) (old new : State) (place : ℕ) (inside : Inside) (line : Line) → IsRefusal line → Brings (OnlyTold place (line_text line)) a old b new →
+pub look_refused : (a b : Post) (old new : State) (place : ℕ) (inside : Sight) (line : Line) → IsRefusal line → Brings (OnlyTold place (line_text line)) a old b new →
     Brings (AnswersInside place inside) a old b new
 look_refused a b old new place inside line is brings =
     brings_as (IsRefused place) (AnswersInside place inside) a b old new (λ said added refused. inr refused) (refuses a b old new place line is brings)

@@ -18,7 +18,7 @@ use Rattle.client_core.specs.declared.client.Opened.{Opened}
 use Rattle.client_core.specs.declared.clients.Clients.{Clients}
 use Rattle.client_core.specs.Asks.{Asks}
 use Rattle.client_core.specs.Held.{is_some, waits_of}
-use Rattle.client_core.specs.declared.ask.Inside.{Inside}
+use Rattle.client_core.specs.declared.ask.Sight.{Sight}
 use Rattle.client_core.specs.Inside.{inside_in}
 use Rattle.client_core.specs.Numbers.{cancel_in}
 use Rattle.hosted_core.specs.Scene.{Scene}
@@ -66,12 +66,12 @@ line_refused a b objects old mid new place text is_whole busy same brings =
     (λ said added is. refuses busy is)
     (subst (λ (s : State). Brings (OnlyTold place (line_text (lines.Unsubmitted faults.Memory))) a s b new) (peers_are objects mid (peers_of old) same) brings)
 
-pub line_sees : (a b : Post) (old new : State) (place : ℕ) (inside : Inside) (text : List ℕ) (is_whole : Bool) → (IsIdle old place → ⊥) → is_whole ≡ true →
+pub line_sees : (a b : Post) (old new : State) (place : ℕ) (inside : Sight) (text : List ℕ) (is_whole : Bool) → (IsIdle old place → ⊥) → is_whole ≡ true →
     Reads inside_in (λ i. i) text (Some inside) → Brings (AnswersInside place inside) a old b new → Brings (HearsLine place text is_whole) a old b new
 line_sees a b old new place inside text is_whole busy whole reads brings =
     brings_as (AnswersInside place inside) (HearsLine place text is_whole) a b old new (λ said added is. sees busy whole inside reads is) brings
 
-pub line_put_off : (a : Post) (objects : List Scene) (old new : Clients) (place : ℕ) (text : List ℕ) (is_whole : Bool) (inside : Inside) →
+pub line_put_off : (a : Post) (objects : List Scene) (old new : Clients) (place : ℕ) (text : List ℕ) (is_whole : Bool) (inside : Sight) →
     Asks (is_some (opened_at (state_of objects old) place)) is_whole text (asks.Inside inside) →
     peers_of new ≡ change (peers_of old) place (holding text is_whole) → Brings (HearsLine place text is_whole) a (state_of objects old) a (state_of objects new)
 line_put_off a objects old new place text is_whole inside ask peers =
@@ -79,7 +79,7 @@ line_put_off a objects old new place text is_whole inside ask peers =
     (sym (peers_are objects new (change (peers_of old) place (holding text is_whole)) peers))
     (record { said = []; added = []; tells = tells_none a; is = puts_off inside ask })
 
-pub line_off_refused : (a b : Post) (objects : List Scene) (old mid : Clients) (new : State) (place : ℕ) (text : List ℕ) (is_whole : Bool) (inside : Inside) →
+pub line_off_refused : (a b : Post) (objects : List Scene) (old mid : Clients) (new : State) (place : ℕ) (text : List ℕ) (is_whole : Bool) (inside : Sight) →
     IsIdle (state_of objects old) place → Asks (is_some (opened_at (state_of objects old) place)) is_whole text (asks.Inside inside) →
     peers_of mid ≡ peers_of old → Brings (OnlyTold place (line_text (lines.Unsubmitted faults.Memory))) a (state_of objects mid) b new →
     Brings (HearsLine place text is_whole) a (state_of objects old) b new

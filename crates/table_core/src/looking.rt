@@ -2,7 +2,7 @@
 
 ghost use Rattle.std.specs.Prelude.{◌≡◌, Some, OnOk, IfOk, IfSome, slice_get};
 ghost use Rattle.hosted_core.specs.Scene.{Scene};
-ghost use Rattle.client_core.specs.declared.ask.Inside.TheVariants as insides;
+ghost use Rattle.client_core.specs.declared.ask.Sight.TheVariants as insides;
 ghost use Rattle.told_core.specs.Asked.{AnswersInside};
 ghost use Rattle.told_core.specs.Inside.{IsWhy, IsWho, object_in};
 ghost use Rattle.told_core.specs.State.{opened_in, peers_of};
@@ -14,7 +14,7 @@ use crate::peers::opened_at;
 use crate::table::Table;
 use crate::tell::tell;
 use ask_core::answer::SubmitFault;
-use client_core::ask::Inside;
+use client_core::ask::Sight;
 use client_core::clients::Clients;
 use hosted_core::hosted::Hosted;
 use inside_core::list::list_of;
@@ -71,21 +71,21 @@ impl Table {
     pub(crate) fn look(
         &mut self,
         place: usize,
-        inside: Inside,
+        inside: Sight,
         post: &mut Post,
     ) -> Result<(), AllocError>
         ensures { OnOk result (Brings (AnswersInside place inside) post.old (seen self.old) post.new (seen self.new)) }
     {
         match inside {
-            Inside::Why(told) => {
+            Sight::Why(told) => {
                 self.look_why(place, told, post)?;
                 Ok(())
             }
-            Inside::Who(from) => {
+            Sight::Who(from) => {
                 self.look_who(place, from, post)?;
                 Ok(())
             }
-            Inside::List => {
+            Sight::List => {
                 self.look_list(place, post)?;
                 Ok(())
             }

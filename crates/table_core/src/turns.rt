@@ -2,7 +2,7 @@
 
 ghost use Rattle.std.specs.Prelude.{◌≡◌, [], List, ℕ, Bool, Some, None, Ok, true, false, OnOk, IfOk, IfSome, length};
 ghost use Rattle.line_read.specs.Reads.{Reads};
-ghost use Rattle.client_core.specs.declared.ask.Inside.{Inside as AnInside};
+ghost use Rattle.client_core.specs.declared.ask.Sight.{Sight as ASight};
 ghost use Rattle.client_core.specs.Asks.{Asks};
 ghost use Rattle.client_core.specs.Held.{is_some};
 ghost use Rattle.client_core.specs.Inside.{inside_in};
@@ -24,7 +24,7 @@ use crate::peers::{
 };
 use crate::table::{MOST_OWED, Table};
 use ask_core::answer::SubmitFault;
-use client_core::ask::{Ask, Inside, ask_of, cancel_of, inside_of};
+use client_core::ask::{Ask, Sight, ask_of, cancel_of, inside_of};
 use hosted_core::hosted::Hosted;
 use keep_loop::{LineEnd, Note, Post, Served};
 use session_text::line::{Line, Refusal};
@@ -112,7 +112,7 @@ impl Table {
 
     // Whether what the one at a place asks to see is told later, since too much is owed to it.
     fn is_for_later(&self, place: usize, ask: &Result<Ask, AllocError>, post: &Post) -> bool
-        ensures { result ≡ true → (inside : AnInside) × (ask.now ≡ Ok (asks.Inside inside)) }
+        ensures { result ≡ true → (inside : ASight) × (ask.now ≡ Ok (asks.Inside inside)) }
     {
         if !looks(ask) {
             return false;
@@ -129,7 +129,7 @@ impl Table {
         post: &mut Post,
     ) -> Result<(), AllocError>
         requires idle { IsIdle (seen self.old) place }
-        requires asks { (inside : AnInside) × Asks (is_some (opened_at (seen self.old) place)) is_whole line.now (asks.Inside inside) }
+        requires asks { (inside : ASight) × Asks (is_some (opened_at (seen self.old) place)) is_whole line.now (asks.Inside inside) }
         ensures { OnOk result (Brings (HearsLine place line.now is_whole) post.old (seen self.old) post.new (seen self.new)) }
     {
         match hold(&mut self.clients, place, line, is_whole) {
@@ -563,7 +563,7 @@ fn asked_cancel(line: &[u8], is_whole: bool, is_open: bool) -> Option<u64>
 }
 
 // What a line asks to see, where an LF stood behind it and an object is opened.
-fn asked_inside(line: &[u8], is_whole: bool, is_open: bool) -> Option<Inside>
+fn asked_inside(line: &[u8], is_whole: bool, is_open: bool) -> Option<Sight>
     ensures { IfSome result (λ inside. (is_whole ≡ true) × Reads inside_in (λ i. i) line.now (Some inside)) }
 {
     if !is_whole {
@@ -580,7 +580,7 @@ fn asked_inside(line: &[u8], is_whole: bool, is_open: bool) -> Option<Inside>
 
 // Whether it is asked to see something.
 fn looks(ask: &Result<Ask, AllocError>) -> bool
-    ensures { result ≡ true → (inside : AnInside) × (ask.now ≡ Ok (asks.Inside inside)) }
+    ensures { result ≡ true → (inside : ASight) × (ask.now ≡ Ok (asks.Inside inside)) }
 {
     match ask {
         Ok(Ask::Inside(_)) => true,

@@ -5,8 +5,8 @@ use Rattle.value_core.specs.declared.datum.Datum.{Datum}
 use Rattle.live_core.specs.declared.call.Ran.{Ran}
 use Rattle.client_core.specs.declared.ask.Ask.{Ask}
 use Rattle.client_core.specs.declared.ask.Ask.TheVariants as asks
-use Rattle.client_core.specs.declared.ask.Inside.{Inside}
-use Rattle.client_core.specs.declared.ask.Inside.TheVariants as insides
+use Rattle.client_core.specs.declared.ask.Sight.{Sight}
+use Rattle.client_core.specs.declared.ask.Sight.TheVariants as insides
 use Rattle.client_core.specs.declared.client.Opened.{Opened}
 use Rattle.decl_core.specs.ObjectMap.{object_of}
 use Rattle.live_core.specs.Lines.{all_lines}
@@ -127,12 +127,12 @@ cancel_moves place told old new said added (inl is) = lets_go_moves is.opened.ob
 cancel_moves place told old new said added (inr (inl is)) = by_keeping (OnlyTold place _) (told_keeps place _) old new said added is.only
 cancel_moves place told old new said added (inr (inr is)) = by_keeping (IsRefused place) (refused_keeps place) old new said added is
 
-sees_keeps : (place : ℕ) (inside : Inside) → Keeps (Sees place inside)
+sees_keeps : (place : ℕ) (inside : Sight) → Keeps (Sees place inside)
 sees_keeps place (insides.Why number) old new said added is = told_keeps place is.text old new said added is.only
 sees_keeps place (insides.Who from) old new said added is = told_keeps place is.text old new said added is.only
 sees_keeps place insides.List old new said added is = told_keeps place is.text old new said added is.only
 
-pub inside_moves : (place : ℕ) (inside : Inside) → MovesBy (AnswersInside place inside)
+pub inside_moves : (place : ℕ) (inside : Sight) → MovesBy (AnswersInside place inside)
 inside_moves place inside old new said added (inl is) = by_keeping (Sees place inside) (sees_keeps place inside) old new said added is
 inside_moves place inside old new said added (inr is) = by_keeping (IsRefused place) (refused_keeps place) old new said added is
 

@@ -28,7 +28,7 @@ use Rattle.hosted_core.specs.Lines.{entered_lines}
 use Rattle.hosted_core.specs.Scene.{Scene, told_of, with_guests}
 use Rattle.client_core.specs.declared.ask.Ask.{Ask}
 use Rattle.client_core.specs.declared.ask.Ask.TheVariants as asks
-use Rattle.client_core.specs.declared.ask.Inside.{Inside}
+use Rattle.client_core.specs.declared.ask.Sight.{Sight}
 use Rattle.client_core.specs.declared.client.Opened.{Opened}
 use Rattle.told_core.specs.State.{State, nobody, opening, waiting, opened_at, changed, with_object, told_to, counted, session_by}
 use Rattle.told_core.specs.Deeds.{Texts, Deed, Nothing, OnlyTold}
@@ -230,7 +230,7 @@ AnswersCancel place told old said added new =
     ⊎ (IsNotCancelled place told old said added new ⊎ IsRefused place old said added new)
 
 -- it is told what it asks to see, or is refused
-abbrev pub AnswersInside : ℕ → Inside → Deed
+abbrev pub AnswersInside : ℕ → Sight → Deed
 AnswersInside place inside old said added new =
     Sees place inside old said added new ⊎ IsRefused place old said added new
 

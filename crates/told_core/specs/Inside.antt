@@ -7,8 +7,8 @@ use Rattle.decl_core.specs.ObjectForm.{ObjectForm}
 use Rattle.trace_core.specs.Events.{Called}
 use Rattle.live_core.specs.Hall.{Every, Told, IsHeld, trace}
 use Rattle.hosted_core.specs.Scene.{Scene, told_of}
-use Rattle.client_core.specs.declared.ask.Inside.{Inside}
-use Rattle.client_core.specs.declared.ask.Inside.TheVariants as insides
+use Rattle.client_core.specs.declared.ask.Sight.{Sight}
+use Rattle.client_core.specs.declared.ask.Sight.TheVariants as insides
 use Rattle.client_core.specs.declared.client.Opened.{Opened}
 use Rattle.why_core.specs.Lacks.{Why}
 use Rattle.why_core.specs.Tells.{Tells}
@@ -149,7 +149,7 @@ pub record SeesList (place : ℕ) (old : State) (said added : Texts) (new : Stat
   pub is : IsList old.objects (object_in (opened_at old place)) text
   pub only : OnlyTold place text old said added new
 
-abbrev pub Sees : ℕ → Inside → Deed
+abbrev pub Sees : ℕ → Sight → Deed
 Sees place (insides.Why number) = SeesWhy place number
 Sees place (insides.Who from) = SeesWho place from
 Sees place insides.List = SeesList place

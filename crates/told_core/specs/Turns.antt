@@ -19,7 +19,7 @@ use Rattle.post_core.specs.declared.served.Note.{Note}
 use Rattle.post_core.specs.declared.served.Note.TheVariants as notes
 use Rattle.client_core.specs.declared.ask.Ask.{Ask}
 use Rattle.client_core.specs.declared.ask.Ask.TheVariants as asks
-use Rattle.client_core.specs.declared.ask.Inside.{Inside}
+use Rattle.client_core.specs.declared.ask.Sight.{Sight}
 use Rattle.client_core.specs.declared.client.Opened.{Opened}
 use Rattle.client_core.specs.Asks.{Asks}
 use Rattle.client_core.specs.Held.{IsFirstLine, is_some, is_whole_before}
@@ -44,10 +44,10 @@ pub data HearsLine (place : ℕ) (line : List ℕ) (is_whole : Bool) : State →
   cancels : {old new : State} {said added : Texts} → (IsIdle old place → ⊥) → (is_whole ≡ true) → (told : ℕ) →
       Reads cancel_in (λ n. n) line (Some told) → AnswersCancel place told old said added new →
       HearsLine place line is_whole old said added new
-  sees : {old new : State} {said added : Texts} → (IsIdle old place → ⊥) → (is_whole ≡ true) → (inside : Inside) →
+  sees : {old new : State} {said added : Texts} → (IsIdle old place → ⊥) → (is_whole ≡ true) → (inside : Sight) →
       Reads inside_in (λ i. i) line (Some inside) → AnswersInside place inside old said added new →
       HearsLine place line is_whole old said added new
-  puts_off : {old : State} (inside : Inside) → Asks (is_some (opened_at old place)) is_whole line (asks.Inside inside) →
+  puts_off : {old : State} (inside : Sight) → Asks (is_some (opened_at old place)) is_whole line (asks.Inside inside) →
       HearsLine place line is_whole old [] [] (changed old place (holding line is_whole))
   holds : {old : State} → (IsIdle old place → ⊥) →
       HearsLine place line is_whole old [] [] (changed old place (holding line is_whole))
