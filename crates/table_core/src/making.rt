@@ -275,6 +275,7 @@ impl Table {
             }
             Ok(taken) => {
                 self.taken(place, ready.seat, &taken, post)?;
+                self.tallies.count(ready.seat.object, &taken);
                 Ok(())
             }
         }

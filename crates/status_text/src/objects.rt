@@ -1,0 +1,282 @@
+//! What a server's objects know.
+
+ghost use Rattle.std.specs.Prelude.{◌≡◌, ◌++◌, flat_map, OnOk};
+ghost use Rattle.status_text.specs.Objects.{about_of, kind_of, name_of, number_of, object_number, metric_text, numbers_text};
+ghost use Rattle.status_text.specs.Objects.{operation_labels, end_line, tally_ends, object_ends, calls_text};
+ghost use Rattle.status_text.specs.Objects.{name_now, about_now, number_now, tally_now, object_now, now_text, objects_text};
+
+use crate::metric::{Kind, push_head, push_label, push_of_object, push_sample};
+use crate::numbers::{Seen, Tally};
+use std::alloc::AllocError;
+
+// A number of each object.
+#[derive(Clone, Copy)]
+enum Of {
+    Sessions,
+    Given,
+    Limit,
+    Cancelled,
+    Waited,
+}
+
+// How many calls of each operation there are now.
+#[derive(Clone, Copy)]
+enum Current {
+    Running,
+    Waiting,
+}
+
+fn name_of_metric(of: Of) -> &'static [u8]
+    ensures { result.now ≡ name_of of }
+{
+    match of {
+        Of::Sessions => b"pathserve_sessions",
+        Of::Given => b"pathserve_numbers",
+        Of::Limit => b"pathserve_numbers_limit",
+        Of::Cancelled => b"pathserve_cancelled_total",
+        Of::Waited => b"pathserve_wait_seconds",
+    }
+}
+
+fn about_metric(of: Of) -> &'static [u8]
+    ensures { result.now ≡ about_of of }
+{
+    match of {
+        Of::Sessions => b"Sessions of clients that are there.",
+        Of::Given => b"Numbers of calls that are taken of this epoch.",
+        Of::Limit => b"Numbers of calls of an epoch, at most.",
+        Of::Cancelled => b"Calls that were cancelled since the start.",
+        Of::Waited => b"How long the call that waits longest was seen to wait.",
+    }
+}
+
+fn kind_of_metric(of: Of) -> Kind
+    ensures { result ≡ kind_of of }
+{
+    match of {
+        Of::Sessions => Kind::Gauge,
+        Of::Given => Kind::Gauge,
+        Of::Limit => Kind::Gauge,
+        Of::Cancelled => Kind::Counter,
+        Of::Waited => Kind::Gauge,
+    }
+}
+
+fn number_in(of: Of, seen: &Seen) -> u64
+    ensures { result ≡ number_of of seen.now }
+{
+    match of {
+        Of::Sessions => seen.sessions,
+        Of::Given => seen.given,
+        Of::Limit => seen.limit,
+        Of::Cancelled => seen.cancelled,
+        Of::Waited => seen.waited,
+    }
+}
+
+// Adds the sample of an object.
+fn push_number(out: &mut Vec<u8>, of: Of, seen: &Seen) -> Result<(), AllocError>
+    ensures { OnOk result (out.new.items ≡ out.old.items ++ object_number of seen.now) }
+{
+    push_of_object(out, name_of_metric(of), &seen.name, number_in(of, seen))
+}
+
+// Adds the samples of these objects.
+fn push_each(out: &mut Vec<u8>, of: Of, objects: &[Seen]) -> Result<(), AllocError>
+    ensures { OnOk result (out.new.items ≡ out.old.items ++ flat_map (object_number of) objects.now) }
+{
+    match objects {
+        [] => Ok(()),
+        [first, more @ ..] => {
+            push_number(out, of, first)?;
+            push_each(out, of, more)
+        }
+    }
+}
+
+// Adds a metric that has a number for each object.
+fn push_metric(out: &mut Vec<u8>, of: Of, objects: &[Seen]) -> Result<(), AllocError>
+    ensures { OnOk result (out.new.items ≡ out.old.items ++ metric_text of objects.now) }
+{
+    push_head(
+        out,
+        name_of_metric(of),
+        kind_of_metric(of),
+        about_metric(of),
+    )?;
+    push_each(out, of, objects)
+}
+
+// Adds the numbers of these objects.
+fn push_numbers(out: &mut Vec<u8>, objects: &[Seen]) -> Result<(), AllocError>
+    ensures { OnOk result (out.new.items ≡ out.old.items ++ numbers_text objects.now) }
+{
+    push_metric(out, Of::Sessions, objects)?;
+    push_metric(out, Of::Given, objects)?;
+    push_metric(out, Of::Limit, objects)?;
+    push_metric(out, Of::Cancelled, objects)?;
+    push_metric(out, Of::Waited, objects)
+}
+
+// Adds the labels of an operation.
+fn push_operation(out: &mut Vec<u8>, object: &[u8], operation: &[u8]) -> Result<(), AllocError>
+    ensures { OnOk result (out.new.items ≡ out.old.items ++ operation_labels object.now operation.now) }
+{
+    push_label(out, b"{object=\"", object)?;
+    push_label(out, b",operation=\"", operation)
+}
+
+// Adds how many calls of an operation ended so.
+fn push_end(
+    out: &mut Vec<u8>,
+    object: &[u8],
+    operation: &[u8],
+    end: &[u8],
+    number: u64,
+) -> Result<(), AllocError>
+    ensures { OnOk result (out.new.items ≡ out.old.items ++ end_line object.now operation.now end.now number) }
+{
+    out.extend_from_slice(b"pathserve_calls_total")?;
+    push_operation(out, object, operation)?;
+    push_label(out, b",end=\"", end)?;
+    push_sample(out, b"} ", number)
+}
+
+// Adds how the calls of an operation ended.
+fn push_ends(out: &mut Vec<u8>, object: &[u8], tally: &Tally) -> Result<(), AllocError>
+    ensures { OnOk result (out.new.items ≡ out.old.items ++ tally_ends object.now tally.now) }
+{
+    push_end(out, object, &tally.name, b"done", tally.ends.done)?;
+    push_end(out, object, &tally.name, b"refused", tally.ends.refused)?;
+    push_end(out, object, &tally.name, b"failed", tally.ends.failed)?;
+    Ok(())
+}
+
+// Adds how the calls of these operations ended.
+fn push_all_ends(out: &mut Vec<u8>, object: &[u8], operations: &[Tally]) -> Result<(), AllocError>
+    ensures { OnOk result (out.new.items ≡ out.old.items ++ flat_map (tally_ends object.now) operations.now) }
+{
+    for tally in operations {
+        push_ends(out, object, tally)?;
+    }
+    Ok(())
+}
+
+// Adds how the calls of these objects ended.
+fn push_calls_of(out: &mut Vec<u8>, objects: &[Seen]) -> Result<(), AllocError>
+    ensures { OnOk result (out.new.items ≡ out.old.items ++ flat_map object_ends objects.now) }
+{
+    match objects {
+        [] => Ok(()),
+        [first, more @ ..] => {
+            push_all_ends(out, &first.name, &first.operations)?;
+            push_calls_of(out, more)
+        }
+    }
+}
+
+// Adds the metric of calls that ended.
+fn push_calls(out: &mut Vec<u8>, objects: &[Seen]) -> Result<(), AllocError>
+    ensures { OnOk result (out.new.items ≡ out.old.items ++ calls_text objects.now) }
+{
+    push_head(
+        out,
+        b"pathserve_calls_total",
+        Kind::Counter,
+        b"Calls that ended since the start, by how.",
+    )?;
+    push_calls_of(out, objects)
+}
+
+fn name_of_now(current: Current) -> &'static [u8]
+    ensures { result.now ≡ name_now current }
+{
+    match current {
+        Current::Running => b"pathserve_running",
+        Current::Waiting => b"pathserve_waiting",
+    }
+}
+
+fn about_of_now(current: Current) -> &'static [u8]
+    ensures { result.now ≡ about_now current }
+{
+    match current {
+        Current::Running => b"Calls that run now.",
+        Current::Waiting => b"Calls that wait now.",
+    }
+}
+
+fn number_of_now(current: Current, tally: &Tally) -> u64
+    ensures { result ≡ number_now current tally.now }
+{
+    match current {
+        Current::Running => tally.running,
+        Current::Waiting => tally.waiting,
+    }
+}
+
+// Adds how many calls of an operation there are now.
+fn push_now(
+    out: &mut Vec<u8>,
+    current: Current,
+    object: &[u8],
+    tally: &Tally,
+) -> Result<(), AllocError>
+    ensures { OnOk result (out.new.items ≡ out.old.items ++ tally_now current object.now tally.now) }
+{
+    out.extend_from_slice(name_of_now(current))?;
+    push_operation(out, object, &tally.name)?;
+    push_sample(out, b"} ", number_of_now(current, tally))
+}
+
+// Adds how many calls of these operations there are now.
+fn push_all_now(
+    out: &mut Vec<u8>,
+    current: Current,
+    object: &[u8],
+    operations: &[Tally],
+) -> Result<(), AllocError>
+    ensures { OnOk result (out.new.items ≡ out.old.items ++ flat_map (tally_now current object.now) operations.now) }
+{
+    for tally in operations {
+        push_now(out, current, object, tally)?;
+    }
+    Ok(())
+}
+
+// Adds how many calls of these objects there are now.
+fn push_now_of(out: &mut Vec<u8>, current: Current, objects: &[Seen]) -> Result<(), AllocError>
+    ensures { OnOk result (out.new.items ≡ out.old.items ++ flat_map (object_now current) objects.now) }
+{
+    match objects {
+        [] => Ok(()),
+        [first, more @ ..] => {
+            push_all_now(out, current, &first.name, &first.operations)?;
+            push_now_of(out, current, more)
+        }
+    }
+}
+
+// Adds the metric of calls that there are now.
+fn push_current(out: &mut Vec<u8>, current: Current, objects: &[Seen]) -> Result<(), AllocError>
+    ensures { OnOk result (out.new.items ≡ out.old.items ++ now_text current objects.now) }
+{
+    push_head(
+        out,
+        name_of_now(current),
+        Kind::Gauge,
+        about_of_now(current),
+    )?;
+    push_now_of(out, current, objects)
+}
+
+/// Adds the numbers of objects, and of their operations. The error is that memory was refused; how much then stands in `out`
+/// is not said.
+pub fn push_objects(out: &mut Vec<u8>, objects: &[Seen]) -> Result<(), AllocError>
+    ensures { OnOk result (out.new.items ≡ out.old.items ++ objects_text objects.now) }
+{
+    push_numbers(out, objects)?;
+    push_calls(out, objects)?;
+    push_current(out, Current::Running, objects)?;
+    push_current(out, Current::Waiting, objects)
+}

@@ -1,0 +1,35 @@
+-- Counts of calls that ran.
+use Rattle.std.specs.Prelude.{ℕ, ◌+◌, ◌-◌, ◌^◌, List, [], ◌∷◌, Option, Some, None, min, slice_get, slice_set}
+use Rattle.apply_core.specs.declared.reply.Reply.{Reply}
+use Rattle.apply_core.specs.declared.reply.Reply.TheVariants.{Done, Refused, Failed}
+use Rattle.live_core.specs.declared.call.Ran.{Ran}
+use Rattle.tally_core.specs.declared.tallies.Ends.{Ends}
+use Rattle.tally_core.specs.declared.tallies.Tally.{Tally}
+
+-- one more, where there is a number for it
+abbrev pub next : ℕ → ℕ
+next n = min (n + 1) (2 ^ 64 - 1)
+
+-- one more that ended so
+abbrev pub more : Reply → Ends → Ends
+more (Done value) e = record e { done = next e.done }
+more (Refused word) e = record e { refused = next e.refused }
+more (Failed failure) e = record e { failed = next e.failed }
+
+abbrev pub put_more : ℕ → Reply → Option Ends → List Ends → List Ends
+put_more at reply None es = es
+put_more at reply (Some e) es = slice_set es at (more reply e)
+
+-- a call that ran is counted at the place of its operation
+abbrev pub counted : Ran → List Ends → List Ends
+counted r es = put_more r.call.operation r.reply (slice_get es r.call.operation) es
+
+-- and so is each of these
+abbrev pub counted_all : List Ran → List Ends → List Ends
+counted_all [] es = es
+counted_all (r ∷ rs) es = counted_all rs (counted r es)
+
+-- the counts of an object
+abbrev pub ends_of : Option Tally → List Ends
+ends_of None = []
+ends_of (Some t) = t.ends.items
