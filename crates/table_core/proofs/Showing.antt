@@ -1,6 +1,6 @@
 -- What is told to one that asks to see something.
 use Rattle.std.proofs.Common.{◌≡◌, sym, subst, ℕ, inl, inr, List}
-use Rattle.std.specs.Prelude.{Option, Some, None, Result, Ok, Err, IfOk, slice_get}
+use Rattle.std.specs.Prelude.{Option, Some, Result, Ok, Err, IfOk, slice_get}
 use Rattle.std.specs.Global.{Vec}
 use Rattle.std.specs.declared.alloc.AllocError.{AllocError}
 use Rattle.post_core.specs.declared.post.Post.{Post}

@@ -4,7 +4,6 @@ use Rattle.client_core.specs.declared.ask.Sight.TheVariants as insides
 use Rattle.session_text.specs.declared.line.Line.TheVariants as lines
 use Rattle.session_text.specs.declared.line.Refusal.TheVariants as refusals
 use Rattle.hosted_core.specs.Scene.{Scene}
-use Rattle.told_core.specs.State.{peers_of}
 use Rattle.told_core.specs.Inside.{IsWhy}
 use Rattle.table_core.specs.Seen.{seen}
 use Rattle.table_core.proofs.Showing.{look_refused, why_shown}
