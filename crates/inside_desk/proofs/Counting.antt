@@ -1,5 +1,5 @@
 -- Counters that count what happened once more.
-use Rattle.std.proofs.Common.{◌≡◌, ℕ, zero, suc, ◌+◌, ◌<◌, ◌≤◌, Bool, List, [], ◌∷◌, ◌++◌, length, Some, take, drop, refl, sym, ◌∙◌, ap, subst, arith}
+use Rattle.std.proofs.Common.{◌≡◌, ℕ, zero, suc, ◌+◌, ◌<◌, ◌≤◌, Bool, List, [], ◌∷◌, ◌++◌, length, Some, take, drop, sym, ◌∙◌, ap, subst, arith}
 use Rattle.std.specs.Prelude.{slice_get, IsTrue, ◌↔◌}
 use Rattle.std.specs.List.{fold}
 use Rattle.std.proofs.lemmas.List.{take_more, take-append-drop, length-map}
@@ -19,10 +19,10 @@ use Rattle.board_core.specs.declared.event.TraceEvent.{TraceEvent}
 use Rattle.board_core.specs.declared.event.TraceEvent.TheVariants.{Start, End}
 use Rattle.board_core.specs.Calls.{AcceptedCall}
 use Rattle.board_core.specs.Board.{Board, call_at, operation_place, path_event, path_trace, paths_of, past_of}
-use Rattle.board_core.specs.Sound.{IsSound, IsNumbered, event_number}
+use Rattle.board_core.specs.Sound.{IsSound, IsNumbered}
 use Rattle.board_core.proofs.Lists.{Every-at}
 use Rattle.board_core.proofs.Traces.{path_trace-snoc}
-use Rattle.inside_desk.specs.Counted.{StandsAfter, HasCounted}
+use Rattle.inside_desk.specs.Counted.{StandsAfter}
 
 trace_before : (e : Event) (t : List Event) → IsTrace (e ∷ t) → IsTrace t
 trace_before (Began c) t h = h.1

@@ -1,8 +1,8 @@
 -- Calls with their numbers.
-use Rattle.std.proofs.Common.{◌≡◌, ℕ, zero, suc, ◌+◌, ◌≤◌, List, [], ◌∷◌, length, Option, Some, None, drop, refl, sym, ◌∙◌, ap, ap₂, add-one, arith}
+use Rattle.std.proofs.Common.{◌≡◌, ℕ, zero, suc, ◌+◌, ◌≤◌, List, [], ◌∷◌, length, Some, None, drop, refl, sym, ◌∙◌, ap, ap₂, add-one, arith}
 use Rattle.std.specs.Prelude.{slice_get, unwrap_or}
 use Rattle.board_core.specs.Calls.{AcceptedCall}
-use Rattle.inside_desk.specs.Told.{Numbered, numbered}
+use Rattle.inside_desk.specs.Told.{numbered}
 
 drop_nil : {X : Type 0} (k : ℕ) → drop {A = X} k [] ≡ []
 drop_nil zero = refl

@@ -8,7 +8,7 @@ use Rattle.board_core.specs.Calls.{AcceptedCall}
 use Rattle.board_core.specs.Board.{Board, call_at}
 use Rattle.ask_core.specs.Answers.{runs_in}
 use Rattle.inside_text.specs.declared.why.Running.{Running}
-use Rattle.inside_desk.specs.Told.{Numbered, numbered, is_needed, if_runs, if_there_runs, running_there}
+use Rattle.inside_desk.specs.Told.{numbered, is_needed, if_runs, if_there_runs, running_there}
 use Rattle.inside_desk.proofs.Numbers.{next_call, none_next, past_all}
 
 -- of the calls behind so many

@@ -1,6 +1,6 @@
 -- The calls that wait, one by one.
-use Rattle.std.proofs.Common.{◌≡◌, ℕ, ◌+◌, ◌≤◌, Bool, true, false, List, [], ◌∷◌, ◌++◌, length, Option, Some, None, drop, map, refl, sym, ◌∙◌, ap, subst, add-one, append_assoc, arith, length-append}
-use Rattle.std.specs.Prelude.{slice_get, sum, codes, decimal, if◌then◌else◌}
+use Rattle.std.proofs.Common.{◌≡◌, ℕ, ◌+◌, ◌≤◌, Bool, true, false, List, [], ◌∷◌, ◌++◌, length, Some, None, drop, map, refl, sym, ◌∙◌, ap, subst, add-one, append_assoc, arith, length-append}
+use Rattle.std.specs.Prelude.{sum, if◌then◌else◌}
 use Rattle.std.specs.List.{flat_map}
 use Rattle.std.proofs.lemmas.List.{append-nil}
 use Rattle.std.proofs.lemmas.List.Sums.{sum_by_push}
@@ -14,10 +14,10 @@ use Rattle.board_core.specs.Calls.{AcceptedCall}
 use Rattle.board_core.specs.Board.{Board, call_at, paths_of, past_of}
 use Rattle.ask_core.specs.Answers.{waits_in}
 use Rattle.inside_text.specs.declared.who.Waiting.{Waiting}
-use Rattle.inside_text.specs.Who.{Refused, call_words, waits_line, who_line, who_text}
+use Rattle.inside_text.specs.Who.{Refused, call_words, waits_line, who_line}
 use Rattle.inside_text.specs.Why.{node_words}
 use Rattle.inside_desk.specs.Asked.{who}
-use Rattle.inside_desk.specs.Told.{Numbered, numbered, waiting_among, IsRefused, AreRefused, IsTold, HasTold, all_that_wait}
+use Rattle.inside_desk.specs.Told.{Numbered, numbered, waiting_among, AreRefused, IsTold, HasTold, all_that_wait}
 use Rattle.inside_desk.proofs.Numbers.{next_call, none_next, past_all}
 
 -- the calls that wait behind so many calls

@@ -11,7 +11,6 @@ use Rattle.board_core.specs.Board.{Board, call_at, paths_of, past_of}
 use Rattle.ask_core.specs.Answers.{waits_in, runs_in}
 use Rattle.inside_text.specs.declared.why.State.TheVariants.{Running as IsRunning, Ended, Unknown}
 use Rattle.inside_text.specs.declared.why.Running.{Running}
-use Rattle.inside_text.specs.declared.who.Waiting.{Waiting}
 use Rattle.inside_text.specs.Why.{state_line, why_text}
 use Rattle.inside_text.specs.Who.{Refused, waits_line, who_text}
 use Rattle.inside_text.specs.List.{list_text}
