@@ -3,7 +3,7 @@ use Rattle.std.specs.Prelude.{◌≡◌, ◌<◌, ℕ, ◌+◌, ◌^◌, ◌==�
 use Rattle.apply_core.specs.declared.reply.Reply.{Reply}
 use Rattle.apply_core.specs.declared.reply.Reply.TheVariants.{Done, Refused, Failed}
 use Rattle.live_core.specs.declared.call.Ran.{Ran}
-use Rattle.tally_core.specs.declared.tallies.Ends.{Ends}
+use Rattle.tally_core.specs.declared.tallies.CallEnds.{CallEnds}
 use Rattle.tally_core.specs.Tallies.{counted_all}
 
 abbrev pub is_done : Reply → Bool
@@ -27,10 +27,10 @@ of_kind is k [] = 0
 of_kind is k (r ∷ rs) = (if r.call.operation == k then (if is r.reply then 1 else 0) else 0) + of_kind is k rs
 
 -- how many calls are counted, of an operation and of all
-abbrev pub ends_sum : Ends → ℕ
+abbrev pub ends_sum : CallEnds → ℕ
 ends_sum e = e.done + e.refused + e.failed
 
-abbrev pub sum_of : List Ends → ℕ
+abbrev pub sum_of : List CallEnds → ℕ
 sum_of [] = 0
 sum_of (e ∷ es) = ends_sum e + sum_of es
 
@@ -42,7 +42,7 @@ AreKnown count (r ∷ rs) = (r.call.operation < count) × AreKnown count rs
 -- The counts of an operation grow by those of its calls that ran, by how they ended, as long as there are numbers for them.
 abbrev pub CountsAreOfTheCalls : Type 0
 CountsAreOfTheCalls =
-    (es : List Ends) (all : List Ran) (k : ℕ) (before after : Ends) → sum_of es + length all < 2 ^ 64 →
+    (es : List CallEnds) (all : List Ran) (k : ℕ) (before after : CallEnds) → sum_of es + length all < 2 ^ 64 →
     slice_get es k ≡ Some before → slice_get (counted_all all es) k ≡ Some after →
     (after.done ≡ before.done + of_kind is_done k all) × (after.refused ≡ before.refused + of_kind is_refused k all)
     × (after.failed ≡ before.failed + of_kind is_failed k all)
@@ -50,5 +50,5 @@ CountsAreOfTheCalls =
 -- Each call that ran is counted once.
 abbrev pub SumsGrowAsTheHistory : Type 0
 SumsGrowAsTheHistory =
-    (es : List Ends) (all : List Ran) → sum_of es + length all < 2 ^ 64 → AreKnown (length es) all →
+    (es : List CallEnds) (all : List Ran) → sum_of es + length all < 2 ^ 64 → AreKnown (length es) all →
     sum_of (counted_all all es) ≡ sum_of es + length all

@@ -3,33 +3,33 @@ use Rattle.std.specs.Prelude.{ℕ, ◌+◌, ◌-◌, ◌^◌, List, [], ◌∷�
 use Rattle.apply_core.specs.declared.reply.Reply.{Reply}
 use Rattle.apply_core.specs.declared.reply.Reply.TheVariants.{Done, Refused, Failed}
 use Rattle.live_core.specs.declared.call.Ran.{Ran}
-use Rattle.tally_core.specs.declared.tallies.Ends.{Ends}
-use Rattle.tally_core.specs.declared.tallies.Tally.{Tally}
+use Rattle.tally_core.specs.declared.tallies.CallEnds.{CallEnds}
+use Rattle.tally_core.specs.declared.tallies.ObjectTally.{ObjectTally}
 
 -- one more, where there is a number for it
 abbrev pub next : ℕ → ℕ
 next n = min (n + 1) (2 ^ 64 - 1)
 
 -- one more that ended so
-abbrev pub more : Reply → Ends → Ends
+abbrev pub more : Reply → CallEnds → CallEnds
 more (Done value) e = record e { done = next e.done }
 more (Refused word) e = record e { refused = next e.refused }
 more (Failed failure) e = record e { failed = next e.failed }
 
-abbrev pub put_more : ℕ → Reply → Option Ends → List Ends → List Ends
+abbrev pub put_more : ℕ → Reply → Option CallEnds → List CallEnds → List CallEnds
 put_more at reply None es = es
 put_more at reply (Some e) es = slice_set es at (more reply e)
 
 -- a call that ran is counted at the place of its operation
-abbrev pub counted : Ran → List Ends → List Ends
+abbrev pub counted : Ran → List CallEnds → List CallEnds
 counted r es = put_more r.call.operation r.reply (slice_get es r.call.operation) es
 
 -- and so is each of these
-abbrev pub counted_all : List Ran → List Ends → List Ends
+abbrev pub counted_all : List Ran → List CallEnds → List CallEnds
 counted_all [] es = es
 counted_all (r ∷ rs) es = counted_all rs (counted r es)
 
 -- the counts of an object
-abbrev pub ends_of : Option Tally → List Ends
+abbrev pub ends_of : Option ObjectTally → List CallEnds
 ends_of None = []
 ends_of (Some t) = t.ends.items

@@ -10,7 +10,7 @@ use std::alloc::{AllocError, Global};
 
 /// How many calls of an operation ended, by how. No count goes beyond 18,446,744,073,709,551,615.
 #[derive(Clone, Copy, Debug, PartialEq, Eq)]
-pub struct Ends {
+pub struct CallEnds {
     pub done: u64,
     pub refused: u64,
     pub failed: u64,
@@ -18,38 +18,38 @@ pub struct Ends {
 
 /// The counts of an object: how many calls were taken, and how the calls of each operation ended.
 #[derive(Drop)]
-pub struct Tally {
+pub struct ObjectTally {
     pub(crate) taken: u64,
-    pub(crate) ends: Vec<Ends>,
+    pub(crate) ends: Vec<CallEnds>,
 }
 
 /// The counts of objects.
 #[derive(Drop)]
 pub struct Tallies {
     alloc: Global,
-    pub(crate) objects: Vec<Tally>,
+    pub(crate) objects: Vec<ObjectTally>,
 }
 
-const NONE: Ends = Ends {
+const NONE: CallEnds = CallEnds {
     done: 0,
     refused: 0,
     failed: 0,
 };
 
 // One more that ended so.
-fn more(ends: Ends, reply: &Reply) -> Ends
+fn more(ends: CallEnds, reply: &Reply) -> CallEnds
     ensures { result ≡ more reply.now ends }
 {
     match reply {
-        Reply::Done(_) => Ends {
+        Reply::Done(_) => CallEnds {
             done: ends.done.saturating_add(1),
             ..ends
         },
-        Reply::Refused(_) => Ends {
+        Reply::Refused(_) => CallEnds {
             refused: ends.refused.saturating_add(1),
             ..ends
         },
-        Reply::Failed(_) => Ends {
+        Reply::Failed(_) => CallEnds {
             failed: ends.failed.saturating_add(1),
             ..ends
         },
@@ -57,7 +57,7 @@ fn more(ends: Ends, reply: &Reply) -> Ends
 }
 
 // Counts a call that ran.
-fn count_one(ends: &mut Vec<Ends>, ran: &Ran)
+fn count_one(ends: &mut Vec<CallEnds>, ran: &Ran)
     ensures { ends.new.items ≡ counted ran.now ends.old.items }
 {
     let at = ran.call.operation() as usize;
@@ -67,7 +67,7 @@ fn count_one(ends: &mut Vec<Ends>, ran: &Ran)
 }
 
 // Counts calls that ran.
-fn count_all(ends: &mut Vec<Ends>, all: &[Ran])
+fn count_all(ends: &mut Vec<CallEnds>, all: &[Ran])
     ensures { ends.new.items ≡ counted_all all.now ends.old.items }
 {
     match all {
@@ -80,7 +80,7 @@ fn count_all(ends: &mut Vec<Ends>, all: &[Ran])
 }
 
 // Counts what was taken of the object at a place.
-fn count_at(objects: &mut Vec<Tally>, at: usize, taken: &Taken)
+fn count_at(objects: &mut Vec<ObjectTally>, at: usize, taken: &Taken)
     requires { at < length objects.old.items }
     ensures { (k : ℕ) → ends_of (slice_get objects.new.items k)
         ≡ (if at == k then counted_all taken.now.ran.items (ends_of (slice_get objects.old.items k))
@@ -108,7 +108,7 @@ impl Tallies {
         for _ in 0..operations {
             ends.push(NONE)?;
         }
-        self.objects.push(Tally { taken: 0, ends })?;
+        self.objects.push(ObjectTally { taken: 0, ends })?;
         Ok(())
     }
 
@@ -132,7 +132,7 @@ impl Tallies {
     }
 
     /// How the calls ended of each operation of the object at a place.
-    pub fn ends(&self, at: usize) -> &[Ends]
+    pub fn ends(&self, at: usize) -> &[CallEnds]
         ensures { result.now ≡ ends_of (slice_get self.now.objects.items at) }
     {
         match self.objects.get(at) {
