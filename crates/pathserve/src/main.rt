@@ -29,6 +29,7 @@ mod lack;
 mod pasts;
 mod serve;
 mod socket;
+mod status;
 mod stuck;
 
 use ahead_core::ahead::AheadHand;
@@ -41,7 +42,8 @@ use answer_core::source::read_source;
 use answer_core::stuck::check_stuck;
 use attempt::run_try;
 use command_line::past::Past;
-use command_line::request::{Address, Explain, Keeping, Request, Serving, request_of};
+use command_line::request::{Address, Explain, Keeping, Request, Serving, keep_error, request_of};
+use command_line::watching::{Apart, Odd, Watching, taken_apart};
 use ending::{KeepEnd, status_of_keep};
 use exclude_core::analyse::Accepted;
 use explain_hold::pairs::explain_pairs;
@@ -386,9 +388,10 @@ fn prepare_server(rt: &HostRuntime, asked: Serving<'_>) -> Result<Prepared, Fail
 fn prepare(rt: &HostRuntime) -> Result<Prepared, Failure> {
     let words: Vec<String> = env::args(rt)?.collect(rt.alloc())?;
     let words: Vec<&str> = words.iter().map(|word| word.as_str()).collect(rt.alloc())?;
-    let ended = match request_of(rt.alloc(), words.as_slice()) {
+    let words = taken_apart(rt.alloc(), words.as_slice())?;
+    let ended = match request_of(rt.alloc(), words.words()) {
         Ok(Request::Serve(asked)) => return prepare_server(rt, asked),
-        Ok(Request::Keep(asked)) => match run_keep(rt, asked, words.as_slice()) {
+        Ok(Request::Keep(asked)) => match run_keep(rt, asked, &words) {
             Ok(end) => Ok(status_of_keep(end)),
             Err(failure) => Err(failure),
         },
@@ -703,6 +706,7 @@ fn keep_source(
     rt: &HostRuntime,
     source: &[u8],
     asked: Keeping<'_>,
+    watching: Watching,
     pasts: &[Past<'_>],
     ears: Ears,
 ) -> Result<KeepEnd, Failure> {
@@ -711,6 +715,7 @@ fn keep_source(
             rt,
             objects,
             asked,
+            watching,
             pasts,
             ears,
             &mut io::writer(rt),
@@ -733,8 +738,18 @@ fn keep_source(
 }
 
 // `pathserve keep`.
-fn run_keep(rt: &HostRuntime, asked: Keeping<'_>, words: &[&str]) -> Result<KeepEnd, Failure> {
-    let pasts = pasts_in(rt.alloc(), words)?;
+fn run_keep(rt: &HostRuntime, asked: Keeping<'_>, words: &Apart<'_>) -> Result<KeepEnd, Failure> {
+    let pasts = pasts_in(rt.alloc(), words.words())?;
+    let watching = match words.watching() {
+        Ok(watching) => watching,
+        Err(
+            Odd {
+                word,
+                option,
+                means,
+            },
+        ) => return Err(Failure::Usage(keep_error(rt.alloc(), word, option, means)?)),
+    };
     let source = match source_at(rt, asked.file) {
         Ok(source) => source,
         Err(lacking) => return Err(told(rt, lacking, asked.file)),
@@ -758,7 +773,7 @@ fn run_keep(rt: &HostRuntime, asked: Keeping<'_>, words: &[&str]) -> Result<Keep
         Ok(found) => found,
         Err(lacking) => return Err(told(rt, lacking, path_of(asked.address))),
     };
-    let ended = keep_source(rt, &source, asked, &pasts, ears);
+    let ended = keep_source(rt, &source, asked, watching, &pasts, ears);
     if let Some(socket) = socket {
         socket.remove(rt);
     }
