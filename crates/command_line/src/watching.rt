@@ -32,7 +32,7 @@ pub struct Watching {
 
 /// A value that is not what it should be: the word, its option, and what it should be.
 #[derive(Clone, Copy)]
-pub struct Odd<'a> {
+pub struct OddOption<'a> {
     pub word: &'a str,
     pub option: &'a str,
     pub means: &'a str,
@@ -156,7 +156,7 @@ impl<'a> Apart<'a> {
     }
 
     /// What is asked for, or the first value that is not what it should be: also one of an option that is given twice.
-    pub fn watching(&self) -> Result<Watching, Odd<'a>> {
+    pub fn watching(&self) -> Result<Watching, OddOption<'a>> {
         let status = match self.status.as_slice() {
             [] => 0,
             [word] => match seconds_in(word) {
@@ -177,16 +177,16 @@ impl<'a> Apart<'a> {
     }
 }
 
-fn odd_status<'a>(word: &'a str) -> Odd<'a> {
-    Odd {
+fn odd_status<'a>(word: &'a str) -> OddOption<'a> {
+    OddOption {
         word,
         option: "--status <S>",
         means: help::STATUS_IS,
     }
 }
 
-fn odd_log<'a>(word: &'a str) -> Odd<'a> {
-    Odd {
+fn odd_log<'a>(word: &'a str) -> OddOption<'a> {
+    OddOption {
         word,
         option: "--log <WORD>",
         means: help::LOG_IS,

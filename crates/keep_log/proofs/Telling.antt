@@ -4,7 +4,7 @@ use Rattle.std.specs.Prelude.{Option, Some, None, Result, Ok, Err, OnOk, OnErr}
 use Rattle.std.specs.Io.KnownBytes.{Appends}
 use Rattle.std.proofs.lemmas.List.{append-nil}
 use Rattle.jiff_core.specs.declared.civil.datetime.DateTime.{DateTime}
-use Rattle.log_core.specs.declared.line.Form.{Form}
+use Rattle.log_core.specs.declared.line.LineForm.{LineForm}
 use Rattle.keep_log.specs.Told.{Tells, TellsFront}
 
 take_all : (bytes : List ℕ) → take (length bytes) bytes ≡ bytes
@@ -20,7 +20,7 @@ nothing None = tt
 nothing (Some bytes) = sym (append-nil bytes)
 
 -- what was made is told, if it was
-told_one : {T E : Type 0} (form : Form) (moment : DateTime) (line : Form → DateTime → List ℕ) (made : Result T E) (items : List ℕ) (before after : Option (List ℕ)) →
+told_one : {T E : Type 0} (form : LineForm) (moment : DateTime) (line : LineForm → DateTime → List ℕ) (made : Result T E) (items : List ℕ) (before after : Option (List ℕ)) →
     OnOk made (items ≡ line form moment) → OnOk made (TellsFront before after items) → OnErr made (after ≡ before) → Tells (Some form) before after line
 told_one form moment line (Ok x) items before after is front same = (moment, subst (TellsFront before after) is front)
 told_one form moment line (Err e) items before after is front same = (moment, (0, subst (λ a. Appends before a []) (sym same) (nothing before)))
@@ -29,7 +29,7 @@ cleared : {T E : Type 0} (made : Result T E) (clear items text : List ℕ) → c
 cleared (Ok x) clear items text none is = is ∙ ap (λ t. t ++ text) none
 cleared (Err e) clear items text none is = tt
 
-pub told_line : {T E : Type 0} (found : Option Form) (form : Form) (moment : DateTime) (line : Form → DateTime → List ℕ) (made : Result T E) (clear items : List ℕ)
+pub told_line : {T E : Type 0} (found : Option LineForm) (form : LineForm) (moment : DateTime) (line : LineForm → DateTime → List ℕ) (made : Result T E) (clear items : List ℕ)
     (before after : Option (List ℕ)) → found ≡ Some form → clear ≡ [] → OnOk made (items ≡ clear ++ line form moment) → OnOk made (TellsFront before after items) →
     OnErr made (after ≡ before) → Tells found before after line
 told_line found form moment line made clear items before after is none text front same =

@@ -7,10 +7,10 @@ ghost use Rattle.log_core.specs.Events.{begins, carries_on, changes, ends, fails
 use jiff_core::civil::DateTime;
 use line_core::write_whole;
 use log_core::event::{
-    Why, Work, push_begun, push_epoch, push_failed, push_let_go, push_no_epoch, push_no_status,
+    LetGo, Work, push_begun, push_epoch, push_failed, push_let_go, push_no_epoch, push_no_status,
     push_recovered, push_start, push_stop,
 };
-use log_core::line::Form;
+use log_core::line::LineForm;
 use log_core::moment::moment_of;
 use std::alloc::{AllocError, Global};
 use std::io::Write;
@@ -20,7 +20,7 @@ use std::time::{Clock, SystemTime};
 /// end, and nothing else changes.
 #[derive(Drop)]
 pub struct Log<R, E> {
-    form: Option<Form>,
+    form: Option<LineForm>,
     clock: R,
     errors: E,
     line: Vec<u8>,
@@ -40,7 +40,7 @@ fn moment_at<R: Clock>(clock: &R) -> DateTime {
 
 impl<R: Clock, E: Write> Log<R, E> {
     /// A log to which this writer belongs, in this form.
-    pub fn new(alloc: Global, form: Option<Form>, clock: R, errors: E) -> Log<R, E>
+    pub fn new(alloc: Global, form: Option<LineForm>, clock: R, errors: E) -> Log<R, E>
         ensures form { result.form ≡ form }
         ensures writer { result.errors ≡ errors }
     {
@@ -139,7 +139,7 @@ impl<R: Clock, E: Write> Log<R, E> {
     }
 
     /// A client is let go.
-    pub fn let_go(&mut self, connection: u64, why: Why)
+    pub fn let_go(&mut self, connection: u64, why: LetGo)
         ensures { Tells self.old.form (E.contents self.old.errors) (E.contents self.new.errors)
             (λ form moment. lets_go form moment connection why) }
     {

@@ -4,7 +4,7 @@ ghost use Rattle.std.specs.Prelude.{◌≡◌};
 
 use crate::log::Log;
 use keep_loop::{Fault, Outside, Read};
-use log_core::event::{Why, Work};
+use log_core::event::{LetGo, Work};
 use std::alloc::AllocError;
 use std::io::Write;
 use std::time::Clock;
@@ -61,7 +61,7 @@ impl<W: Outside, R: Clock, E: Write> Outside for Logged<W, R, E> {
     fn read(&mut self, who: u64, piece: &mut Vec<u8>) -> Result<Read, AllocError> {
         let read = self.inner.read(who, piece)?;
         if read == Read::Broken {
-            self.log.let_go(who, Why::Broke);
+            self.log.let_go(who, LetGo::Broke);
         }
         Ok(read)
     }
@@ -69,7 +69,7 @@ impl<W: Outside, R: Clock, E: Write> Outside for Logged<W, R, E> {
     fn is_over(&mut self, who: u64) -> bool {
         let is_over = self.inner.is_over(who);
         if is_over {
-            self.log.let_go(who, Why::Over);
+            self.log.let_go(who, LetGo::Over);
         }
         is_over
     }
@@ -77,7 +77,7 @@ impl<W: Outside, R: Clock, E: Write> Outside for Logged<W, R, E> {
     fn write(&mut self, who: u64, bytes: &[u8]) -> Option<usize> {
         let wrote = self.inner.write(who, bytes);
         if wrote.is_none() {
-            self.log.let_go(who, Why::Unwritten);
+            self.log.let_go(who, LetGo::Unwritten);
         }
         wrote
     }

@@ -12,7 +12,7 @@ use std::alloc::{AllocError, Global};
 /// What another one has outside of the loop, with a status. What begins anew at the place behind the last journal is what
 /// objects know: it joins the status, and no journal begins anew for it.
 #[derive(Drop)]
-pub struct Shown<W, K> {
+pub struct Showing<W, K> {
     inner: W,
     sink: K,
     server: Server,
@@ -67,7 +67,7 @@ fn none_loose(alloc: Global, count: usize) -> Result<Vec<bool>, AllocError> {
     Ok(loose)
 }
 
-impl<W: Outside + Drop, K: Sink + Drop> Shown<W, K> {
+impl<W: Outside + Drop, K: Sink + Drop> Showing<W, K> {
     /// These connections and journals, whose status goes to this sink. `server` and `journals` are their numbers at the
     /// start. The error is that memory was refused.
     pub fn new(
@@ -76,11 +76,11 @@ impl<W: Outside + Drop, K: Sink + Drop> Shown<W, K> {
         sink: K,
         server: Server,
         journals: Vec<Stored>,
-    ) -> Result<Shown<W, K>, AllocError>
+    ) -> Result<Showing<W, K>, AllocError>
         ensures { IfOk result (λ shown. shown.inner ≡ inner) }
     {
         let loose = none_loose(alloc, journals.len())?;
-        Ok(Shown {
+        Ok(Showing {
             inner,
             sink,
             server,
@@ -92,7 +92,7 @@ impl<W: Outside + Drop, K: Sink + Drop> Shown<W, K> {
     }
 }
 
-impl<W: Outside, K: Sink> Shown<W, K> {
+impl<W: Outside, K: Sink> Showing<W, K> {
     /// Where the status goes.
     pub fn sink(&self) -> &K
         ensures { result.now ≡ self.now.sink }
@@ -159,7 +159,7 @@ impl<W: Outside, K: Sink> Shown<W, K> {
     }
 }
 
-impl<W: Outside, K: Sink> Outside for Shown<W, K> {
+impl<W: Outside, K: Sink> Outside for Showing<W, K> {
     ghost seen = { λ it. W.seen it.inner };
 
     fn wait(&mut self, idle: bool) {

@@ -2,8 +2,8 @@
 use Rattle.std.specs.Prelude.{ℕ, ◌+◌, ◌/◌, ◌%◌, ◌==◌, List, [], ◌∷◌, ◌++◌, codes, decimal, flat_map, if◌then◌else◌, nat_lt}
 use Rattle.jiff_core.specs.declared.civil.datetime.DateTime.{DateTime}
 use Rattle.log_core.specs.Moment.{moment_text}
-use Rattle.log_core.specs.declared.line.Form.{Form}
-use Rattle.log_core.specs.declared.line.Form.TheVariants.{Text, Json}
+use Rattle.log_core.specs.declared.line.LineForm.{LineForm}
+use Rattle.log_core.specs.declared.line.LineForm.TheVariants.{Text, Json}
 use Rattle.log_core.specs.declared.line.Level.{Level}
 use Rattle.log_core.specs.declared.line.Level.TheVariants.{Info, Warn, Error}
 
@@ -30,7 +30,7 @@ escapes bytes = flat_map escaped bytes
 abbrev pub quoted : List ℕ → List ℕ
 quoted bytes = 34 ∷ escapes bytes ++ 34 ∷ []
 
-abbrev pub level_text : Form → Level → List ℕ
+abbrev pub level_text : LineForm → Level → List ℕ
 level_text Text Info = codes "INFO"
 level_text Text Warn = codes "WARN"
 level_text Text Error = codes "ERROR"
@@ -49,25 +49,25 @@ json_moment moment = codes "{\"time\":\"" ++ moment_text moment ++ codes "\",\"l
 abbrev pub json_event : Level → List ℕ → List ℕ
 json_event level event = level_text Json level ++ codes "\",\"event\":" ++ quoted event
 
-abbrev pub head : Form → DateTime → Level → List ℕ → List ℕ
+abbrev pub head : LineForm → DateTime → Level → List ℕ → List ℕ
 head Text moment level event = text_head moment level event
 head Json moment level event = json_moment moment ++ json_event level event
 
-abbrev pub field_head : Form → List ℕ → List ℕ
+abbrev pub field_head : LineForm → List ℕ → List ℕ
 field_head Text name = codes " " ++ name ++ codes "="
 field_head Json name = codes "," ++ quoted name ++ codes ":"
 
-abbrev pub field_text : Form → Field → List ℕ
+abbrev pub field_text : LineForm → Field → List ℕ
 field_text form (number name n) = field_head form name ++ decimal n
 field_text form (word name bytes) = field_head form name ++ quoted bytes
 
-abbrev pub fields_text : Form → List Field → List ℕ
+abbrev pub fields_text : LineForm → List Field → List ℕ
 fields_text form fields = flat_map (field_text form) fields
 
-abbrev pub line_end : Form → List ℕ
+abbrev pub line_end : LineForm → List ℕ
 line_end Text = codes "\n"
 line_end Json = codes "}\n"
 
 -- a line: the moment, how much it matters, the event, and what is told of it
-abbrev pub line : Form → DateTime → Level → List ℕ → List Field → List ℕ
+abbrev pub line : LineForm → DateTime → Level → List ℕ → List Field → List ℕ
 line form moment level event fields = head form moment level event ++ fields_text form fields ++ line_end form

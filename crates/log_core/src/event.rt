@@ -3,13 +3,13 @@
 ghost use Rattle.std.specs.Prelude.{◌≡◌, ◌++◌, OnOk};
 ghost use Rattle.log_core.specs.Events.{begins, carries_on, changes, ends, fails, keeps, lacks, lets_go, starts, why_word, work_word, works};
 
-use crate::line::{Form, Level, push_count, push_end, push_head, push_word};
+use crate::line::{Level, LineForm, push_count, push_end, push_head, push_word};
 use jiff_core::civil::DateTime;
 use std::alloc::AllocError;
 
 /// Why a client is let go that did not leave by itself.
 #[derive(Clone, Copy, Debug, PartialEq, Eq)]
-pub enum Why {
+pub enum LetGo {
     /// Nothing can be read of its connection.
     Broke,
     /// Nothing can be written to it.
@@ -32,7 +32,7 @@ pub enum Work {
 /// A server starts, of so many objects, over this folder and at this place.
 pub fn push_start(
     out: &mut Vec<u8>,
-    form: Form,
+    form: LineForm,
     moment: DateTime,
     objects: u64,
     folder: &[u8],
@@ -50,7 +50,7 @@ pub fn push_start(
 /// An object goes on behind its journal, which has so many bytes, and so many lines.
 pub fn push_recovered(
     out: &mut Vec<u8>,
-    form: Form,
+    form: LineForm,
     moment: DateTime,
     object: &[u8],
     bytes: u64,
@@ -68,7 +68,7 @@ pub fn push_recovered(
 /// An object begins, without a journal.
 pub fn push_begun(
     out: &mut Vec<u8>,
-    form: Form,
+    form: LineForm,
     moment: DateTime,
     object: &[u8],
 ) -> Result<(), AllocError>
@@ -82,7 +82,7 @@ pub fn push_begun(
 /// A new epoch of an object has begun, with a front of so many bytes.
 pub fn push_epoch(
     out: &mut Vec<u8>,
-    form: Form,
+    form: LineForm,
     moment: DateTime,
     object: &[u8],
     bytes: u64,
@@ -98,7 +98,7 @@ pub fn push_epoch(
 /// No new epoch could be written; the old one goes on.
 pub fn push_no_epoch(
     out: &mut Vec<u8>,
-    form: Form,
+    form: LineForm,
     moment: DateTime,
     object: &[u8],
 ) -> Result<(), AllocError>
@@ -109,13 +109,13 @@ pub fn push_no_epoch(
     push_end(out, form)
 }
 
-fn why_text(why: Why) -> &'static [u8]
+fn why_text(why: LetGo) -> &'static [u8]
     ensures { result.now ≡ why_word why }
 {
     match why {
-        Why::Broke => b"broke",
-        Why::Unwritten => b"unwritten",
-        Why::Over => b"over",
+        LetGo::Broke => b"broke",
+        LetGo::Unwritten => b"unwritten",
+        LetGo::Over => b"over",
     }
 }
 
@@ -132,10 +132,10 @@ fn work_text(work: Work) -> &'static [u8]
 /// A client is let go, of the connection with this number.
 pub fn push_let_go(
     out: &mut Vec<u8>,
-    form: Form,
+    form: LineForm,
     moment: DateTime,
     connection: u64,
-    why: Why,
+    why: LetGo,
 ) -> Result<(), AllocError>
     ensures { OnOk result (out.new.items ≡ out.old.items ++ lets_go form moment connection why) }
 {
@@ -146,7 +146,7 @@ pub fn push_let_go(
 }
 
 // Adds what failed, and the end.
-fn push_work(out: &mut Vec<u8>, form: Form, work: Work) -> Result<(), AllocError>
+fn push_work(out: &mut Vec<u8>, form: LineForm, work: Work) -> Result<(), AllocError>
     ensures { OnOk result (out.new.items ≡ out.old.items ++ works form work) }
 {
     push_word(out, form, b"work", work_text(work))?;
@@ -156,7 +156,7 @@ fn push_work(out: &mut Vec<u8>, form: Form, work: Work) -> Result<(), AllocError
 /// The journal of an object failed, and the server ends.
 pub fn push_failed(
     out: &mut Vec<u8>,
-    form: Form,
+    form: LineForm,
     moment: DateTime,
     object: &[u8],
     work: Work,
@@ -172,7 +172,7 @@ pub fn push_failed(
 /// A status cannot be written, in the file at this path.
 pub fn push_no_status(
     out: &mut Vec<u8>,
-    form: Form,
+    form: LineForm,
     moment: DateTime,
     path: &[u8],
 ) -> Result<(), AllocError>
@@ -186,7 +186,7 @@ pub fn push_no_status(
 /// A server ends with this status, so many seconds after it began.
 pub fn push_stop(
     out: &mut Vec<u8>,
-    form: Form,
+    form: LineForm,
     moment: DateTime,
     status: u8,
     seconds: u64,

@@ -11,7 +11,7 @@ use std::alloc::AllocError;
 
 /// How a log is written.
 #[derive(Clone, Copy, Debug, PartialEq, Eq)]
-pub enum Form {
+pub enum LineForm {
     /// `TIME LEVEL EVENT KEY=VALUE ..`, for people.
     Text,
     /// An object of JSON a line, for machines.
@@ -82,16 +82,16 @@ fn push_quoted(out: &mut Vec<u8>, bytes: &[u8]) -> Result<(), AllocError>
 }
 
 // Adds how much a line matters.
-fn push_level(out: &mut Vec<u8>, form: Form, level: Level) -> Result<(), AllocError>
+fn push_level(out: &mut Vec<u8>, form: LineForm, level: Level) -> Result<(), AllocError>
     ensures { OnOk result (out.new.items ≡ out.old.items ++ level_text form level) }
 {
     let text: &[u8] = match (form, level) {
-        (Form::Text, Level::Info) => b"INFO",
-        (Form::Text, Level::Warn) => b"WARN",
-        (Form::Text, Level::Error) => b"ERROR",
-        (Form::Json, Level::Info) => b"info",
-        (Form::Json, Level::Warn) => b"warn",
-        (Form::Json, Level::Error) => b"error",
+        (LineForm::Text, Level::Info) => b"INFO",
+        (LineForm::Text, Level::Warn) => b"WARN",
+        (LineForm::Text, Level::Error) => b"ERROR",
+        (LineForm::Json, Level::Info) => b"info",
+        (LineForm::Json, Level::Warn) => b"warn",
+        (LineForm::Json, Level::Error) => b"error",
     };
     out.extend_from_slice(text)
 }
@@ -107,7 +107,7 @@ fn push_text_head(
 {
     push_moment(out, moment)?;
     out.push(b' ')?;
-    push_level(out, Form::Text, level)?;
+    push_level(out, LineForm::Text, level)?;
     out.push(b' ')?;
     out.extend_from_slice(event)
 }
@@ -126,7 +126,7 @@ fn push_json_moment(out: &mut Vec<u8>, moment: DateTime) -> Result<(), AllocErro
 fn push_json_event(out: &mut Vec<u8>, level: Level, event: &[u8]) -> Result<(), AllocError>
     ensures { OnOk result (out.new.items ≡ out.old.items ++ json_event level event.now) }
 {
-    push_level(out, Form::Json, level)?;
+    push_level(out, LineForm::Json, level)?;
     out.extend_from_slice(b"\",\"event\":")?;
     push_quoted(out, event)
 }
@@ -134,7 +134,7 @@ fn push_json_event(out: &mut Vec<u8>, level: Level, event: &[u8]) -> Result<(), 
 /// Adds the beginning of a line: the moment, how much it matters, and the event.
 pub fn push_head(
     out: &mut Vec<u8>,
-    form: Form,
+    form: LineForm,
     moment: DateTime,
     level: Level,
     event: &[u8],
@@ -142,8 +142,8 @@ pub fn push_head(
     ensures { OnOk result (out.new.items ≡ out.old.items ++ head form moment level event.now) }
 {
     match form {
-        Form::Text => push_text_head(out, moment, level, event),
-        Form::Json => {
+        LineForm::Text => push_text_head(out, moment, level, event),
+        LineForm::Json => {
             push_json_moment(out, moment)?;
             push_json_event(out, level, event)
         }
@@ -151,16 +151,16 @@ pub fn push_head(
 }
 
 // Adds the name of what is told, and what stands before its value.
-fn push_name(out: &mut Vec<u8>, form: Form, name: &[u8]) -> Result<(), AllocError>
+fn push_name(out: &mut Vec<u8>, form: LineForm, name: &[u8]) -> Result<(), AllocError>
     ensures { OnOk result (out.new.items ≡ out.old.items ++ field_head form name.now) }
 {
     match form {
-        Form::Text => {
+        LineForm::Text => {
             out.push(b' ')?;
             out.extend_from_slice(name)?;
             out.push(b'=')?;
         }
-        Form::Json => {
+        LineForm::Json => {
             out.push(b',')?;
             push_quoted(out, name)?;
             out.push(b':')?;
@@ -170,7 +170,12 @@ fn push_name(out: &mut Vec<u8>, form: Form, name: &[u8]) -> Result<(), AllocErro
 }
 
 /// Adds a number that is told, by this name.
-pub fn push_count(out: &mut Vec<u8>, form: Form, name: &[u8], number: u64) -> Result<(), AllocError>
+pub fn push_count(
+    out: &mut Vec<u8>,
+    form: LineForm,
+    name: &[u8],
+    number: u64,
+) -> Result<(), AllocError>
     ensures { OnOk result (out.new.items ≡ out.old.items ++ field_text form (a_number name.now number)) }
 {
     push_name(out, form, name)?;
@@ -178,7 +183,12 @@ pub fn push_count(out: &mut Vec<u8>, form: Form, name: &[u8], number: u64) -> Re
 }
 
 /// Adds a word that is told, by this name.
-pub fn push_word(out: &mut Vec<u8>, form: Form, name: &[u8], word: &[u8]) -> Result<(), AllocError>
+pub fn push_word(
+    out: &mut Vec<u8>,
+    form: LineForm,
+    name: &[u8],
+    word: &[u8],
+) -> Result<(), AllocError>
     ensures { OnOk result (out.new.items ≡ out.old.items ++ field_text form (a_word name.now word.now)) }
 {
     push_name(out, form, name)?;
@@ -186,12 +196,12 @@ pub fn push_word(out: &mut Vec<u8>, form: Form, name: &[u8], word: &[u8]) -> Res
 }
 
 /// Adds the end of a line.
-pub fn push_end(out: &mut Vec<u8>, form: Form) -> Result<(), AllocError>
+pub fn push_end(out: &mut Vec<u8>, form: LineForm) -> Result<(), AllocError>
     ensures { OnOk result (out.new.items ≡ out.old.items ++ line_end form) }
 {
     match form {
-        Form::Text => out.push(b'\n')?,
-        Form::Json => out.extend_from_slice(b"}\n")?,
+        LineForm::Text => out.push(b'\n')?,
+        LineForm::Json => out.extend_from_slice(b"}\n")?,
     }
     Ok(())
 }

@@ -18,12 +18,12 @@ use journal_core::journal::recover as lines_of;
 use keep_core::open::push_damaged;
 use keep_log::log::Log;
 use keep_log::logged::Logged;
-use keep_log::shown::Shown;
+use keep_log::shown::Showing;
 use keep_loop::Limits as LoopLimits;
 use keep_start::start::{NotBegun, begin_behind, begin_first, opening_of, push_calls};
 use line_core::write_whole;
 use live_core::call::Limits;
-use log_core::line::Form;
+use log_core::line::LineForm;
 use mio_core::clock::Pace;
 use mio_core::journals::Journals;
 use mio_core::stream::Listener;
@@ -351,11 +351,11 @@ fn pace_of(sync: Sync) -> u64 {
 }
 
 // The form of a log, where one is asked for.
-fn form_of(log: LogForm) -> Option<Form> {
+fn form_of(log: LogForm) -> Option<LineForm> {
     match log {
         LogForm::None => None,
-        LogForm::Text => Some(Form::Text),
-        LogForm::Json => Some(Form::Json),
+        LogForm::Text => Some(LineForm::Text),
+        LogForm::Json => Some(LineForm::Json),
     }
 }
 
@@ -454,7 +454,7 @@ fn serve_kept<W: Write, E: Write, L: Write>(
     let file = StatusFile::new(rt, asked.folder, Log::new(alloc, form, *rt, rt.stderr()))?;
     let wires = Wires::open(rt, *rt, listener, journals, serving, rt.stderr())?;
     let logged = Logged::new(wires, Log::new(alloc, form, *rt, rt.stderr()), told);
-    let mut outside = Shown::new(
+    let mut outside = Showing::new(
         alloc,
         logged,
         file,

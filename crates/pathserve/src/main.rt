@@ -43,7 +43,7 @@ use answer_core::stuck::check_stuck;
 use attempt::run_try;
 use command_line::past::Past;
 use command_line::request::{Address, Explain, Keeping, Request, Serving, keep_error, request_of};
-use command_line::watching::{Apart, Odd, Watching, taken_apart};
+use command_line::watching::{Apart, OddOption, Watching, taken_apart};
 use ending::{KeepEnd, status_of_keep};
 use exclude_core::analyse::Accepted;
 use explain_hold::pairs::explain_pairs;
@@ -743,7 +743,7 @@ fn run_keep(rt: &HostRuntime, asked: Keeping<'_>, words: &Apart<'_>) -> Result<K
     let watching = match words.watching() {
         Ok(watching) => watching,
         Err(
-            Odd {
+            OddOption {
                 word,
                 option,
                 means,

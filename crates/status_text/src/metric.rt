@@ -8,7 +8,7 @@ use std::alloc::AllocError;
 
 /// What the number of a metric does.
 #[derive(Clone, Copy, Debug, PartialEq, Eq)]
-pub enum Kind {
+pub enum MetricKind {
     /// It only grows, from 0 at the start.
     Counter,
     /// It goes up and down.
@@ -19,7 +19,7 @@ pub enum Kind {
 pub(crate) fn push_head(
     out: &mut Vec<u8>,
     name: &[u8],
-    kind: Kind,
+    kind: MetricKind,
     about: &[u8],
 ) -> Result<(), AllocError>
     ensures { OnOk result (out.new.items ≡ out.old.items ++ head name.now kind about.now) }
@@ -31,8 +31,8 @@ pub(crate) fn push_head(
     out.extend_from_slice(b"\n# TYPE ")?;
     out.extend_from_slice(name)?;
     match kind {
-        Kind::Counter => out.extend_from_slice(b" counter\n"),
-        Kind::Gauge => out.extend_from_slice(b" gauge\n"),
+        MetricKind::Counter => out.extend_from_slice(b" counter\n"),
+        MetricKind::Gauge => out.extend_from_slice(b" gauge\n"),
     }
 }
 
@@ -57,7 +57,7 @@ pub(crate) fn push_sample(out: &mut Vec<u8>, before: &[u8], number: u64) -> Resu
 pub(crate) fn push_one(
     out: &mut Vec<u8>,
     name: &[u8],
-    kind: Kind,
+    kind: MetricKind,
     about: &[u8],
     number: u64,
 ) -> Result<(), AllocError>

@@ -31,7 +31,7 @@ pub struct Stored {
 
 /// How many calls of an operation ended since the start, by how.
 #[derive(Clone, Copy, Debug, PartialEq, Eq)]
-pub struct Ends {
+pub struct EndCounts {
     pub done: u64,
     pub refused: u64,
     pub failed: u64,
@@ -39,16 +39,16 @@ pub struct Ends {
 
 /// An operation: its name, which is an identifier, how its calls ended, and how many run and wait now.
 #[derive(Drop)]
-pub struct Tally {
+pub struct OperationTally {
     pub name: Vec<u8>,
-    pub ends: Ends,
+    pub ends: EndCounts,
     pub running: u64,
     pub waiting: u64,
 }
 
 /// An object: its name, which is an identifier, its numbers, and its operations.
 #[derive(Drop)]
-pub struct Seen {
+pub struct SeenObject {
     pub name: Vec<u8>,
     /// Sessions that have a number, of clients that are there.
     pub sessions: u64,
@@ -59,5 +59,5 @@ pub struct Seen {
     pub cancelled: u64,
     /// How long the call that waits longest has been seen to wait, in seconds; 0 where none waits.
     pub waited: u64,
-    pub operations: Vec<Tally>,
+    pub operations: Vec<OperationTally>,
 }

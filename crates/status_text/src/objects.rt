@@ -5,13 +5,13 @@ ghost use Rattle.status_text.specs.Objects.{about_of, kind_of, name_of, number_o
 ghost use Rattle.status_text.specs.Objects.{operation_labels, end_line, tally_ends, object_ends, calls_text};
 ghost use Rattle.status_text.specs.Objects.{name_now, about_now, number_now, tally_now, object_now, now_text, objects_text};
 
-use crate::metric::{Kind, push_head, push_label, push_of_object, push_sample};
-use crate::numbers::{Seen, Tally};
+use crate::metric::{MetricKind, push_head, push_label, push_of_object, push_sample};
+use crate::numbers::{OperationTally, SeenObject};
 use std::alloc::AllocError;
 
 // A number of each object.
 #[derive(Clone, Copy)]
-enum Of {
+enum OfObject {
     Sessions,
     Given,
     Limit,
@@ -26,63 +26,63 @@ enum Current {
     Waiting,
 }
 
-fn name_of_metric(of: Of) -> &'static [u8]
+fn name_of_metric(of: OfObject) -> &'static [u8]
     ensures { result.now ≡ name_of of }
 {
     match of {
-        Of::Sessions => b"pathserve_sessions",
-        Of::Given => b"pathserve_numbers",
-        Of::Limit => b"pathserve_numbers_limit",
-        Of::Cancelled => b"pathserve_cancelled_total",
-        Of::Waited => b"pathserve_wait_seconds",
+        OfObject::Sessions => b"pathserve_sessions",
+        OfObject::Given => b"pathserve_numbers",
+        OfObject::Limit => b"pathserve_numbers_limit",
+        OfObject::Cancelled => b"pathserve_cancelled_total",
+        OfObject::Waited => b"pathserve_wait_seconds",
     }
 }
 
-fn about_metric(of: Of) -> &'static [u8]
+fn about_metric(of: OfObject) -> &'static [u8]
     ensures { result.now ≡ about_of of }
 {
     match of {
-        Of::Sessions => b"Sessions of clients that are there.",
-        Of::Given => b"Numbers of calls that are taken of this epoch.",
-        Of::Limit => b"Numbers of calls of an epoch, at most.",
-        Of::Cancelled => b"Calls that were cancelled since the start.",
-        Of::Waited => b"How long the call that waits longest was seen to wait.",
+        OfObject::Sessions => b"Sessions of clients that are there.",
+        OfObject::Given => b"Numbers of calls that are taken of this epoch.",
+        OfObject::Limit => b"Numbers of calls of an epoch, at most.",
+        OfObject::Cancelled => b"Calls that were cancelled since the start.",
+        OfObject::Waited => b"How long the call that waits longest was seen to wait.",
     }
 }
 
-fn kind_of_metric(of: Of) -> Kind
+fn kind_of_metric(of: OfObject) -> MetricKind
     ensures { result ≡ kind_of of }
 {
     match of {
-        Of::Sessions => Kind::Gauge,
-        Of::Given => Kind::Gauge,
-        Of::Limit => Kind::Gauge,
-        Of::Cancelled => Kind::Counter,
-        Of::Waited => Kind::Gauge,
+        OfObject::Sessions => MetricKind::Gauge,
+        OfObject::Given => MetricKind::Gauge,
+        OfObject::Limit => MetricKind::Gauge,
+        OfObject::Cancelled => MetricKind::Counter,
+        OfObject::Waited => MetricKind::Gauge,
     }
 }
 
-fn number_in(of: Of, seen: &Seen) -> u64
+fn number_in(of: OfObject, seen: &SeenObject) -> u64
     ensures { result ≡ number_of of seen.now }
 {
     match of {
-        Of::Sessions => seen.sessions,
-        Of::Given => seen.given,
-        Of::Limit => seen.limit,
-        Of::Cancelled => seen.cancelled,
-        Of::Waited => seen.waited,
+        OfObject::Sessions => seen.sessions,
+        OfObject::Given => seen.given,
+        OfObject::Limit => seen.limit,
+        OfObject::Cancelled => seen.cancelled,
+        OfObject::Waited => seen.waited,
     }
 }
 
 // Adds the sample of an object.
-fn push_number(out: &mut Vec<u8>, of: Of, seen: &Seen) -> Result<(), AllocError>
+fn push_number(out: &mut Vec<u8>, of: OfObject, seen: &SeenObject) -> Result<(), AllocError>
     ensures { OnOk result (out.new.items ≡ out.old.items ++ object_number of seen.now) }
 {
     push_of_object(out, name_of_metric(of), &seen.name, number_in(of, seen))
 }
 
 // Adds the samples of these objects.
-fn push_each(out: &mut Vec<u8>, of: Of, objects: &[Seen]) -> Result<(), AllocError>
+fn push_each(out: &mut Vec<u8>, of: OfObject, objects: &[SeenObject]) -> Result<(), AllocError>
     ensures { OnOk result (out.new.items ≡ out.old.items ++ flat_map (object_number of) objects.now) }
 {
     match objects {
@@ -95,7 +95,7 @@ fn push_each(out: &mut Vec<u8>, of: Of, objects: &[Seen]) -> Result<(), AllocErr
 }
 
 // Adds a metric that has a number for each object.
-fn push_metric(out: &mut Vec<u8>, of: Of, objects: &[Seen]) -> Result<(), AllocError>
+fn push_metric(out: &mut Vec<u8>, of: OfObject, objects: &[SeenObject]) -> Result<(), AllocError>
     ensures { OnOk result (out.new.items ≡ out.old.items ++ metric_text of objects.now) }
 {
     push_head(
@@ -108,14 +108,14 @@ fn push_metric(out: &mut Vec<u8>, of: Of, objects: &[Seen]) -> Result<(), AllocE
 }
 
 // Adds the numbers of these objects.
-fn push_numbers(out: &mut Vec<u8>, objects: &[Seen]) -> Result<(), AllocError>
+fn push_numbers(out: &mut Vec<u8>, objects: &[SeenObject]) -> Result<(), AllocError>
     ensures { OnOk result (out.new.items ≡ out.old.items ++ numbers_text objects.now) }
 {
-    push_metric(out, Of::Sessions, objects)?;
-    push_metric(out, Of::Given, objects)?;
-    push_metric(out, Of::Limit, objects)?;
-    push_metric(out, Of::Cancelled, objects)?;
-    push_metric(out, Of::Waited, objects)
+    push_metric(out, OfObject::Sessions, objects)?;
+    push_metric(out, OfObject::Given, objects)?;
+    push_metric(out, OfObject::Limit, objects)?;
+    push_metric(out, OfObject::Cancelled, objects)?;
+    push_metric(out, OfObject::Waited, objects)
 }
 
 // Adds the labels of an operation.
@@ -143,7 +143,7 @@ fn push_end(
 }
 
 // Adds how the calls of an operation ended.
-fn push_ends(out: &mut Vec<u8>, object: &[u8], tally: &Tally) -> Result<(), AllocError>
+fn push_ends(out: &mut Vec<u8>, object: &[u8], tally: &OperationTally) -> Result<(), AllocError>
     ensures { OnOk result (out.new.items ≡ out.old.items ++ tally_ends object.now tally.now) }
 {
     push_end(out, object, &tally.name, b"done", tally.ends.done)?;
@@ -153,7 +153,11 @@ fn push_ends(out: &mut Vec<u8>, object: &[u8], tally: &Tally) -> Result<(), Allo
 }
 
 // Adds how the calls of these operations ended.
-fn push_all_ends(out: &mut Vec<u8>, object: &[u8], operations: &[Tally]) -> Result<(), AllocError>
+fn push_all_ends(
+    out: &mut Vec<u8>,
+    object: &[u8],
+    operations: &[OperationTally],
+) -> Result<(), AllocError>
     ensures { OnOk result (out.new.items ≡ out.old.items ++ flat_map (tally_ends object.now) operations.now) }
 {
     for tally in operations {
@@ -163,7 +167,7 @@ fn push_all_ends(out: &mut Vec<u8>, object: &[u8], operations: &[Tally]) -> Resu
 }
 
 // Adds how the calls of these objects ended.
-fn push_calls_of(out: &mut Vec<u8>, objects: &[Seen]) -> Result<(), AllocError>
+fn push_calls_of(out: &mut Vec<u8>, objects: &[SeenObject]) -> Result<(), AllocError>
     ensures { OnOk result (out.new.items ≡ out.old.items ++ flat_map object_ends objects.now) }
 {
     match objects {
@@ -176,13 +180,13 @@ fn push_calls_of(out: &mut Vec<u8>, objects: &[Seen]) -> Result<(), AllocError>
 }
 
 // Adds the metric of calls that ended.
-fn push_calls(out: &mut Vec<u8>, objects: &[Seen]) -> Result<(), AllocError>
+fn push_calls(out: &mut Vec<u8>, objects: &[SeenObject]) -> Result<(), AllocError>
     ensures { OnOk result (out.new.items ≡ out.old.items ++ calls_text objects.now) }
 {
     push_head(
         out,
         b"pathserve_calls_total",
-        Kind::Counter,
+        MetricKind::Counter,
         b"Calls that ended since the start, by how.",
     )?;
     push_calls_of(out, objects)
@@ -206,7 +210,7 @@ fn about_of_now(current: Current) -> &'static [u8]
     }
 }
 
-fn number_of_now(current: Current, tally: &Tally) -> u64
+fn number_of_now(current: Current, tally: &OperationTally) -> u64
     ensures { result ≡ number_now current tally.now }
 {
     match current {
@@ -220,7 +224,7 @@ fn push_now(
     out: &mut Vec<u8>,
     current: Current,
     object: &[u8],
-    tally: &Tally,
+    tally: &OperationTally,
 ) -> Result<(), AllocError>
     ensures { OnOk result (out.new.items ≡ out.old.items ++ tally_now current object.now tally.now) }
 {
@@ -234,7 +238,7 @@ fn push_all_now(
     out: &mut Vec<u8>,
     current: Current,
     object: &[u8],
-    operations: &[Tally],
+    operations: &[OperationTally],
 ) -> Result<(), AllocError>
     ensures { OnOk result (out.new.items ≡ out.old.items ++ flat_map (tally_now current object.now) operations.now) }
 {
@@ -245,7 +249,11 @@ fn push_all_now(
 }
 
 // Adds how many calls of these objects there are now.
-fn push_now_of(out: &mut Vec<u8>, current: Current, objects: &[Seen]) -> Result<(), AllocError>
+fn push_now_of(
+    out: &mut Vec<u8>,
+    current: Current,
+    objects: &[SeenObject],
+) -> Result<(), AllocError>
     ensures { OnOk result (out.new.items ≡ out.old.items ++ flat_map (object_now current) objects.now) }
 {
     match objects {
@@ -258,13 +266,17 @@ fn push_now_of(out: &mut Vec<u8>, current: Current, objects: &[Seen]) -> Result<
 }
 
 // Adds the metric of calls that there are now.
-fn push_current(out: &mut Vec<u8>, current: Current, objects: &[Seen]) -> Result<(), AllocError>
+fn push_current(
+    out: &mut Vec<u8>,
+    current: Current,
+    objects: &[SeenObject],
+) -> Result<(), AllocError>
     ensures { OnOk result (out.new.items ≡ out.old.items ++ now_text current objects.now) }
 {
     push_head(
         out,
         name_of_now(current),
-        Kind::Gauge,
+        MetricKind::Gauge,
         about_of_now(current),
     )?;
     push_now_of(out, current, objects)
@@ -272,7 +284,7 @@ fn push_current(out: &mut Vec<u8>, current: Current, objects: &[Seen]) -> Result
 
 /// Adds the numbers of objects, and of their operations. The error is that memory was refused; how much then stands in `out`
 /// is not said.
-pub fn push_objects(out: &mut Vec<u8>, objects: &[Seen]) -> Result<(), AllocError>
+pub fn push_objects(out: &mut Vec<u8>, objects: &[SeenObject]) -> Result<(), AllocError>
     ensures { OnOk result (out.new.items ≡ out.old.items ++ objects_text objects.now) }
 {
     push_numbers(out, objects)?;

@@ -2,11 +2,11 @@
 use Rattle.std.proofs.Common.{◌≡◌, ℕ, ◌+◌, List, [], ◌∷◌, ◌++◌, length, subst, refl, arith}
 use Rattle.std.specs.Prelude.{Some, slice_get}
 use Rattle.hosted_core.specs.Scene.{Scene}
-use Rattle.status_text.specs.declared.numbers.Seen.{Seen}
-use Rattle.status_text.specs.declared.numbers.Tally.{Tally}
+use Rattle.status_text.specs.declared.numbers.SeenObject.{SeenObject}
+use Rattle.status_text.specs.declared.numbers.OperationTally.{OperationTally}
 use Rattle.tally_core.specs.Tallies.{ends_of}
-use Rattle.tally_core.specs.declared.tallies.Ends.{Ends as Counts}
-use Rattle.tally_core.specs.declared.tallies.Tally.{Tally as Counted}
+use Rattle.tally_core.specs.declared.tallies.CallEnds.{CallEnds}
+use Rattle.tally_core.specs.declared.tallies.ObjectTally.{ObjectTally}
 use Rattle.watch_core.specs.Looks.{IsTally, AreTallies, Shows, ShowsAll}
 
 pub length_more : {X : Type 0} (xs : List X) (x : X) → length (xs ++ x ∷ []) ≡ length xs + 1
@@ -14,7 +14,7 @@ length_more [] x = refl
 length_more (y ∷ xs) x = omega (arith, length_more xs x)
 
 -- one operation more
-pub tallies_more : (object : Scene) (ends : List Counts) (k n : ℕ) (ts : List Tally) (t : Tally) → n ≡ k + length ts → AreTallies object ends k ts →
+pub tallies_more : (object : Scene) (ends : List CallEnds) (k n : ℕ) (ts : List OperationTally) (t : OperationTally) → n ≡ k + length ts → AreTallies object ends k ts →
     IsTally object ends n t → AreTallies object ends k (ts ++ t ∷ [])
 tallies_more object ends k n [] t same all one =
     let is : n ≡ k = omega (arith, same) in
@@ -24,7 +24,7 @@ tallies_more object ends k n (s ∷ ts) t same all one =
     (all.0, tallies_more object ends (k + 1) n ts t is all.1 one)
 
 -- one object more
-pub seen_more : (objects : List Scene) (tallies : List Counted) (k n : ℕ) (all : List Seen) (s : Seen) → n ≡ k + length all → ShowsAll objects tallies k all →
+pub seen_more : (objects : List Scene) (tallies : List ObjectTally) (k n : ℕ) (all : List Seen) (s : Seen) → n ≡ k + length all → ShowsAll objects tallies k all →
     ((object : Scene) → slice_get objects n ≡ Some object → Shows object (ends_of (slice_get tallies n)) s) → ShowsAll objects tallies k (all ++ s ∷ [])
 seen_more objects tallies k n [] s same shown one =
     let is : n ≡ k = omega (arith, same) in

@@ -3,7 +3,7 @@
 ghost use Rattle.std.specs.Prelude.{◌≡◌, List, IfOk, OnOk, slice_get};
 ghost use Rattle.decl_core.specs.ObjectMap.{object_of};
 ghost use Rattle.trace_core.specs.Text.{operation_name};
-ghost use Rattle.status_text.specs.declared.numbers.Seen.{Seen as ASeen};
+ghost use Rattle.status_text.specs.declared.numbers.SeenObject.{SeenObject as ASeen};
 ghost use Rattle.status_text.specs.Objects.{objects_text};
 ghost use Rattle.tally_core.specs.Tallies.{ends_of};
 ghost use Rattle.watch_core.specs.Looks.{waiting_of, told_ends, IsTally, AreTallies, Shows, ShowsAll};
@@ -15,11 +15,11 @@ use decl_core::object::Object;
 use hosted_core::hosted::Hosted;
 use live_core::call::Call;
 use path_tree::node::OpId;
-use status_text::numbers::{Ends, Seen, Tally};
+use status_text::numbers::{EndCounts, OperationTally, SeenObject};
 use status_text::objects::push_objects;
 use std::alloc::{AllocError, Global};
 use table_core::table::Table;
-use tally_core::tallies::{Ends as Counts, Tallies};
+use tally_core::tallies::{CallEnds, Tallies};
 
 /// So many calls an epoch may have, with those of its past.
 pub const MOST_CALLS: u32 = 65_536;
@@ -74,16 +74,16 @@ fn name_of(alloc: Global, object: &Object, operation: OpId) -> Result<Vec<u8>, A
 }
 
 // How the calls of the operation at a place ended.
-fn ends_at(ends: &[Counts], operation: usize) -> Ends
+fn ends_at(ends: &[CallEnds], operation: usize) -> EndCounts
     ensures { result ≡ told_ends (slice_get ends.now operation) }
 {
     match ends.get(operation) {
-        Some(ends) => Ends {
+        Some(ends) => EndCounts {
             done: ends.done,
             refused: ends.refused,
             failed: ends.failed,
         },
-        None => Ends {
+        None => EndCounts {
             done: 0,
             refused: 0,
             failed: 0,
@@ -95,13 +95,13 @@ fn ends_at(ends: &[Counts], operation: usize) -> Ends
 fn tally_of(
     alloc: Global,
     object: &Hosted,
-    ends: &[Counts],
+    ends: &[CallEnds],
     operation: OpId,
-) -> Result<Tally, AllocError>
+) -> Result<OperationTally, AllocError>
     ensures { IfOk result (λ tally. IsTally object.now ends.now operation tally) }
 {
     let live = object.live();
-    Ok(Tally {
+    Ok(OperationTally {
         name: name_of(alloc, live.object(), operation)?,
         ends: ends_at(ends, operation as usize),
         running: 0,
@@ -110,7 +110,11 @@ fn tally_of(
 }
 
 // What is told of all operations of an object.
-fn tallies_of(alloc: Global, object: &Hosted, ends: &[Counts]) -> Result<Vec<Tally>, AllocError>
+fn tallies_of(
+    alloc: Global,
+    object: &Hosted,
+    ends: &[CallEnds],
+) -> Result<Vec<OperationTally>, AllocError>
     ensures { IfOk result (λ tallies. AreTallies object.now ends.now 0 tallies.items) }
 {
     let count = object.live().object().operations.len();
@@ -125,7 +129,7 @@ fn tallies_of(alloc: Global, object: &Hosted, ends: &[Counts]) -> Result<Vec<Tal
 }
 
 // How many calls are counted.
-fn sum_of(ends: &[Counts]) -> u64 {
+fn sum_of(ends: &[CallEnds]) -> u64 {
     let mut sum: u64 = 0;
     for one in ends {
         sum = sum

@@ -1,5 +1,5 @@
 use Rattle.std.proofs.Common.{◌≡◌, ◌∙◌, ◌+◌, ap, sym, subst, arith, length}
-use Rattle.status_text.specs.declared.numbers.Tally.{Tally}
+use Rattle.status_text.specs.declared.numbers.OperationTally.{OperationTally}
 use Rattle.watch_core.specs.Looks.{IsTally, AreTallies}
 use Rattle.watch_core.proofs.Looking.{tallies_more, length_more}
 use Rattle.watch_core.proofs.look.tallies_of.Goals as goal

@@ -2,7 +2,7 @@ use Rattle.std.proofs.Common.{◌≡◌, ◌++◌, List, subst}
 use Rattle.status_text.specs.declared.numbers.Stored.{Stored}
 use Rattle.status_text.specs.Server.{outside_text}
 use Rattle.keep_log.proofs.Telling.{composed}
-use Rattle.keep_log.proofs.shown.Shown.compose.Goals as goal
+use Rattle.keep_log.proofs.shown.Showing.compose.Goals as goal
 
 pub returns-clause-text : goal.returns-clause-text
 returns-clause-text g c =
