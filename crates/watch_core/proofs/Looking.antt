@@ -24,7 +24,7 @@ tallies_more object ends k n (s ∷ ts) t same all one =
     (all.0, tallies_more object ends (k + 1) n ts t is all.1 one)
 
 -- one object more
-pub seen_more : (objects : List Scene) (tallies : List ObjectTally) (k n : ℕ) (all : List Seen) (s : Seen) → n ≡ k + length all → ShowsAll objects tallies k all →
+pub seen_more : (objects : List Scene) (tallies : List ObjectTally) (k n : ℕ) (all : List SeenObject) (s : SeenObject) → n ≡ k + length all → ShowsAll objects tallies k all →
     ((object : Scene) → slice_get objects n ≡ Some object → Shows object (ends_of (slice_get tallies n)) s) → ShowsAll objects tallies k (all ++ s ∷ [])
 seen_more objects tallies k n [] s same shown one =
     let is : n ≡ k = omega (arith, same) in

@@ -35,12 +35,12 @@ AreTallies object ends k [] = Unit {0}
 AreTallies object ends k (t ∷ ts) = IsTally object ends k t × AreTallies object ends (k + 1) ts
 
 -- what is told of an object: its name, and its operations
-pub record Shows (object : Scene) (ends : List CallEnds) (seen : Seen) : Type 0 where
+pub record Shows (object : Scene) (ends : List CallEnds) (seen : SeenObject) : Type 0 where
   pub name : seen.name.items ≡ object.hall.object.name
   pub operations : AreTallies object ends 0 seen.operations.items
 
 -- what is told of these objects, from that at a place on
-abbrev pub ShowsAll : List Scene → List ObjectTally → ℕ → List Seen → Type 0
+abbrev pub ShowsAll : List Scene → List ObjectTally → ℕ → List SeenObject → Type 0
 ShowsAll objects tallies k [] = Unit {0}
 ShowsAll objects tallies k (s ∷ all) =
     ((object : Scene) → slice_get objects k ≡ Some object → Shows object (ends_of (slice_get tallies k)) s)

@@ -147,13 +147,13 @@ fn seen_of(
     at: usize,
     object: &Hosted,
     waits: u64,
-) -> Result<Seen, AllocError>
+) -> Result<SeenObject, AllocError>
     ensures { IfOk result (λ seen. Shows object.now (ends_of (slice_get table.now.tallies.objects.items at)) seen) }
 {
     let ends = table.tallies().ends(at);
     let waiting = object.live().waiting().len() as u64;
     let left = object.live().numbers_left();
-    Ok(Seen {
+    Ok(SeenObject {
         name: object.name().as_bytes().to_vec(alloc)?,
         sessions: sessions_of(table.clients(), at),
         given: u64::from(MOST_CALLS.saturating_sub(left)),
@@ -182,7 +182,7 @@ pub fn seen_in(
     table: &Table,
     waits: &[Waits],
     second: u64,
-) -> Result<Vec<Seen>, AllocError>
+) -> Result<Vec<SeenObject>, AllocError>
     ensures { IfOk result (λ all. ShowsAll (table.now.objects.items) table.now.tallies.objects.items 0 all.items) }
 {
     let objects = table.objects();

@@ -84,7 +84,7 @@ impl Watched {
     {
         match note {
             Note::Ticks(second) => self.look(second),
-            Note::Joins(_) | Note::Leaves(_) | Note::EndCounts => {}
+            Note::Joins(_) | Note::Leaves(_) | Note::Ends => {}
         }
     }
 
