@@ -2,4 +2,3 @@ pub mod Forms
 pub mod Commands
 pub mod Laws
 pub mod Past
-pub mod Watching

@@ -5,4 +5,3 @@ pub mod help;
 pub mod laws;
 pub mod past;
 pub mod request;
-pub mod watching;

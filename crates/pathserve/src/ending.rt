@@ -15,13 +15,12 @@ use answer_core::failure::Failure;
 use hand_core::hand::HandFault;
 use hand_core::shelf::Shelf;
 use hosted_core::hosted::Hosted;
-use keep_loop::{Fault, Limits, Outside};
+use keep_loop::{Fault, Limits, Outside, run};
 use keep_start::ending::save_objects;
 use line_core::write_whole;
 use std::alloc::Global;
 use std::io::Write;
 use table_core::table::Table;
-use watch_core::watched::run_watched;
 
 /// That a server of kept objects has ended well. `serve_table` alone makes one.
 pub struct Ended {
@@ -93,14 +92,13 @@ fn end_objects<S: Shelf, W: Write, E: Write>(
 }
 
 /// Serves a table until the server is to end, and ends its objects: their parts are saved, and `NAME entries K` is said of
-/// each. What objects know is handed outside every so many seconds; never where `every` is 0.
+/// each.
 ///
 /// A failure is `Memory`, or `WriteFault` where a journal, a part or a line could not be written. What is wrong with one part
 /// keeps no other one from being saved.
 pub fn serve_table<O: Outside, S: Shelf, W: Write, E: Write>(
     alloc: Global,
     table: Table,
-    every: u64,
     limits: Limits,
     outside: &mut O,
     shelf: &mut S,
@@ -112,7 +110,7 @@ pub fn serve_table<O: Outside, S: Shelf, W: Write, E: Write>(
     ensures kept { OnOk result (IsKept Gives (λ last. (seen last).objects) table limits (O.seen outside.new) (λ papers. S.holds shelf.old papers)
         (λ papers. S.holds shelf.new papers)) }
 {
-    match run_watched(alloc, table, every, limits, outside) {
+    match run(alloc, table, limits, outside, u64::MAX) {
         Ok(table) => {
             end_objects(alloc, table.objects(), shelf, writer, error)?;
             Ok(Ended { made: () })

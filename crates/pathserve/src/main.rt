@@ -29,7 +29,6 @@ mod lack;
 mod pasts;
 mod serve;
 mod socket;
-mod status;
 mod stuck;
 
 use ahead_core::ahead::AheadHand;
@@ -42,8 +41,7 @@ use answer_core::source::read_source;
 use answer_core::stuck::check_stuck;
 use attempt::run_try;
 use command_line::past::Past;
-use command_line::request::{Address, Explain, Keeping, Request, Serving, keep_error, request_of};
-use command_line::watching::{Apart, OddOption, Watching, taken_apart};
+use command_line::request::{Address, Explain, Keeping, Request, Serving, request_of};
 use ending::{KeepEnd, status_of_keep};
 use exclude_core::analyse::Accepted;
 use explain_hold::pairs::explain_pairs;
@@ -388,10 +386,9 @@ fn prepare_server(rt: &HostRuntime, asked: Serving<'_>) -> Result<Prepared, Fail
 fn prepare(rt: &HostRuntime) -> Result<Prepared, Failure> {
     let words: Vec<String> = env::args(rt)?.collect(rt.alloc())?;
     let words: Vec<&str> = words.iter().map(|word| word.as_str()).collect(rt.alloc())?;
-    let words = taken_apart(rt.alloc(), words.as_slice())?;
-    let ended = match request_of(rt.alloc(), words.words()) {
+    let ended = match request_of(rt.alloc(), words.as_slice()) {
         Ok(Request::Serve(asked)) => return prepare_server(rt, asked),
-        Ok(Request::Keep(asked)) => match run_keep(rt, asked, &words) {
+        Ok(Request::Keep(asked)) => match run_keep(rt, asked, words.as_slice()) {
             Ok(end) => Ok(status_of_keep(end)),
             Err(failure) => Err(failure),
         },
@@ -706,7 +703,6 @@ fn keep_source(
     rt: &HostRuntime,
     source: &[u8],
     asked: Keeping<'_>,
-    watching: Watching,
     pasts: &[Past<'_>],
     ears: Ears,
 ) -> Result<KeepEnd, Failure> {
@@ -715,7 +711,6 @@ fn keep_source(
             rt,
             objects,
             asked,
-            watching,
             pasts,
             ears,
             &mut io::writer(rt),
@@ -738,18 +733,8 @@ fn keep_source(
 }
 
 // `pathserve keep`.
-fn run_keep(rt: &HostRuntime, asked: Keeping<'_>, words: &Apart<'_>) -> Result<KeepEnd, Failure> {
-    let pasts = pasts_in(rt.alloc(), words.words())?;
-    let watching = match words.watching() {
-        Ok(watching) => watching,
-        Err(
-            OddOption {
-                word,
-                option,
-                means,
-            },
-        ) => return Err(Failure::Usage(keep_error(rt.alloc(), word, option, means)?)),
-    };
+fn run_keep(rt: &HostRuntime, asked: Keeping<'_>, words: &[&str]) -> Result<KeepEnd, Failure> {
+    let pasts = pasts_in(rt.alloc(), words)?;
     let source = match source_at(rt, asked.file) {
         Ok(source) => source,
         Err(lacking) => return Err(told(rt, lacking, asked.file)),
@@ -773,7 +758,7 @@ fn run_keep(rt: &HostRuntime, asked: Keeping<'_>, words: &Apart<'_>) -> Result<K
         Ok(found) => found,
         Err(lacking) => return Err(told(rt, lacking, path_of(asked.address))),
     };
-    let ended = keep_source(rt, &source, asked, watching, &pasts, ears);
+    let ended = keep_source(rt, &source, asked, &pasts, ears);
     if let Some(socket) = socket {
         socket.remove(rt);
     }

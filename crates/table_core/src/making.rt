@@ -275,7 +275,6 @@ impl Table {
             }
             Ok(taken) => {
                 self.taken(place, ready.seat, &taken, post)?;
-                self.tallies.count(ready.seat.object, &taken);
                 Ok(())
             }
         }

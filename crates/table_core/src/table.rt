@@ -24,7 +24,6 @@ use keep_loop::Post;
 use path_tree::name::Name;
 use session_text::line::{Line, Refusal};
 use std::alloc::{AllocError, Global};
-use tally_core::tallies::Tallies;
 
 /// Where more than so many bytes are owed to a connection, its held lines are done later.
 pub const MOST_OWED: usize = 65_536;
@@ -46,17 +45,6 @@ pub struct Table {
     pub(crate) line: Vec<u8>,
     // the second of the last tick
     pub(crate) second: u64,
-    // how many calls were taken, and how they ended
-    pub(crate) tallies: Tallies,
-}
-
-// Counts of these objects, of which no call was taken.
-fn tallies_of(alloc: Global, objects: &[Hosted]) -> Result<Tallies, AllocError> {
-    let mut tallies = Tallies::new(alloc);
-    for object in objects {
-        tallies.add(object.live().object().operations.len())?;
-    }
-    Ok(tallies)
 }
 
 fn refusal_of(fault: EnterFault) -> Line
@@ -81,14 +69,12 @@ impl Table {
     {
         let clients = Clients::new(alloc, places)?;
         let line = Vec::with_capacity(alloc, MOST_LINE)?;
-        let tallies = tallies_of(alloc, &objects)?;
         Ok(Table {
             alloc,
             objects,
             clients,
             line,
             second: now,
-            tallies,
         })
     }
 
@@ -97,20 +83,6 @@ impl Table {
         ensures { result.now ≡ self.now.objects.items }
     {
         &self.objects
-    }
-
-    /// The connections.
-    pub fn clients(&self) -> &Clients
-        ensures { result.now ≡ self.now.clients }
-    {
-        &self.clients
-    }
-
-    /// How many calls of each object were taken, and how they ended, since the table was made.
-    pub fn tallies(&self) -> &Tallies
-        ensures { result.now ≡ self.now.tallies }
-    {
-        &self.tallies
     }
 
     // Tells the one at a place a line.

@@ -1,6 +1,0 @@
-use Rattle.std.proofs.Common.{◌≡◌, length}
-use Rattle.watch_core.specs.Looks.{ShowsAll}
-use Rattle.watch_core.proofs.look.seen_in.Given as goal
-
-abbrev pub invariant-loop-at : goal.invariant-loop-at
-invariant-loop-at l = ShowsAll l.table.objects.items l.table.tallies.objects.items 0 l.seen.items × (length l.seen.items ≡ l.at)
