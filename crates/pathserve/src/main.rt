@@ -21,6 +21,7 @@ ghost use Rattle.std.specs.Process.{exit_status as code};
 ghost use Rattle.answer_core.specs.Status.{exit_status_of};
 
 mod ending;
+mod holds;
 mod keep;
 mod lack;
 mod pasts;
@@ -44,6 +45,8 @@ use explain_line::files::Files;
 use explain_line::kept::Kept;
 use folder_audit::audit::audit_folder;
 use folder_audit::files::FolderFault;
+use hold_read::read::{Look, look_at};
+use holds::{check_held, refuse_faulty, refuse_held};
 use keep::{is_kept, keep_objects};
 use lack::{Lack, Lacking, Need, tell_lack};
 use line_core::write_whole;
@@ -222,9 +225,8 @@ fn shared(rt: &HostRuntime, gate: Gate) -> Result<Arc<Gate>, AllocError> {
     }
 }
 
-// Takes what a server needs, in this order: the source, the folder, the place where clients connect.
-fn take_needs(rt: &HostRuntime, asked: Serving<'_>) -> Result<Started, Lacking> {
-    let text = source_at(rt, asked.file)?;
+// Takes what a server of this source needs, in this order: the folder, the place where clients connect.
+fn take_needs(rt: &HostRuntime, asked: Serving<'_>, text: Vec<u8>) -> Result<Started, Lacking> {
     let lock = lock_folder(rt, asked.folder)?;
     let (gate, socket) = gate_at(rt, asked.address, asked.sessions)?;
     let place = match place_of(rt, asked.folder, asked.sessions) {
@@ -350,16 +352,19 @@ fn prepare_server(rt: &HostRuntime, asked: Serving<'_>) -> Result<Prepared, Fail
             }
         }
     }
-    match take_needs(rt, asked) {
+    let text = match source_at(rt, asked.file) {
+        Ok(text) => text,
+        Err(lacking) => return Err(told(rt, lacking, asked.file)),
+    };
+    let telling = telling_of(rt, asked.explain);
+    let text = match plain_source(rt, text, telling, asked.file, "use pathserve keep")? {
+        Taken::Plain(text) => text,
+        Taken::Told(status) => return Ok(Prepared::Ended(status)),
+    };
+    match take_needs(rt, asked, text) {
         Ok(started) => Ok(Prepared::Serves(started, asked.stops)),
         Err(lacking) => {
             let name = match &lacking.lack {
-                Some(
-                    Lack {
-                        need: Need::File,
-                        ..
-                    },
-                ) => asked.file,
                 Some(
                     Lack {
                         need: Need::Socket,
@@ -399,6 +404,100 @@ fn run_paths(rt: &HostRuntime) -> Result<u8, Failure> {
     told_unread(rt, ended, Need::Input, "", &kept)
 }
 
+// What to do with a source whose objects have holds, for a command that takes them as objects without.
+enum Taken {
+    // Go on with this source, in which no object has holds.
+    Plain(Vec<u8>),
+    // It is refused, and that is told: the exit status.
+    Told(u8),
+}
+
+// A source without the holds of its objects. Where these have a fault that is told.
+fn without_holds(
+    rt: &HostRuntime,
+    source: Vec<u8>,
+    telling: Telling,
+    file: &str,
+) -> Result<Taken, Failure> {
+    match look_at(rt.alloc(), &source)? {
+        Look::Plain => Ok(Taken::Plain(source)),
+        Look::Held(held) => Ok(Taken::Plain(held.cut)),
+        Look::Faulty(fault) => Ok(Taken::Told(refuse_faulty(
+            rt.alloc(),
+            &source,
+            fault,
+            telling,
+            file,
+            &mut io::writer(rt),
+            &mut rt.stderr(),
+        )?)),
+    }
+}
+
+// A source whose objects have no holds. Where they have some, or a fault of them, that is told; this is to be used
+// instead.
+fn plain_source(
+    rt: &HostRuntime,
+    source: Vec<u8>,
+    telling: Telling,
+    file: &str,
+    instead: &str,
+) -> Result<Taken, Failure> {
+    match look_at(rt.alloc(), &source)? {
+        Look::Plain => Ok(Taken::Plain(source)),
+        Look::Held(_) => {
+            let status = refuse_held(rt.alloc(), file, instead, &mut io::writer(rt))?;
+            Ok(Taken::Told(status))
+        }
+        Look::Faulty(_) => without_holds(rt, source, telling, file),
+    }
+}
+
+// `pathserve check` of a source that was read.
+fn check_text(
+    rt: &HostRuntime,
+    source: Vec<u8>,
+    path: &str,
+    telling: Telling,
+    stuck: bool,
+) -> Result<u8, Failure> {
+    if stuck {
+        return match without_holds(rt, source, telling, path)? {
+            Taken::Told(status) => Ok(status),
+            Taken::Plain(source) => check_stuck(
+                rt.alloc(),
+                source.as_slice(),
+                &mut io::writer(rt),
+                telling,
+                path,
+                &mut rt.stderr(),
+            ),
+        };
+    }
+    match look_at(rt.alloc(), &source)? {
+        Look::Held(held) => check_held(
+            rt.alloc(),
+            held,
+            telling,
+            path,
+            &mut io::writer(rt),
+            &mut rt.stderr(),
+        ),
+        Look::Faulty(_) => match without_holds(rt, source, telling, path)? {
+            Taken::Told(status) => Ok(status),
+            Taken::Plain(_) => Ok(REFUSED),
+        },
+        Look::Plain => check_source(
+            rt.alloc(),
+            source.as_slice(),
+            &mut io::writer(rt),
+            telling,
+            path,
+            &mut rt.stderr(),
+        ),
+    }
+}
+
 // `pathserve check`.
 fn run_check(rt: &HostRuntime, path: &str, when: Explain, stuck: bool) -> Result<u8, Failure> {
     let file = match open_file(rt, path) {
@@ -406,27 +505,10 @@ fn run_check(rt: &HostRuntime, path: &str, when: Explain, stuck: bool) -> Result
         Err(lacking) => return Err(told(rt, lacking, path)),
     };
     let mut kept = Kept::new(rt.alloc(), file, 0);
-    let telling = telling_of(rt, when);
-    let ended = if stuck {
-        check_stuck(
-            rt.alloc(),
-            &mut kept,
-            &mut io::writer(rt),
-            telling,
-            path,
-            &mut rt.stderr(),
-        )
-    } else {
-        check_source(
-            rt.alloc(),
-            &mut kept,
-            &mut io::writer(rt),
-            telling,
-            path,
-            &mut rt.stderr(),
-        )
-    };
-    told_unread(rt, ended, Need::File, path, &kept)
+    match read_source(rt.alloc(), &mut kept) {
+        Ok(source) => check_text(rt, source, path, telling_of(rt, when), stuck),
+        Err(error) => told_unread(rt, Err(Failure::from(error)), Need::File, path, &kept),
+    }
 }
 
 // What `run` and `audit` read: a source, and a second file.
@@ -455,6 +537,11 @@ fn inputs_of(rt: &HostRuntime, files: Files<'_>, telling: Telling) -> Result<Inp
 fn run_script(rt: &HostRuntime, files: Files<'_>, when: Explain) -> Result<u8, Failure> {
     let telling = telling_of(rt, when);
     let Inputs { source, mut kept } = inputs_of(rt, files, telling)?;
+    let instead = "run does not follow them yet";
+    let source = match plain_source(rt, source, telling, files.source, instead)? {
+        Taken::Plain(source) => source,
+        Taken::Told(status) => return Ok(status),
+    };
     let ended = answer_script(
         rt.alloc(),
         &source,
@@ -510,6 +597,10 @@ fn run_folder(rt: &HostRuntime, files: Files<'_>, when: Explain) -> Result<u8, F
     let source = match source_at(rt, files.source) {
         Ok(source) => source,
         Err(lacking) => return Err(told(rt, lacking, files.source)),
+    };
+    let source = match without_holds(rt, source, telling_of(rt, when), files.source)? {
+        Taken::Plain(source) => source,
+        Taken::Told(status) => return Ok(status),
     };
     match judge(rt.alloc(), &source)? {
         Judged::Ready(objects) => tell_folder(rt, &objects, files.text),
@@ -595,6 +686,12 @@ fn run_keep(rt: &HostRuntime, asked: Keeping<'_>, words: &[&str]) -> Result<Keep
         Ok(source) => source,
         Err(lacking) => return Err(told(rt, lacking, asked.file)),
     };
+    let telling = telling_of(rt, asked.explain);
+    let instead = "keep does not follow them yet";
+    let source = match plain_source(rt, source, telling, asked.file, instead)? {
+        Taken::Plain(source) => source,
+        Taken::Told(status) => return Ok(status),
+    };
     let lock = match lock_folder(rt, asked.folder) {
         Ok(lock) => lock,
         Err(lacking) => return Err(told(rt, lacking, asked.folder)),
@@ -619,6 +716,10 @@ fn run_audit(rt: &HostRuntime, files: Files<'_>, when: Explain) -> Result<u8, Fa
     }
     let telling = telling_of(rt, when);
     let Inputs { source, mut kept } = inputs_of(rt, files, telling)?;
+    let source = match without_holds(rt, source, telling, files.source)? {
+        Taken::Plain(source) => source,
+        Taken::Told(status) => return Ok(status),
+    };
     let ended = audit_trace(rt.alloc(), &source, &mut kept, &mut io::writer(rt));
     let ended = told_unread(rt, ended, Need::File, files.text, &kept);
     let text = kept.text();

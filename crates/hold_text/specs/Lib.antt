@@ -1,0 +1,2 @@
+pub mod HoldLines
+pub mod HeldReport
