@@ -10,7 +10,7 @@ use Rattle.clap.specs.declared.builder.value_parser.ValueParser.TheVariants as p
 use Rattle.clap.specs.declared.error.kind.ErrorKind.TheVariants as kinds
 use Rattle.clap.specs.declared.parser.matches.ArgMatches.{ArgMatches}
 use Rattle.command_line.specs.Forms.{Text, Verb, paths, check, run, audit, serve, keep, name_of, Given, IsNumber}
-use Rattle.command_line.specs.Forms.{number_of, sessions_of, at_once_of, sync_of, traces_of}
+use Rattle.command_line.specs.Forms.{number_of, sessions_of, at_once_of, sync_of, traces_of, away_of}
 
 -- a word that has to be there
 abbrev pub required_rule : Text → Rule
@@ -51,6 +51,14 @@ traces_rule = record (new_rule (codes "traces")) {
   parser = Some (parsers.Unsigned 1 1000000);
 }
 
+abbrev pub away_rule : Rule
+away_rule = record (new_rule (codes "away")) {
+  long = Some (codes "away");
+  value_names = 1;
+  defaults = codes "30" ∷ [];
+  parser = Some (parsers.Unsigned 0 86400);
+}
+
 -- an option that may come again and again, whose words the program itself looks at
 abbrev pub past_rule : Rule
 past_rule = record (new_rule (codes "past")) {
@@ -74,7 +82,7 @@ own_rules serve =
     ∷ flag_rule (codes "stop-with-input") ∷ explain_rules
 own_rules keep =
     required_rule (codes "FILE") ∷ required_rule (codes "DIR") ∷ required_rule (codes "PLACE") ∷ at_once_rule
-    ∷ sync_rule ∷ traces_rule ∷ past_rule ∷ flag_rule (codes "stop-with-input") ∷ explain_rules
+    ∷ sync_rule ∷ traces_rule ∷ away_rule ∷ past_rule ∷ flag_rule (codes "stop-with-input") ∷ explain_rules
 
 abbrev pub with_rules : App → List Rule → App
 with_rules a [] = a
@@ -100,6 +108,11 @@ HoldsExplain g rows =
 abbrev pub HoldsTraces : Given → List Row → Type 0
 HoldsTraces g rows = (traces : Text) × (one_of (codes "traces") rows ≡ Some traces) × IsNumber 1 1000000 traces
     × (traces_of g.traces ≡ number_of traces)
+
+-- the option `--away`, as what is found has it
+abbrev pub HoldsAway : Given → List Row → Type 0
+HoldsAway g rows = (away : Text) × (one_of (codes "away") rows ≡ Some away) × IsNumber 0 86400 away
+    × (away_of g.away ≡ number_of away)
 
 -- the values of `--past` that are found, in order
 abbrev pub past_in : List Row → List Text
@@ -129,7 +142,7 @@ Holds keep g rows =
     × (at_once_of g.at_once ≡ number_of at_once)
     × (first_of (codes "sync") rows ≡ Some sync) × (sync_of g.sync ≡ sync)
     × (one_of (codes "stop-with-input") rows ≡ Some (bool_text g.stops)) × HoldsTraces g rows
-    × (past_in rows ≡ g.past) × HoldsExplain g rows
+    × HoldsAway g rows × (past_in rows ≡ g.past) × HoldsExplain g rows
 
 -- the matches are those of a subcommand that was given this
 abbrev pub IsMatched : Verb → Given → ArgMatches → Type 0

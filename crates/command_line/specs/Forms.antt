@@ -56,7 +56,7 @@ abbrev pub has_sessions : Verb → Bool
 has_sessions serve = true
 has_sessions v = false
 
--- which have the options `--at-once`, `--sync`, `--traces` and `--past`
+-- which have the options `--at-once`, `--sync`, `--traces`, `--away` and `--past`
 abbrev pub has_keeping : Verb → Bool
 has_keeping keep = true
 has_keeping v = false
@@ -103,6 +103,7 @@ pub record Given : Type 0 where
   pub at_once : Option Text
   pub sync : Option Text
   pub traces : Option Text
+  pub away : Option Text
   pub past : List Text
 
 abbrev pub nothing : Given
@@ -116,6 +117,7 @@ nothing = record {
   at_once = None;
   sync = None;
   traces = None;
+  away = None;
   past = [];
 }
 
@@ -162,6 +164,12 @@ pub data Gives (v : Verb) : Bool → Given → List Text → Given → Type 0 wh
   traces_joined : (g after : Given) (w n : Text) (ws : List Text) → w ≡ codes "--traces=" ++ n →
       has_keeping v ≡ true → g.traces ≡ None → IsNumber 1 1000000 n
       → Gives v true (record g { traces = Some n }) ws after → Gives v true g (w ∷ ws) after
+  away : (g after : Given) (w n : Text) (ws : List Text) → w ≡ codes "--away" → is_bare n ≡ true →
+      has_keeping v ≡ true → g.away ≡ None → IsNumber 0 86400 n
+      → Gives v true (record g { away = Some n }) ws after → Gives v true g (w ∷ n ∷ ws) after
+  away_joined : (g after : Given) (w n : Text) (ws : List Text) → w ≡ codes "--away=" ++ n →
+      has_keeping v ≡ true → g.away ≡ None → IsNumber 0 86400 n
+      → Gives v true (record g { away = Some n }) ws after → Gives v true g (w ∷ ws) after
   past : (g after : Given) (w p : Text) (ws : List Text) → w ≡ codes "--past" → is_bare p ≡ true →
       has_keeping v ≡ true
       → Gives v true (record g { past = g.past ++ p ∷ [] }) ws after → Gives v true g (w ∷ p ∷ ws) after
@@ -189,6 +197,11 @@ sync_of (Some w) = w
 abbrev pub traces_of : Option Text → ℕ
 traces_of None = 300
 traces_of (Some n) = number_of n
+
+-- how many seconds a client with a name may be away: 30 where no number is given
+abbrev pub away_of : Option Text → ℕ
+away_of None = 30
+away_of (Some n) = number_of n
 
 -- what this word says: before an answer, or a number of milliseconds
 abbrev pub IsSyncOf : Text → Sync → Type 0
@@ -226,7 +239,7 @@ Makes serve g (requests.Serve s) =
 Makes keep g (requests.Keep k) =
     (place : Text) × (g.words ≡ k.file.now ∷ k.folder.now ∷ place ∷ []) × IsAddressOf place k.address
     × (k.at_once ≡ at_once_of g.at_once) × IsSyncOf (sync_of g.sync) k.sync × (g.stops ≡ k.stops)
-    × (k.traces ≡ traces_of g.traces) × (k.explain ≡ explain_of g.explains g.silent)
+    × (k.traces ≡ traces_of g.traces) × (k.away ≡ away_of g.away) × (k.explain ≡ explain_of g.explains g.silent)
 Makes v g q = ⊥
 
 -- these words, the first of which names the program, ask for this

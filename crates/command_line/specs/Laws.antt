@@ -28,7 +28,7 @@ IsSame (requests.Serve s) (requests.Serve t) =
 IsSame (requests.Keep k) (requests.Keep l) =
     (k.file.now ≡ l.file.now) × (k.folder.now ≡ l.folder.now) × IsSameAddress k.address l.address
     × (k.at_once ≡ l.at_once) × (k.sync ≡ l.sync)
-    × (k.stops ≡ l.stops) × (k.traces ≡ l.traces) × (k.explain ≡ l.explain)
+    × (k.stops ≡ l.stops) × (k.traces ≡ l.traces) × (k.away ≡ l.away) × (k.explain ≡ l.explain)
 IsSame p q = ⊥
 
 -- words ask for one thing at most

@@ -321,6 +321,8 @@ pub const KEEP_SYNC: &str = "Answers are safe `always`, or 1 to 60000 ms later";
 
 pub const KEEP_TRACES: &str = "Megabytes of ended epochs that are kept, 1 to 1000000";
 
+pub const KEEP_AWAY: &str = "Seconds a named client may be away and hold, 0 to 86400";
+
 pub const KEEP_PAST: &str =
     "A first start: OPERATION was done K times, 1 to 30000; can be repeated";
 
@@ -353,6 +355,9 @@ Where an object has no journal yet, its values are those of the parts in DIR, as
 `serve` saves them. What its paths have counted they do not tell: of an object
 with a `;` say it, by `--past buffer:put:3` for three calls of `put` before all
 others. With several the calls are done one behind the other.
+
+Of an object with `hold a until b;` a client that is gone gives back what it
+held: at once, and one with a name when it was away for S seconds.
 
 With --stop-with-input it ends in order when standard input ends: what waits is
 cancelled, the parts are saved in DIR as `serve` does, and for each object

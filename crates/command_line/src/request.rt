@@ -14,7 +14,7 @@ ghost use Rattle.command_line.specs.Forms.{keep as keep_verb, explain_of, sync_o
 ghost use Rattle.command_line.specs.Forms.{IsAddressOf, IsSyncOf, Shows, Text, Topic, kind_for};
 ghost use Rattle.command_line.specs.Commands.{Holds, HoldsExplain, IsMatched, app_for, faults, flag_rule, past_in, program};
 ghost use Rattle.command_line.specs.Commands.{at_once_rule, past_rule, required_rule, sessions_rule, sync_rule};
-ghost use Rattle.command_line.specs.Commands.{traces_rule};
+ghost use Rattle.command_line.specs.Commands.{traces_rule, away_rule};
 
 use crate::help;
 use clap::builder::ValueParser;
@@ -49,7 +49,7 @@ pub enum Request<'a> {
     Audit(&'a str, &'a str, Explain),
     /// `pathserve serve FILE DIR PLACE --sessions N`.
     Serve(Serving<'a>),
-    /// `pathserve keep FILE DIR PLACE --at-once N --sync WORD --traces MB`; `--past` is [`pasts_of`]'s.
+    /// `pathserve keep FILE DIR PLACE --at-once N --sync WORD --traces MB --away S`; `--past` is [`pasts_of`]'s.
     Keep(Keeping<'a>),
 }
 
@@ -105,6 +105,8 @@ pub struct Keeping<'a> {
     pub stops: bool,
     /// How many megabytes of ended epochs are kept, 1 to 1000000.
     pub traces: u32,
+    /// How many seconds a client with a name may be away before what it holds is given back, 0 to 86400.
+    pub away: u32,
     /// When a refusal of the source is explained.
     pub explain: Explain,
 }
@@ -128,6 +130,11 @@ const MOST_MILLIS: u32 = 60000;
 const TRACES: &str = "300";
 
 const MOST_TRACES: u64 = 1000000;
+
+// How many seconds a client with a name may be away where the command line does not say it, and the most.
+const AWAY: &str = "30";
+
+const MOST_AWAY: u64 = 86400;
 
 // A word that is not what it should be.
 #[derive(Clone, Copy)]
@@ -308,6 +315,19 @@ fn traces_option<'a>(alloc: Global) -> Arg<'a>
         .help(help::KEEP_TRACES)
 }
 
+// The option `--away`.
+fn away_option<'a>(alloc: Global) -> Arg<'a>
+    ensures rule { rule_of result ≡ away_rule }
+    ensures local { result.global ≡ false }
+{
+    Arg::new(alloc, "away")
+        .long("away")
+        .value_name("S")
+        .default_value(AWAY)
+        .value_parser(ValueParser::unsigned(0, MOST_AWAY))
+        .help(help::KEEP_AWAY)
+}
+
 // The option `--past`.
 fn past_option<'a>(alloc: Global) -> Arg<'a>
     ensures rule { rule_of result ≡ past_rule }
@@ -334,6 +354,7 @@ fn keep_command<'a>(alloc: Global) -> Result<Command<'a>, AllocError>
         .arg(at_once_option(alloc))?
         .arg(sync_option(alloc))?
         .arg(traces_option(alloc))?
+        .arg(away_option(alloc))?
         .arg(past_option(alloc))?
         .arg(stop_flag(alloc))?
         .arg(explain_flag(alloc, help::EXPLAIN))?
@@ -549,6 +570,17 @@ fn traces_in(keep: &ArgMatches<'_>) -> u32
     }
 }
 
+// How many seconds a client with a name may be away.
+fn away_in(keep: &ArgMatches<'_>) -> u32
+    requires { (g : Given) × Holds keep_verb g (rows_of (found_of keep.now)) }
+    ensures { (text : _) → one_text (found_of keep.now) (codes "away") ≡ Some text → result ≡ number_of text }
+{
+    match keep.get_one("away") {
+        Some(away) => away,
+        None => unreachable!(),
+    }
+}
+
 // What the words of `keep` ask for, of which one is this address, and one says this of lines on the disk.
 fn kept<'a>(keep: &ArgMatches<'a>, address: Address<'a>, sync: Sync) -> Request<'a>
     requires { (g : Given) × Holds keep_verb g (rows_of (found_of keep.now)) }
@@ -564,6 +596,7 @@ fn kept<'a>(keep: &ArgMatches<'a>, address: Address<'a>, sync: Sync) -> Request<
         sync,
         stops: keep.get_flag("stop-with-input"),
         traces: traces_in(keep),
+        away: away_in(keep),
         explain: explain_in(keep),
     })
 }

@@ -7,6 +7,7 @@ ghost use Rattle.folder_audit.specs.Said.{Adds, AddsAll, Hears, AreTold};
 use crate::files::{FolderFault, bytes_of, first_of, journal_of, trace_of};
 use decl_core::object::Object;
 use exclude_core::analyse::Accepted;
+use hold_front::text::cut_held;
 use line_core::reply::push_number;
 use recover_text::epochs::{EpochFault, Epochs, epoch_of};
 use recover_text::said::{push_fault, push_whole, stray_bytes};
@@ -36,6 +37,19 @@ fn push_note(notes: &mut Vec<u8>, name: &str, file: &[u8]) -> Result<(), AllocEr
     notes.extend_from_slice(b" bytes behind the first byte 0 are not 0\n")
 }
 
+// Hears the text of an epoch, without the lines of what was held when it began.
+fn hear_text(
+    alloc: Global,
+    object: &Object,
+    epochs: &mut Epochs,
+    text: &[u8],
+) -> Result<Result<(), EpochFault>, AllocError> {
+    match cut_held(alloc, text)? {
+        None => epochs.hear(alloc, object, text),
+        Some(cut) => epochs.hear(alloc, object, &cut.text),
+    }
+}
+
 // Hears the text of an epoch, from a file of this name. False: it is refused, and that is said.
 fn hear(
     alloc: Global,
@@ -49,7 +63,7 @@ fn hear(
         said.new.lines.items) }
 {
     push_note(&mut said.notes, name, text)?;
-    match epochs.hear(alloc, object, text)? {
+    match hear_text(alloc, object, epochs, text)? {
         Ok(()) => Ok(true),
         Err(fault) => {
             push_fault(&mut said.lines, name.as_bytes(), fault)?;

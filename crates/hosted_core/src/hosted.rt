@@ -248,6 +248,13 @@ impl Hosted {
         &self.live
     }
 
+    /// Its clients.
+    pub fn guests(&self) -> &Guests
+        ensures { result.now ≡ self.now.guests }
+    {
+        &self.guests
+    }
+
     /// The place of the operation of this name.
     pub fn operation(&self, name: &Name) -> Option<OpId>
         ensures { IfSome result (λ place. operation_name (object_of self.now.hall.object) place ≡ name.now) }

@@ -9,6 +9,11 @@ use command_line::request::{Address, Keeping, Sync, past_error};
 use decl_core::object::Object;
 use device_core::dir_shelf::DirShelf;
 use exclude_core::analyse::Accepted;
+use gone_core::holding::Holding;
+use hold_core::held::Holds;
+use hold_form::hold::Rules;
+use hold_front::past::{held_of, play_held};
+use hold_front::text::{Cut, cut_held};
 use hosted_core::hosted::{Hosted, MOST_LINES};
 use journal_core::device::DeviceError;
 use journal_core::folder::FolderFile;
@@ -48,17 +53,19 @@ const MEGABYTE: u64 = 1_000_000;
 /// So often, in milliseconds, objects are told the time, and lines are done that wait for their client to read.
 const TICK: u64 = 20;
 
-// The objects of a server, with their names and the fronts with which their journals begin.
+// The objects of a server, with their names and the fronts with which their journals begin, and what is held of each that
+// says something of gone clients or of time; nothing where none does.
 #[derive(Drop)]
 struct Kept {
     objects: Vec<Hosted>,
     names: Vec<String>,
     fronts: Vec<Vec<u8>>,
+    holding: Vec<Option<Holding>>,
 }
 
-// One object, or the line that says why it is not kept.
+// One object with what is held of it, or the line that says why it is not kept.
 enum Begun {
-    Ready(Hosted),
+    Ready(Hosted, Holds),
     Told(Vec<u8>),
 }
 
@@ -199,6 +206,75 @@ fn journal_lines(rt: &HostRuntime, folder: &str, name: &str) -> Result<Vec<u8>, 
     }
 }
 
+// The fault of a journal without held lines, as it is of the journal that has so many behind others.
+fn moved(fault: RecoverFault, before: u64, count: u64) -> RecoverFault {
+    match fault {
+        RecoverFault::Contradicts(line) if line > before => {
+            RecoverFault::Contradicts(line.saturating_add(count))
+        }
+        RecoverFault::Line(line, fault) => { RecoverFault::Line(line.saturating_add(count), fault) }
+        fault => fault,
+    }
+}
+
+// Begins one object behind its journal, which has held lines or none.
+fn begin_held(
+    alloc: Global,
+    object: Object,
+    name: &str,
+    rules: &Rules,
+    lines: &[u8],
+    cut: Option<Cut>,
+) -> Result<Begun, Failure> {
+    let Some(cut) = cut else {
+        return begin_played(alloc, object, name, rules, lines, Holds::new(alloc), 0, 0);
+    };
+    match held_of(alloc, &object, &rules.holds, &cut.held)? {
+        Err(line) => {
+            // (an object of which nothing can be held had holds when its journal was begun)
+            let fault = if rules.holds.is_empty() {
+                RecoverFault::Changed
+            } else {
+                RecoverFault::Front(cut.before.saturating_add(line))
+            };
+            Ok(Begun::Told(refused_line(alloc, name, fault)?))
+        }
+        Ok(held) => begin_played(
+            alloc, object, name, rules, &cut.text, held, cut.before, cut.count,
+        ),
+    }
+}
+
+// Begins one object behind its journal without held lines, at the beginning of which this was held.
+fn begin_played(
+    alloc: Global,
+    object: Object,
+    name: &str,
+    rules: &Rules,
+    lines: &[u8],
+    mut held: Holds,
+    before: u64,
+    count: u64,
+) -> Result<Begun, Failure> {
+    if !rules.holds.is_empty() {
+        play_held(alloc, &object, &rules.holds, &mut held, lines)?;
+    }
+    let house = House {
+        sessions: LIMITS.sessions,
+        names: NAMES,
+        now: 0,
+    };
+    match begin_behind(alloc, object, lines, house, LIMITS) {
+        Ok(hosted) => Ok(Begun::Ready(hosted, held)),
+        Err(NotBegun::Refused(fault)) => {
+            let fault = moved(fault, before, count);
+            Ok(Begun::Told(refused_line(alloc, name, fault)?))
+        }
+        Err(NotBegun::Memory) => Err(Failure::Memory),
+        Err(_) => Ok(Begun::Told(object_line(alloc, name, b" past does not fit\n")?)),
+    }
+}
+
 // Begins one object: behind its journal, or where that has no line yet with the parts in the folder.
 fn begin_one(
     rt: &HostRuntime,
@@ -206,6 +282,7 @@ fn begin_one(
     name: &str,
     folder: &str,
     pasts: &[Past<'_>],
+    rules: &Rules,
     shelf: &mut DirShelf<HostRuntime>,
 ) -> Result<Begun, Failure> {
     let alloc = rt.alloc();
@@ -216,17 +293,8 @@ fn begin_one(
     if let Some(past) = first_past(&object, pasts) {
         return Err(told_twice(alloc, name, past)?);
     }
-    let house = House {
-        sessions: LIMITS.sessions,
-        names: NAMES,
-        now: 0,
-    };
-    match begin_behind(alloc, object, &lines, house, LIMITS) {
-        Ok(hosted) => Ok(Begun::Ready(hosted)),
-        Err(NotBegun::Refused(fault)) => Ok(Begun::Told(refused_line(alloc, name, fault)?)),
-        Err(NotBegun::Memory) => Err(Failure::Memory),
-        Err(_) => Ok(Begun::Told(object_line(alloc, name, b" past does not fit\n")?)),
-    }
+    let cut = cut_held(alloc, &lines)?;
+    begin_held(alloc, object, name, rules, &lines, cut)
 }
 
 // Begins one object that has no journal.
@@ -246,7 +314,7 @@ fn begin_new(
         Err(why) => return Ok(Begun::Told(told_line(alloc, &object, name, why)?)),
     };
     match begin_first(alloc, object, &done, values, NAMES, LIMITS) {
-        Ok(hosted) => Ok(Begun::Ready(hosted)),
+        Ok(hosted) => Ok(Begun::Ready(hosted, Holds::new(alloc))),
         Err(NotBegun::Memory) => Err(Failure::Memory),
         Err(_) => Ok(Begun::Told(object_line(alloc, name, b" past does not fit\n")?)),
     }
@@ -259,12 +327,31 @@ fn name_of(alloc: Global, object: &Object) -> Result<String, Failure> {
     }
 }
 
-// Begins the objects, in order, or gives the lines of those that are not.
+// An object that says nothing of gone clients and of time.
+fn no_rules(alloc: Global) -> Rules {
+    Rules {
+        holds: Vec::new(alloc),
+        everies: Vec::new(alloc),
+    }
+}
+
+// The rules of the next object, where any object has some; none behind the last.
+fn next_rules(alloc: Global, rules: &mut Vec<Rules>) -> Rules {
+    if rules.is_empty() {
+        return no_rules(alloc);
+    }
+    rules.remove(0)
+}
+
+// Begins the objects, in order, or gives the lines of those that are not. `rules` are those of the objects in their order,
+// or none.
 fn begin_all(
     rt: &HostRuntime,
     accepted: Vec<Accepted>,
+    mut rules: Vec<Rules>,
     folder: &str,
     pasts: &[Past<'_>],
+    away: u64,
 ) -> Result<Result<Kept, Vec<u8>>, Failure> {
     let alloc = rt.alloc();
     let unknown = strangers(alloc, &accepted, pasts)?;
@@ -276,15 +363,23 @@ fn begin_all(
         objects: Vec::new(alloc),
         names: Vec::new(alloc),
         fronts: Vec::new(alloc),
+        holding: Vec::new(alloc),
     };
+    let has_rules = !rules.is_empty();
     let mut told = Vec::new(alloc);
     for one in accepted {
         let object = one.into_object();
         let name = name_of(alloc, &object)?;
-        match begin_one(rt, object, name.as_str(), folder, pasts, &mut shelf)? {
+        let own = next_rules(alloc, &mut rules);
+        match begin_one(rt, object, name.as_str(), folder, pasts, &own, &mut shelf)? {
             Begun::Told(line) => told.extend_from_slice(&line)?,
-            Begun::Ready(hosted) => {
-                if let Some(line) = add(alloc, &mut kept, hosted, name)? {
+            Begun::Ready(mut hosted, held) => {
+                let holding = if has_rules {
+                    Some(begin_holding(alloc, &mut hosted, own, held, away)?)
+                } else {
+                    None
+                };
+                if let Some(line) = add(alloc, &mut kept, hosted, holding, name)? {
                     told.extend_from_slice(&line)?;
                 }
             }
@@ -296,17 +391,35 @@ fn begin_all(
     Ok(Err(told))
 }
 
+// What is held of an object that begins: who held something is gone.
+fn begin_holding(
+    alloc: Global,
+    hosted: &mut Hosted,
+    rules: Rules,
+    held: Holds,
+    away: u64,
+) -> Result<Holding, AllocError> {
+    let mut holding = Holding::new(alloc, rules, held, away)?;
+    holding.begin(hosted)?;
+    Ok(holding)
+}
+
 // Adds an object, or gives the line that says why it is not kept.
 fn add(
     alloc: Global,
     kept: &mut Kept,
     hosted: Hosted,
+    holding: Option<Holding>,
     name: String,
 ) -> Result<Option<Vec<u8>>, AllocError> {
     let mut front = Vec::new(alloc);
     if !hosted.push_first(&mut front)? {
         let line = object_line(alloc, name.as_str(), b" past does not fit\n")?;
         return Ok(Some(line));
+    }
+    if let Some(holding) = holding {
+        holding.push_front(hosted.live().object(), &mut front)?;
+        kept.holding.push(Some(holding))?;
     }
     kept.fronts.push(front)?;
     kept.names.push(name)?;
@@ -336,6 +449,7 @@ fn serve_kept<W: Write, E: Write>(
         objects,
         names,
         fronts,
+        holding,
     } = kept;
     let count = objects.len();
     let mut shelf = DirShelf::new(*rt, asked.folder)?;
@@ -344,7 +458,8 @@ fn serve_kept<W: Write, E: Write>(
     let Some(journals) = begun else {
         return Err(Failure::WriteFault);
     };
-    let table = Table::new(alloc, objects, asked.at_once, 0)?;
+    let mut table = Table::new(alloc, objects, asked.at_once, 0)?;
+    table.set_holding(holding);
     let serving = Serving {
         places: asked.at_once,
         pace: Pace {
@@ -391,7 +506,7 @@ fn is_begun(rt: &HostRuntime, folder: &str, name: &str) -> io::Result<bool> {
 }
 
 /// `pathserve keep`: serves these objects, which nobody else serves from the folder, to who connects at the listener, until
-/// the server is to end; and says how that ended: each was kept, or lines say why one is not begun with. `pasts` are what
+/// the server is to end, by these rules, those of each object in their order, or none where no object has any; and says how that ended: each was kept, or lines say why one is not begun with. `pasts` are what
 /// was done before parts were made, where an object begins with parts. Before it serves, `error` gets a line of each object
 /// that is known to get stuck. At its end the parts of each are saved.
 ///
@@ -401,6 +516,7 @@ fn is_begun(rt: &HostRuntime, folder: &str, name: &str) -> io::Result<bool> {
 pub fn keep_objects<W: Write, E: Write>(
     rt: &HostRuntime,
     accepted: Vec<Accepted>,
+    rules: Vec<Rules>,
     asked: Keeping<'_>,
     pasts: &[Past<'_>],
     listener: Listener,
@@ -408,7 +524,8 @@ pub fn keep_objects<W: Write, E: Write>(
     error: &mut E,
 ) -> Result<KeepEnd, Failure> {
     let stuck = stuck_lines(rt.alloc(), &accepted)?;
-    match begin_all(rt, accepted, asked.folder, pasts)? {
+    let away = u64::from(asked.away);
+    match begin_all(rt, accepted, rules, asked.folder, pasts, away)? {
         Ok(kept) => {
             let _ = write_whole(error, &stuck);
             let ended = serve_kept(rt, kept, asked, listener, writer, error)?;

@@ -45,7 +45,8 @@ use explain_line::files::Files;
 use explain_line::kept::Kept;
 use folder_audit::audit::audit_folder;
 use folder_audit::files::FolderFault;
-use hold_read::read::{Look, look_at};
+use hold_form::hold::Rules;
+use hold_read::read::{Held, Look, look_at};
 use holds::{check_held, refuse_faulty, refuse_held};
 use keep::{is_kept, keep_objects};
 use lack::{Lack, Lacking, Need, tell_lack};
@@ -649,6 +650,7 @@ fn path_at(rt: &HostRuntime, path: &str) -> io::Result<(PathListener, Socket)> {
 fn keep_source(
     rt: &HostRuntime,
     source: &[u8],
+    rules: Vec<Rules>,
     asked: Keeping<'_>,
     pasts: &[Past<'_>],
     ears: Ears,
@@ -657,6 +659,7 @@ fn keep_source(
         Judged::Ready(objects) => keep_objects(
             rt,
             objects,
+            rules,
             asked,
             pasts,
             ears,
@@ -679,6 +682,34 @@ fn keep_source(
     }
 }
 
+// A source without the holds of its objects, and these, of each object in order; none where no object has any. `None`: they
+// have a fault, which is told.
+fn ruled_source(
+    rt: &HostRuntime,
+    source: Vec<u8>,
+    asked: Keeping<'_>,
+) -> Result<Option<(Vec<u8>, Vec<Rules>)>, Failure> {
+    match look_at(rt.alloc(), &source)? {
+        Look::Plain => Ok(Some((source, Vec::new(rt.alloc())))),
+        Look::Held(held) => {
+            let Held { cut, rules, .. } = held;
+            Ok(Some((cut, rules)))
+        }
+        Look::Faulty(fault) => {
+            refuse_faulty(
+                rt.alloc(),
+                &source,
+                fault,
+                telling_of(rt, asked.explain),
+                asked.file,
+                &mut io::writer(rt),
+                &mut rt.stderr(),
+            )?;
+            Ok(None)
+        }
+    }
+}
+
 // `pathserve keep`.
 fn run_keep(rt: &HostRuntime, asked: Keeping<'_>, words: &[&str]) -> Result<KeepEnd, Failure> {
     let pasts = pasts_in(rt.alloc(), words)?;
@@ -686,11 +717,9 @@ fn run_keep(rt: &HostRuntime, asked: Keeping<'_>, words: &[&str]) -> Result<Keep
         Ok(source) => source,
         Err(lacking) => return Err(told(rt, lacking, asked.file)),
     };
-    let telling = telling_of(rt, asked.explain);
-    let instead = "keep does not follow them yet";
-    let source = match plain_source(rt, source, telling, asked.file, instead)? {
-        Taken::Plain(source) => source,
-        Taken::Told(status) => return Ok(status),
+    let (source, rules) = match ruled_source(rt, source, asked)? {
+        Some(found) => found,
+        None => return Ok(KeepEnd::Refused),
     };
     let lock = match lock_folder(rt, asked.folder) {
         Ok(lock) => lock,
@@ -700,7 +729,7 @@ fn run_keep(rt: &HostRuntime, asked: Keeping<'_>, words: &[&str]) -> Result<Keep
         Ok(found) => found,
         Err(lacking) => return Err(told(rt, lacking, path_of(asked.address))),
     };
-    let ended = keep_source(rt, &source, asked, &pasts, ears);
+    let ended = keep_source(rt, &source, rules, asked, &pasts, ears);
     if let Some(socket) = socket {
         socket.remove(rt);
     }

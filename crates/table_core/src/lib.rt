@@ -4,9 +4,11 @@
 //! added to which journal: it is what `keep_loop` serves. A call that may start is done in the turn in which it came, and
 //! each waiting call that may start then, in the order of their numbers; each last line goes to the connection that made
 //! the call. Behind a call that waits the lines of its connection are held, but for `cancel`; where it has ended they are
-//! done in the same turn, whosever turn it is. `told_core` says what a turn gives.
+//! done in the same turn, whosever turn it is. `told_core` says what a turn gives. What a client held that is gone is given
+//! back in the turn in which that is known (`gone`).
 #![tactic(auto)]
 
+mod gone;
 mod making;
 mod objects;
 mod peers;

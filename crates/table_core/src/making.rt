@@ -46,9 +46,9 @@ struct Asker {
 
 // A call that may be submitted: by which session, and of which operation.
 #[derive(Clone, Copy)]
-struct Ready {
-    seat: Opened,
-    operation: OpId,
+pub(crate) struct Ready {
+    pub(crate) seat: Opened,
+    pub(crate) operation: OpId,
 }
 
 // The session of one that has a name.
@@ -200,6 +200,10 @@ impl Table {
         ensures { OnOk result (Brings (MakesCall asker.place asker.opened operation arguments.items) post.old
             (seen self.old) post.new (seen self.new)) }
     {
+        if self.is_not_held(asker.opened, operation, &arguments) {
+            self.refuse_unheld(asker.place, post)?;
+            return Ok(());
+        }
         match self.ready_for(asker, operation, &arguments, post) {
             Err(fault) => {
                 self.reject(asker.place, fault, post)?;
@@ -281,7 +285,7 @@ impl Table {
     }
 
     // Submits a call. The lines of all that ran join the journal.
-    fn make_call(
+    pub(crate) fn make_call(
         &mut self,
         ready: Ready,
         arguments: Vec<Datum>,
@@ -300,6 +304,7 @@ impl Table {
             Err(fault) => Ok(Err(fault)),
             Ok(taken) => {
                 post.add(at, &self.line)?;
+                self.held_ended(at, &taken.ran)?;
                 Ok(Ok(taken))
             }
         }
@@ -325,7 +330,12 @@ impl Table {
     }
 
     // Calls ran: the last line of each is told to the connection that made it.
-    fn all_ended(&mut self, at: usize, all: &[Ran], post: &mut Post) -> Result<(), AllocError>
+    pub(crate) fn all_ended(
+        &mut self,
+        at: usize,
+        all: &[Ran],
+        post: &mut Post,
+    ) -> Result<(), AllocError>
         ensures { OnOk result ((object : Scene) → slice_get self.old.objects.items at ≡ Some object
             → Brings (AllEnd at object all.now) post.old (seen self.old) post.new (seen self.new)) }
     {

@@ -18,6 +18,7 @@ use crate::tell::{tell_line, tell_opened};
 use ask_core::answer::SubmitFault;
 use client_core::client::Opened;
 use client_core::clients::Clients;
+use gone_core::holding::Holding;
 use guest_core::guests::{EnterFault, Entered};
 use hosted_core::hosted::Hosted;
 use keep_loop::Post;
@@ -45,6 +46,8 @@ pub struct Table {
     pub(crate) line: Vec<u8>,
     // the second of the last tick
     pub(crate) second: u64,
+    // of each object what is held of it, where it says something of gone clients or of time; none where no object does
+    pub(crate) holding: Vec<Option<Holding>>,
 }
 
 fn refusal_of(fault: EnterFault) -> Line
@@ -75,6 +78,7 @@ impl Table {
             clients,
             line,
             second: now,
+            holding: Vec::new(alloc),
         })
     }
 
@@ -238,6 +242,10 @@ impl Table {
         ensures { OnOk result (Brings (Opens place name.now (Some client.now)) post.old (seen self.old) post.new
             (seen self.new)) }
     {
+        if let Some(refusal) = self.unwelcome(at, client) {
+            self.refuse(place, refusal, post)?;
+            return Ok(());
+        }
         match self.come(place, at, client, post)? {
             None => {
                 self.refuse(place, Refusal::NoObject, post)?;
@@ -332,7 +340,7 @@ impl Table {
         let Some(opened) = opened_at(&self.clients, place) else {
             return;
         };
-        if opened.session == 0 {
+        if opened.session == 0 || self.stays(opened) {
             return;
         }
         leave_at(

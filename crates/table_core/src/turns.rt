@@ -142,7 +142,7 @@ impl Table {
     }
 
     // Does the held lines of those of whom no call waits any more, and of those whom that lets go on.
-    fn go_on(&mut self, post: &mut Post) -> Result<(), AllocError>
+    pub(crate) fn go_on(&mut self, post: &mut Post) -> Result<(), AllocError>
         ensures { OnOk result (Continues post.old (seen self.old) post.new (seen self.new)) }
     {
         for _ in 0..u64::MAX {
@@ -342,7 +342,7 @@ impl Table {
             None => Ok(()),
             Some(place) => {
                 self.hear_at(place, line, end, post)?;
-                self.go_on(post)?;
+                self.settle(post)?;
                 Ok(())
             }
         }
@@ -392,7 +392,7 @@ impl Table {
         ensures { OnOk result (Brings (Then (Notes note) GoesOn) post.old (seen self.old) post.new (seen self.new)) }
     {
         self.do_note(note, post)?;
-        self.go_on(post)?;
+        self.settle(post)?;
         Ok(())
     }
 
@@ -464,6 +464,9 @@ impl Table {
     fn tick(&mut self, second: u64)
         ensures { seen self.new ≡ seen self.old }
     {
+        if second > self.second {
+            self.look(second);
+        }
         self.second = second;
         wake(&mut self.clients);
     }
@@ -556,7 +559,7 @@ impl Served for Table {
     fn due(&self, front: &mut Vec<u8>) -> Result<Option<usize>, AllocError> {
         for at in 0..self.objects.len() {
             if self.objects[at].is_due() {
-                if writes_next(&self.objects[at], front) {
+                if writes_next(&self.objects[at], front) && self.tells_held(at, front) {
                     return Ok(Some(at));
                 }
             }

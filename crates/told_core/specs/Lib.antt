@@ -4,3 +4,4 @@ pub mod Laws
 pub mod Moves
 pub mod State
 pub mod Turns
+pub mod Gone
