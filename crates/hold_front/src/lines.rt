@@ -35,7 +35,14 @@ fn op_at(holds: &[Hold], rule: usize) -> OpId
 fn held_name<'a>(object: &'a Object, holds: &[Hold], rule: usize) -> &'a [u8]
     ensures { result.now ≡ operation_name (object_of object.now) (op_by (slice_get (holds_of holds.now) rule)) }
 {
-    match object.operations.get(op_at(holds, rule) as usize) {
+    name_of(object, op_at(holds, rule))
+}
+
+// The name of the operation at a place of the object; no bytes where there is none.
+fn name_of(object: &Object, operation: OpId) -> &[u8]
+    ensures { result.now ≡ operation_name (object_of object.now) operation }
+{
+    match object.operations.get(operation as usize) {
         Some(found) => found.name.as_bytes(),
         None => &[],
     }

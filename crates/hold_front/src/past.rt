@@ -98,6 +98,24 @@ fn end(
     )
 }
 
+// What a line told is taken.
+fn take_note(
+    alloc: Global,
+    holds: &[Hold],
+    all: &mut Holds,
+    base: u64,
+    carried: &[CarriedCall],
+    note: &Note,
+) -> Result<(), AllocError> {
+    match note {
+        Note::Ran(known, told) => {
+            let number = told_of(base, carried, known.number);
+            end(alloc, holds, all, number, known, told)
+        }
+        _ => Ok(()),
+    }
+}
+
 // What is held behind these lines, of which each has its place.
 fn play(
     alloc: Global,
@@ -121,14 +139,11 @@ fn play(
     };
     let mut rest = behind;
     'lines: while let Some((line, more)) = split_line(rest) {
-        match replay.hear(object, line)? {
-            Ok(Note::Ran(known, told)) => {
-                let number = told_of(base, &carried, known.number);
-                end(alloc, holds, all, number, &known, &told)?;
-            }
-            Ok(_) => {}
+        let note = match replay.hear(object, line)? {
             Err(_) => return Ok(()),
-        }
+            Ok(note) => note,
+        };
+        take_note(alloc, holds, all, base, &carried, &note)?;
         rest = more;
     }
     Ok(())

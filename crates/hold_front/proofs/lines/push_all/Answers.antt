@@ -3,7 +3,7 @@ use Rattle.std.specs.Prelude.{codes}
 use Rattle.decl_core.specs.ObjectMap.{object_of}
 use Rattle.hold_form.specs.HoldMap.{holds_of}
 use Rattle.hold_front.specs.HeldLines.{held_words}
-use Rattle.front_core.proofs.Adding.{rows_more}
+use Rattle.hold_front.proofs.Adding.{rows_more}
 use Rattle.hold_front.proofs.lines.push_all.Goals as goal
 
 pub loop-held-preserved : goal.loop-held-preserved
