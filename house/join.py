@@ -493,6 +493,16 @@ def tool(text, names):
     return re.sub(r'"(?:[a-z_0-9]+ ?){2,}"(?:\s*"(?:[a-z_0-9]+ ?)+")*', once, text)
 
 
+def without_open(text, names, said):
+    """gate/public_calls.txt without the rows of parts that are open, where not all of them are; one row where all are."""
+    rows = [it for it in names.order if f"{it}: open\n" in text]
+    for at, it in enumerate(rows):
+        if at or len(rows) < len(names.order):
+            text = text.replace(f"{it}: open\n", "")
+            said += [f"  gate/public_calls.txt: {it} was open, and {names.crate} is not"] * (len(rows) < len(names.order))
+    return text
+
+
 def listed(top):
     """The files of the repository: those that git knows, or would take."""
     words = ["git", "-C", str(top), "ls-files", "-z", "--cached", "--others", "--exclude-standard"]
@@ -566,6 +576,8 @@ def work(top, join, dry):
             if str(path) == "docs/ARCHITECTURE.md":
                 text = architecture(text, join, names)
             after = without_repeats(names.plain(text), join.crate)
+        elif str(path) == "gate/public_calls.txt":
+            after = names.plain(without_open(text, names, said))
         elif path.parts[0] in ("gate", "tools", "bench"):
             after = tool(text, names)
         else:
