@@ -1,5 +1,5 @@
 -- Words ask for one thing at most.
-use Rattle.std.proofs.Common.{◌≡◌, ◌∙◌, arith, Bool, true, false, ℕ, List, [], ◌∷◌, Some, refl, sym, ap, ap₂, subst, codes, bytes_eq}
+use Rattle.std.proofs.Common.{◌≡◌, ◌∙◌, arith, Bool, true, false, ℕ, List, [], ◌∷◌, Option, Some, None, option_map, refl, sym, ap, ap₂, subst, codes, bytes_eq}
 use Rattle.std.specs.List.{slice_index_or}
 use Rattle.clap.specs.Walk.{Row, Text, first_of, one_of, rows_after}
 use Rattle.clap.specs.Simple.{subcommand_of}

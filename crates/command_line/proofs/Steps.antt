@@ -152,21 +152,21 @@ flag_used name rows e = no_conflict (has_row name rows) (first_of (cond (has_row
 
 -- no word of a subcommand has this name
 others : (x : Text) → bytes_eq x (codes "FILE") ≡ false → bytes_eq x (codes "SCRIPT") ≡ false → bytes_eq x (codes "TRACE") ≡ false → bytes_eq x (codes "DIR") ≡ false
-    → bytes_eq x (codes "PLACE") ≡ false → (v : Verb) → AreOthers x (place_names v)
-others x a b c d e paths = tt
-others x a b c d e check = (a, tt)
-others x a b c d e run = (a, (b, tt))
-others x a b c d e audit = (a, (c, tt))
-others x a b c d e attempt = (a, (c, tt))
-others x a b c d e serve = (a, (d, (e, tt)))
-others x a b c d e keep = (a, (d, (e, tt)))
+    → bytes_eq x (codes "PLACE") ≡ false → bytes_eq x (codes "NAME") ≡ false → (v : Verb) → AreOthers x (place_names v)
+others x a b c d e f paths = tt
+others x a b c d e f check = (a, tt)
+others x a b c d e f run = (a, (b, tt))
+others x a b c d e f audit = (a, (c, tt))
+others x a b c d e f attempt = (a, (f, tt))
+others x a b c d e f serve = (a, (d, (e, tt)))
+others x a b c d e f keep = (a, (d, (e, tt)))
 
 others_choice : (o : Choice) (v : Verb) → AreOthers (id_of o) (place_names v)
-others_choice of_sessions v = others (codes "sessions") refl refl refl refl refl v
-others_choice of_at_once v = others (codes "at-once") refl refl refl refl refl v
-others_choice of_sync v = others (codes "sync") refl refl refl refl refl v
-others_choice of_traces v = others (codes "traces") refl refl refl refl refl v
-others_choice of_past v = others (codes "past") refl refl refl refl refl v
+others_choice of_sessions v = others (codes "sessions") refl refl refl refl refl refl v
+others_choice of_at_once v = others (codes "at-once") refl refl refl refl refl refl v
+others_choice of_sync v = others (codes "sync") refl refl refl refl refl refl v
+others_choice of_traces v = others (codes "traces") refl refl refl refl refl refl v
+others_choice of_past v = others (codes "past") refl refl refl refl refl refl v
 
 module _ (v : Verb) (g : Given) (rows : List Row) (h : Holding v g rows) where
   -- a flag or option was not given before where it has no row
@@ -201,7 +201,7 @@ module _ (v : Verb) (g : Given) (rows : List Row) (h : Holding v g rows) where
 
   pub holds_explain : g.explains ≡ false → Holding v (record g { explains = true }) (rows ++ flag_row (codes "explain") ∷ [])
   holds_explain off = record {
-    places = places_kept (place_names v) g.words rows (flag_row (codes "explain")) (others (codes "explain") refl refl refl refl refl v) h.places;
+    places = places_kept (place_names v) g.words rows (flag_row (codes "explain")) (others (codes "explain") refl refl refl refl refl refl v) h.places;
     explains = seen_new (codes "explain") (flag_row (codes "explain")) rows refl (h.explains ∙ ap (flag_seen (codes "explain")) off);
     silent = seen_other (codes "no-explain") (flag_row (codes "explain")) rows refl ∙ h.silent;
     stops = seen_other (codes "stop-with-input") (flag_row (codes "explain")) rows refl ∙ h.stops;
@@ -218,7 +218,7 @@ module _ (v : Verb) (g : Given) (rows : List Row) (h : Holding v g rows) where
 
   pub holds_silence : g.silent ≡ false → Holding v (record g { silent = true }) (rows ++ flag_row (codes "no-explain") ∷ [])
   holds_silence off = record {
-    places = places_kept (place_names v) g.words rows (flag_row (codes "no-explain")) (others (codes "no-explain") refl refl refl refl refl v) h.places;
+    places = places_kept (place_names v) g.words rows (flag_row (codes "no-explain")) (others (codes "no-explain") refl refl refl refl refl refl v) h.places;
     explains = seen_other (codes "explain") (flag_row (codes "no-explain")) rows refl ∙ h.explains;
     silent = seen_new (codes "no-explain") (flag_row (codes "no-explain")) rows refl (h.silent ∙ ap (flag_seen (codes "no-explain")) off);
     stops = seen_other (codes "stop-with-input") (flag_row (codes "no-explain")) rows refl ∙ h.stops;
@@ -235,7 +235,7 @@ module _ (v : Verb) (g : Given) (rows : List Row) (h : Holding v g rows) where
 
   pub holds_stop : g.stops ≡ false → Holding v (record g { stops = true }) (rows ++ flag_row (codes "stop-with-input") ∷ [])
   holds_stop off = record {
-    places = places_kept (place_names v) g.words rows (flag_row (codes "stop-with-input")) (others (codes "stop-with-input") refl refl refl refl refl v) h.places;
+    places = places_kept (place_names v) g.words rows (flag_row (codes "stop-with-input")) (others (codes "stop-with-input") refl refl refl refl refl refl v) h.places;
     explains = seen_other (codes "explain") (flag_row (codes "stop-with-input")) rows refl ∙ h.explains;
     silent = seen_other (codes "no-explain") (flag_row (codes "stop-with-input")) rows refl ∙ h.silent;
     stops = seen_new (codes "stop-with-input") (flag_row (codes "stop-with-input")) rows refl (h.stops ∙ ap (flag_seen (codes "stop-with-input")) off);
@@ -252,7 +252,7 @@ module _ (v : Verb) (g : Given) (rows : List Row) (h : Holding v g rows) where
 
   pub holds_stuck : g.stuck ≡ false → Holding v (record g { stuck = true }) (rows ++ flag_row (codes "stuck") ∷ [])
   holds_stuck off = record {
-    places = places_kept (place_names v) g.words rows (flag_row (codes "stuck")) (others (codes "stuck") refl refl refl refl refl v) h.places;
+    places = places_kept (place_names v) g.words rows (flag_row (codes "stuck")) (others (codes "stuck") refl refl refl refl refl refl v) h.places;
     explains = seen_other (codes "explain") (flag_row (codes "stuck")) rows refl ∙ h.explains;
     silent = seen_other (codes "no-explain") (flag_row (codes "stuck")) rows refl ∙ h.silent;
     stops = seen_other (codes "stop-with-input") (flag_row (codes "stuck")) rows refl ∙ h.stops;
