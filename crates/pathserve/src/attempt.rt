@@ -140,6 +140,24 @@ fn answer_input(
     told_unread(rt, ended, Need::Input, "", &kept)
 }
 
+// Answers the lines of standard input over this object of a source, which is opened once more for what is told of them.
+fn answer_opened(
+    rt: &HostRuntime,
+    accepted: Accepted,
+    source: &[u8],
+    path: &str,
+    name: Option<&str>,
+    telling: Telling,
+) -> Result<u8, Failure> {
+    match open(rt.alloc(), source, name)? {
+        Opened::Ready(again) => {
+            let list = list_of(rt.alloc(), source, &again)?;
+            answer_input(rt, accepted, again, &list, manner_of(rt, telling))
+        }
+        Opened::Told(line) => tell_line(rt, source, &line, path, name, telling),
+    }
+}
+
 /// `pathserve try`, of the object of this name or the first one.
 pub(crate) fn run_try(
     rt: &HostRuntime,
@@ -152,15 +170,8 @@ pub(crate) fn run_try(
         Err(lacking) => return Err(told(rt, lacking, path)),
     };
     let telling = telling_of(rt, when);
-    let first = open(rt.alloc(), &source, name)?;
-    let second = open(rt.alloc(), &source, name)?;
-    match (first, second) {
-        (Opened::Ready(accepted), Opened::Ready(again)) => {
-            let list = list_of(rt.alloc(), &source, &again)?;
-            answer_input(rt, accepted, again, &list, manner_of(rt, telling))
-        }
-        (Opened::Told(line), _) | (_, Opened::Told(line)) => {
-            tell_line(rt, &source, &line, path, name, telling)
-        }
+    match open(rt.alloc(), &source, name)? {
+        Opened::Ready(accepted) => answer_opened(rt, accepted, &source, path, name, telling),
+        Opened::Told(line) => tell_line(rt, &source, &line, path, name, telling),
     }
 }
