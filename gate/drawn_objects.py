@@ -3,6 +3,7 @@ bodies as functions."""
 import pathlib
 import random
 
+from slow_holds import Hold
 from slow_world import (
     MOST,
     Any,
@@ -206,6 +207,30 @@ def hall_clear(c):
     del c["log"][0]
 
 
+def jobs_claim(c):
+    oldest = first(c["line"])
+    del c["line"][0]
+    return oldest
+
+
+def jobs_finish(c, x):
+    if x == "it's":
+        raise Refusal("never")
+    c["tally"][0] = whole(c["tally"][0] + 1)
+
+
+def seats_book(c, i, x):
+    if element(c["who"], i) != "":
+        raise Refusal("taken")
+    set_element(c["who"], i, x)
+
+
+def seats_free(c, i, x):
+    if element(c["who"], i) != x:
+        raise Refusal("other")
+    set_element(c["who"], i, "")
+
+
 OBJECTS = (
     Object(
         "cell",
@@ -407,5 +432,90 @@ end;
             "length": ((), ("log",), lambda c: len(c["log"])),
             "last": ((), ("log",), lambda c: first(c["log"])),
         },
+    ),
+)
+
+# Objects with holds.
+HOLDING = (
+    Object(
+        "slots",
+        """object slots;
+  const most = 2;
+  path most:(grab; free) end;
+  path 1:(grab, free, [inside]) end;
+  path 1:(free, (freeze; thaw)) end;
+  var v : array [1] of integer;
+  entry procedure grab; begin v[0] := v[0] + 1 end;
+  entry procedure free; begin v[0] := v[0] - 1 end;
+  entry function inside : integer; begin inside := v[0] end;
+  entry procedure freeze; begin end;
+  entry procedure thaw; begin end;
+  hold grab until free;
+  hold freeze until thaw by any;
+end;
+""",
+        [Bound(2, Sequence("grab", "free")), Bound(1, Any("grab", "free", Burst("inside"))), Bound(1, Any("free", Sequence("freeze", "thaw")))],
+        {"v": Array(1, "integer")},
+        {
+            "grab": ((), ("v",), one_more, 6),
+            "free": ((), ("v",), lambda c: set_element(c["v"], 0, whole(c["v"][0] - 1)), 2),
+            "inside": ((), ("v",), lambda c: c["v"][0]),
+            "freeze": ((), (), lambda c: None),
+            "thaw": ((), (), lambda c: None),
+        },
+        (Hold("grab", ["free"]), Hold("freeze", ["thaw"], True)),
+    ),
+    Object(
+        "jobs",
+        """object jobs;
+  path 1:(submit, claim, finish, give_back) end;
+  var line : queue of text;
+      tally : array [1] of integer;
+  entry procedure submit(x : text); begin append(line, x) end;
+  entry function claim : text; begin claim := first(line); take(line) end;
+  entry procedure finish(x : text); begin if x = 'it''s' then refuse('never'); tally[0] := tally[0] + 1 end;
+  entry procedure give_back(x : text); begin append(line, x) end;
+  hold claim until give_back, finish;
+end;
+""",
+        [Bound(1, Any("submit", "claim", "finish", "give_back"))],
+        {"line": Queue("text"), "tally": Array(1, "integer")},
+        {
+            "submit": ((("a", "a", "it's", ""),), ("line",), lambda c, x: append(c["line"], x), 5),
+            "claim": ((), ("line",), jobs_claim, 5),
+            "finish": ((("a", "it's"),), ("tally",), jobs_finish),
+            "give_back": ((("a", ""),), ("line",), lambda c, x: append(c["line"], x)),
+        },
+        (Hold("claim", ["give_back", "finish"]),),
+    ),
+    Object(
+        "seats",
+        """object seats;
+  path 1:(book, cancel, pay, [holder]) end;
+  path 1:(lead; resign) end;
+  var who : array [3] of text;
+  entry procedure book(seat : integer; name : text);
+  begin if who[seat] <> '' then refuse('taken'); who[seat] := name end;
+  entry procedure cancel(seat : integer; name : text);
+  begin if who[seat] <> name then refuse('other'); who[seat] := '' end;
+  entry procedure pay(seat : integer; name : text); begin end;
+  entry function holder(seat : integer) : text; begin holder := who[seat] end;
+  entry function lead(x : integer) : integer; begin lead := x + 1 end;
+  entry procedure resign(x, y : integer); begin end;
+  hold book until cancel, pay by any;
+  hold lead until resign;
+end;
+""",
+        [Bound(1, Any("book", "cancel", "pay", Burst("holder"))), Bound(1, Sequence("lead", "resign"))],
+        {"who": Array(3, "text")},
+        {
+            "book": (((0, 1, 2, 2, 3), ("a", "b")), ("who",), seats_book, 5),
+            "cancel": (((0, 1, 2), ("a", "b")), ("who",), seats_free),
+            "pay": (((0, 1, 2), ("a", "b")), (), lambda c, i, x: None),
+            "holder": (((0, 2, 3),), ("who",), lambda c, i: element(c["who"], i)),
+            "lead": (((0, 7, MOST),), (), lambda c, x: whole(x + 1), 2),
+            "resign": (((0, 7), (1, 8)), (), lambda c, x, y: None),
+        },
+        (Hold("book", ["cancel", "pay"], True), Hold("lead", ["resign"])),
     ),
 )

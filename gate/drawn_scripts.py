@@ -1,6 +1,7 @@
 """The scripts that are drawn from seeds, each with what it has to answer. A script follows from its seed, so each run draws
 the same ones."""
-from drawn_objects import OBJECTS
+from drawn_objects import HOLDING, OBJECTS
+from slow_holds import HeldWorld
 from slow_world import MOST, World, finish_line, shown_lines, written
 
 # Lines that say nothing.
@@ -53,10 +54,13 @@ class Drawer:
 class Script:
     """A drawn script, as long as it grows: its lines, and what they have to answer."""
 
+    # The objects, one of which it is on, and what works out its answers.
+    objects, world_of = OBJECTS, World
+
     def __init__(self, seed):
         self.seed, self.draw = seed, Drawer(seed)
-        self.made = OBJECTS[seed % len(OBJECTS)]
-        self.world = World(self.made)
+        self.made = self.objects[seed % len(self.objects)]
+        self.world = self.world_of(self.made)
         self.lines, self.answers, self.status = [], [], 0
         # How each `do` was answered: what its last line, or that before those of the calls that it started, begins with.
         self.dones = []
@@ -120,6 +124,16 @@ class Script:
 
     def texts(self, arguments):
         return [self.number(it) if isinstance(it, int) else written(it) for it in arguments]
+
+    def wished(self):
+        """A session, and what it would call: now and then with arguments that do not fit, or what there is not."""
+        op, session = self.operation(self.made.operations), self.session()
+        arguments = self.arguments(op)
+        if self.draw.one_in(12):
+            arguments = self.wrong(arguments)
+        if self.draw.one_in(12):
+            op = self.draw.of(UNKNOWN)
+        return session, op, arguments
 
     def add_call(self, session, op, arguments):
         texts = self.texts(arguments)
@@ -295,12 +309,7 @@ class Returning(Script):
 
     def draw_new(self):
         """A call under the next key of its session."""
-        op, session = self.operation(self.made.operations), self.session()
-        arguments = self.arguments(op)
-        if self.draw.one_in(12):
-            arguments = self.wrong(arguments)
-        if self.draw.one_in(12):
-            op = self.draw.of(UNKNOWN)
+        session, op, arguments = self.wished()
         self.add_keyed(session, self.next_key(session), op, arguments)
 
     def draw_again(self):
@@ -364,12 +373,9 @@ class Doing(Returning):
         if not self.draw.one_in(3):
             super().draw_line()
             return
-        op, session = self.operation(self.made.operations), self.session()
-        arguments = self.arguments(op)
-        if self.draw.one_in(12):
-            arguments = self.wrong(arguments)
-        if self.draw.one_in(12):
-            op = self.draw.of(UNKNOWN)
+        self.add_done(*self.wished())
+
+    def add_done(self, session, op, arguments):
         texts = self.texts(arguments)
         answer = self.world.do(session, op, arguments)
         told = [it for it in answer if not it.startswith("started ")]
@@ -412,17 +418,43 @@ class Asking(Doing):
             self.add(["why", self.number(number)], answer)
 
 
+class Holding(Asking):
+    """A drawn script on an object with holds, which asks now and then who holds what."""
+
+    objects, world_of = HOLDING, HeldWorld
+
+    def draw_line(self):
+        held = self.world.held()
+        if not held or not self.draw.one_in(4):
+            super().draw_line()
+            return
+        # What ends something that is held, mostly by who holds it; or a session that holds something leaves.
+        one = self.draw.of(held)
+        if self.draw.one_in(3):
+            self.add(["drop", "s" + self.number(one.session)], self.world.drop(one.session))
+            return
+        session = self.session() if self.draw.one_in(3) else one.session
+        op = self.draw.of(one.hold.until)
+        self.add_done(session, op, one.values if self.made.operations[op].draws else [])
+
+
 FIRST_RETURN = 331
 FIRST_DO = 501
 FIRST_ASK = 641
+FIRST_HOLD = 801
 
 
 def script_of(seed):
     """The script of a seed: one of seven is in turn. From a seed on sessions come back, and calls have keys; from a later
-    one on many calls are done at once; and from the last one on it is asked why calls wait."""
+    one on many calls are done at once; then it is asked why calls wait; and the last ones are on objects with holds."""
     kinds = (Script, InTurn) if seed < FIRST_RETURN else (Returning, InTurnAgain) if seed < FIRST_DO else (Doing, DoingInTurn)
     if seed >= FIRST_ASK:
-        kinds = (Asking, DoingInTurn)
+        kinds = (Holding if seed >= FIRST_HOLD else Asking, DoingInTurn)
     script = kinds[seed % 7 == 3](seed)
     script.draw_lines()
     return script
+
+
+def source_of(seed):
+    """The text of the objects among which that of the script of a seed is."""
+    return "".join(it.text for it in (OBJECTS if seed < FIRST_HOLD else OBJECTS + HOLDING))

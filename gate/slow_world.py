@@ -269,8 +269,8 @@ class Operation:
 
 
 class Object:
-    def __init__(self, name, text, paths, parts, operations):
-        self.name, self.text, self.paths, self.parts = name, text, paths, parts
+    def __init__(self, name, text, paths, parts, operations, holds=()):
+        self.name, self.text, self.paths, self.parts, self.holds = name, text, paths, parts, holds
         self.operations = {key: Operation(*it) for key, it in operations.items()}
 
     def opening(self):

@@ -1,6 +1,6 @@
 -- Lines that are held.
 use Rattle.std.specs.Prelude.{◌≡◌, ◌+◌, ℕ, Bool, true, false, Option, Some, None, List, [], ◌∷◌, ◌++◌, length, drop}
-use Rattle.std.specs.Prelude.{Result, IfOk, slice_get}
+use Rattle.std.specs.Prelude.{Result, IfOk, option_map, slice_get}
 use Rattle.std.specs.declared.alloc.AllocError.{AllocError}
 use Rattle.line_core.specs.Runs.{NoLineFeed}
 use Rattle.client_core.specs.declared.ask.Ask.{Ask}
@@ -8,6 +8,7 @@ use Rattle.client_core.specs.declared.client.Client.{Client}
 use Rattle.client_core.specs.declared.client.Opened.{Opened}
 use Rattle.client_core.specs.declared.clients.Clients.{Clients}
 use Rattle.client_core.specs.Asks.{Asks}
+use Rattle.client_core.specs.People.{Person, person_in}
 use Rattle.client_core.specs.Places.{has_in, is_here_in, opened_in}
 
 abbrev pub is_not : Bool → Bool
@@ -51,15 +52,16 @@ is_whole_before true [] = false
 is_whole_before true (byte ∷ bytes) = true
 is_whole_before false behind = true
 
--- the same connection is at a place, with what it has opened and its held lines
+-- the same connection is at a place, of the same client, with what it has opened and its held lines
 pub record IsSame (old new : Option Client) : Type 0 where
   pub here : is_here_in new ≡ is_here_in old
   pub who : (who : ℕ) → has_in who new ≡ has_in who old
   pub opened : opened_in new ≡ opened_in old
   pub rest : rest_in new ≡ rest_in old
   pub cut : is_cut_in new ≡ is_cut_in old
+  pub person : person_in new ≡ person_in old
 
--- the same connections, with what they have opened and their held lines
+-- the same connections, of the same clients, with what they have opened and their held lines
 pub record AreSameRows (old new : List Client) : Type 0 where
   pub count : length new ≡ length old
   pub each : (k : ℕ) → IsSame (slice_get old k) (slice_get new k)
@@ -75,6 +77,7 @@ pub record IsHeld (line : List ℕ) (is_whole : Bool) (old new : Option Client) 
   pub opened : opened_in new ≡ opened_in old
   pub rest : rest_in new ≡ rest_in old ++ (line ++ 10 ∷ [])
   pub cut : is_cut_in new ≡ is_not is_whole
+  pub person : person_in new ≡ person_in old
 
 -- the first of its held lines, so many bytes, are held no more
 pub record IsPassed (count : ℕ) (old new : Option Client) : Type 0 where
@@ -83,6 +86,7 @@ pub record IsPassed (count : ℕ) (old new : Option Client) : Type 0 where
   pub opened : opened_in new ≡ opened_in old
   pub rest : rest_in new ≡ drop count (rest_in old)
   pub cut : is_cut_in new ≡ is_cut_in old
+  pub person : person_in new ≡ person_in old
 
 -- it has opened this
 pub record HasOpened (what : Opened) (old new : Option Client) : Type 0 where
@@ -91,6 +95,7 @@ pub record HasOpened (what : Opened) (old new : Option Client) : Type 0 where
   pub opened : opened_in new ≡ Some what
   pub rest : rest_in new ≡ rest_in old
   pub cut : is_cut_in new ≡ is_cut_in old
+  pub person : person_in new ≡ person_in old
 
 -- its call waits, or waits no more
 pub record IsSetTo (waits : Bool) (old new : Option Client) : Type 0 where
@@ -99,6 +104,16 @@ pub record IsSetTo (waits : Bool) (old new : Option Client) : Type 0 where
   pub opened : opened_in new ≡ with_waits waits (opened_in old)
   pub rest : rest_in new ≡ rest_in old
   pub cut : is_cut_in new ≡ is_cut_in old
+  pub person : person_in new ≡ person_in old
+
+-- the same, but for what is known of its client
+pub record ChangesPerson (change : Person → Person) (old new : Option Client) : Type 0 where
+  pub here : is_here_in new ≡ is_here_in old
+  pub who : (who : ℕ) → has_in who new ≡ has_in who old
+  pub opened : opened_in new ≡ opened_in old
+  pub rest : rest_in new ≡ rest_in old
+  pub cut : is_cut_in new ≡ is_cut_in old
+  pub person : person_in new ≡ option_map change (person_in old)
 
 -- what the first held line asks for, of a connection that has opened an object or none, and its bytes with the LF
 pub record IsAsked (client : Option Client) (count : ℕ) (asked : Result Ask AllocError) : Type 0 where

@@ -2,4 +2,5 @@ pub mod Asks
 pub mod Held
 pub mod Inside
 pub mod Numbers
+pub mod People
 pub mod Places

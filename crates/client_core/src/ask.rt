@@ -58,20 +58,6 @@ fn only_number(line: &[u8]) -> Option<u64>
     number_of(word)
 }
 
-// The number behind `cancel`, where this is such a line.
-fn cancelled_by(line: &[u8]) -> Option<u64>
-    ensures { Reads cancel_in (λ n. n) line.now result }
-{
-    let Some(front) = next_bare(line) else {
-        return None;
-    };
-    let (verb, rest) = front;
-    if !is_same_word(verb, b"cancel") {
-        return None;
-    }
-    only_number(rest)
-}
-
 // What stands behind `why`: a number alone.
 #[tactic(auto, using(crate::proofs::Insides::why_none, crate::proofs::Insides::why_some))]
 fn why_behind(line: &[u8]) -> Option<Sight>
@@ -248,7 +234,7 @@ fn wide(alloc: Global, is_open: bool, is_whole: bool, line: &[u8]) -> Result<Ask
     if let Some(inside) = inside_of(line) {
         return Ok(wide_inside(is_open, is_whole, line, inside));
     }
-    if let Some(number) = cancelled_by(line) {
+    if let Some(number) = cancel_of(line) {
         return Ok(wide_cancel(is_open, is_whole, line, number));
     }
     match keyed_call(alloc, line)? {
@@ -326,5 +312,12 @@ pub fn ask_of(alloc: Global, is_open: bool, is_whole: bool, line: &[u8]) -> Resu
 pub fn cancel_of(line: &[u8]) -> Option<u64>
     ensures { Reads cancel_in (λ n. n) line.now result }
 {
-    cancelled_by(line)
+    let Some(front) = next_bare(line) else {
+        return None;
+    };
+    let (verb, rest) = front;
+    if !is_same_word(verb, b"cancel") {
+        return None;
+    }
+    only_number(rest)
 }

@@ -5,6 +5,7 @@ ghost use Rattle.std.specs.Prelude.{MatchOption, OnOk, OnErr};
 ghost use Rattle.line_core.specs.Runs.{NoLineFeed};
 ghost use Rattle.client_core.specs.Held.{rest_in, waits_in, IsFirstLine, is_whole_before};
 ghost use Rattle.client_core.specs.Held.{IsHeld, IsPassed, IsSame, IsSetTo};
+ghost use Rattle.client_core.specs.People.{person_of, newcomer, stranger};
 ghost use Rattle.client_core.specs.Places.{has_in};
 
 use path_tree::name::Name;
@@ -51,7 +52,7 @@ pub struct Client {
     pub(crate) next: Option<usize>,
     // the name by which it opened an object
     pub(crate) name: Option<Name>,
-    // the second in which it came, and that in which its last call was taken
+    // the second in which it came, and that in which its last call was taken, or in which it came
     pub(crate) since: u64,
     pub(crate) called: u64,
 }
@@ -104,6 +105,7 @@ impl Client {
         ensures away { result.is_here ≡ false }
         ensures opened { result.opened ≡ None }
         ensures held { result.held.items ≡ [] }
+        ensures person { person_of result ≡ stranger }
     {
         Client {
             who: 0,
@@ -127,12 +129,14 @@ impl Client {
         ensures here { self.new.is_here ≡ true }
         ensures opened { self.new.opened ≡ None }
         ensures held { self.new.held.items ≡ [] }
+        ensures person { person_of self.new ≡ newcomer second }
     {
         self.who = who;
         self.is_here = true;
         self.opened = None;
         self.name = None;
         self.since = second;
+        self.called = second;
         self.let_go(alloc);
     }
 
@@ -141,10 +145,13 @@ impl Client {
         ensures away { self.new.is_here ≡ false }
         ensures opened { self.new.opened ≡ None }
         ensures held { self.new.held.items ≡ [] }
+        ensures person { person_of self.new ≡ stranger }
     {
         self.is_here = false;
         self.opened = None;
         self.name = None;
+        self.since = 0;
+        self.called = 0;
         self.let_go(alloc);
     }
 
@@ -154,6 +161,7 @@ impl Client {
         ensures here { self.new.is_here ≡ self.old.is_here }
         ensures opened { self.new.opened ≡ self.old.opened }
         ensures held { self.new.held.items ≡ [] }
+        ensures person { person_of self.new ≡ person_of self.old }
     {
         self.held = Vec::new(alloc);
         self.done = 0;
@@ -221,6 +229,7 @@ impl Client {
         ensures opened { self.new.opened ≡ self.old.opened }
         ensures rest { rest_in (Some self.new) ≡ rest_in (Some self.old) }
         ensures cut { self.new.is_cut ≡ self.old.is_cut }
+        ensures person { person_of self.new ≡ person_of self.old }
         ensures within { self.new.done ≤ length self.new.held.items }
     {
         if self.done >= self.held.len() {

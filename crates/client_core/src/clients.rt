@@ -1,10 +1,11 @@
 //! All connections.
 
 ghost use Rattle.std.specs.Prelude.{◌≡◌, ◌<◌, ◌==◌, ◌%◌, [], ℕ, true, false, Some, None, IfOk, IfSome, IfNone, length, slice_get};
-ghost use Rattle.std.specs.Prelude.{◌↔◌, ◌≤◌, ◌⊎◌, OnOk, OnErr};
+ghost use Rattle.std.specs.Prelude.{◌↔◌, ◌≤◌, ◌⊎◌, OnOk, OnErr, option_map};
 ghost use Rattle.line_core.specs.Runs.{NoLineFeed};
 ghost use Rattle.client_core.specs.Held.{rest_in, waits_in, AreSame, AreSameRows, IsAsked};
-ghost use Rattle.client_core.specs.Held.{HasOpened, IsHeld, IsPassed, IsSame, IsSetTo, IsTaken};
+ghost use Rattle.client_core.specs.Held.{ChangesPerson, HasOpened, IsHeld, IsPassed, IsSame, IsSetTo, IsTaken};
+ghost use Rattle.client_core.specs.People.{person_in, newcomer, stranger, named, called_at, name_in, since_in, called_in};
 ghost use Rattle.client_core.specs.Places.{has_in, is_here_in, opened_in, held_in, place_for, place_at, Elsewhere};
 
 use crate::ask::{Ask, ask_of};
@@ -46,6 +47,7 @@ fn come(rows: &mut Vec<Client>, at: usize, alloc: Global, who: u64, second: u64)
     ensures here { has_in who (slice_get rows.new.items at) ≡ true }
     ensures opened { opened_in (slice_get rows.new.items at) ≡ None }
     ensures held { held_in (slice_get rows.new.items at) ≡ [] }
+    ensures person { person_in (slice_get rows.new.items at) ≡ Some (newcomer second) }
     ensures others { (k : ℕ) → (at == k) ≡ false → slice_get rows.new.items k ≡ slice_get rows.old.items k }
 {
     rows[at].come(alloc, who, second);
@@ -58,6 +60,7 @@ fn go(rows: &mut Vec<Client>, at: usize, alloc: Global)
     ensures away { is_here_in (slice_get rows.new.items at) ≡ false }
     ensures opened { opened_in (slice_get rows.new.items at) ≡ None }
     ensures held { held_in (slice_get rows.new.items at) ≡ [] }
+    ensures person { person_in (slice_get rows.new.items at) ≡ Some stranger }
     ensures others { (k : ℕ) → (at == k) ≡ false → slice_get rows.new.items k ≡ slice_get rows.old.items k }
 {
     rows[at].go(alloc);
@@ -146,20 +149,22 @@ fn set_stalled(rows: &mut Vec<Client>, at: usize)
 
 // The client of the one at a place has this name, or none.
 fn set_name(rows: &mut Vec<Client>, at: usize, name: Option<Name>)
-    ensures { AreSameRows rows.old.items rows.new.items }
+    requires { at < length rows.old.items }
+    ensures count { length rows.new.items ≡ length rows.old.items }
+    ensures set { ChangesPerson (named name) (slice_get rows.old.items at) (slice_get rows.new.items at) }
+    ensures others { (k : ℕ) → (at == k) ≡ false → slice_get rows.new.items k ≡ slice_get rows.old.items k }
 {
-    if at < rows.len() {
-        rows[at].name = name;
-    }
+    rows[at].name = name;
 }
 
 // The last call of the one at a place was taken in this second.
 fn set_called(rows: &mut Vec<Client>, at: usize, second: u64)
-    ensures { AreSameRows rows.old.items rows.new.items }
+    requires { at < length rows.old.items }
+    ensures count { length rows.new.items ≡ length rows.old.items }
+    ensures set { ChangesPerson (called_at second) (slice_get rows.old.items at) (slice_get rows.new.items at) }
+    ensures others { (k : ℕ) → (at == k) ≡ false → slice_get rows.new.items k ≡ slice_get rows.old.items k }
 {
-    if at < rows.len() {
-        rows[at].called = second;
-    }
+    rows[at].called = second;
 }
 
 impl Clients {
@@ -229,6 +234,8 @@ impl Clients {
         ensures here { 0 < length self.old.rows.items → has_in who (place_at self.new (place_for self.old who)) ≡ true }
         ensures opened { opened_in (place_at self.new (place_for self.old who)) ≡ None }
         ensures held { held_in (place_at self.new (place_for self.old who)) ≡ [] }
+        ensures person { 0 < length self.old.rows.items →
+            person_in (place_at self.new (place_for self.old who)) ≡ Some (newcomer second) }
         ensures others { Elsewhere self.old self.new (place_for self.old who) }
     {
         let Some(place) = self.place_for(who) else {
@@ -243,6 +250,7 @@ impl Clients {
         ensures away { is_here_in (place_at self.new place) ≡ false }
         ensures opened { opened_in (place_at self.new place) ≡ None }
         ensures held { held_in (place_at self.new place) ≡ [] }
+        ensures person { place < length self.old.rows.items → person_in (place_at self.new place) ≡ Some stranger }
         ensures others { Elsewhere self.old self.new place }
     {
         if place >= self.rows.len() {
@@ -286,20 +294,28 @@ impl Clients {
 
     /// The client of the one at a place has this name, or none.
     pub fn set_name(&mut self, place: usize, name: Option<Name>)
-        ensures { AreSame self.old self.new }
+        ensures set { ChangesPerson (named name) (place_at self.old place) (place_at self.new place) }
+        ensures others { Elsewhere self.old self.new place }
     {
-        set_name(&mut self.rows, place, name);
+        if place < self.rows.len() {
+            set_name(&mut self.rows, place, name);
+        }
     }
 
     /// The last call of the one at a place was taken in this second.
     pub fn set_called(&mut self, place: usize, second: u64)
-        ensures { AreSame self.old self.new }
+        ensures set { ChangesPerson (called_at second) (place_at self.old place) (place_at self.new place) }
+        ensures others { Elsewhere self.old self.new place }
     {
-        set_called(&mut self.rows, place, second);
+        if place < self.rows.len() {
+            set_called(&mut self.rows, place, second);
+        }
     }
 
     /// The name that was set last of the one at a place.
-    pub fn name(&self, place: usize) -> Option<&Name> {
+    pub fn name(&self, place: usize) -> Option<&Name>
+        ensures { option_map (λ n. n.now) result ≡ name_in (person_in (place_at self.now place)) }
+    {
         match self.rows.get(place) {
             None => None,
             Some(client) => client.name.as_ref(),
@@ -307,15 +323,19 @@ impl Clients {
     }
 
     /// The second in which the one at a place came.
-    pub fn since(&self, place: usize) -> u64 {
+    pub fn since(&self, place: usize) -> u64
+        ensures { result ≡ since_in (person_in (place_at self.now place)) }
+    {
         match self.rows.get(place) {
             None => 0,
             Some(client) => client.since,
         }
     }
 
-    /// The second that was set last in which its last call was taken.
-    pub fn called(&self, place: usize) -> u64 {
+    /// The second in which the last call of the one at a place was taken, or in which it came where it made none.
+    pub fn called(&self, place: usize) -> u64
+        ensures { result ≡ called_in (person_in (place_at self.now place)) }
+    {
         match self.rows.get(place) {
             None => 0,
             Some(client) => client.called,
@@ -352,26 +372,6 @@ impl Clients {
         }
         if self.rows[place].waits() {
             return true;
-        }
-        self.rows[place].holds()
-    }
-
-    // Whether lines of the one at a place may be done: some are held, and no call of it waits.
-    fn may_go_on(&self, place: usize) -> bool
-        ensures here { result ≡ true → is_here_in (place_at self.now place) ≡ true }
-        ensures waits { result ≡ true → waits_in (place_at self.now place) ≡ false }
-        ensures held { result ≡ true → rest_in (place_at self.now place) ≡ [] → ⊥ }
-        ensures not { result ≡ false → is_here_in (place_at self.now place) ≡ true →
-            waits_in (place_at self.now place) ≡ false → rest_in (place_at self.now place) ≡ [] }
-    {
-        if place >= self.rows.len() {
-            return false;
-        }
-        if !self.rows[place].is_here {
-            return false;
-        }
-        if self.rows[place].waits() {
-            return false;
         }
         self.rows[place].holds()
     }
@@ -436,7 +436,7 @@ impl Clients {
     pub fn ready(&mut self, place: usize)
         ensures { AreSame self.old self.new }
     {
-        if !self.may_go_on(place) || self.rows[place].is_ready {
+        if !self.goes_on(place) || self.rows[place].is_ready {
             return;
         }
         set_ready(&mut self.rows, place);
@@ -475,7 +475,16 @@ impl Clients {
         ensures not { result ≡ false → is_here_in (place_at self.now place) ≡ true →
             waits_in (place_at self.now place) ≡ false → rest_in (place_at self.now place) ≡ [] }
     {
-        self.may_go_on(place)
+        if place >= self.rows.len() {
+            return false;
+        }
+        if !self.rows[place].is_here {
+            return false;
+        }
+        if self.rows[place].waits() {
+            return false;
+        }
+        self.rows[place].holds()
     }
 
     /// The held lines of the one at a place are done later, since too much is owed to it.

@@ -1,4 +1,5 @@
 mod Rows
+mod Sorting
 mod Sorts
 mod Turns
 mod Levels

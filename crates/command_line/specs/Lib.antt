@@ -2,3 +2,4 @@ pub mod Forms
 pub mod Commands
 pub mod Laws
 pub mod Past
+pub mod Watching

@@ -393,11 +393,21 @@ pub const PAST_IS: &str = "it is OBJECT:OPERATION:K, with a number K, 1 to 30000
 /// What is said of a word that should say when an answer is safe.
 pub const SYNC_IS: &str = "WORD is `always`, or a number of milliseconds, 1 to 60000";
 
+/// What is said of a word that should say how often a status is written.
+pub const STATUS_IS: &str = "S is a number of seconds, 1 to 86400, given once";
+
+/// What is said of a word that should say how a log is written.
+pub const LOG_IS: &str = "WORD is `text`, `json` or `none`, given once";
+
 /// How `keep` is called.
 pub const KEEP_USAGE: &str = "pathserve keep [OPTIONS] <FILE> <DIR> <PLACE>";
 
 /// What `keep` reads and writes.
-pub const KEEP_MORE: &str = "Takes up the objects as the journals in DIR have them, writes
+pub const KEEP_MORE: &str =
+    "      --status <S>                 DIR/status.prom is written each S seconds, 1 to 86400
+      --log <WORD>                 A log on standard error: `text`, `json`, else `none`
+
+Takes up the objects as the journals in DIR have them, writes
 `listening PLACE`, and serves all clients in one loop, until it is stopped. What
 happens to an object is written down in DIR/NAME.journal. So the object lives
 on: the next start finds it as it was, after a crash too. Where an object is

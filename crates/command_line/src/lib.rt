@@ -5,3 +5,4 @@ pub mod help;
 pub mod laws;
 pub mod past;
 pub mod request;
+pub mod watching;

@@ -668,6 +668,14 @@ fn no_value(
     command.error(ErrorKind::ValueValidation, text.as_str())
 }
 
+/// The error of a value of this option of `keep` that should be so.
+pub fn keep_error(alloc: Global, word: &str, name: &str, form: &str) -> Result<Error, AllocError>
+    ensures { IfOk result (λ e. kind_of e ≡ ErrorKind.ValueValidation) }
+{
+    let command = keep_command(alloc)?;
+    no_value(alloc, command, word, name, form)
+}
+
 /// The error of a value of `--past` that should be so.
 pub fn past_error(alloc: Global, word: &str, form: &str) -> Result<Error, AllocError>
     ensures { IfOk result (λ e. kind_of e ≡ ErrorKind.ValueValidation) }

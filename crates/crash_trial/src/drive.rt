@@ -148,7 +148,7 @@ fn hosted_of(alloc: Global, object: Object) -> Result<Option<Hosted>, AllocError
     let begun = Begun {
         live,
         guests: Guests::new(alloc, LIMITS.sessions, 64)?,
-        long: Vec::new(alloc),
+        past: Vec::new(alloc),
         epoch: 1,
         source,
         base: 0,
@@ -172,7 +172,9 @@ pub fn cut_line(text: &[u8]) -> (&[u8], &[u8])
 
 impl Drive {
     /// An object that nobody has used. `None`: it cannot be begun. The error is that memory was refused.
-    pub fn new(alloc: Global, object: Object) -> Result<Option<Drive>, AllocError> {
+    pub fn new(alloc: Global, object: Object) -> Result<Option<Drive>, AllocError>
+        ensures { IfOk result (λ found. IfSome found (λ drive. drive.asked.items ≡ [])) }
+    {
         let Some(hosted) = hosted_of(alloc, object)? else {
             return Ok(None);
         };
@@ -189,7 +191,9 @@ impl Drive {
     }
 
     /// What the journal was asked for.
-    pub fn asked(&self) -> &[Asked] {
+    pub fn asked(&self) -> &[Asked]
+        ensures { result.now ≡ self.now.asked.items }
+    {
         &self.asked
     }
 
@@ -244,7 +248,7 @@ impl Drive {
             self.hosted.put_off();
             return Ok(());
         }
-        if !self.hosted.begin_next()? {
+        if !self.hosted.begin_next(&front)? {
             return Err(Stop::Journal);
         }
         Ok(())
@@ -387,6 +391,7 @@ impl Drive {
         number: u64,
     ) -> Result<(), (Stop, u64)>
         requires { IsInOrder D.seen D.may_leave journal.old }
+        ensures { OnOk result (IsInOrder D.seen D.may_leave journal.new) }
     {
         if scenario.is_empty() {
             return Ok(());

@@ -1,5 +1,8 @@
 //! Whether what is recovered behind a crash is what a crash may leave.
 
+ghost use Rattle.std.specs.Prelude.{◌∷◌, [], IfOk, OnOk};
+ghost use Rattle.crash_trial.specs.Standings.{Follows, StandsBehind, IsFrontOf, IsJudged};
+
 use crate::crash::{How, crash};
 use crate::device::Happened;
 use decl_core::object::Object;
@@ -33,7 +36,9 @@ pub(crate) fn follow(
     alloc: Global,
     standing: &mut Standing,
     call: &Happened,
-) -> Result<(), AllocError> {
+) -> Result<(), AllocError>
+    ensures { OnOk result (Follows (call.now ∷ []) standing.old standing.new) }
+{
     match call {
         Happened::Wrote(_, bytes) => standing.text.extend_from_slice(bytes),
         Happened::Stored => {
@@ -50,16 +55,33 @@ pub(crate) fn follow(
     }
 }
 
+// So many more.
+fn follow_all(
+    alloc: Global,
+    standing: &mut Standing,
+    happened: &[Happened],
+) -> Result<(), AllocError>
+    ensures { OnOk result (Follows happened.now standing.old standing.new) }
+{
+    match happened {
+        [] => Ok(()),
+        [call, happened @ ..] => {
+            follow(alloc, standing, call)?;
+            follow_all(alloc, standing, happened)
+        }
+    }
+}
+
 /// What stands in a journal behind these calls, the oldest first. The error is that memory was refused.
-pub fn standing_behind(alloc: Global, happened: &[Happened]) -> Result<Standing, AllocError> {
+pub fn standing_behind(alloc: Global, happened: &[Happened]) -> Result<Standing, AllocError>
+    ensures { IfOk result (StandsBehind happened.now) }
+{
     let mut standing = Standing {
         epochs: 0,
         text: Vec::new(alloc),
         stored: 0,
     };
-    for call in happened {
-        follow(alloc, &mut standing, call)?;
-    }
+    follow_all(alloc, &mut standing, happened)?;
     Ok(standing)
 }
 
@@ -70,7 +92,9 @@ fn judge_lines(
     house: House,
     standing: &Standing,
     lines: &[u8],
-) -> Result<Outcome, AllocError> {
+) -> Result<Outcome, AllocError>
+    ensures { IfOk result (IsFrontOf standing.now lines.now) }
+{
     if !standing.text.starts_with(lines) {
         return Ok(Outcome::Wrong("a line that was not written"));
     }
@@ -94,7 +118,9 @@ pub fn judge(
     file: &[u8],
     happened: &[Happened],
     how: &How,
-) -> Result<Outcome, AllocError> {
+) -> Result<Outcome, AllocError>
+    ensures { IfOk result (IsJudged file.now happened.now) }
+{
     let standing = standing_behind(alloc, happened)?;
     match crash(alloc, file, happened, how)? {
         None => Ok(Outcome::Wrong("a write past the end of the file")),

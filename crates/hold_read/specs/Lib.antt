@@ -4,3 +4,4 @@ pub mod HoldReading
 pub mod Sections
 pub mod HeldSources
 pub mod Views
+pub mod OldSources

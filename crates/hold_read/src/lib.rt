@@ -10,6 +10,7 @@ mod cut;
 mod everies;
 mod faults;
 mod holds;
+pub mod laws;
 pub mod read;
 pub mod rules;
 mod sections;

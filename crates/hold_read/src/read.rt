@@ -1,6 +1,6 @@
 //! The reader of objects with holds.
 
-ghost use Rattle.std.specs.Prelude.{◌≡◌, ◌≤◌, List, IsTrue, IfOk, MatchResult, length};
+ghost use Rattle.std.specs.Prelude.{◌≡◌, ◌↔◌, ◌≤◌, List, IsTrue, IfOk, MatchResult, length};
 ghost use Rattle.std.specs.Map.{values_of};
 ghost use Rattle.path_tree.specs.Tokens.{placed_tokens, AreTokens};
 ghost use Rattle.decl_core.specs.ObjectForm.{ObjectForm};
@@ -197,14 +197,14 @@ pub enum Look {
 
 // Whether an object says nothing of clients that are gone and of time.
 fn says_nothing(rules: &Rules) -> bool
-    ensures { IsTrue result → rules_of rules.now ≡ no_rules }
+    ensures { IsTrue result ↔ (rules_of rules.now ≡ no_rules) }
 {
     rules.holds.is_empty() && rules.everies.is_empty()
 }
 
 // Whether no object does.
 fn say_nothing(all: &[Rules]) -> bool
-    ensures { IsTrue result → SayNothing (all_rules_of all.now) }
+    ensures { IsTrue result ↔ SayNothing (all_rules_of all.now) }
 {
     match all {
         [] => true,
@@ -240,6 +240,8 @@ pub fn look_at(alloc: Global, source: &[u8]) -> Result<Look, AllocError>
     // Where nothing is found no object has a hold.
     ensures plain { IfOk result (λ look. (objects : List ObjectForm) → (rules : List RulesForm) →
         AreHeldObjectsOf source.now objects rules → look ≡ Plain → SayNothing rules) }
+    // In a source of the grammar without holds nothing is found.
+    ensures old { IfOk result (λ look. (objects : List ObjectForm) → AreObjectsOf source.now objects → look ≡ Plain) }
 {
     match read_held(alloc, source) {
         Ok(held) => if say_nothing(&held.rules) {

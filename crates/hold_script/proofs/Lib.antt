@@ -3,3 +3,4 @@ pub mod Refusing
 pub mod Noting
 pub mod Giving
 pub mod Acting
+pub mod Asking

@@ -1,3 +1,4 @@
 pub mod Does
+pub mod Asked
 pub mod Writes
 pub mod Run

@@ -8,8 +8,10 @@ use Rattle.world_core.specs.Scene.{IsNew}
 use Rattle.script_text.specs.Said.{Said, said_of, IsSkipped}
 use Rattle.script_text.specs.Answers.{bad_line}
 use Rattle.script_core.specs.Does.{IsKept}
-use Rattle.script_core.specs.Writes.{NamesObject}
+use Rattle.script_core.specs.Writes.{NamesObject, IsOther}
+use Rattle.inside_desk.specs.Asked.{Asked, asked_of}
 use Rattle.hold_script.specs.Does.{Ward, ward, HeldDoes}
+use Rattle.hold_script.specs.Asked.{IsHeldTold}
 use Rattle.hold_script.specs.declared.machine.HeldScript.{HeldScript}
 
 -- the holds of the object, whether the first line has named it, and what holds then
@@ -44,7 +46,10 @@ pub data HeldWrites (told : HeldTold) (number : ℕ) (line : List ℕ) : List �
   done : {text : List ℕ} {new : Ward} (said : Said) → told.named ≡ true → (IsSkipped line → ⊥) →
       Says said_of line said → HeldDoes told.holds said told.ward text new → IsKept new.world
       → HeldWrites told number line text true (record told { ward = new })
-  bad : told.named ≡ true → (IsSkipped line → ⊥) → ((said : Said) → Says said_of line said → ⊥) →
+  -- a line that asks something is answered, and changes nothing
+  asked : {text : List ℕ} (question : Asked) → told.named ≡ true → IsOther line → Says asked_of line question →
+      IsHeldTold told.holds told.ward.held told.ward.world.board question text → HeldWrites told number line text true told
+  bad : told.named ≡ true → IsOther line → ((question : Asked) → Says asked_of line question → ⊥) →
       HeldWrites told number line (bad_line number) false told
 
 -- the answer to the line of this number, of a state, and the state then

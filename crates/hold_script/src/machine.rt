@@ -2,14 +2,16 @@
 
 ghost use Rattle.std.specs.Prelude.{◌≡◌, ◌++◌, ◌↔◌, ℕ, List, IfOk, IsTrue, true, false};
 ghost use Rattle.hold_form.specs.HoldMap.{holds_of};
-ghost use Rattle.script_core.specs.Writes.{NamesObject};
+ghost use Rattle.script_core.specs.Writes.{IsOther, NamesObject};
 ghost use Rattle.hold_script.specs.Writes.{IsHeldBegun, HeldWrites, told_of};
 
 use crate::acts::answer_held;
+use crate::asked::answer_asked;
 use decl_core::object::Object;
 use exclude_core::analyse::Accepted;
 use hold_core::held::Holds;
 use hold_form::hold::Hold;
+use inside_desk::question::question_of;
 use line_core::Machine;
 use script_text::answers::push_bad_line;
 use script_text::first::object_line;
@@ -92,6 +94,37 @@ impl HeldScript {
         Ok(false)
     }
 
+    // Answers a line that says nothing that is done.
+    fn answer_other(
+        &mut self,
+        number: u64,
+        line: &[u8],
+        out: &mut Vec<u8>,
+    ) -> Result<bool, AllocError>
+        requires named { self.old.named ≡ true }
+        requires other { IsOther line.now }
+        ensures { IfOk result (λ goes. (text : List ℕ) × (out.new.items ≡ out.old.items ++ text)
+            × HeldWrites (told_of self.old) number line.now text goes (told_of self.new)) }
+    {
+        match question_of(self.alloc, line)? {
+            Some(question) => {
+                answer_asked(
+                    self.alloc,
+                    self.world.desk(),
+                    &self.rules,
+                    &self.holds,
+                    question,
+                    out,
+                )?;
+                Ok(true)
+            }
+            None => {
+                push_bad_line(out, number)?;
+                Ok(false)
+            }
+        }
+    }
+
     // Answers a line behind the first one.
     fn answer_line(
         &mut self,
@@ -121,10 +154,7 @@ impl HeldScript {
                 self.world.desk().history();
                 Ok(true)
             }
-            None => {
-                push_bad_line(out, number)?;
-                Ok(false)
-            }
+            None => self.answer_other(number, line, out),
         }
     }
 }

@@ -133,7 +133,7 @@ gone_by v now h g session from told so same is left held named nameless = (
     was_asked = so;
     remembers = record { named = named; nameless = λ none. (nameless none).1 };
     given = refl;
-    tells = record { carried = refl; base = refl; epoch = refl; source = refl };
+    tells = record { past = refl; carried = refl; base = refl; epoch = refl; source = refl };
   }),
 )
 

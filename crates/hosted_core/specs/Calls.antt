@@ -29,6 +29,7 @@ seat_of session = if nat_lt session 65536 then session else 0
 
 -- each call is told by the number by which it was told, and it is the same epoch
 pub record TellsSame (old new : Scene) : Type 0 where
+  pub past : new.past ≡ old.past
   pub carried : new.carried ≡ old.carried
   pub base : new.base ≡ old.base
   pub epoch : new.epoch ≡ old.epoch

@@ -106,6 +106,15 @@ pub record AddsFront (s : Scene) (epoch base : ℕ) (before after : List ℕ) : 
   pub counted : IsPastOf s past
   pub tells : TellsFront s epoch past base before after
 
+-- those of the front of its epoch, behind the past with which that began
+pub record AddsFirst (s : Scene) (before after : List ℕ) : Type 0 where
+  pub counted : IsPastOf s s.past
+  pub tells : TellsFront s s.epoch s.past s.base before after
+
+-- a text is the front of the next epoch of an object, behind this past
+abbrev pub IsNextBehind : Scene → List PastEvent → List ℕ → Type 0
+IsNextBehind s past text = TellsFront s (next_epoch s) past (next_base s) [] text
+
 -- a text is a front that stands for the next epoch of an object
 abbrev pub IsNextFront : Scene → List ℕ → Type 0
 IsNextFront s text = AddsFront s (next_epoch s) (next_base s) [] text

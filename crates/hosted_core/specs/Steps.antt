@@ -16,6 +16,7 @@ use Rattle.guest_core.specs.Entering.{Enters, Leaves}
 use Rattle.guest_core.specs.Guests.{Guests, with_seat}
 use Rattle.guest_core.specs.Seats.{IsLeastFree, renewed}
 use Rattle.hosted_core.specs.Calls.{Does, Cancels}
+use Rattle.hosted_core.specs.Fronts.{IsNextBehind}
 use Rattle.hosted_core.specs.Lines.{entered_lines}
 use Rattle.hosted_core.specs.Scene.{Scene, told_of, next_base, next_epoch, with_guests}
 
@@ -58,3 +59,8 @@ pub record IsFollowed (old : Scene) (past : List PastEvent) (new : Scene) : Type
   pub given : new.given ≡ min (length old.hall.waiting) (2 ^ 32 - 1)
   pub epoch : new.epoch ≡ next_epoch old
   pub source : new.source ≡ old.source
+
+-- it has begun by a front: the past in it is the one with which it began
+pub record BeginsBy (old : Scene) (front : List ℕ) (new : Scene) : Type 0 where
+  pub followed : IsFollowed old new.past new
+  pub written : IsNextBehind old new.past front

@@ -6,6 +6,7 @@ abbrev pub scene_of : Inside → Scene
 scene_of h = record {
   hall = h.live;
   guests = h.guests;
+  past = h.past.items;
   carried = h.carried.items;
   base = h.base;
   given = h.given;

@@ -1,17 +1,16 @@
 //! The next epoch of an object.
 
-ghost use Rattle.std.specs.Prelude.{◌≡◌, ◌+◌, ◌<◌, ◌≤◌, ◌++◌, ◌∷◌, [], true, false, List, Ok, OnOk, IfOk, IfSome, IsTrue};
+ghost use Rattle.std.specs.Prelude.{◌≡◌, ◌+◌, ◌<◌, ◌≤◌, ◌++◌, ◌∷◌, [], true, false, Ok, OnOk, OnErr, IfOk, IfSome, IsTrue};
 ghost use Rattle.std.specs.Prelude.{◌-◌, ◌^◌, codes, length, map, min};
-ghost use Rattle.past_core.specs.declared.past.PastEvent.{PastEvent as AnEvent};
 ghost use Rattle.decl_core.specs.ObjectMap.{object_of};
 ghost use Rattle.word_core.specs.Words.{bare, line_of};
 ghost use Rattle.trace_core.specs.Events.{Called};
 ghost use Rattle.front_core.specs.Text.{carried_words, client_words, kept_words, carried_text, clients_text, kept_text};
 ghost use Rattle.guest_core.specs.Seats.{renewed};
 ghost use Rattle.hosted_core.specs.Fronts.{carried_as, carried_from, client_of, kept_as, kept_below, kept_of};
-ghost use Rattle.hosted_core.specs.Fronts.{TellsCalls, TellsPast, TellsFront, IsPastOf, AddsFront, IsNextFront};
+ghost use Rattle.hosted_core.specs.Fronts.{TellsCalls, TellsPast, TellsFront, IsPastOf, AddsFirst, IsNextBehind, IsNextFront};
 ghost use Rattle.hosted_core.specs.Scene.{told_of, next_base, next_epoch};
-ghost use Rattle.hosted_core.specs.Steps.{IsFollowed};
+ghost use Rattle.hosted_core.specs.Steps.{IsFollowed, BeginsBy};
 
 use crate::hosted::Hosted;
 use decl_core::object::Object;
@@ -159,6 +158,13 @@ fn count_of(count: usize) -> u32
         Ok(count) => count,
         Err(_) => u32::MAX,
     }
+}
+
+// Whether two texts are the same.
+fn is_same_text(a: &[u8], b: &[u8]) -> bool
+    ensures { IsTrue result → a.now ≡ b.now }
+{
+    a == b
 }
 
 impl Hosted {
@@ -310,13 +316,12 @@ impl Hosted {
     /// paths have counted, or too few numbers for the calls that wait; then nothing is added. The error is that memory was
     /// refused; how much then stands in `out` is not said.
     pub fn push_first(&self, out: &mut Vec<u8>) -> Result<bool, AllocError>
-        ensures { IfOk result (λ yes. IsTrue yes →
-            AddsFront self.now self.now.epoch self.now.base out.old.items out.new.items) }
+        ensures { IfOk result (λ yes. IsTrue yes → AddsFirst self.now out.old.items out.new.items) }
     {
-        if !self.is_past(&self.long)? || !self.has_numbers(self.long.len()) {
+        if !self.is_past(&self.past)? || !self.has_numbers(self.past.len()) {
             return Ok(false);
         }
-        self.push_front(out, self.epoch, &self.long, self.base)?;
+        self.push_front(out, self.epoch, &self.past, self.base)?;
         Ok(true)
     }
 
@@ -337,27 +342,59 @@ impl Hosted {
         Ok(true)
     }
 
-    /// Begins the next epoch, whose front was written. False: no short past was found, or it leaves too few numbers for the
-    /// calls that wait; then, and where memory was refused, nothing changes.
-    pub fn begin_next(&mut self) -> Result<bool, AllocError>
-        ensures begun { result ≡ Ok true → (past : List AnEvent) × IsFollowed self.old past self.new }
-        ensures none { result ≡ Ok false → self.new ≡ self.old }
+    // The past of the front of the next epoch, where this is that front.
+    fn past_of(&self, front: &[u8]) -> Result<Option<Vec<PastEvent>>, AllocError>
+        ensures { IfOk result (λ found. IfSome found (λ past. IsNextBehind self.now past.items front.now)) }
     {
-        let carried = self.told_of_waiting()?;
-        let base = self.next_base();
-        match self.live.epoch(&self.long)? {
+        let Some(past) = self.find_past()? else {
+            return Ok(None);
+        };
+        if !self.has_numbers(past.len()) {
+            return Ok(None);
+        }
+        let mut text = Vec::with_capacity(self.alloc, front.len())?;
+        self.push_front(&mut text, self.next_epoch(), &past, self.next_base())?;
+        if !is_same_text(&text, front) {
+            return Ok(None);
+        }
+        Ok(Some(past))
+    }
+
+    /// Begins the next epoch, whose front was written. False: no short past was found, it leaves too few numbers for the calls
+    /// that wait, or the front of the object as it is now is another one; then nothing changes. The error is that memory was
+    /// refused; then nothing changes either.
+    pub fn begin_next(&mut self, front: &[u8]) -> Result<bool, AllocError>
+        ensures begun { result ≡ Ok true → BeginsBy self.old front.now self.new }
+        ensures none { result ≡ Ok false → self.new ≡ self.old }
+        ensures err { OnErr result (self.new ≡ self.old) }
+    {
+        match self.past_of(front)? {
             None => Ok(false),
-            Some(past) => {
-                self.begun(past, carried, base);
-                Ok(true)
-            }
+            Some(past) => self.begin_behind(past),
         }
     }
 
-    // The next epoch has begun, behind this past.
-    fn begun(&mut self, past: Vec<PastEvent>, carried: Vec<u64>, base: u64)
+    // Begins the next epoch behind this past, where it leaves what the paths have counted.
+    fn begin_behind(&mut self, past: Vec<PastEvent>) -> Result<bool, AllocError>
+        ensures begun { result ≡ Ok true → IsFollowed self.old past.items self.new × (self.new.past ≡ past.items) }
+        ensures none { result ≡ Ok false → self.new ≡ self.old }
+        ensures err { OnErr result (self.new ≡ self.old) }
+    {
+        let carried = self.told_of_waiting()?;
+        let long = past.to_vec(self.alloc)?;
+        let base = self.next_base();
+        if !self.live.epoch(&past)? {
+            return Ok(false);
+        }
+        self.begun(past, long, carried, base);
+        Ok(true)
+    }
+
+    // The next epoch has begun, behind this past, of which the long one has the same events.
+    fn begun(&mut self, past: Vec<PastEvent>, long: Vec<PastEvent>, carried: Vec<u64>, base: u64)
         ensures { self.new ≡ record self.old {
           guests = record self.old.guests { seats = map renewed self.old.guests.seats };
+          past = past.items;
           carried = carried.items;
           base = base;
           given = min (length self.old.hall.waiting) (2 ^ 32 - 1);
@@ -366,7 +403,8 @@ impl Hosted {
     {
         self.epoch = self.next_epoch();
         self.given = count_of(self.live.waiting().len());
-        self.long = past;
+        self.past = past;
+        self.long = long;
         self.carried = carried;
         self.base = base;
         self.added = 0;

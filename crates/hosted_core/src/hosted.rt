@@ -12,7 +12,7 @@ ghost use Rattle.guest_core.specs.Seats.{IsLeastFree, NoneIsFree};
 ghost use Rattle.live_core.specs.Hall.{Every};
 ghost use Rattle.guest_core.specs.Keys.{asks};
 ghost use Rattle.hosted_core.specs.Keys.{WaitsAs, SaysWaits, SaysKept, SaysKey, Says};
-ghost use Rattle.hosted_core.specs.Scene.{told_of, with_guests};
+ghost use Rattle.hosted_core.specs.Scene.{is_given, told_of, with_guests};
 
 use crate::calls::most_of;
 use crate::event::name_of;
@@ -57,8 +57,8 @@ pub struct Begun {
     pub live: Live,
     /// Its clients. All that have a name are away.
     pub guests: Guests,
-    /// The past of the epoch, and all starts and ends since, the oldest first.
-    pub long: Vec<PastEvent>,
+    /// The past of the epoch, the oldest event first.
+    pub past: Vec<PastEvent>,
     /// Which epoch it is, from 1.
     pub epoch: u64,
     /// What the declaration of the object gives (`front_core::source`).
@@ -93,7 +93,9 @@ pub struct Hosted {
     pub(crate) alloc: Global,
     pub(crate) live: Live,
     pub(crate) guests: Guests,
-    // the past of the epoch, and all starts and ends since, the oldest first
+    // the past of the epoch, the oldest event first
+    pub(crate) past: Vec<PastEvent>,
+    // the same, and all starts and ends since
     pub(crate) long: Vec<PastEvent>,
     // the numbers that were told of the calls that were carried into this epoch, in their order
     pub(crate) carried: Vec<u64>,
@@ -191,6 +193,7 @@ impl Hosted {
         ensures { IfOk result (λ h. h ≡ record {
           hall = begun.live;
           guests = begun.guests;
+          past = begun.past.items;
           carried = [];
           base = begun.base;
           given = 0;
@@ -199,10 +202,11 @@ impl Hosted {
         }) }
     {
         let owners = no_owners(alloc, begun.sessions)?;
+        let long = begun.past.to_vec(alloc)?;
         let Begun {
             live,
             guests,
-            long,
+            past,
             epoch,
             source,
             base,
@@ -213,6 +217,7 @@ impl Hosted {
             alloc,
             live,
             guests,
+            past,
             long,
             carried: Vec::new(alloc),
             epoch,
@@ -246,6 +251,13 @@ impl Hosted {
         ensures { result.now ≡ self.now.hall }
     {
         &self.live
+    }
+
+    /// Its clients.
+    pub fn guests(&self) -> &Guests
+        ensures { result.now ≡ self.now.guests }
+    {
+        &self.guests
     }
 
     /// The place of the operation of this name.
@@ -290,11 +302,21 @@ impl Hosted {
         u32::try_from(number).ok()
     }
 
+    /// Whether this number may have been told of a call: it is not 0, and not above the greatest that was given.
+    pub fn is_given(&self, told: u64) -> bool
+        ensures { result ≡ is_given self.now told }
+    {
+        if told == 0 {
+            return false;
+        }
+        told <= self.base.saturating_add(u64::from(self.given))
+    }
+
     /// The session of the waiting call of which this number was told, or what became of it.
     pub fn waits_as(&self, told: u64) -> Result<u32, Cancelled>
         ensures { IfOk result (λ session. WaitsAs self.now session told) }
     {
-        if told == 0 || told > self.base.saturating_add(u64::from(self.given)) {
+        if !self.is_given(told) {
             return Err(Cancelled::Unknown);
         }
         let Some(number) = self.number_of(told) else {

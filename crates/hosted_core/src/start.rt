@@ -72,7 +72,7 @@ pub fn begin_again(
     let begun = Begun {
         live,
         guests,
-        long: past,
+        past,
         epoch: epoch.saturating_add(1),
         source,
         base: base

@@ -8,8 +8,7 @@ use Rattle.trace_core.specs.Events.{Called}
 use Rattle.hosted_core.specs.Scene.{Scene}
 use Rattle.client_core.specs.declared.client.Opened.{Opened}
 use Rattle.inside_text.specs.Who.{Sitting, Refused, seat_line, waits_line, who_line}
-use Rattle.told_core.specs.State.{Peer}
-use Rattle.told_core.specs.Inside.{IsSeatOf, AreSeats, IsWaitOf, AreWaits, AreSitting, last_told, is_between, waiting_in, IsWho}
+use Rattle.told_core.specs.Inside.{Crowd, IsSeatOf, AreSeats, IsWaitOf, AreWaits, AreSitting, last_told, is_between, waiting_in, IsWho}
 use Rattle.inside_core.specs.Adds.{AddsSeats, AddsWaits}
 
 flat_map-append : {X Y : Type 0} (f : X → List Y) (xs ys : List X) → flat_map f (xs ++ ys) ≡ flat_map f xs ++ flat_map f ys
@@ -53,58 +52,58 @@ added_then : {X : Type 0} (f : X → List ℕ) (xs ys : List X) (before mid afte
 added_then f xs ys before mid after one two =
     two ∙ ap (λ l. l ++ flat_map f ys) one ∙ append_assoc before (flat_map f xs) (flat_map f ys) ∙ ap (λ l. before ++ l) (sym (flat_map-append f xs ys))
 
-seats_append : (os ps : List Opened) (rs ss : List Sitting) → AreSeats os rs → AreSeats ps ss → AreSeats (os ++ ps) (rs ++ ss)
-seats_append [] ps [] ss one two = two
-seats_append [] ps (r ∷ rs) ss one two = absurd one
-seats_append (o ∷ os) ps [] ss one two = absurd one
-seats_append (o ∷ os) ps (r ∷ rs) ss one two = (one.0, seats_append os ps rs ss one.1 two)
+seats_append : (crowd : Crowd) (os ps : List (ℕ × Opened)) (rs ss : List Sitting) → AreSeats crowd os rs → AreSeats crowd ps ss → AreSeats crowd (os ++ ps) (rs ++ ss)
+seats_append crowd [] ps [] ss one two = two
+seats_append crowd [] ps (r ∷ rs) ss one two = absurd one
+seats_append crowd (o ∷ os) ps [] ss one two = absurd one
+seats_append crowd (o ∷ os) ps (r ∷ rs) ss one two = (one.0, seats_append crowd os ps rs ss one.1 two)
 
-seats_count : (os : List Opened) (rs : List Sitting) → AreSeats os rs → length rs ≡ length os
-seats_count [] [] are = refl
-seats_count [] (r ∷ rs) are = absurd are
-seats_count (o ∷ os) [] are = absurd are
-seats_count (o ∷ os) (r ∷ rs) are = let h = seats_count os rs are.1 in omega (arith, h)
+seats_count : (crowd : Crowd) (os : List (ℕ × Opened)) (rs : List Sitting) → AreSeats crowd os rs → length rs ≡ length os
+seats_count crowd [] [] are = refl
+seats_count crowd [] (r ∷ rs) are = absurd are
+seats_count crowd (o ∷ os) [] are = absurd are
+seats_count crowd (o ∷ os) (r ∷ rs) are = let h = seats_count crowd os rs are.1 in omega (arith, h)
 
-pub seats_end : (all : List Opened) (out : List ℕ) → length all ≡ 0 → AddsSeats all out out
-seats_end [] out none = record { rows = []; are = tt; added = sym (append-nil out) }
-seats_end (o ∷ all) out none = absurd (omega (arith, none))
+pub seats_end : (crowd : Crowd) (all : List (ℕ × Opened)) (out : List ℕ) → length all ≡ 0 → AddsSeats crowd all out out
+seats_end crowd [] out none = record { rows = []; are = tt; added = sym (append-nil out) }
+seats_end crowd (o ∷ all) out none = absurd (omega (arith, none))
 
-seats_then : (os ps : List Opened) (before mid after : List ℕ) → AddsSeats os before mid → AddsSeats ps mid after → AddsSeats (os ++ ps) before after
-seats_then os ps before mid after one two = record {
+seats_then : (crowd : Crowd) (os ps : List (ℕ × Opened)) (before mid after : List ℕ) → AddsSeats crowd os before mid → AddsSeats crowd ps mid after → AddsSeats crowd (os ++ ps) before after
+seats_then crowd os ps before mid after one two = record {
   rows = one.rows ++ two.rows;
-  are = seats_append os ps one.rows two.rows one.are two.are;
+  are = seats_append crowd os ps one.rows two.rows one.are two.are;
   added = added_then (λ s. seat_line s.seat s.name) one.rows two.rows before mid after one.added two.added;
 }
 
-pub seats_more : (all rest : List Opened) (o : Opened) (before mid after : List ℕ) → all ≡ o ∷ rest → AddsSeats (o ∷ []) before mid → AddsSeats rest mid after →
-    AddsSeats all before after
-seats_more all rest o before mid after is one more = subst (λ l. AddsSeats l before after) (sym is) (seats_then (o ∷ []) rest before mid after one more)
+pub seats_more : (crowd : Crowd) (all rest : List (ℕ × Opened)) (o : ℕ × Opened) (before mid after : List ℕ) → all ≡ o ∷ rest → AddsSeats crowd (o ∷ []) before mid → AddsSeats crowd rest mid after →
+    AddsSeats crowd all before after
+seats_more crowd all rest o before mid after is one more = subst (λ l. AddsSeats crowd l before after) (sym is) (seats_then crowd (o ∷ []) rest before mid after one more)
 
-pub one_seat : (o : Opened) (s : Sitting) (before after : List ℕ) → IsSeatOf o s → after ≡ before ++ seat_line s.seat s.name → AddsSeats (o ∷ []) before after
-one_seat o s before after is added =
+pub one_seat : (crowd : Crowd) (o : ℕ × Opened) (s : Sitting) (before after : List ℕ) → IsSeatOf crowd o s → after ≡ before ++ seat_line s.seat s.name → AddsSeats crowd (o ∷ []) before after
+one_seat crowd o s before after is added =
     record { rows = s ∷ []; are = (is, tt); added = added ∙ ap (λ l. before ++ l) (sym (append-nil (seat_line s.seat s.name))) }
 
-waits_append : (object : Scene) (cs ds : List Called) (rs ss : List Refused) → AreWaits object cs rs → AreWaits object ds ss → AreWaits object (cs ++ ds) (rs ++ ss)
-waits_append object [] ds [] ss one two = two
-waits_append object [] ds (r ∷ rs) ss one two = absurd one
-waits_append object (c ∷ cs) ds [] ss one two = absurd one
-waits_append object (c ∷ cs) ds (r ∷ rs) ss one two = (one.0, waits_append object cs ds rs ss one.1 two)
+waits_append : (crowd : Crowd) (seats : List (ℕ × Opened)) (object : Scene) (cs ds : List Called) (rs ss : List Refused) → AreWaits crowd seats object cs rs → AreWaits crowd seats object ds ss → AreWaits crowd seats object (cs ++ ds) (rs ++ ss)
+waits_append crowd seats object [] ds [] ss one two = two
+waits_append crowd seats object [] ds (r ∷ rs) ss one two = absurd one
+waits_append crowd seats object (c ∷ cs) ds [] ss one two = absurd one
+waits_append crowd seats object (c ∷ cs) ds (r ∷ rs) ss one two = (one.0, waits_append crowd seats object cs ds rs ss one.1 two)
 
-waits_none : (object : Scene) (out : List ℕ) → AddsWaits object [] 0 out out
-waits_none object out = record { rows = []; are = tt; count = refl; added = sym (append-nil out) }
+waits_none : (crowd : Crowd) (seats : List (ℕ × Opened)) (object : Scene) (out : List ℕ) → AddsWaits crowd seats object [] 0 out out
+waits_none crowd seats object out = record { rows = []; are = tt; count = refl; added = sym (append-nil out) }
 
-waits_then : (object : Scene) (cs ds : List Called) (n m : ℕ) (before mid after : List ℕ) → AddsWaits object cs n before mid → AddsWaits object ds m mid after →
-    AddsWaits object (cs ++ ds) (n + m) before after
-waits_then object cs ds n m before mid after one two = record {
+waits_then : (crowd : Crowd) (seats : List (ℕ × Opened)) (object : Scene) (cs ds : List Called) (n m : ℕ) (before mid after : List ℕ) → AddsWaits crowd seats object cs n before mid → AddsWaits crowd seats object ds m mid after →
+    AddsWaits crowd seats object (cs ++ ds) (n + m) before after
+waits_then crowd seats object cs ds n m before mid after one two = record {
   rows = one.rows ++ two.rows;
-  are = waits_append object cs ds one.rows two.rows one.are two.are;
+  are = waits_append crowd seats object cs ds one.rows two.rows one.are two.are;
   count = let a = one.count in let b = two.count in let c = sum-append (λ (r : Refused). length r.whys) one.rows two.rows in omega (arith, a, b, c);
   added = added_then (λ r. flat_map (waits_line (object_of object.hall.object) r.call) r.whys) one.rows two.rows before mid after one.added two.added;
 }
 
-pub one_wait : (object : Scene) (c : Called) (r : Refused) (n : ℕ) (before after : List ℕ) → IsWaitOf object c r → n ≡ length r.whys →
-    after ≡ before ++ flat_map (waits_line (object_of object.hall.object) r.call) r.whys → AddsWaits object (c ∷ []) n before after
-one_wait object c r n before after is count added = record {
+pub one_wait : (crowd : Crowd) (seats : List (ℕ × Opened)) (object : Scene) (c : Called) (r : Refused) (n : ℕ) (before after : List ℕ) → IsWaitOf crowd seats object c r → n ≡ length r.whys →
+    after ≡ before ++ flat_map (waits_line (object_of object.hall.object) r.call) r.whys → AddsWaits crowd seats object (c ∷ []) n before after
+one_wait crowd seats object c r n before after is count added = record {
   rows = r ∷ [];
   are = (is, tt);
   count = and_none n (length r.whys) count;
@@ -115,32 +114,33 @@ one_wait object c r n before after is count added = record {
 chosen : Bool → Called → List Called
 chosen b c = (if b then c ∷ [] else []) ++ []
 
-pub wait_left_out : (object : Scene) (from : ℕ) (last : Option ℕ) (c : Called) (out : List ℕ) → is_between from last c.session ≡ false →
-    AddsWaits object (waiting_in from last (c ∷ [])) 0 out out
-wait_left_out object from last c out is = subst (λ b. AddsWaits object ((if b then c ∷ [] else []) ++ []) 0 out out) (sym is) (waits_none object out)
+pub wait_left_out : (crowd : Crowd) (seats : List (ℕ × Opened)) (object : Scene) (from : ℕ) (last : Option ℕ) (c : Called) (out : List ℕ) → is_between from last c.session ≡ false →
+    AddsWaits crowd seats object (waiting_in from last (c ∷ [])) 0 out out
+wait_left_out crowd seats object from last c out is = subst (λ b. AddsWaits crowd seats object ((if b then c ∷ [] else []) ++ []) 0 out out) (sym is) (waits_none crowd seats object out)
 
-pub wait_told : (object : Scene) (from : ℕ) (last : Option ℕ) (c : Called) (n : ℕ) (before after : List ℕ) → is_between from last c.session ≡ true →
-    AddsWaits object (c ∷ []) n before after → AddsWaits object (waiting_in from last (c ∷ [])) n before after
-wait_told object from last c n before after is adds = subst (λ b. AddsWaits object ((if b then c ∷ [] else []) ++ []) n before after) (sym is) adds
+pub wait_told : (crowd : Crowd) (seats : List (ℕ × Opened)) (object : Scene) (from : ℕ) (last : Option ℕ) (c : Called) (n : ℕ) (before after : List ℕ) → is_between from last c.session ≡ true →
+    AddsWaits crowd seats object (c ∷ []) n before after → AddsWaits crowd seats object (waiting_in from last (c ∷ [])) n before after
+wait_told crowd seats object from last c n before after is adds = subst (λ b. AddsWaits crowd seats object ((if b then c ∷ [] else []) ++ []) n before after) (sym is) adds
 
-pub waits_from : (object : Scene) (from : ℕ) (last : Option ℕ) (calls : List Called) (out : List ℕ) → AddsWaits object (waiting_in from last (take 0 calls)) 0 out out
-waits_from object from last calls out = waits_none object out
+pub waits_from : (crowd : Crowd) (seats : List (ℕ × Opened)) (object : Scene) (from : ℕ) (last : Option ℕ) (calls : List Called) (out : List ℕ) → AddsWaits crowd seats object (waiting_in from last (take 0 calls)) 0 out out
+waits_from crowd seats object from last calls out = waits_none crowd seats object out
 
 -- one more is looked at
-pub waits_more : (object : Scene) (from : ℕ) (last : Option ℕ) (calls : List Called) (k n m : ℕ) (d c : Called) (before mid after : List ℕ) → k < length calls →
-    c ≡ get_or calls k d → AddsWaits object (waiting_in from last (take k calls)) n before mid → AddsWaits object (waiting_in from last (c ∷ [])) m mid after →
-    AddsWaits object (waiting_in from last (take (k + 1) calls)) (n + m) before after
-waits_more object from last calls k n m d c before mid after inside is one two =
+pub waits_more : (crowd : Crowd) (seats : List (ℕ × Opened)) (object : Scene) (from : ℕ) (last : Option ℕ) (calls : List Called) (k n m : ℕ) (d c : Called) (before mid after : List ℕ) → k < length calls →
+    c ≡ get_or calls k d → AddsWaits crowd seats object (waiting_in from last (take k calls)) n before mid → AddsWaits crowd seats object (waiting_in from last (c ∷ [])) m mid after →
+    AddsWaits crowd seats object (waiting_in from last (take (k + 1) calls)) (n + m) before after
+waits_more crowd seats object from last calls k n m d c before mid after inside is one two =
     let pick : Called → List Called = λ x. if is_between from last x.session then x ∷ [] else [] in
     let to : take (k + 1) calls ≡ take k calls ++ c ∷ [] = take_more calls k d inside ∙ ap (λ y. take k calls ++ y ∷ []) (sym is) in
-    subst (λ l. AddsWaits object l (n + m) before after) (sym (ap (λ l. flat_map pick l) to ∙ flat_map-append pick (take k calls) (c ∷ [])))
-    (waits_then object (waiting_in from last (take k calls)) (waiting_in from last (c ∷ [])) n m before mid after one two)
+    subst (λ l. AddsWaits crowd seats object l (n + m) before after) (sym (ap (λ l. flat_map pick l) to ∙ flat_map-append pick (take k calls) (c ∷ [])))
+    (waits_then crowd seats object (waiting_in from last (take k calls)) (waiting_in from last (c ∷ [])) n m before mid after one two)
 
 -- the whole answer
-pub who_is : (peers : List Peer) (object : Scene) (at from : ℕ) (all : List Opened) (n count : ℕ) (seats lines head text : List ℕ) → AreSitting at from peers all →
-    AddsSeats (take 256 all) [] seats → AddsWaits object (waiting_in from (last_told all) object.hall.waiting) n seats lines →
-    count ≡ length (take 256 all) + n → head ≡ who_line count → text ≡ head ++ lines → IsWho peers object at from text
-who_is peers object at from all n count seats lines head text are one two total first whole = record {
+pub who_is : (crowd : Crowd) (object : Scene) (from : ℕ) (all : List (ℕ × Opened)) (n count : ℕ) (seats lines head text : List ℕ) →
+    AreSitting crowd.at from crowd.peers all → AddsSeats crowd (take 256 all) [] seats →
+    AddsWaits crowd (take 256 all) object (waiting_in from (last_told all) object.hall.waiting) n seats lines →
+    count ≡ length (take 256 all) + n → head ≡ who_line count → text ≡ head ++ lines → IsWho crowd object from text
+who_is crowd object from all n count seats lines head text are one two total first whole = record {
   all = all;
   are_all = are;
   seats = one.rows;
@@ -158,4 +158,4 @@ who_is peers object at from all n count seats lines head text are one two total 
     waits = flat_map (λ c. flat_map (waits_line (object_of object.hall.object) c.call) c.whys) two.rows
 
     so : count ≡ many
-    so = let a = seats_count (take 256 all) one.rows one.are in let b = two.count in omega (arith, total, a, b)
+    so = let a = seats_count crowd (take 256 all) one.rows one.are in let b = two.count in omega (arith, total, a, b)

@@ -4,18 +4,26 @@ use Rattle.decl_core.specs.ObjectMap.{object_of}
 use Rattle.trace_core.specs.Events.{Called}
 use Rattle.hosted_core.specs.Scene.{Scene}
 use Rattle.client_core.specs.declared.client.Opened.{Opened}
+use Rattle.client_core.specs.declared.clients.Clients.{Clients}
+use Rattle.client_core.specs.People.{people_of}
 use Rattle.inside_text.specs.Who.{Sitting, Refused, seat_line, waits_line}
-use Rattle.told_core.specs.Inside.{AreSeats, AreWaits}
+use Rattle.told_core.specs.State.{peers_of}
+use Rattle.told_core.specs.Inside.{Crowd, AreSeats, AreWaits}
+use Rattle.inside_core.specs.declared.who.Whom.{Whom}
+
+-- those that are looked at
+abbrev pub crowd_of : Clients → Whom → Crowd
+crowd_of clients whom = record { peers = peers_of clients; people = people_of clients; now = whom.second; at = whom.at }
 
 -- the lines of these sessions are added
-pub record AddsSeats (all : List Opened) (before after : List ℕ) : Type 0 where
+pub record AddsSeats (crowd : Crowd) (all : List (ℕ × Opened)) (before after : List ℕ) : Type 0 where
   pub rows : List Sitting
-  pub are : AreSeats all rows
+  pub are : AreSeats crowd all rows
   pub added : after ≡ before ++ flat_map (λ s. seat_line s.seat s.name) rows
 
 -- the lines of these calls are added, so many
-pub record AddsWaits (object : Scene) (calls : List Called) (n : ℕ) (before after : List ℕ) : Type 0 where
+pub record AddsWaits (crowd : Crowd) (seats : List (ℕ × Opened)) (object : Scene) (calls : List Called) (n : ℕ) (before after : List ℕ) : Type 0 where
   pub rows : List Refused
-  pub are : AreWaits object calls rows
+  pub are : AreWaits crowd seats object calls rows
   pub count : n ≡ sum (map (λ r. length r.whys) rows)
   pub added : after ≡ before ++ flat_map (λ r. flat_map (waits_line (object_of object.hall.object) r.call) r.whys) rows

@@ -1,15 +1,19 @@
 //! Who is there, and what waits.
 
-ghost use Rattle.std.specs.Prelude.{◌≡◌, ◌+◌, ◌++◌, ◌∷◌, [], None, flat_map, length, take, false, IfOk, OnOk, slice_get};
+ghost use Rattle.std.specs.Prelude.{◌≡◌, ◌+◌, ◌-◌, ◌++◌, ◌∷◌, [], ℕ, Some, flat_map, length, option_map, take, true, false};
+ghost use Rattle.std.specs.Prelude.{IfNone, IfOk, IfSome, OnOk, slice_get};
 ghost use Rattle.std.specs.List.Sorted.{IsPermutation, IsNonDecreasingBy};
 ghost use Rattle.client_core.specs.declared.client.Opened.{Opened as AnOpened};
+ghost use Rattle.client_core.specs.People.{people_of, name_in, since_in, called_in};
+ghost use Rattle.live_core.specs.Hall.{Every};
 ghost use Rattle.told_core.specs.State.{peers_of, opened_in};
-ghost use Rattle.told_core.specs.Inside.{is_asked, sits_in, sitting, AreSitting, last_told, is_between, waiting_in, IsWho};
+ghost use Rattle.told_core.specs.Inside.{is_asked, sits_in, sitting_from, AreSitting, seat_name, last_told, is_between, waiting_in};
+ghost use Rattle.told_core.specs.Inside.{is_caller, calls_at, WaitsFor, IsWho};
 ghost use Rattle.decl_core.specs.ObjectMap.{object_of};
 ghost use Rattle.hosted_core.specs.Scene.{told_of};
 ghost use Rattle.why_core.specs.Found.{whys_of};
 ghost use Rattle.inside_text.specs.Who.{waits_line};
-ghost use Rattle.inside_core.specs.Adds.{AddsSeats, AddsWaits};
+ghost use Rattle.inside_core.specs.Adds.{crowd_of, AddsSeats, AddsWaits};
 
 use crate::why::reasons_of;
 use client_core::client::Opened;
@@ -63,15 +67,36 @@ fn count(clients: &Clients) -> usize
     clients.count()
 }
 
+// The name of the client at a place.
+fn name_at(clients: &Clients, place: usize) -> Option<&Name>
+    ensures { option_map (λ n. n.now) result ≡ name_in (slice_get (people_of clients.now) place) }
+{
+    clients.name(place)
+}
+
+// The second in which the one at a place came.
+fn since_at(clients: &Clients, place: usize) -> u64
+    ensures { result ≡ since_in (slice_get (people_of clients.now) place) }
+{
+    clients.since(place)
+}
+
+// That in which its last call was taken.
+fn called_at(clients: &Clients, place: usize) -> u64
+    ensures { result ≡ called_in (slice_get (people_of clients.now) place) }
+{
+    clients.called(place)
+}
+
 // Adds the one at a place, where it is asked for.
 fn push_sitting(
     clients: &Clients,
     place: usize,
     whom: Whom,
-    all: &mut Vec<Opened>,
+    all: &mut Vec<(usize, Opened)>,
 ) -> Result<(), AllocError>
     ensures { OnOk result (all.new.items ≡ all.old.items
-        ++ sits_in whom.at whom.from (opened_in (slice_get (peers_of clients.now) place))) }
+        ++ sits_in whom.at whom.from place (opened_in (slice_get (peers_of clients.now) place))) }
 {
     match opened_at(clients, place) {
         None => Ok(()),
@@ -79,15 +104,15 @@ fn push_sitting(
             if !is_asked(opened, whom) {
                 return Ok(());
             }
-            all.push(opened)?;
+            all.push((place, opened))?;
             Ok(())
         }
     }
 }
 
-// All that are asked for, by the places of their connections.
-fn sitting(alloc: Global, clients: &Clients, whom: Whom) -> Result<Vec<Opened>, AllocError>
-    ensures { IfOk result (λ all. all.items ≡ sitting whom.at whom.from (peers_of clients.now)) }
+// All that are asked for, each with the place of its connection, by these places.
+fn sitting(alloc: Global, clients: &Clients, whom: Whom) -> Result<Vec<(usize, Opened)>, AllocError>
+    ensures { IfOk result (λ all. all.items ≡ sitting_from 0 whom.at whom.from (peers_of clients.now)) }
 {
     let mut all = Vec::new(alloc);
     for place in 0..count(clients) {
@@ -97,7 +122,7 @@ fn sitting(alloc: Global, clients: &Clients, whom: Whom) -> Result<Vec<Opened>, 
 }
 
 // The same, by their numbers.
-fn seated(alloc: Global, clients: &Clients, whom: Whom) -> Result<Vec<Opened>, AllocError>
+fn seated(alloc: Global, clients: &Clients, whom: Whom) -> Result<Vec<(usize, Opened)>, AllocError>
     ensures { IfOk result (λ all. AreSitting whom.at whom.from (peers_of clients.now) all.items) }
 {
     let mut all = sitting(alloc, clients, whom)?;
@@ -106,15 +131,15 @@ fn seated(alloc: Global, clients: &Clients, whom: Whom) -> Result<Vec<Opened>, A
 }
 
 // Puts them by their numbers.
-fn sort(all: &mut [Opened])
+fn sort(all: &mut [(usize, Opened)])
     ensures same { IsPermutation all.old all.new }
-    ensures rising { IsNonDecreasingBy (λ (o : AnOpened). o.session) all.new }
+    ensures rising { IsNonDecreasingBy (λ (seat : ℕ × AnOpened). seat.1.session) all.new }
 {
-    all.sort_unstable_by_key(|opened| opened.session);
+    all.sort_unstable_by_key(|seat| seat.1.session);
 }
 
 // The first 256 of them.
-fn told(all: &[Opened]) -> &[Opened]
+fn told(all: &[(usize, Opened)]) -> &[(usize, Opened)]
     ensures { result.now ≡ take 256 all.now }
 {
     if all.len() <= MOST_TOLD {
@@ -124,67 +149,36 @@ fn told(all: &[Opened]) -> &[Opened]
 }
 
 // Where there are so many, the number of the last of these.
-fn last_told(all: &[Opened]) -> Option<u16>
+fn last_told(all: &[(usize, Opened)]) -> Option<u16>
     ensures { result ≡ last_told all.now }
 {
     match all.get(MOST_TOLD - 1) {
         None => None,
-        Some(opened) => Some(opened.session),
+        Some(seat) => Some(seat.1.session),
     }
 }
 
-// The place of the connection that has a session, as far as that is known.
-fn place_of(clients: &Clients, object: &Hosted, whom: Whom, session: u32) -> Option<usize> {
-    let place = object.owner(session)?;
-    match clients.opened(place) {
-        None => None,
-        Some(opened) => {
-            if opened.object != whom.at || u32::from(opened.session) != session {
-                return None;
-            }
-            Some(place)
-        }
-    }
-}
-
-// The name of the client that is at a place.
-fn name_of(clients: &Clients, place: Option<usize>, is_named: bool) -> Option<&Name>
-    ensures { is_named ≡ false → result ≡ None }
+// The name by which the one at a place has opened an object, or none.
+fn name_of(clients: &Clients, whom: Whom, seat: (usize, Opened)) -> Option<&Name>
+    ensures { option_map (λ n. n.now) result ≡ seat_name (crowd_of clients.now whom) seat }
 {
-    if !is_named {
+    if !seat.1.is_named {
         return None;
     }
-    match place {
-        None => None,
-        Some(place) => clients.name(place),
-    }
+    name_at(clients, seat.0)
 }
 
-// For how many seconds the one at a place is there.
-fn seconds_here(clients: &Clients, place: Option<usize>, whom: Whom) -> Option<u64> {
-    match place {
-        None => None,
-        Some(place) => Some(whom.second.saturating_sub(clients.since(place))),
-    }
-}
-
-// For how many seconds its call waits.
-fn seconds_waiting(clients: &Clients, place: Option<usize>, whom: Whom) -> Option<u64> {
-    match place {
-        None => None,
-        Some(place) => Some(whom.second.saturating_sub(clients.called(place))),
-    }
-}
-
-// What is told of the one at a place.
-fn seat_of(clients: &Clients, place: Option<usize>, whom: Whom, opened: Opened) -> Seat
-    ensures session { result.session ≡ opened.session }
-    ensures calls { result.calls ≡ opened.calls }
+// What is told of it.
+fn seat_of(clients: &Clients, whom: Whom, seat: (usize, Opened)) -> Seat
+    ensures session { result.session ≡ seat.1.session }
+    ensures calls { result.calls ≡ seat.1.calls }
+    ensures since { result.seconds ≡ Some (whom.second - since_in (slice_get (people_of clients.now) seat.0)) }
 {
+    let seconds = whom.second.saturating_sub(since_at(clients, seat.0));
     Seat {
-        session: u64::from(opened.session),
-        seconds: seconds_here(clients, place, whom),
-        calls: opened.calls,
+        session: u64::from(seat.1.session),
+        seconds: Some(seconds),
+        calls: seat.1.calls,
     }
 }
 
@@ -192,16 +186,14 @@ fn seat_of(clients: &Clients, place: Option<usize>, whom: Whom, opened: Opened) 
 fn push_one(
     out: &mut Vec<u8>,
     clients: &Clients,
-    object: &Hosted,
     whom: Whom,
-    opened: Opened,
+    seat: (usize, Opened),
 ) -> Result<(), AllocError>
-    ensures { OnOk result (AddsSeats (opened ∷ []) out.old.items out.new.items) }
+    ensures { OnOk result (AddsSeats (crowd_of clients.now whom) (seat ∷ []) out.old.items out.new.items) }
 {
-    let place = place_of(clients, object, whom, u32::from(opened.session));
-    let seat = seat_of(clients, place, whom, opened);
-    let name = name_of(clients, place, opened.is_named);
-    push_seat(out, seat, name)?;
+    let told = seat_of(clients, whom, seat);
+    let name = name_of(clients, whom, seat);
+    push_seat(out, told, name)?;
     Ok(())
 }
 
@@ -209,33 +201,128 @@ fn push_one(
 fn push_seats(
     out: &mut Vec<u8>,
     clients: &Clients,
-    object: &Hosted,
     whom: Whom,
-    seats: &[Opened],
+    seats: &[(usize, Opened)],
 ) -> Result<(), AllocError>
-    ensures { OnOk result (AddsSeats seats.now out.old.items out.new.items) }
+    ensures { OnOk result (AddsSeats (crowd_of clients.now whom) seats.now out.old.items out.new.items) }
 {
     match seats.split_first() {
         None => Ok(()),
         Some((first, rest)) => {
-            push_one(out, clients, object, whom, *first)?;
-            push_seats(out, clients, object, whom, rest)?;
+            push_one(out, clients, whom, *first)?;
+            push_seats(out, clients, whom, rest)?;
             Ok(())
         }
     }
 }
 
-// A call that waits, for so many seconds, as it is told.
-fn waiting_of(object: &Hosted, call: &Call, seconds: Option<u64>) -> Waiting
+// Whether one waits for a call of this session of the object at a place, of which it was told this number.
+fn is_caller(opened: Opened, at: usize, session: u32, told: u64) -> bool
+    ensures { result ≡ is_caller at session told (Some opened) }
+{
+    if opened.object != at {
+        return false;
+    }
+    if u32::from(opened.session) != session {
+        return false;
+    }
+    if !opened.waits {
+        return false;
+    }
+    opened.told == told
+}
+
+// Whether the one at a place does.
+fn calls_at(clients: &Clients, whom: Whom, place: usize, session: u32, told: u64) -> bool
+    ensures { result ≡ calls_at (crowd_of clients.now whom) session told place }
+{
+    match opened_at(clients, place) {
+        None => false,
+        Some(opened) => is_caller(opened, whom.at, session, told),
+    }
+}
+
+// The place of the first of these that does.
+fn caller_among(
+    clients: &Clients,
+    whom: Whom,
+    seats: &[(usize, Opened)],
+    session: u32,
+    told: u64,
+) -> Option<usize>
+    ensures some { IfSome result (λ place. calls_at (crowd_of clients.now whom) session told place ≡ true) }
+    ensures none { IfNone result (Every (λ (seat : ℕ × AnOpened).
+        calls_at (crowd_of clients.now whom) session told seat.0 ≡ false) seats.now) }
+{
+    for k in 0..seats.len() {
+        if calls_at(clients, whom, seats[k].0, session, told) {
+            return Some(seats[k].0);
+        }
+    }
+    None
+}
+
+// The place that is thought to be that of the one that waits for a call, where it is, or that of one of these.
+fn caller_or(
+    clients: &Clients,
+    whom: Whom,
+    seats: &[(usize, Opened)],
+    thought: Option<usize>,
+    session: u32,
+    told: u64,
+) -> Option<usize>
+    ensures some { IfSome result (λ place. calls_at (crowd_of clients.now whom) session told place ≡ true) }
+    ensures none { IfNone result (Every (λ (seat : ℕ × AnOpened).
+        calls_at (crowd_of clients.now whom) session told seat.0 ≡ false) seats.now) }
+{
+    match thought {
+        None => caller_among(clients, whom, seats, session, told),
+        Some(place) => {
+            if calls_at(clients, whom, place, session, told) {
+                return Some(place);
+            }
+            caller_among(clients, whom, seats, session, told)
+        }
+    }
+}
+
+// For how many seconds a call waits, where one of these waits for it.
+fn waits_for(
+    clients: &Clients,
+    object: &Hosted,
+    whom: Whom,
+    seats: &[(usize, Opened)],
+    session: u32,
+    told: u64,
+) -> Option<u64>
+    ensures { WaitsFor (crowd_of clients.now whom) seats.now session told result }
+{
+    match caller_or(clients, whom, seats, object.owner(session), session, told) {
+        None => None,
+        Some(place) => Some(whom.second.saturating_sub(called_at(clients, place))),
+    }
+}
+
+// A call that waits, as it is told.
+fn waiting_of(
+    clients: &Clients,
+    object: &Hosted,
+    whom: Whom,
+    seats: &[(usize, Opened)],
+    call: &Call,
+) -> Waiting
     ensures number { result.number ≡ told_of object.now call.now.number }
     ensures session { result.session ≡ call.now.session }
     ensures operation { result.operation ≡ call.now.operation }
+    ensures since { WaitsFor (crowd_of clients.now whom) seats.now call.now.session
+        (told_of object.now call.now.number) result.seconds }
 {
+    let number = object.told(call.number());
     Waiting {
-        number: object.told(call.number()),
+        number,
         session: u64::from(call.session()),
         operation: call.operation(),
-        seconds,
+        seconds: waits_for(clients, object, whom, seats, call.session(), number),
     }
 }
 
@@ -266,13 +353,14 @@ fn push_call(
     clients: &Clients,
     object: &Hosted,
     whom: Whom,
+    seats: &[(usize, Opened)],
     call: &Call,
 ) -> Result<usize, AllocError>
-    ensures { IfOk result (λ n. AddsWaits object.now (call.now ∷ []) n out.old.items out.new.items) }
+    ensures { IfOk result (λ n. AddsWaits (crowd_of clients.now whom) seats.now object.now (call.now ∷ []) n out.old.items
+        out.new.items) }
 {
     let reasons = reasons_of(alloc, object, call.operation())?;
-    let place = place_of(clients, object, whom, call.session());
-    let waiting = waiting_of(object, call, seconds_waiting(clients, place, whom));
+    let waiting = waiting_of(clients, object, whom, seats, call);
     push_rows(out, object, waiting, &reasons)?;
     Ok(count_of(&reasons))
 }
@@ -298,16 +386,17 @@ fn push_if(
     clients: &Clients,
     object: &Hosted,
     whom: Whom,
+    seats: &[(usize, Opened)],
     last: Option<u16>,
     call: &Call,
 ) -> Result<usize, AllocError>
-    ensures { IfOk result (λ n. AddsWaits object.now (waiting_in whom.from last (call.now ∷ [])) n out.old.items
-        out.new.items) }
+    ensures { IfOk result (λ n. AddsWaits (crowd_of clients.now whom) seats.now object.now
+        (waiting_in whom.from last (call.now ∷ [])) n out.old.items out.new.items) }
 {
     if !is_between(call.session(), whom.from, last) {
         return Ok(0);
     }
-    let lines = push_call(alloc, out, clients, object, whom, call)?;
+    let lines = push_call(alloc, out, clients, object, whom, seats, call)?;
     Ok(lines)
 }
 
@@ -318,15 +407,25 @@ fn push_calls(
     clients: &Clients,
     object: &Hosted,
     whom: Whom,
+    seats: &[(usize, Opened)],
     last: Option<u16>,
 ) -> Result<usize, AllocError>
-    ensures { IfOk result (λ n. AddsWaits object.now (waiting_in whom.from last object.now.hall.waiting) n
-        out.old.items out.new.items) }
+    ensures { IfOk result (λ n. AddsWaits (crowd_of clients.now whom) seats.now object.now
+        (waiting_in whom.from last object.now.hall.waiting) n out.old.items out.new.items) }
 {
     let waiting = object.live().waiting();
     let mut lines: usize = 0;
     for place in 0..waiting.len() {
-        let more = push_if(alloc, out, clients, object, whom, last, &waiting[place])?;
+        let more = push_if(
+            alloc,
+            out,
+            clients,
+            object,
+            whom,
+            seats,
+            last,
+            &waiting[place],
+        )?;
         lines = sum_of(lines, more)?;
     }
     Ok(lines)
@@ -349,14 +448,14 @@ pub fn who_of(
     object: &Hosted,
     whom: Whom,
 ) -> Result<Vec<u8>, AllocError>
-    ensures { IfOk result (λ text. IsWho (peers_of clients.now) object.now whom.at whom.from text.items) }
+    ensures { IfOk result (λ text. IsWho (crowd_of clients.now whom) object.now whom.from text.items) }
 {
     let all = seated(alloc, clients, whom)?;
     let seats = told(&all);
     let mut lines = Vec::new(alloc);
-    push_seats(&mut lines, clients, object, whom, seats)?;
+    push_seats(&mut lines, clients, whom, seats)?;
     let last = last_told(&all);
-    let calls = push_calls(alloc, &mut lines, clients, object, whom, last)?;
+    let calls = push_calls(alloc, &mut lines, clients, object, whom, seats, last)?;
     let count = sum_of(seats.len(), calls)?;
     let mut out = Vec::new(alloc);
     push_who(&mut out, count as u64)?;

@@ -4,13 +4,11 @@ ghost use Rattle.std.specs.Prelude.{◌≡◌, ◌≢◌, ◌++◌, [], ℕ, IfO
 ghost use Rattle.decl_core.specs.ObjectMap.{object_of};
 ghost use Rattle.trace_core.specs.Events.{Called};
 ghost use Rattle.why_core.specs.Found.{whys_of};
-ghost use Rattle.inside_text.specs.declared.why.State.TheVariants as states;
 ghost use Rattle.inside_text.specs.Why.{why_text};
 ghost use Rattle.live_core.specs.Hall.{Every};
-ghost use Rattle.hosted_core.specs.Scene.{told_of};
-ghost use Rattle.told_core.specs.Inside.{AreWhys, SaysState, SaysWhy, IsWhy};
+ghost use Rattle.hosted_core.specs.Scene.{is_given, told_of};
+ghost use Rattle.told_core.specs.Inside.{AreWhys, SaysState, SaysWhy, IsWhy, state_by};
 
-use ask_core::answer::Cancelled;
 use hosted_core::hosted::Hosted;
 use inside_text::why::{State, push_state, push_why};
 use live_core::call::Call;
@@ -47,14 +45,14 @@ pub(crate) fn reasons_of(
     Ok(found)
 }
 
-// What a call is that does not wait.
+// What a call of this number is that does not wait.
 fn state_of(object: &Hosted, told: u64) -> State
-    ensures { result ≡ states.Running → ⊥ }
+    ensures { result ≡ state_by (is_given object.now told) }
 {
-    match object.waits_as(told) {
-        Err(Cancelled::Unknown) => State::Unknown,
-        _ => State::Ended,
+    if object.is_given(told) {
+        return State::Ended;
     }
+    State::Unknown
 }
 
 // What is said of a call that does not wait.

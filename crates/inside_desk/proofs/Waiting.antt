@@ -17,7 +17,7 @@ use Rattle.inside_text.specs.declared.who.Waiting.{Waiting}
 use Rattle.inside_text.specs.Who.{Refused, call_words, waits_line, who_line}
 use Rattle.inside_text.specs.Why.{node_words}
 use Rattle.inside_desk.specs.Asked.{who}
-use Rattle.inside_desk.specs.Told.{Numbered, numbered, waiting_among, AreRefused, IsTold, HasTold, all_that_wait}
+use Rattle.inside_desk.specs.Told.{Numbered, numbered, waiting_among, AreRefused, IsTold, HasTold, AreWaitLines, all_that_wait}
 use Rattle.inside_desk.proofs.Numbers.{next_call, none_next, past_all}
 
 -- the calls that wait behind so many calls
@@ -84,9 +84,19 @@ one_waits b k lines count text out call w whys h there waits is tells made more 
     }
 
 -- all of them
-pub all_told : (b : Board) (k lines : ℕ) (text said : List ℕ) → HasTold b k lines text → length b.calls ≤ k → said ≡ who_line lines ++ text → IsTold b who said
-all_told b k lines text said h few is =
-    let count : lines ≡ 0 + sum (map (λ (x : Refused). length x.whys) h.front) = omega (arith, h.many) in
-    let first = who_line (0 + sum (map (λ (x : Refused). length x.whys) h.front)) in
-    subst (IsTold b who) (sym (is ∙ ap (λ n. who_line n ++ text) count ∙ ap (λ xs. xs ++ text) (sym (append-nil first)) ∙ ap (λ xs. (first ++ []) ++ xs) h.said))
-    (all_that_wait h.front (subst (AreRefused b (waiting_among b (numbered 1 b.calls))) (append-nil h.front) (h.are [] (subst (λ cs. AreRefused b cs []) (sym (ap (waiting_among b) (past_all 1 k b.calls few))) tt))))
+pub all_told : (b : Board) (k lines : ℕ) (text : List ℕ) → HasTold b k lines text → length b.calls ≤ k → AreWaitLines b lines text
+all_told b k lines text h few = record {
+  all = h.front;
+  are = subst (AreRefused b (waiting_among b (numbered 1 b.calls))) (append-nil h.front) (h.are [] (subst (λ cs. AreRefused b cs []) (sym (ap (waiting_among b) (past_all 1 k b.calls few))) tt));
+  many = h.many;
+  said = h.said;
+  few = h.few;
+}
+
+-- and the answer to `who`
+pub who_told : (b : Board) (count : ℕ) (text said : List ℕ) → AreWaitLines b count text → said ≡ who_line count ++ text → IsTold b who said
+who_told b count text said h is =
+    let sure : count ≡ 0 + sum (map (λ (x : Refused). length x.whys) h.all) = omega (arith, h.many) in
+    let first = who_line (0 + sum (map (λ (x : Refused). length x.whys) h.all)) in
+    subst (IsTold b who) (sym (is ∙ ap (λ n. who_line n ++ text) sure ∙ ap (λ xs. xs ++ text) (sym (append-nil first)) ∙ ap (λ xs. (first ++ []) ++ xs) h.said))
+    (all_that_wait h.all h.are)

@@ -84,3 +84,11 @@ pub record HasTold (b : Board) (place lines : ℕ) (text : List ℕ) : Type 0 wh
   pub many : lines ≡ sum (map (λ r. length r.whys) front)
   pub said : text ≡ flat_map (λ r. flat_map (waits_line (object_of b.object) r.call) r.whys) front
   pub few : lines ≤ length text
+
+-- The lines of all calls that wait are so many, with this text: each call with the nodes that refuse it.
+pub record AreWaitLines (b : Board) (count : ℕ) (text : List ℕ) : Type 0 where
+  pub all : List Refused
+  pub are : AreRefused b (waiting_among b (numbered 1 b.calls)) all
+  pub many : count ≡ sum (map (λ r. length r.whys) all)
+  pub said : text ≡ flat_map (λ r. flat_map (waits_line (object_of b.object) r.call) r.whys) all
+  pub few : count ≤ length text

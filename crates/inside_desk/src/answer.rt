@@ -11,6 +11,7 @@ ghost use Rattle.inside_text.specs.Why.{why_text};
 ghost use Rattle.inside_desk.specs.Asked.{view_of, why as why_asked, who as who_asked};
 ghost use Rattle.inside_desk.specs.Counted.{HasCounted};
 ghost use Rattle.inside_desk.specs.Told.{is_needed as needed, if_there_runs, running_there, IsTold, HasTold};
+ghost use Rattle.inside_desk.specs.Told.{AreWaitLines};
 
 use crate::question::Question;
 use crate::replay::counters_of;
@@ -26,6 +27,13 @@ use why_core::reason::Reason;
 
 // No desk has more calls.
 const MOST_CALLS: u32 = 65_536;
+
+/// Lines, and how many they are.
+#[derive(Drop)]
+pub struct WaitLines {
+    pub count: u64,
+    pub text: Vec<u8>,
+}
 
 // Whether an operation is one of these.
 fn is_among(operations: &[OpId], op: OpId) -> bool
@@ -161,21 +169,30 @@ fn push_call(
     Ok(lines + reasons.len() as u64)
 }
 
-// Adds the answer to `who`.
-fn answer_who(alloc: Global, desk: &Desk, out: &mut Vec<u8>) -> Result<(), AllocError>
-    ensures { OnOk result ((text : List ℕ) × (out.new.items ≡ out.old.items ++ text)
-        × IsTold desk.now who_asked text) }
+/// The lines of all calls that wait, one for each node that refuses one of them, in order, and how many they are. The
+/// error is that memory was refused.
+pub fn wait_lines(alloc: Global, desk: &Desk) -> Result<WaitLines, AllocError>
+    ensures { IfOk result (λ lines. AreWaitLines desk.now lines.count lines.text.items) }
 {
     // Its board is sound: it has at most so many calls.
     desk.history();
     let counters = counters_of(alloc, desk)?;
     let mut text = Vec::new(alloc);
-    let mut lines = 0;
+    let mut count = 0;
     for place in 0..MOST_CALLS {
-        lines = push_call(alloc, desk, &counters, place, lines, &mut text)?;
+        count = push_call(alloc, desk, &counters, place, count, &mut text)?;
     }
-    push_who(out, lines)?;
-    out.extend_from_slice(&text)?;
+    Ok(WaitLines { count, text })
+}
+
+// Adds the answer to `who`.
+fn answer_who(alloc: Global, desk: &Desk, out: &mut Vec<u8>) -> Result<(), AllocError>
+    ensures { OnOk result ((text : List ℕ) × (out.new.items ≡ out.old.items ++ text)
+        × IsTold desk.now who_asked text) }
+{
+    let lines = wait_lines(alloc, desk)?;
+    push_who(out, lines.count)?;
+    out.extend_from_slice(&lines.text)?;
     Ok(())
 }
 

@@ -2,17 +2,17 @@
 use Rattle.std.proofs.Common.{◌≡◌, ◌∙◌, ap, sym, ℕ, ◌<◌, List, ◌++◌, append_assoc, subst}
 use Rattle.std.specs.Prelude.{true, if◌then◌else◌}
 use Rattle.post_core.specs.Texts.{Begins}
-use Rattle.post_core.specs.Turns.{Gives, added_by}
+use Rattle.post_core.specs.Turns.{added_by}
 use Rattle.keep_loop.specs.Seen.{Happened, stored_in, added_in}
-use Rattle.keep_loop.specs.Epochs.{before_in, since_in, stored_since}
+use Rattle.keep_loop.specs.Epochs.{Rules, before_in, since_in, stored_since}
 use Rattle.keep_loop.specs.Stands.{IsHonest, IsBetween, Survives, SurvivesSince}
 use Rattle.keep_loop.specs.declared.keep.Limits.{Limits}
 use Rattle.keep_loop.proofs.Epochs.{handed_twice, stored_twice}
 use Rattle.keep_loop.proofs.Turns.{begins_twice}
 
-pub survives : {S : Type 0} (gives : Gives S) (first : S) (limits : Limits) (seen : List Happened) (found : ℕ → List ℕ) → limits.waits ≡ true →
-    IsHonest gives first limits seen → ((j : ℕ) → j < limits.journals → IsBetween (stored_in j seen) (added_in j seen) (found j)) → Survives gives first limits seen found
-survives gives first limits seen found waits h between = record {
+pub survives : {S : Type 0} (rules : Rules S) (first : S) (limits : Limits) (seen : List Happened) (found : ℕ → List ℕ) → limits.waits ≡ true →
+    IsHonest rules first limits seen → ((j : ℕ) → j < limits.journals → IsBetween (stored_in j seen) (added_in j seen) (found j)) → Survives rules.gives first limits seen found
+survives rules first limits seen found waits h between = record {
   answered = h.kept_turns;
   later = h.later;
   last = h.last;
@@ -24,11 +24,11 @@ survives gives first limits seen found waits h between = record {
   only = λ j is. begins_twice (found j) (added_in j seen) (added_by j (h.kept_turns ++ h.later)) (between j is).nothing_else (h.added j is);
 }
 
-pub survives_since : {S : Type 0} (gives : Gives S) (first : S) (limits : Limits) (seen : List Happened) (found : ℕ → List ℕ) → limits.waits ≡ true →
-    IsHonest gives first limits seen → ((j : ℕ) → j < limits.journals → IsBetween (stored_since j seen) (since_in j seen) (found j)) → SurvivesSince gives first limits seen found
+pub survives_since : {S : Type 0} (rules : Rules S) (first : S) (limits : Limits) (seen : List Happened) (found : ℕ → List ℕ) → limits.waits ≡ true →
+    IsHonest rules first limits seen → ((j : ℕ) → j < limits.journals → IsBetween (stored_since j seen) (since_in j seen) (found j)) → SurvivesSince rules first limits seen found
 unfolding survives
-survives_since gives first limits seen found waits h between = record {
-  survives = survives gives first limits seen (λ j. before_in j seen ++ found j) waits h (λ j is. all_between j (between j is));
+survives_since rules first limits seen found waits h between = record {
+  survives = survives rules first limits seen (λ j. before_in j seen ++ found j) waits h (λ j is. all_between j (between j is));
   begun = h.begun;
 }
   where

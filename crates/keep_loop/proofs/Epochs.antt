@@ -7,7 +7,7 @@ use Rattle.post_core.specs.Texts.{Begins}
 use Rattle.post_core.specs.Turns.{Turn, added_by}
 use Rattle.keep_loop.specs.Seen.{Happened, added_in, stored_in}
 use Rattle.keep_loop.specs.Seen.Happened.{Came, Ended, Broke, Wrote, Noticed, Added, Stored, Changed}
-use Rattle.keep_loop.specs.Epochs.{front_in, before_in, since_in, stored_since, BeginsNot, BeginsNone, change_to, Agrees, AgreesIn, IsAhead, HasBegun}
+use Rattle.keep_loop.specs.Epochs.{Rules, front_in, before_in, since_in, stored_since, BeginsNot, BeginsNone, change_to, Agrees, AgreesIn, IsAhead, HasBegun}
 
 none_of_none : (r t : List ℕ) → r ++ t ≡ [] → r ≡ []
 none_of_none r t is = nil_from_length r (let e = sym (length-append r t) ∙ ap length is in omega (arith, e))
@@ -57,14 +57,24 @@ module _ (journal : ℕ) (front : List ℕ) (seen : List Happened) (kept later :
       by false other =
           agrees_last j (front_in j seen) (before_in j seen) (kept ++ later) (change_to journal front) (λ e. absurd (let apart = eqb-false journal j other in omega (arith, apart, e))) is
 
-  -- its object was not told yet
-  pub ahead : (j : ℕ) → AgreesIn j seen (kept ++ later) → HasBegun j (Changed journal front ∷ seen) (kept ++ later)
-  ahead j is = by (journal == j) refl
-    where
-      by : (b : Bool) → (journal == j) ≡ b →
-          Agrees j (if b then Some front else front_in j seen) (if b then added_in j seen else before_in j seen) (kept ++ later) ⊎ IsAhead j (Changed journal front ∷ seen) (kept ++ later)
-      by true same = inr (record { front = front; before = seen; just = ap (λ n. Changed n front ∷ seen) (eqb-true journal j same); agrees = is })
-      by false other = inl is
+-- its object was not told yet, for which the front stands
+pub ahead : {S : Type 0} (rules : Rules S) (last : S) (journal : ℕ) (front : List ℕ) → rules.fronts last journal front → (seen : List Happened) (kept later : List Turn) (j : ℕ) →
+    AgreesIn j seen (kept ++ later) → HasBegun rules last j (Changed journal front ∷ seen) (kept ++ later)
+ahead {S} rules last journal front stands seen kept later j is = by (journal == j) refl
+  where
+    by : (b : Bool) → (journal == j) ≡ b →
+        Agrees j (if b then Some front else front_in j seen) (if b then added_in j seen else before_in j seen) (kept ++ later)
+        ⊎ IsAhead rules last j (Changed journal front ∷ seen) (kept ++ later)
+    by true same =
+        let at : journal ≡ j = eqb-true journal j same in
+        inr (record {
+          front = front;
+          before = seen;
+          just = ap (λ n. Changed n front ∷ seen) at;
+          agrees = is;
+          stands = subst (λ n. rules.fronts last n front) at stands;
+        })
+    by false other = inl is
 
 -- what a journal was handed, in two parts
 pub handed_twice : (j : ℕ) (seen : List Happened) → added_in j seen ≡ before_in j seen ++ since_in j seen

@@ -3,11 +3,11 @@ use Rattle.std.proofs.Common.{◌≡◌, inl, ℕ, ◌<◌, ◌≤◌, ◌+◌, 
 use Rattle.std.specs.Prelude.{Bool, true, false, if◌then◌else◌, ◌==◌}
 use Rattle.std.proofs.lemmas.List.{append-nil}
 use Rattle.post_core.specs.Texts.{Begins, text_at}
-use Rattle.post_core.specs.Turns.{Turn, Gives, Runs, heard_of, notes_by, is_joining, added_by, said_to}
+use Rattle.post_core.specs.Turns.{Turn, Runs, heard_of, notes_by, is_joining, added_by, said_to}
 use Rattle.keep_loop.specs.Seen.{Happened, came_from, ended_in, written_to, notes_in, added_in, stored_in, kept_in, comings, read_of}
 use Rattle.keep_loop.specs.Seen.Happened.{Came, Ended, Broke, Wrote, Noticed, Added, Changed}
 use Rattle.keep_loop.specs.Cuts.{IsCut}
-use Rattle.keep_loop.specs.Epochs.{HasBegun}
+use Rattle.keep_loop.specs.Epochs.{Rules, HasBegun}
 use Rattle.post_core.specs.Posts.{is_here, hears, owed_to}
 use Rattle.keep_loop.specs.Stands.{Owes, Stands, Rests, IsHonest}
 use Rattle.keep_loop.specs.declared.keep.Keep.{Keep}
@@ -37,13 +37,13 @@ both_same : (waits : Bool) (l : List ℕ) → (if waits then l else l) ≡ l
 both_same true l = refl
 both_same false l = refl
 
-module _ {S : Type 0} (gives : Gives S) (first : S) (limits : Limits) where
+module _ {S : Type 0} (rules : Rules S) (first : S) (limits : Limits) where
   -- from the parts
-  pub honest_by : (seen : List Happened) (base : ℕ) (post : Post) (kept_turns later : List Turn) (last : S) → Runs gives first (kept_turns ++ later) last →
+  pub honest_by : (seen : List Happened) (base : ℕ) (post : Post) (kept_turns later : List Turn) (last : S) → Runs rules.gives first (kept_turns ++ later) last →
       ((c : ℕ) → IsCut (ended_in c seen) (came_from c seen) (heard_of c (kept_turns ++ later))) →
       ((rest : List Note) × (notes_in seen ≡ notes_by (kept_turns ++ later) ++ rest)) → ((c : ℕ) → comings c (notes_in seen) ≤ 1) →
       Owes limits (λ c. written_to c seen) (λ j. kept_in limits.waits j seen) (λ j. added_in j seen) post base kept_turns later →
-      ((j : ℕ) → j < limits.journals → HasBegun j seen (kept_turns ++ later)) → IsHonest gives first limits seen
+      ((j : ℕ) → j < limits.journals → HasBegun rules last j seen (kept_turns ++ later)) → IsHonest rules first limits seen
   honest_by seen base post kept_turns later last runs heard noted once o begun = record {
     kept_turns = kept_turns;
     later = later;
@@ -58,13 +58,13 @@ module _ {S : Type 0} (gives : Gives S) (first : S) (limits : Limits) where
     begun = begun;
   }
 
-  pub honest : (seen : List Happened) (keep : Keep S) → Stands gives first limits seen keep → IsHonest gives first limits seen
+  pub honest : (seen : List Happened) (keep : Keep S) → Stands rules.gives first limits seen keep → IsHonest rules first limits seen
   honest seen keep s =
       honest_by seen keep.base keep.post s.kept_turns s.later keep.object s.runs s.heeds.heard ([], s.heeds.noted ∙ sym (append-nil (notes_by (s.kept_turns ++ s.later)))) s.heeds.once s.owes
       (λ j is. inl (s.begun j is))
 
   pub honest_came : (seen : List Happened) (keep : Keep S) (who : ℕ) (bytes : List ℕ) → hears keep.post.places.items who ≡ true →
-      Stands gives first limits seen keep → IsHonest gives first limits (Came who bytes ∷ seen)
+      Stands rules.gives first limits seen keep → IsHonest rules first limits (Came who bytes ∷ seen)
   honest_came seen keep who bytes hearing s =
       let all : List Turn = s.kept_turns ++ s.later in
       honest_by (Came who bytes ∷ seen) keep.base keep.post s.kept_turns s.later keep.object s.runs
@@ -76,29 +76,29 @@ module _ {S : Type 0} (gives : Gives S) (first : S) (limits : Limits) where
       (subst (λ l. IsCut (ended_in c seen) l (heard_of c all)) (sym (append-nil (came_from c seen))) (s.heeds.heard c))))
       ([], s.heeds.noted ∙ sym (append-nil (notes_by all))) s.heeds.once s.owes (λ j is. inl (s.begun j is))
 
-  pub honest_ended : (seen : List Happened) (keep : Keep S) (who : ℕ) → Stands gives first limits seen keep → IsHonest gives first limits (Ended who ∷ seen)
+  pub honest_ended : (seen : List Happened) (keep : Keep S) (who : ℕ) → Stands rules.gives first limits seen keep → IsHonest rules first limits (Ended who ∷ seen)
   honest_ended seen keep who s =
       let all : List Turn = s.kept_turns ++ s.later in
       honest_by (Ended who ∷ seen) keep.base keep.post s.kept_turns s.later keep.object s.runs
       (λ c. cut_later (ended_in c seen) ((if who == c then 1 else 0) + ended_in c seen) (more_ended (who == c) (ended_in c seen)) (came_from c seen) (heard_of c all) (s.heeds.heard c))
       ([], s.heeds.noted ∙ sym (append-nil (notes_by all))) s.heeds.once s.owes (λ j is. inl (s.begun j is))
 
-  pub honest_broke : (seen : List Happened) (keep : Keep S) (who : ℕ) → Stands gives first limits seen keep → IsHonest gives first limits (Broke who ∷ seen)
+  pub honest_broke : (seen : List Happened) (keep : Keep S) (who : ℕ) → Stands rules.gives first limits seen keep → IsHonest rules first limits (Broke who ∷ seen)
   honest_broke seen keep who s =
       honest_by (Broke who ∷ seen) keep.base keep.post s.kept_turns s.later keep.object s.runs s.heeds.heard ([], s.heeds.noted ∙ sym (append-nil (notes_by (s.kept_turns ++ s.later)))) s.heeds.once s.owes
       (λ j is. inl (s.begun j is))
 
-  -- a journal has begun anew, of which the object was not told
-  pub honest_changed : (seen : List Happened) (keep : Keep S) (journal : ℕ) (front : List ℕ) → Stands gives first limits seen keep →
-      IsHonest gives first limits (Changed journal front ∷ seen)
-  honest_changed seen keep journal front s =
+  -- a journal has begun anew, of which the object was not told, by a front that stands for it
+  pub honest_changed : (seen : List Happened) (keep : Keep S) (journal : ℕ) (front : List ℕ) → rules.fronts keep.object journal front →
+      Stands rules.gives first limits seen keep → IsHonest rules first limits (Changed journal front ∷ seen)
+  honest_changed seen keep journal front stands s =
       honest_by (Changed journal front ∷ seen) keep.base keep.post s.kept_turns s.later keep.object s.runs s.heeds.heard
       ([], s.heeds.noted ∙ sym (append-nil (notes_by (s.kept_turns ++ s.later)))) s.heeds.once s.owes
-      (λ j is. ahead journal front seen s.kept_turns s.later j (s.begun j is))
+      (λ j is. ahead rules keep.object journal front stands seen s.kept_turns s.later j (s.begun j is))
 
   -- a piece was read, or an end
   pub honest_read : (seen : List Happened) (keep : Keep S) (who : ℕ) (bytes : List ℕ) (read : Read) → hears keep.post.places.items who ≡ true →
-      Stands gives first limits seen keep → IsHonest gives first limits (read_of who bytes read ∷ seen)
+      Stands rules.gives first limits seen keep → IsHonest rules first limits (read_of who bytes read ∷ seen)
   honest_read seen keep who bytes reads.More hearing s = honest_came seen keep who bytes hearing s
   honest_read seen keep who bytes reads.NoMore hearing s = honest_came seen keep who bytes hearing s
   honest_read seen keep who bytes reads.Ended hearing s = honest_ended seen keep who s
@@ -106,7 +106,7 @@ module _ {S : Type 0} (gives : Gives S) (first : S) (limits : Limits) where
 
   -- a note
   pub honest_noticed : (seen : List Happened) (keep : Keep S) (note : Note) → ((c : ℕ) → is_joining c note ≡ true → keep.base ≤ c) →
-      Stands gives first limits seen keep → IsHonest gives first limits (Noticed note ∷ seen)
+      Stands rules.gives first limits seen keep → IsHonest rules first limits (Noticed note ∷ seen)
   honest_noticed seen keep note joining s =
       honest_by (Noticed note ∷ seen) keep.base keep.post s.kept_turns s.later keep.object s.runs s.heeds.heard (note ∷ [], ap (λ l. l ++ note ∷ []) s.heeds.noted)
       (λ c. one_more (is_joining c note) (comings c (notes_in seen)) (comings c (notes_in seen ++ note ∷ [])) (comings_last c (notes_in seen) note) (s.heeds.once c) (λ is. s.heeds.fresh c (joining c is)))
@@ -114,7 +114,7 @@ module _ {S : Type 0} (gives : Gives S) (first : S) (limits : Limits) where
 
   -- lines were handed to a journal
   pub honest_added : (seen : List Happened) (keep : Keep S) (journal : ℕ) (lines : List ℕ) → lines ≡ text_at keep.post.lines.items journal →
-      Stands gives first limits seen keep → IsHonest gives first limits (Added journal lines ∷ seen)
+      Stands rules.gives first limits seen keep → IsHonest rules first limits (Added journal lines ∷ seen)
   honest_added seen keep journal lines are s =
       let all : List Turn = s.kept_turns ++ s.later in
       record {
@@ -141,7 +141,7 @@ module _ {S : Type 0} (gives : Gives S) (first : S) (limits : Limits) where
 
   -- a connection was written a front of what it is owed, where all lines are kept
   pub honest_wrote : (seen : List Happened) (keep : Keep S) (who n : ℕ) → is_here keep.post.places.items who ≡ true →
-      Rests gives first limits seen keep → IsHonest gives first limits (Wrote who (take n (owed_to keep.post.places.items who)) ∷ seen)
+      Rests rules.gives first limits seen keep → IsHonest rules first limits (Wrote who (take n (owed_to keep.post.places.items who)) ∷ seen)
   honest_wrote seen keep who n here r =
       let s = r.stands in
       let all : List Turn = s.kept_turns ++ s.later in
@@ -168,7 +168,7 @@ module _ {S : Type 0} (gives : Gives S) (first : S) (limits : Limits) where
         begun = λ j is. inl (s.begun j is);
       }
 
-  pub honest_none : IsHonest gives first limits []
+  pub honest_none : IsHonest rules first limits []
   honest_none = record {
     kept_turns = [];
     later = [];

@@ -1,9 +1,17 @@
 -- Journals that begin anew.
 use Rattle.std.specs.Prelude.{◌≡◌, ◌≢◌, ◌⊎◌, ℕ, true, false, Option, Some, None, List, [], ◌∷◌, ◌++◌, if◌then◌else◌, ◌==◌}
-use Rattle.post_core.specs.Turns.{Asked, Turn, added_by}
+use Rattle.post_core.specs.Turns.{Asked, Turn, Gives, added_by}
 use Rattle.post_core.specs.Turns.Asked.{Heard, Noted, Changes}
 use Rattle.keep_loop.specs.Seen.{Happened, added_in}
 use Rattle.keep_loop.specs.Seen.Happened.{Came, Ended, Broke, Wrote, Noticed, Added, Stored, Changed}
+
+-- what an object gives, and which fronts stand for what the lines of a journal tell
+pub record Rules (S : Type 0) : Type 1 where
+  pub gives : Gives S
+  pub fronts : S → ℕ → List ℕ → Type 0
+
+abbrev pub rules_of : {S : Type 0} → Gives S → (S → ℕ → List ℕ → Type 0) → Rules S
+rules_of gives fronts = record { gives = gives; fronts = fronts }
 
 -- the front by which a journal last began anew, if it did
 abbrev pub front_in : ℕ → List Happened → Option (List ℕ)
@@ -85,12 +93,13 @@ Agrees j (Some front) before turns = LastBegan j front before turns
 abbrev pub AgreesIn : ℕ → List Happened → List Turn → Type 0
 AgreesIn j seen turns = Agrees j (front_in j seen) (before_in j seen) turns
 
--- it has just begun anew, of which the object has not been told
-pub record IsAhead (j : ℕ) (seen : List Happened) (turns : List Turn) : Type 0 where
+-- it has just begun anew, of which the object, as turns left it, has not been told: by a front that stands for it
+pub record IsAhead {S : Type 0} (rules : Rules S) (last : S) (j : ℕ) (seen : List Happened) (turns : List Turn) : Type 0 where
   pub front : List ℕ
   pub before : List Happened
   pub just : seen ≡ Changed j front ∷ before
   pub agrees : AgreesIn j before turns
+  pub stands : rules.fronts last j front
 
-abbrev pub HasBegun : ℕ → List Happened → List Turn → Type 0
-HasBegun j seen turns = AgreesIn j seen turns ⊎ IsAhead j seen turns
+abbrev pub HasBegun : {S : Type 0} → Rules S → S → ℕ → List Happened → List Turn → Type 0
+HasBegun rules last j seen turns = AgreesIn j seen turns ⊎ IsAhead rules last j seen turns

@@ -1,7 +1,7 @@
 -- What a server owes, and what a loop keeps.
 use Rattle.std.specs.Prelude.{◌≡◌, ◌<◌, ◌≤◌, ◌%◌, ℕ, true, false, List, [], ◌++◌, Option, IfSome, length}
 use Rattle.keep_loop.specs.Cuts.{IsCut, IsFed}
-use Rattle.keep_loop.specs.Epochs.{before_in, AgreesIn, HasBegun}
+use Rattle.keep_loop.specs.Epochs.{Rules, before_in, AgreesIn, HasBegun}
 use Rattle.post_core.specs.Posts.{is_here, hears, owed_to}
 use Rattle.keep_loop.specs.Seen.{Happened, came_from, ended_in, written_to, notes_in, added_in, stored_in, kept_in, comings, Always}
 use Rattle.post_core.specs.Texts.{Begins, text_at}
@@ -15,18 +15,18 @@ use Rattle.post_core.specs.declared.served.Note.{Note}
 -- There is one sequential history, such that what each connection said begins with its lines in it, and what each was
 -- written is a front of what the history tells it, no further than the lines of all turns up to there are kept. Numbers of
 -- connections never come twice. Each journal last began anew in a turn of the history, or has just done so
-pub record IsHonest {S : Type 0} (gives : Gives S) (first : S) (limits : Limits) (seen : List Happened) : Type 0 where
+pub record IsHonest {S : Type 0} (rules : Rules S) (first : S) (limits : Limits) (seen : List Happened) : Type 0 where
   pub kept_turns : List Turn
   pub later : List Turn
   pub last : S
-  pub runs : Runs gives first (kept_turns ++ later) last
+  pub runs : Runs rules.gives first (kept_turns ++ later) last
   pub heard : (c : ℕ) → IsCut (ended_in c seen) (came_from c seen) (heard_of c (kept_turns ++ later))
   pub noted : (rest : List Note) × (notes_in seen ≡ notes_by (kept_turns ++ later) ++ rest)
   pub once : (c : ℕ) → comings c (notes_in seen) ≤ 1
   pub kept : (j : ℕ) → j < limits.journals → Begins (added_by j kept_turns) (kept_in limits.waits j seen)
   pub added : (j : ℕ) → j < limits.journals → Begins (added_in j seen) (added_by j (kept_turns ++ later))
   pub written : (c : ℕ) → Begins (written_to c seen) (said_to c kept_turns)
-  pub begun : (j : ℕ) → j < limits.journals → HasBegun j seen (kept_turns ++ later)
+  pub begun : (j : ℕ) → j < limits.journals → HasBegun rules last j seen (kept_turns ++ later)
 
 -- what is found of a journal after a crash: all that was stored, and of what it was handed since a front
 pub record IsBetween (stored text found : List ℕ) : Type 0 where
@@ -47,9 +47,9 @@ pub record Survives {S : Type 0} (gives : Gives S) (first : S) (limits : Limits)
 
 -- The same, where of each journal the front is found by which it last began anew, and these lines behind it; and in this
 -- history it last began anew by that front
-pub record SurvivesSince {S : Type 0} (gives : Gives S) (first : S) (limits : Limits) (seen : List Happened) (found : ℕ → List ℕ) : Type 0 where
-  pub survives : Survives gives first limits seen (λ j. before_in j seen ++ found j)
-  pub begun : (j : ℕ) → j < limits.journals → HasBegun j seen (survives.answered ++ survives.later)
+pub record SurvivesSince {S : Type 0} (rules : Rules S) (first : S) (limits : Limits) (seen : List Happened) (found : ℕ → List ℕ) : Type 0 where
+  pub survives : Survives rules.gives first limits seen (λ j. before_in j seen ++ found j)
+  pub begun : (j : ℕ) → j < limits.journals → HasBegun rules survives.last j seen (survives.answered ++ survives.later)
 
 -- The server has ended, and this is what it leaves of what it served: one history leads there, which has each note. What each
 -- connection said begins with its lines in it, and what each was written is a front of what it tells it. Each journal was
@@ -108,41 +108,41 @@ pub record Rests {S : Type 0} (gives : Gives S) (first : S) (limits : Limits) (s
   pub none : stands.later ≡ []
 
 -- where it is known what was seen, it was honest at each moment, and
-abbrev pub Honest : {S : Type 0} → Gives S → S → Limits → Option (List Happened) → Type 0
-Honest gives first limits seen = IfSome seen (λ s. Always (IsHonest gives first limits) s)
+abbrev pub Honest : {S : Type 0} → Rules S → S → Limits → Option (List Happened) → Type 0
+Honest rules first limits seen = IfSome seen (λ s. Always (IsHonest rules first limits) s)
 
-abbrev pub Good : {S : Type 0} → Gives S → S → Limits → Option (List Happened) → Keep S → Type 0
-Good gives first limits seen keep = IfSome seen (λ s. Stands gives first limits s keep × Always (IsHonest gives first limits) s)
+abbrev pub Good : {S : Type 0} → Rules S → S → Limits → Option (List Happened) → Keep S → Type 0
+Good rules first limits seen keep = IfSome seen (λ s. Stands rules.gives first limits s keep × Always (IsHonest rules first limits) s)
 
-abbrev pub Rested : {S : Type 0} → Gives S → S → Limits → Option (List Happened) → Keep S → Type 0
-Rested gives first limits seen keep = IfSome seen (λ s. Rests gives first limits s keep × Always (IsHonest gives first limits) s)
+abbrev pub Rested : {S : Type 0} → Rules S → S → Limits → Option (List Happened) → Keep S → Type 0
+Rested rules first limits seen keep = IfSome seen (λ s. Rests rules.gives first limits s keep × Always (IsHonest rules first limits) s)
 
 -- what a step keeps: from a state that says what was seen to one, to one all of whose lines are kept, from one of these to
 -- another, and to one that says what was seen
-abbrev pub Keeps : {S : Type 0} → Gives S → Option (List Happened) → Keep S → Option (List Happened) → Keep S → Type 0
-Keeps {S} gives before old after new = (first : S) (limits : Limits) → Good gives first limits before old → Good gives first limits after new
+abbrev pub Keeps : {S : Type 0} → Rules S → Option (List Happened) → Keep S → Option (List Happened) → Keep S → Type 0
+Keeps {S} rules before old after new = (first : S) (limits : Limits) → Good rules first limits before old → Good rules first limits after new
 
-abbrev pub Settles : {S : Type 0} → Gives S → Option (List Happened) → Keep S → Option (List Happened) → Keep S → Type 0
-Settles {S} gives before old after new = (first : S) (limits : Limits) → Good gives first limits before old → Rested gives first limits after new
+abbrev pub Settles : {S : Type 0} → Rules S → Option (List Happened) → Keep S → Option (List Happened) → Keep S → Type 0
+Settles {S} rules before old after new = (first : S) (limits : Limits) → Good rules first limits before old → Rested rules first limits after new
 
-abbrev pub Sends : {S : Type 0} → Gives S → Option (List Happened) → Keep S → Option (List Happened) → Keep S → Type 0
-Sends {S} gives before old after new = (first : S) (limits : Limits) → Rested gives first limits before old → Rested gives first limits after new
+abbrev pub Sends : {S : Type 0} → Rules S → Option (List Happened) → Keep S → Option (List Happened) → Keep S → Type 0
+Sends {S} rules before old after new = (first : S) (limits : Limits) → Rested rules first limits before old → Rested rules first limits after new
 
-abbrev pub Renews : {S : Type 0} → Gives S → Option (List Happened) → Keep S → Option (List Happened) → Keep S → Type 0
-Renews {S} gives before old after new = (first : S) (limits : Limits) → Rested gives first limits before old → Good gives first limits after new
+abbrev pub Renews : {S : Type 0} → Rules S → Option (List Happened) → Keep S → Option (List Happened) → Keep S → Type 0
+Renews {S} rules before old after new = (first : S) (limits : Limits) → Rested rules first limits before old → Good rules first limits after new
 
-abbrev pub Fails : {S : Type 0} → Gives S → Option (List Happened) → Keep S → Option (List Happened) → Type 0
-Fails {S} gives before old after = (first : S) (limits : Limits) → Good gives first limits before old → Honest gives first limits after
+abbrev pub Fails : {S : Type 0} → Rules S → Option (List Happened) → Keep S → Option (List Happened) → Type 0
+Fails {S} rules before old after = (first : S) (limits : Limits) → Good rules first limits before old → Honest rules first limits after
 
-abbrev pub FailsRested : {S : Type 0} → Gives S → Option (List Happened) → Keep S → Option (List Happened) → Type 0
-FailsRested {S} gives before old after = (first : S) (limits : Limits) → Rested gives first limits before old → Honest gives first limits after
+abbrev pub FailsRested : {S : Type 0} → Rules S → Option (List Happened) → Keep S → Option (List Happened) → Type 0
+FailsRested {S} rules before old after = (first : S) (limits : Limits) → Rested rules first limits before old → Honest rules first limits after
 
 -- to an end: all lines are stored
-abbrev pub Ended : {S : Type 0} → Gives S → S → Limits → Option (List Happened) → S → Type 0
-Ended gives first limits seen last = IfSome seen (λ s. HasEnded gives first limits s last × Always (IsHonest gives first limits) s)
+abbrev pub Ended : {S : Type 0} → Rules S → S → Limits → Option (List Happened) → S → Type 0
+Ended rules first limits seen last = IfSome seen (λ s. HasEnded rules.gives first limits s last × Always (IsHonest rules first limits) s)
 
-abbrev pub Ends : {S : Type 0} → Gives S → Option (List Happened) → Keep S → Option (List Happened) → S → Type 0
-Ends {S} gives before old after last = (first : S) (limits : Limits) → Good gives first limits before old → Ended gives first limits after last
+abbrev pub Ends : {S : Type 0} → Rules S → Option (List Happened) → Keep S → Option (List Happened) → S → Type 0
+Ends {S} rules before old after last = (first : S) (limits : Limits) → Good rules first limits before old → Ended rules first limits after last
 
-abbrev pub EndsRested : {S : Type 0} → Gives S → Option (List Happened) → Keep S → Option (List Happened) → S → Type 0
-EndsRested {S} gives before old after last = (first : S) (limits : Limits) → Rested gives first limits before old → Ended gives first limits after last
+abbrev pub EndsRested : {S : Type 0} → Rules S → Option (List Happened) → Keep S → Option (List Happened) → S → Type 0
+EndsRested {S} rules before old after last = (first : S) (limits : Limits) → Rested rules first limits before old → Ended rules first limits after last

@@ -10,7 +10,7 @@ mod rounds;
 
 pub use keep::{Limits, MOST_LINE};
 pub use laws::{crash_keeps_the_last_epoch, crash_keeps_what_was_answered};
-pub use outside::{Fault, Outside, Read};
+pub use outside::{Fault, Outside, Read, Visible};
 pub use post_core::post::{Place, Post, Stage, Text};
 pub use post_core::served::{LineEnd, Note, Served};
 pub use rounds::run;

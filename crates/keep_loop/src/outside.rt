@@ -1,6 +1,6 @@
 //! What is outside of the loop: connections, a clock, and journals.
 
-ghost use Rattle.std.specs.Prelude.{◌≡◌, ◌≤◌, true, false, List, Option, length, take, OnOk, OnErr, IfOk, IfSome, IfNone};
+ghost use Rattle.std.specs.Prelude.{◌≡◌, ◌≤◌, true, false, ℕ, List, Option, length, take, OnOk, OnErr, IfOk, IfSome, IfNone};
 ghost use Rattle.keep_loop.specs.Seen.{Happened, Grows, GrowsIf, read_of};
 ghost use Rattle.keep_loop.specs.Seen.Happened.{Broke, Wrote, Noticed, Added, Stored, Changed};
 ghost use Rattle.post_core.specs.declared.served.Note.TheVariants.{Joins, Leaves, Ticks, Ends};
@@ -33,6 +33,16 @@ pub enum Read {
     Ended,
     /// The connection broke.
     Broken,
+}
+
+/// An object at which those may look who run its server.
+pub trait Visible {
+    /// This text is a status of this state.
+    ghost shows: { Self → List ℕ → Type 0 };
+
+    /// Puts a status in place of what is in `text`. The error is that memory was refused.
+    fn status(&self, text: &mut Vec<u8>) -> Result<(), AllocError>
+        ensures { OnOk result (shows self.now text.new.items) };
 }
 
 /// Connections, a clock, and journals. A connection is known by its number, and a journal by its place.
@@ -106,4 +116,9 @@ pub trait Outside {
     fn change(&mut self, journal: usize, front: &[u8]) -> Result<bool, Fault>
         ensures ok { IfOk result (λ went. GrowsIf went (Changed journal front.now) (seen self.old) (seen self.new)) }
         ensures err { OnErr result (Grows (Changed journal front.now) (seen self.old) (seen self.new)) };
+
+    /// Looks at the object that is served, behind each round. Who has a place for a status puts it there, where it is time.
+    fn look<O: Visible>(&mut self, _object: &O)
+        ensures { seen self.new ≡ seen self.old }
+    {}
 }

@@ -4,11 +4,12 @@ ghost use Rattle.std.specs.Prelude.{◌≡◌, ◌<◌, [], ℕ, List, true, fal
 ghost use Rattle.post_core.specs.Posts.{is_here};
 ghost use Rattle.keep_loop.specs.Seen.{Happened, Grows, Always};
 ghost use Rattle.keep_loop.specs.Seen.Happened.{Stored};
+ghost use Rattle.keep_loop.specs.Epochs.{rules_of};
 ghost use Rattle.keep_loop.specs.Stands.{IsHonest, HasEnded, Stands, Keeps, Settles, Sends, Renews, Ends, EndsRested, Fails, FailsRested};
 ghost use Rattle.post_core.specs.Texts.{text_at};
 
 use crate::keep::{Keep, Limits};
-use crate::outside::{Fault, Outside};
+use crate::outside::{Fault, Outside, Visible};
 use post_core::served::{Note, Served};
 use std::alloc::{AllocError, Global};
 
@@ -37,8 +38,8 @@ fn ready<O: Served>(keep: &mut Keep<O>, who: u64) -> Result<(), AllocError>
 
 // Notes who can be read or written again.
 fn look<O: Served, W: Outside>(keep: &mut Keep<O>, outside: &mut W) -> Result<(), Fault>
-    ensures ok { OnOk result (Keeps O.gives (W.seen outside.old) keep.old (W.seen outside.new) keep.new) }
-    ensures err { OnErr result (Fails O.gives (W.seen outside.old) keep.old (W.seen outside.new)) }
+    ensures ok { OnOk result (Keeps (rules_of O.gives O.fronts) (W.seen outside.old) keep.old (W.seen outside.new) keep.new) }
+    ensures err { OnErr result (Fails (rules_of O.gives O.fronts) (W.seen outside.old) keep.old (W.seen outside.new)) }
 {
     for _event in 0..MOST_EVENTS {
         match outside.next() {
@@ -51,8 +52,8 @@ fn look<O: Served, W: Outside>(keep: &mut Keep<O>, outside: &mut W) -> Result<()
 
 // Takes a connection that waits. `false`: none waits, or there is no place for it.
 fn take_one<O: Served, W: Outside>(keep: &mut Keep<O>, outside: &mut W) -> Result<bool, Fault>
-    ensures ok { OnOk result (Keeps O.gives (W.seen outside.old) keep.old (W.seen outside.new) keep.new) }
-    ensures err { OnErr result (Fails O.gives (W.seen outside.old) keep.old (W.seen outside.new)) }
+    ensures ok { OnOk result (Keeps (rules_of O.gives O.fronts) (W.seen outside.old) keep.old (W.seen outside.new) keep.new) }
+    ensures err { OnErr result (Fails (rules_of O.gives O.fronts) (W.seen outside.old) keep.old (W.seen outside.new)) }
 {
     match keep.next_number() {
         Some((who, next)) => {
@@ -68,8 +69,8 @@ fn take_one<O: Served, W: Outside>(keep: &mut Keep<O>, outside: &mut W) -> Resul
 
 // Takes connections that wait, so many at most.
 fn take_some<O: Served, W: Outside>(keep: &mut Keep<O>, outside: &mut W) -> Result<(), Fault>
-    ensures ok { OnOk result (Keeps O.gives (W.seen outside.old) keep.old (W.seen outside.new) keep.new) }
-    ensures err { OnErr result (Fails O.gives (W.seen outside.old) keep.old (W.seen outside.new)) }
+    ensures ok { OnOk result (Keeps (rules_of O.gives O.fronts) (W.seen outside.old) keep.old (W.seen outside.new) keep.new) }
+    ensures err { OnErr result (Fails (rules_of O.gives O.fronts) (W.seen outside.old) keep.old (W.seen outside.new)) }
 {
     for _taken in 0..MOST_TAKEN {
         if !take_one(keep, outside)? {
@@ -81,8 +82,8 @@ fn take_some<O: Served, W: Outside>(keep: &mut Keep<O>, outside: &mut W) -> Resu
 
 // Takes connections that wait.
 fn take<O: Served, W: Outside>(keep: &mut Keep<O>, outside: &mut W) -> Result<(), Fault>
-    ensures ok { OnOk result (Keeps O.gives (W.seen outside.old) keep.old (W.seen outside.new) keep.new) }
-    ensures err { OnErr result (Fails O.gives (W.seen outside.old) keep.old (W.seen outside.new)) }
+    ensures ok { OnOk result (Keeps (rules_of O.gives O.fronts) (W.seen outside.old) keep.old (W.seen outside.new) keep.new) }
+    ensures err { OnErr result (Fails (rules_of O.gives O.fronts) (W.seen outside.old) keep.old (W.seen outside.new)) }
 {
     keep.looks();
     take_some(keep, outside)
@@ -95,8 +96,8 @@ fn hear_one<O: Served, W: Outside>(
     who: u64,
     piece: &mut Vec<u8>,
 ) -> Result<(), Fault>
-    ensures ok { OnOk result (Keeps O.gives (W.seen outside.old) keep.old (W.seen outside.new) keep.new) }
-    ensures err { OnErr result (Fails O.gives (W.seen outside.old) keep.old (W.seen outside.new)) }
+    ensures ok { OnOk result (Keeps (rules_of O.gives O.fronts) (W.seen outside.old) keep.old (W.seen outside.new) keep.new) }
+    ensures err { OnErr result (Fails (rules_of O.gives O.fronts) (W.seen outside.old) keep.old (W.seen outside.new)) }
 {
     if keep.pauses(who)? {
         return Ok(());
@@ -115,8 +116,8 @@ fn hear_next<O: Served, W: Outside>(
     outside: &mut W,
     piece: &mut Vec<u8>,
 ) -> Result<bool, Fault>
-    ensures ok { OnOk result (Keeps O.gives (W.seen outside.old) keep.old (W.seen outside.new) keep.new) }
-    ensures err { OnErr result (Fails O.gives (W.seen outside.old) keep.old (W.seen outside.new)) }
+    ensures ok { OnOk result (Keeps (rules_of O.gives O.fronts) (W.seen outside.old) keep.old (W.seen outside.new) keep.new) }
+    ensures err { OnErr result (Fails (rules_of O.gives O.fronts) (W.seen outside.old) keep.old (W.seen outside.new)) }
 {
     if keep.post.size() >= MOST_LINES {
         return Ok(false);
@@ -136,8 +137,8 @@ fn hear<O: Served, W: Outside>(
     outside: &mut W,
     piece: &mut Vec<u8>,
 ) -> Result<(), Fault>
-    ensures ok { OnOk result (Keeps O.gives (W.seen outside.old) keep.old (W.seen outside.new) keep.new) }
-    ensures err { OnErr result (Fails O.gives (W.seen outside.old) keep.old (W.seen outside.new)) }
+    ensures ok { OnOk result (Keeps (rules_of O.gives O.fronts) (W.seen outside.old) keep.old (W.seen outside.new) keep.new) }
+    ensures err { OnErr result (Fails (rules_of O.gives O.fronts) (W.seen outside.old) keep.old (W.seen outside.new)) }
 {
     for _turn in 0..keep.post.count_called() {
         if !hear_next(keep, outside, piece)? {
@@ -154,8 +155,8 @@ fn give_up<O: Served, W: Outside>(
     outside: &mut W,
     who: u64,
 ) -> Result<(), Fault>
-    ensures ok { OnOk result (Keeps O.gives (W.seen outside.old) keep.old (W.seen outside.new) keep.new) }
-    ensures err { OnErr result (Fails O.gives (W.seen outside.old) keep.old (W.seen outside.new)) }
+    ensures ok { OnOk result (Keeps (rules_of O.gives O.fronts) (W.seen outside.old) keep.old (W.seen outside.new) keep.new) }
+    ensures err { OnErr result (Fails (rules_of O.gives O.fronts) (W.seen outside.old) keep.old (W.seen outside.new)) }
 {
     if !outside.is_over(who) {
         return Ok(());
@@ -166,8 +167,8 @@ fn give_up<O: Served, W: Outside>(
 
 // Looks whether the one that waits longest to be read may be read again.
 fn resume_one<O: Served, W: Outside>(keep: &mut Keep<O>, outside: &mut W) -> Result<(), Fault>
-    ensures ok { OnOk result (Keeps O.gives (W.seen outside.old) keep.old (W.seen outside.new) keep.new) }
-    ensures err { OnErr result (Fails O.gives (W.seen outside.old) keep.old (W.seen outside.new)) }
+    ensures ok { OnOk result (Keeps (rules_of O.gives O.fronts) (W.seen outside.old) keep.old (W.seen outside.new) keep.new) }
+    ensures err { OnErr result (Fails (rules_of O.gives O.fronts) (W.seen outside.old) keep.old (W.seen outside.new)) }
 {
     match keep.resume_one()? {
         Some(who) => give_up(keep, outside, who),
@@ -177,8 +178,8 @@ fn resume_one<O: Served, W: Outside>(keep: &mut Keep<O>, outside: &mut W) -> Res
 
 // Notes who may be read again that might not for a while.
 fn resume<O: Served, W: Outside>(keep: &mut Keep<O>, outside: &mut W) -> Result<(), Fault>
-    ensures ok { OnOk result (Keeps O.gives (W.seen outside.old) keep.old (W.seen outside.new) keep.new) }
-    ensures err { OnErr result (Fails O.gives (W.seen outside.old) keep.old (W.seen outside.new)) }
+    ensures ok { OnOk result (Keeps (rules_of O.gives O.fronts) (W.seen outside.old) keep.old (W.seen outside.new) keep.new) }
+    ensures err { OnErr result (Fails (rules_of O.gives O.fronts) (W.seen outside.old) keep.old (W.seen outside.new)) }
 {
     for _paused in 0..keep.post.count_paused() {
         resume_one(keep, outside)?;
@@ -188,8 +189,8 @@ fn resume<O: Served, W: Outside>(keep: &mut Keep<O>, outside: &mut W) -> Result<
 
 // Tells the object of one that quit. `false`: there is none.
 fn part_one<O: Served, W: Outside>(keep: &mut Keep<O>, outside: &mut W) -> Result<bool, Fault>
-    ensures ok { OnOk result (Keeps O.gives (W.seen outside.old) keep.old (W.seen outside.new) keep.new) }
-    ensures err { OnErr result (Fails O.gives (W.seen outside.old) keep.old (W.seen outside.new)) }
+    ensures ok { OnOk result (Keeps (rules_of O.gives O.fronts) (W.seen outside.old) keep.old (W.seen outside.new) keep.new) }
+    ensures err { OnErr result (Fails (rules_of O.gives O.fronts) (W.seen outside.old) keep.old (W.seen outside.new)) }
 {
     match keep.next_quit() {
         Some(who) => {
@@ -203,8 +204,8 @@ fn part_one<O: Served, W: Outside>(keep: &mut Keep<O>, outside: &mut W) -> Resul
 
 // Tells the object of those that quit.
 fn part<O: Served, W: Outside>(keep: &mut Keep<O>, outside: &mut W) -> Result<(), Fault>
-    ensures ok { OnOk result (Keeps O.gives (W.seen outside.old) keep.old (W.seen outside.new) keep.new) }
-    ensures err { OnErr result (Fails O.gives (W.seen outside.old) keep.old (W.seen outside.new)) }
+    ensures ok { OnOk result (Keeps (rules_of O.gives O.fronts) (W.seen outside.old) keep.old (W.seen outside.new) keep.new) }
+    ensures err { OnErr result (Fails (rules_of O.gives O.fronts) (W.seen outside.old) keep.old (W.seen outside.new)) }
 {
     for _left in 0..keep.post.places() {
         if !part_one(keep, outside)? {
@@ -216,8 +217,8 @@ fn part<O: Served, W: Outside>(keep: &mut Keep<O>, outside: &mut W) -> Result<()
 
 // Tells the object the time, where it is time for that. `true`: it is.
 fn tick<O: Served, W: Outside>(keep: &mut Keep<O>, outside: &mut W) -> Result<bool, Fault>
-    ensures ok { OnOk result (Keeps O.gives (W.seen outside.old) keep.old (W.seen outside.new) keep.new) }
-    ensures err { OnErr result (Fails O.gives (W.seen outside.old) keep.old (W.seen outside.new)) }
+    ensures ok { OnOk result (Keeps (rules_of O.gives O.fronts) (W.seen outside.old) keep.old (W.seen outside.new) keep.new) }
+    ensures err { OnErr result (Fails (rules_of O.gives O.fronts) (W.seen outside.old) keep.old (W.seen outside.new)) }
 {
     match outside.tick() {
         Some(time) => {
@@ -230,8 +231,8 @@ fn tick<O: Served, W: Outside>(keep: &mut Keep<O>, outside: &mut W) -> Result<bo
 
 // Whether the server is to end, which the object is told.
 fn end<O: Served, W: Outside>(keep: &mut Keep<O>, outside: &mut W) -> Result<bool, Fault>
-    ensures ok { OnOk result (Keeps O.gives (W.seen outside.old) keep.old (W.seen outside.new) keep.new) }
-    ensures err { OnErr result (Fails O.gives (W.seen outside.old) keep.old (W.seen outside.new)) }
+    ensures ok { OnOk result (Keeps (rules_of O.gives O.fronts) (W.seen outside.old) keep.old (W.seen outside.new) keep.new) }
+    ensures err { OnErr result (Fails (rules_of O.gives O.fronts) (W.seen outside.old) keep.old (W.seen outside.new)) }
 {
     if !outside.ends() {
         return Ok(false);
@@ -266,11 +267,11 @@ fn settle_one<O: Served, W: Outside>(
     journal: usize,
 ) -> Result<(), Fault>
     requires { journal < length keep.old.post.lines.items }
-    ensures ok { OnOk result (Keeps O.gives (W.seen outside.old) keep.old (W.seen outside.new) keep.new) }
+    ensures ok { OnOk result (Keeps (rules_of O.gives O.fronts) (W.seen outside.old) keep.old (W.seen outside.new) keep.new) }
     ensures count { OnOk result (length keep.new.post.lines.items ≡ length keep.old.post.lines.items) }
     ensures handed { OnOk result ((j : ℕ) → text_at keep.new.post.lines.items j
         ≡ (if journal == j then [] else text_at keep.old.post.lines.items j)) }
-    ensures err { OnErr result (Fails O.gives (W.seen outside.old) keep.old (W.seen outside.new)) }
+    ensures err { OnErr result (Fails (rules_of O.gives O.fronts) (W.seen outside.old) keep.old (W.seen outside.new)) }
 {
     if is_none(keep.post.lines(journal)) {
         return Ok(());
@@ -283,8 +284,8 @@ fn settle_one<O: Served, W: Outside>(
 
 // Hands the journals the lines of the round, and stores them, where answers wait for that.
 fn settle<O: Served, W: Outside>(keep: &mut Keep<O>, outside: &mut W) -> Result<(), Fault>
-    ensures ok { OnOk result (Settles O.gives (W.seen outside.old) keep.old (W.seen outside.new) keep.new) }
-    ensures err { OnErr result (Fails O.gives (W.seen outside.old) keep.old (W.seen outside.new)) }
+    ensures ok { OnOk result (Settles (rules_of O.gives O.fronts) (W.seen outside.old) keep.old (W.seen outside.new) keep.new) }
+    ensures err { OnErr result (Fails (rules_of O.gives O.fronts) (W.seen outside.old) keep.old (W.seen outside.new)) }
 {
     for journal in 0..keep.post.journals() {
         settle_one(keep, outside, journal)?;
@@ -299,8 +300,8 @@ fn write_one<O: Served, W: Outside>(
     who: u64,
 ) -> Result<(), Fault>
     requires { is_here keep.old.post.places.items who ≡ true }
-    ensures ok { OnOk result (Sends O.gives (W.seen outside.old) keep.old (W.seen outside.new) keep.new) }
-    ensures err { OnErr result (FailsRested O.gives (W.seen outside.old) keep.old (W.seen outside.new)) }
+    ensures ok { OnOk result (Sends (rules_of O.gives O.fronts) (W.seen outside.old) keep.old (W.seen outside.new) keep.new) }
+    ensures err { OnErr result (FailsRested (rules_of O.gives O.fronts) (W.seen outside.old) keep.old (W.seen outside.new)) }
 {
     match outside.write(who, keep.post.owed(who)) {
         Some(n) => keep.wrote(who, n)?,
@@ -315,8 +316,8 @@ fn close_one<O: Served, W: Outside>(
     outside: &mut W,
     who: u64,
 ) -> Result<(), Fault>
-    ensures ok { OnOk result (Sends O.gives (W.seen outside.old) keep.old (W.seen outside.new) keep.new) }
-    ensures err { OnErr result (FailsRested O.gives (W.seen outside.old) keep.old (W.seen outside.new)) }
+    ensures ok { OnOk result (Sends (rules_of O.gives O.fronts) (W.seen outside.old) keep.old (W.seen outside.new) keep.new) }
+    ensures err { OnErr result (FailsRested (rules_of O.gives O.fronts) (W.seen outside.old) keep.old (W.seen outside.new)) }
 {
     if !keep.is_done(who) {
         return Ok(());
@@ -332,8 +333,8 @@ fn send_one<O: Served, W: Outside>(
     outside: &mut W,
     who: u64,
 ) -> Result<(), Fault>
-    ensures ok { OnOk result (Sends O.gives (W.seen outside.old) keep.old (W.seen outside.new) keep.new) }
-    ensures err { OnErr result (FailsRested O.gives (W.seen outside.old) keep.old (W.seen outside.new)) }
+    ensures ok { OnOk result (Sends (rules_of O.gives O.fronts) (W.seen outside.old) keep.old (W.seen outside.new) keep.new) }
+    ensures err { OnErr result (FailsRested (rules_of O.gives O.fronts) (W.seen outside.old) keep.old (W.seen outside.new)) }
 {
     if keep.is_owed(who) {
         write_one(keep, outside, who)?;
@@ -343,8 +344,8 @@ fn send_one<O: Served, W: Outside>(
 
 // Writes to one that was told something. `false`: there is none.
 fn send_next<O: Served, W: Outside>(keep: &mut Keep<O>, outside: &mut W) -> Result<bool, Fault>
-    ensures ok { OnOk result (Sends O.gives (W.seen outside.old) keep.old (W.seen outside.new) keep.new) }
-    ensures err { OnErr result (FailsRested O.gives (W.seen outside.old) keep.old (W.seen outside.new)) }
+    ensures ok { OnOk result (Sends (rules_of O.gives O.fronts) (W.seen outside.old) keep.old (W.seen outside.new) keep.new) }
+    ensures err { OnErr result (FailsRested (rules_of O.gives O.fronts) (W.seen outside.old) keep.old (W.seen outside.new)) }
 {
     match keep.next_told() {
         Some(who) => {
@@ -357,8 +358,8 @@ fn send_next<O: Served, W: Outside>(keep: &mut Keep<O>, outside: &mut W) -> Resu
 
 // Writes what is owed.
 fn send<O: Served, W: Outside>(keep: &mut Keep<O>, outside: &mut W) -> Result<(), Fault>
-    ensures ok { OnOk result (Sends O.gives (W.seen outside.old) keep.old (W.seen outside.new) keep.new) }
-    ensures err { OnErr result (FailsRested O.gives (W.seen outside.old) keep.old (W.seen outside.new)) }
+    ensures ok { OnOk result (Sends (rules_of O.gives O.fronts) (W.seen outside.old) keep.old (W.seen outside.new) keep.new) }
+    ensures err { OnErr result (FailsRested (rules_of O.gives O.fronts) (W.seen outside.old) keep.old (W.seen outside.new)) }
 {
     for _sent in 0..keep.post.count_told() {
         if !send_next(keep, outside)? {
@@ -376,8 +377,8 @@ fn change_one<O: Served, W: Outside>(
     front: &[u8],
 ) -> Result<(), Fault>
     requires { O.fronts keep.old.object journal front.now }
-    ensures ok { OnOk result (Renews O.gives (W.seen outside.old) keep.old (W.seen outside.new) keep.new) }
-    ensures err { OnErr result (FailsRested O.gives (W.seen outside.old) keep.old (W.seen outside.new)) }
+    ensures ok { OnOk result (Renews (rules_of O.gives O.fronts) (W.seen outside.old) keep.old (W.seen outside.new) keep.new) }
+    ensures err { OnErr result (FailsRested (rules_of O.gives O.fronts) (W.seen outside.old) keep.old (W.seen outside.new)) }
 {
     let went = outside.change(journal, front)?;
     keep.changed(journal, front, went)?;
@@ -390,8 +391,8 @@ fn change<O: Served, W: Outside>(
     outside: &mut W,
     front: &mut Vec<u8>,
 ) -> Result<(), Fault>
-    ensures ok { OnOk result (Renews O.gives (W.seen outside.old) keep.old (W.seen outside.new) keep.new) }
-    ensures err { OnErr result (FailsRested O.gives (W.seen outside.old) keep.old (W.seen outside.new)) }
+    ensures ok { OnOk result (Renews (rules_of O.gives O.fronts) (W.seen outside.old) keep.old (W.seen outside.new) keep.new) }
+    ensures err { OnErr result (FailsRested (rules_of O.gives O.fronts) (W.seen outside.old) keep.old (W.seen outside.new)) }
 {
     match keep.object.due(front)? {
         Some(journal) => change_one(keep, outside, journal, front.as_slice()),
@@ -406,9 +407,9 @@ fn store_one<O: Served, W: Outside>(
     journal: usize,
 ) -> Result<(), Fault>
     requires { keep.now.limits.waits ≡ false }
-    ensures ok { OnOk result (Sends O.gives (W.seen outside.old) keep.now (W.seen outside.new) keep.now) }
+    ensures ok { OnOk result (Sends (rules_of O.gives O.fronts) (W.seen outside.old) keep.now (W.seen outside.new) keep.now) }
     ensures stored { OnOk result (Grows (Stored journal) (W.seen outside.old) (W.seen outside.new)) }
-    ensures err { OnErr result (FailsRested O.gives (W.seen outside.old) keep.now (W.seen outside.new)) }
+    ensures err { OnErr result (FailsRested (rules_of O.gives O.fronts) (W.seen outside.old) keep.now (W.seen outside.new)) }
 {
     outside.sync(journal)?;
     Ok(())
@@ -416,8 +417,8 @@ fn store_one<O: Served, W: Outside>(
 
 // Stores all journals, where no answer waits for that and it is time.
 fn store<O: Served, W: Outside>(keep: &Keep<O>, outside: &mut W) -> Result<(), Fault>
-    ensures ok { OnOk result (Sends O.gives (W.seen outside.old) keep.now (W.seen outside.new) keep.now) }
-    ensures err { OnErr result (FailsRested O.gives (W.seen outside.old) keep.now (W.seen outside.new)) }
+    ensures ok { OnOk result (Sends (rules_of O.gives O.fronts) (W.seen outside.old) keep.now (W.seen outside.new) keep.now) }
+    ensures err { OnErr result (FailsRested (rules_of O.gives O.fronts) (W.seen outside.old) keep.now (W.seen outside.new)) }
 {
     if keep.limits.waits || !outside.is_sync_due() {
         return Ok(());
@@ -428,14 +429,22 @@ fn store<O: Served, W: Outside>(keep: &Keep<O>, outside: &mut W) -> Result<(), F
     Ok(())
 }
 
+// Has the object looked at, between two turns.
+#[tactic(auto, using(crate::proofs::Kept::keeps_seen))]
+fn show<O: Served + Visible, W: Outside>(keep: &Keep<O>, outside: &mut W)
+    ensures { Keeps (rules_of O.gives O.fronts) (W.seen outside.old) keep.now (W.seen outside.new) keep.now }
+{
+    outside.look(&keep.object);
+}
+
 // Hears all there is.
 fn listen<O: Served, W: Outside>(
     keep: &mut Keep<O>,
     outside: &mut W,
     piece: &mut Vec<u8>,
 ) -> Result<(), Fault>
-    ensures ok { OnOk result (Keeps O.gives (W.seen outside.old) keep.old (W.seen outside.new) keep.new) }
-    ensures err { OnErr result (Fails O.gives (W.seen outside.old) keep.old (W.seen outside.new)) }
+    ensures ok { OnOk result (Keeps (rules_of O.gives O.fronts) (W.seen outside.old) keep.old (W.seen outside.new) keep.new) }
+    ensures err { OnErr result (Fails (rules_of O.gives O.fronts) (W.seen outside.old) keep.old (W.seen outside.new)) }
 {
     look(keep, outside)?;
     take(keep, outside)?;
@@ -447,26 +456,27 @@ fn listen<O: Served, W: Outside>(
 }
 
 // One round. What is in `piece` counts for nothing.
-fn round<O: Served, W: Outside>(
+fn round<O: Served + Visible, W: Outside>(
     keep: &mut Keep<O>,
     outside: &mut W,
     piece: &mut Vec<u8>,
 ) -> Result<(), Fault>
-    ensures ok { OnOk result (Keeps O.gives (W.seen outside.old) keep.old (W.seen outside.new) keep.new) }
-    ensures err { OnErr result (Fails O.gives (W.seen outside.old) keep.old (W.seen outside.new)) }
+    ensures ok { OnOk result (Keeps (rules_of O.gives O.fronts) (W.seen outside.old) keep.old (W.seen outside.new) keep.new) }
+    ensures err { OnErr result (Fails (rules_of O.gives O.fronts) (W.seen outside.old) keep.old (W.seen outside.new)) }
 {
     listen(keep, outside, piece)?;
     settle(keep, outside)?;
     send(keep, outside)?;
     store(keep, outside)?;
     change(keep, outside, piece)?;
+    show(keep, outside);
     Ok(())
 }
 
 // One round of the end. `false`: nothing more is owed.
 fn last_round<O: Served, W: Outside>(keep: &mut Keep<O>, outside: &mut W) -> Result<bool, Fault>
-    ensures ok { OnOk result (Keeps O.gives (W.seen outside.old) keep.old (W.seen outside.new) keep.new) }
-    ensures err { OnErr result (Fails O.gives (W.seen outside.old) keep.old (W.seen outside.new)) }
+    ensures ok { OnOk result (Keeps (rules_of O.gives O.fronts) (W.seen outside.old) keep.old (W.seen outside.new) keep.new) }
+    ensures err { OnErr result (Fails (rules_of O.gives O.fronts) (W.seen outside.old) keep.old (W.seen outside.new)) }
 {
     settle(keep, outside)?;
     send(keep, outside)?;
@@ -480,8 +490,8 @@ fn last_round<O: Served, W: Outside>(keep: &mut Keep<O>, outside: &mut W) -> Res
 
 // Writes what is owed at the end.
 fn finish<O: Served, W: Outside>(keep: &mut Keep<O>, outside: &mut W) -> Result<(), Fault>
-    ensures ok { OnOk result (Keeps O.gives (W.seen outside.old) keep.old (W.seen outside.new) keep.new) }
-    ensures err { OnErr result (Fails O.gives (W.seen outside.old) keep.old (W.seen outside.new)) }
+    ensures ok { OnOk result (Keeps (rules_of O.gives O.fronts) (W.seen outside.old) keep.old (W.seen outside.new) keep.new) }
+    ensures err { OnErr result (Fails (rules_of O.gives O.fronts) (W.seen outside.old) keep.old (W.seen outside.new)) }
 {
     let mut ticks: u32 = 0;
     for _round in 0..LAST_ROUNDS {
@@ -496,13 +506,13 @@ fn finish<O: Served, W: Outside>(keep: &mut Keep<O>, outside: &mut W) -> Result<
 }
 
 // Waits, and makes a round. `false`: the server is to end.
-fn go_on<O: Served, W: Outside>(
+fn go_on<O: Served + Visible, W: Outside>(
     keep: &mut Keep<O>,
     outside: &mut W,
     piece: &mut Vec<u8>,
 ) -> Result<bool, Fault>
-    ensures ok { OnOk result (Keeps O.gives (W.seen outside.old) keep.old (W.seen outside.new) keep.new) }
-    ensures err { OnErr result (Fails O.gives (W.seen outside.old) keep.old (W.seen outside.new)) }
+    ensures ok { OnOk result (Keeps (rules_of O.gives O.fronts) (W.seen outside.old) keep.old (W.seen outside.new) keep.new) }
+    ensures err { OnErr result (Fails (rules_of O.gives O.fronts) (W.seen outside.old) keep.old (W.seen outside.new)) }
 {
     outside.wait(keep.is_idle());
     if end(keep, outside)? {
@@ -514,8 +524,8 @@ fn go_on<O: Served, W: Outside>(
 
 // Stores all journals at the end, where no answer waits for that: else they are stored.
 fn store_last<O: Served, W: Outside>(keep: &Keep<O>, outside: &mut W) -> Result<(), Fault>
-    ensures ok { OnOk result (EndsRested O.gives (W.seen outside.old) keep.now (W.seen outside.new) keep.now.object) }
-    ensures err { OnErr result (FailsRested O.gives (W.seen outside.old) keep.now (W.seen outside.new)) }
+    ensures ok { OnOk result (EndsRested (rules_of O.gives O.fronts) (W.seen outside.old) keep.now (W.seen outside.new) keep.now.object) }
+    ensures err { OnErr result (FailsRested (rules_of O.gives O.fronts) (W.seen outside.old) keep.now (W.seen outside.new)) }
 {
     if keep.limits.waits {
         return Ok(());
@@ -528,8 +538,8 @@ fn store_last<O: Served, W: Outside>(keep: &Keep<O>, outside: &mut W) -> Result<
 
 // Hands the journals the lines that are left at the end, and stores all.
 fn conclude<O: Served, W: Outside>(keep: &mut Keep<O>, outside: &mut W) -> Result<(), Fault>
-    ensures ok { OnOk result (Ends O.gives (W.seen outside.old) keep.old (W.seen outside.new) keep.new.object) }
-    ensures err { OnErr result (Fails O.gives (W.seen outside.old) keep.old (W.seen outside.new)) }
+    ensures ok { OnOk result (Ends (rules_of O.gives O.fronts) (W.seen outside.old) keep.old (W.seen outside.new) keep.new.object) }
+    ensures err { OnErr result (Fails (rules_of O.gives O.fronts) (W.seen outside.old) keep.old (W.seen outside.new)) }
 {
     settle(keep, outside)?;
     store_last(keep, outside)?;
@@ -537,14 +547,14 @@ fn conclude<O: Served, W: Outside>(keep: &mut Keep<O>, outside: &mut W) -> Resul
 }
 
 // Serves so many rounds, or until the server is to end.
-fn serve<O: Served, W: Outside>(
+fn serve<O: Served + Visible, W: Outside>(
     keep: &mut Keep<O>,
     outside: &mut W,
     piece: &mut Vec<u8>,
     rounds: u64,
 ) -> Result<(), Fault>
-    ensures ok { OnOk result (Keeps O.gives (W.seen outside.old) keep.old (W.seen outside.new) keep.new) }
-    ensures err { OnErr result (Fails O.gives (W.seen outside.old) keep.old (W.seen outside.new)) }
+    ensures ok { OnOk result (Keeps (rules_of O.gives O.fronts) (W.seen outside.old) keep.old (W.seen outside.new) keep.new) }
+    ensures err { OnErr result (Fails (rules_of O.gives O.fronts) (W.seen outside.old) keep.old (W.seen outside.new)) }
 {
     for _round in 0..rounds {
         if !go_on(keep, outside, piece)? {
@@ -559,7 +569,7 @@ fn serve<O: Served, W: Outside>(
 /// handed is stored, also where no answer waited for that.
 ///
 /// `Err`: memory was refused, or a journal failed. Nothing was written then that waits for lines that are not stored.
-pub fn run<O: Served + Drop, W: Outside>(
+pub fn run<O: Served + Visible + Drop, W: Outside>(
     alloc: Global,
     object: O,
     limits: Limits,
@@ -568,7 +578,7 @@ pub fn run<O: Served + Drop, W: Outside>(
 ) -> Result<O, Fault>
     requires { IfSome (W.seen outside.old) (λ seen. seen ≡ []) }
     // However it ends, and at each moment of it.
-    ensures honest { IfSome (W.seen outside.new) (λ seen. Always (IsHonest O.gives object limits) seen) }
+    ensures honest { IfSome (W.seen outside.new) (λ seen. Always (IsHonest (rules_of O.gives O.fronts) object limits) seen) }
     // What is handed back is what the one history leads to, all lines of which are stored.
     ensures ended { IfOk result (λ last. IfSome (W.seen outside.new) (λ seen. HasEnded O.gives object limits seen last)) }
 {

@@ -22,7 +22,7 @@ calls_of zero op = []
 calls_of (suc k) op = past.Start op ∷ past.End op ∷ calls_of k op
 
 -- It has these values, behind a past that leaves what its paths have counted where all this was done before, as they let
--- it happen; no call waits, no number was given, and numbers are told as they are. No client is known, so no call is kept,
+-- it happen, and which is that of its epoch; no call waits, no number was given, and numbers are told as they are. No client is known, so no call is kept,
 -- and each session is free; it is the first epoch.
 pub record BeginsFirst (object : Object) (done : List PastEvent) (values : List Contents) (names : ℕ) (limits : Limits)
     (s : Scene) : Type 0 where
@@ -30,6 +30,7 @@ pub record BeginsFirst (object : Object) (done : List PastEvent) (values : List 
   pub stands : StandsFor counters (length object.operations.items) object.paths.items (events_of done)
   pub quiet : running_calls (events_of done) ≡ []
   pub past : List PastEvent
+  pub past_is : s.past ≡ past
   pub held : IsHeld s.hall (told_behind past values)
   pub counted : LeavesSame counters.words (length object.operations.items) object.paths.items past
   pub set_up : IsSetUp object limits past s.hall

@@ -176,7 +176,7 @@ pub fn begin_first(
     let begun = Begun {
         live,
         guests: Guests::new(alloc, limits.sessions, names)?,
-        long: past,
+        past,
         epoch: 1,
         source,
         base: 0,

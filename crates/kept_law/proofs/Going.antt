@@ -7,6 +7,7 @@ use Rattle.std.proofs.lemmas.Option.{same_Some, slice_get_within}
 use Rattle.decl_core.specs.ObjectForm.{ObjectForm}
 use Rattle.front_core.specs.Front.{Opening}
 use Rattle.live_core.specs.Epochs.{numbered_from}
+use Rattle.recover_core.specs.Playing.{begun_by}
 use Rattle.replay_core.specs.Steps.{nothing_heard}
 use Rattle.hosted_core.specs.Fronts.{IsNextFront}
 use Rattle.hosted_core.specs.Scene.{Scene, next_base, next_epoch}
@@ -21,20 +22,22 @@ use Rattle.written_law.proofs.Telling.{steps_are_told}
 use Rattle.post_core.specs.Texts.{Begins, to}
 use Rattle.post_core.specs.Turns.{Asked, Turn, Runs, added_by}
 use Rattle.post_core.specs.Turns.Asked.{Heard, Noted, Changes}
-use Rattle.keep_loop.specs.Epochs.{front_in, before_in, BeginsNot, BeginsNone, change_to, Agrees, LastBegan}
+use Rattle.keep_loop.specs.Epochs.{rules_of, front_in, before_in, since_in, BeginsNot, BeginsNone, change_to, Agrees, LastBegan, HasBegun}
+use Rattle.keep_loop.specs.Seen.{Happened}
 use Rattle.keep_loop.specs.Stands.{SurvivesSince}
 use Rattle.keep_loop.proofs.Crashed.{survives_since}
 use Rattle.told_core.specs.Deeds.{Texts}
-use Rattle.told_core.specs.Moves.{Moves}
+use Rattle.told_core.specs.Moves.{Moves, IsFrontAt}
 use Rattle.told_core.specs.State.{State}
 use Rattle.told_core.proofs.Turning.{turns_move}
-use Rattle.table_core.specs.Moves.{Gives}
+use Rattle.table_core.specs.Moves.{Gives, Fronts}
 use Rattle.table_core.specs.Seen.{seen}
 use Rattle.table_core.specs.declared.table.Table.{Table}
-use Rattle.kept_law.specs.Kept.{RunsAreSteps, Stood, ObjectsStand, IsServed, LinesAreRead, GoesOnBehind, NextIsServed, AreReadBehind, ReadsIn, CrashLeavesAnswered}
+use Rattle.kept_law.specs.Kept.{RunsAreSteps, Stood, ObjectsStand, IsServed, LinesAreRead, GoesOnBehind, NextIsServed, AreReadBehind, ReadsIn, IsReadAhead, IsFoundOf, CrashLeavesAnswered}
+use Rattle.kept_law.proofs.Empty.{no_bytes, no_lines, not_within, nothing_played, front_change, since_change}
 
 -- an object went by steps
-abbrev Went : ℕ → Scene → List ℕ → List Scene → Type 0
+abbrev pub Went : ℕ → Scene → List ℕ → List Scene → Type 0
 Went j old lines objects = (new : Scene) × (slice_get objects j ≡ Some new) × Steps old lines new
 
 get_at : (xs : List Scene) (j : ℕ) → j < length xs → (m : Scene) × (slice_get xs j ≡ Some m)
@@ -50,7 +53,7 @@ set_other (y ∷ xs) (suc i) zero x ne = refl
 set_other (y ∷ xs) (suc i) (suc j) x ne = set_other xs i j x (λ e. ne (ap suc e))
 
 -- what now stands at a place
-set_at : (xs : List Scene) (j : ℕ) (x y : Scene) → slice_get xs j ≡ Some y → slice_get (slice_set xs j x) j ≡ Some x
+pub set_at : (xs : List Scene) (j : ℕ) (x y : Scene) → slice_get xs j ≡ Some y → slice_get (slice_set xs j x) j ≡ Some x
 set_at [] j x y is = absurd (grind (arith, is))
 set_at (z ∷ xs) zero x y is = refl
 set_at (z ∷ xs) (suc j) x y is = set_at xs j x y is
@@ -66,7 +69,7 @@ stays_went : (old new : List Scene) (added : Texts) (j : ℕ) (h : Scene) → sl
 stays_went old new added j h same none there = (h, same ∙ there, subst (λ (a : Texts). Steps h (to j a) h) (sym none) rests)
 
 -- one turn
-one_went : (old new : Table) (asked : Asked) (said added : Texts) (j : ℕ) (h : Scene) → Gives old asked said added new → BeginsNot j asked →
+pub one_went : (old new : Table) (asked : Asked) (said added : Texts) (j : ℕ) (h : Scene) → Gives old asked said added new → BeginsNot j asked →
     slice_get old.objects.items j ≡ Some h → Went j h (to j added) new.objects.items
 one_went old new (Heard who line end) said added j h gives never there =
     moves_went old.objects.items new.objects.items added j h (turns_move (seen old) (seen new) (Heard who line end) said added gives) there
@@ -111,13 +114,13 @@ stood_changes old new journal front said added j o gives s = by (journal == j) r
         let at : journal ≡ j = eqb-true journal j same in
         let there : slice_get old.objects.items j ≡ Some begins.before = subst (λ n. slice_get old.objects.items n ≡ Some begins.before) at begins.there in
         let is : s.scene ≡ begins.before = same_Some s.scene begins.before (sym s.there ∙ there) in
-        let stands = followed_begun o s.begun s.heard begins.before begins.after begins.past (subst (λ (x : Scene). Stands o s.begun s.heard x) is s.stands) begins.followed in
+        let stands = followed_begun o s.begun s.heard begins.before begins.after begins.after.past (subst (λ (x : Scene). Stands o s.begun s.heard x) is s.stands) begins.begun.followed in
         record {
           scene = begins.after;
           there = ap (λ (l : List Scene). slice_get l j) begins.left ∙ ap (λ n. slice_get (slice_set old.objects.items n begins.after) j) at
               ∙ set_at old.objects.items j begins.after begins.before there;
           names = s.names;
-          begun = record { past = begins.past; opening = begins.before.hall.contents; carried = numbered_from 0 begins.before.hall.waiting };
+          begun = record { past = begins.after.past; opening = begins.before.hall.contents; carried = numbered_from 0 begins.before.hall.waiting };
           heard = nothing_heard;
           stands = stands;
         }
@@ -192,23 +195,20 @@ next_is_served first last j o earlier since front runs stood none =
     let mid : Table = change.0 in
     let gave = change.1 in
     let begins = gave.2 in
-    let stands = gave.4 in
     let s = objects_stand first at earlier j o parts.1 stood in
     let same : begins.before ≡ s.scene = same_Some begins.before s.scene (sym begins.there ∙ s.there) in
-    let same_too : stands.object ≡ begins.before = same_Some stands.object begins.before (sym stands.there ∙ begins.there) in
-    let written : IsNextFront begins.before front = subst (λ (x : Scene). IsNextFront x front) same_too stands.stands in
     record {
       mid = mid;
       runs = change.2;
       before = begins.before;
-      written = written;
-      past = begins.past;
-      served = λ its. record {
+      after = begins.after;
+      begun = begins.begun;
+      served = record {
         scene = begins.after;
         there = ap (λ (l : List Scene). slice_get l j) begins.left ∙ set_at at.objects.items j begins.after begins.before begins.there;
         names = s.names;
-        stands = followed_stands o s.begun s.heard begins.before begins.after begins.past written.tells.runs (next_epoch begins.before) (next_base begins.before)
-            (subst (λ (x : Scene). Stands o s.begun s.heard x) (sym same) s.stands) begins.followed (written.tells.events ∙ its);
+        stands = followed_stands o s.begun s.heard begins.before begins.after begins.after.past begins.begun.written.runs (next_epoch begins.before) (next_base begins.before)
+            (subst (λ (x : Scene). Stands o s.begun s.heard x) (sym same) s.stands) begins.begun.followed begins.begun.written.events;
         goes_on = none;
       };
     }
@@ -294,12 +294,38 @@ reads_in first last j o stood None before found answered later runs (none, nothi
 reads_in first last j o stood (Some front) before found answered later runs b all only =
     read_behind first last j o stood front before found answered later runs b all only
 
+-- what is found of one that has just begun anew, of which the object was not told
+read_ahead : (last : Table) (j : ℕ) (o : ObjectForm) (front found : List ℕ) → Stood last j o → IsFrontAt last.objects.items j front → found ≡ [] → IsReadAhead j o front last found
+read_ahead last j o front found s at none = record {
+  stood = s;
+  written = subst (λ (x : Scene). IsNextFront x front) (same_Some at.object s.scene (sym at.there ∙ s.there)) at.stands;
+  nothing = none;
+  recovered = λ h f bytes r b. nothing_played o (begun_by f) b.lines (record { steps = b.steps; running = None }) (no_lines b.lines b.rest (sym none ∙ b.cut)) b.played;
+  readable = λ h f before line fault refused.
+      let bad = refused.2 in
+      not_within bad.first.before bad.first.line bad.first.after (sym bad.first.cut ∙ no_lines bad.lines bad.rest (sym none ∙ bad.cut));
+}
+
+reads : (first last : Table) (j : ℕ) (o : ObjectForm) (seen : List Happened) (found : List ℕ) (answered later : List Turn) → Stood first j o → Runs Gives first (answered ++ later) last →
+    Begins (added_by j answered) (before_in j seen ++ found) → Begins (before_in j seen ++ found) (added_by j (answered ++ later)) → Begins found (since_in j seen) →
+    HasBegun (rules_of Gives Fronts) last j seen (answered ++ later) → IsFoundOf first j o seen answered later last found
+reads first last j o seen found answered later stood runs all only since (inl agrees) =
+    inl (reads_in first last j o stood (front_in j seen) (before_in j seen) found answered later runs agrees all only)
+reads first last j o seen found answered later stood runs all only since (inr ahead) =
+    let none : found ≡ [] = no_bytes found since.0 (sym (ap (since_in j) ahead.just ∙ since_change j ahead.front ahead.before) ∙ since.1) in
+    inr (
+      ahead.front,
+      ap (front_in j) ahead.just ∙ front_change j ahead.front ahead.before,
+      read_ahead last j o ahead.front found (objects_stand first last (answered ++ later) j o runs stood) ahead.stands none,
+    )
+
 pub crash_leaves_answered : CrashLeavesAnswered
 crash_leaves_answered first limits seen found waits honest between =
-    let left : SurvivesSince Gives first limits seen found = survives_since Gives first limits seen found waits honest between in
+    let rules = rules_of Gives Fronts in
+    let left : SurvivesSince rules first limits seen found = survives_since rules first limits seen found waits honest between in
     let l = left.survives in
     record {
       left = left;
-      read = λ j o within stood agrees.
-          reads_in first l.last j o stood (front_in j seen) (before_in j seen) (found j) l.answered l.later l.runs agrees (l.all j within) (l.only j within);
+      read = λ j o within stood.
+          reads first l.last j o seen (found j) l.answered l.later stood l.runs (l.all j within) (l.only j within) (between j within).nothing_else (left.begun j within);
     }

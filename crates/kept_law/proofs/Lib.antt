@@ -1,2 +1,5 @@
+pub mod Empty
 pub mod Going
 pub mod Starting
+pub mod Grown
+pub mod Living

@@ -1,7 +1,6 @@
 -- What a crash leaves of the objects of a table that a loop serves.
 use Rattle.std.specs.Prelude.{◌≡◌, ◌⊎◌, ◌<◌, ℕ, true, Option, Some, None, List, [], ◌∷◌, ◌++◌, slice_get}
 use Rattle.decl_core.specs.ObjectForm.{ObjectForm}
-use Rattle.past_core.specs.declared.past.PastEvent.{PastEvent}
 use Rattle.front_core.specs.Front.{Opening}
 use Rattle.audit_core.specs.declared.verdict.Fault.{Fault}
 use Rattle.replay_core.specs.Steps.{Step, Begun, Heard, nothing_heard}
@@ -12,16 +11,17 @@ use Rattle.recover_core.specs.Playing.{begun_by}
 use Rattle.recover_core.specs.Recovered.{IsBehind, RefusesBehind}
 use Rattle.hosted_core.specs.Fronts.{front_of, IsNextFront}
 use Rattle.hosted_core.specs.Scene.{Scene, next_base, next_epoch}
-use Rattle.hosted_core.specs.Steps.{Steps}
-use Rattle.written_law.specs.Stands.{IsNamed, Stands}
+use Rattle.hosted_core.specs.Steps.{Steps, BeginsBy}
+use Rattle.named_law.specs.Named.{IsNamed}
+use Rattle.written_law.specs.Stands.{Stands}
 use Rattle.written_law.specs.Read.{AddsTwice, IsReadOf}
 use Rattle.post_core.specs.Texts.{Begins}
 use Rattle.post_core.specs.Turns.{Turn, Runs, added_by}
 use Rattle.keep_loop.specs.declared.keep.Limits.{Limits}
 use Rattle.keep_loop.specs.Seen.{Happened}
-use Rattle.keep_loop.specs.Epochs.{front_in, since_in, stored_since, BeginsNone, change_to, AgreesIn}
+use Rattle.keep_loop.specs.Epochs.{rules_of, front_in, since_in, stored_since, BeginsNone, change_to}
 use Rattle.keep_loop.specs.Stands.{IsHonest, IsBetween, SurvivesSince}
-use Rattle.table_core.specs.Moves.{Gives}
+use Rattle.table_core.specs.Moves.{Gives, Fronts}
 use Rattle.table_core.specs.declared.table.Table.{Table}
 
 -- An object that begins no epoch goes by steps, and the lines that turns add to its journal are those of them.
@@ -71,15 +71,15 @@ LinesAreRead =
     (first last : Table) (j : ℕ) (ts us : List Turn) (found : List ℕ) → Runs Gives first (ts ++ us) last →
     Begins (added_by j ts) found → Begins found (added_by j (ts ++ us)) → AreRead first j ts us found
 
--- An object has begun its next epoch by this front, which stands for it as it then was, and turns go on from there. Where
--- the past of the front is that with which the epoch began it stands behind that front.
+-- An object has begun its next epoch by this front, which tells it as it then was, and stands behind it; and turns go on
+-- from there.
 pub record GoesOnBehind (j : ℕ) (o : ObjectForm) (front : List ℕ) (since : List Turn) (last : Table) : Type 0 where
   pub mid : Table
   pub runs : Runs Gives mid since last
   pub before : Scene
-  pub written : IsNextFront before front
-  pub past : List PastEvent
-  pub served : written.past ≡ past → IsServed mid j o (front_of before (next_epoch before) written.tells.runs (next_base before)) since
+  pub after : Scene
+  pub begun : BeginsBy before front after
+  pub served : IsServed mid j o (front_of before (next_epoch before) begun.written.runs (next_base before)) since
 
 -- So it is behind each change of epochs.
 abbrev pub NextIsServed : Type 0
@@ -103,20 +103,34 @@ abbrev pub ReadsIn : Table → ℕ → ObjectForm → Option (List ℕ) → List
 ReadsIn first j o None answered later last found = AreRead first j answered later found
 ReadsIn first j o (Some front) answered later last found = AreReadBehind j o front answered later last found
 
+-- What is found of an object whose journal has just begun anew, which it was not told: the front tells the object as all turns
+-- leave it, and nothing stands behind that.
+pub record IsReadAhead (j : ℕ) (o : ObjectForm) (front : List ℕ) (last : Table) (found : List ℕ) : Type 0 where
+  pub stood : Stood last j o
+  pub written : IsNextFront stood.scene front
+  pub nothing : found ≡ []
+  pub recovered : (h : House) (f : Opening) (bytes : ℕ) (r : Recovered) → (b : IsBehind o h f bytes found r) → b.steps ≡ []
+  pub readable : (h : House) (f : Opening) (before line : ℕ) (fault : Fault) → RefusesBehind o h f before found (faults.Line line fault) → ⊥
+
+-- one or the other
+abbrev pub IsFoundOf : Table → ℕ → ObjectForm → List Happened → List Turn → List Turn → Table → List ℕ → Type 0
+IsFoundOf first j o seen answered later last found =
+    ReadsIn first j o (front_in j seen) answered later last found
+    ⊎ ((front : List ℕ) × (front_in j seen ≡ Some front) × IsReadAhead j o front last found)
+
 -- What is found behind a crash is of one history, in which each turn does what its line asks for. Each connection was
 -- written a front of what it is told there, no further than turns whose lines are all found, or stand before a front that
--- is. Of each object, but of one that has just begun anew and does not know it, what is recovered behind its last front is
--- all that happened in these turns since, and the first of what happened in those behind them; no line with a fault is found.
+-- is. Of each object what is recovered behind its last front is all that happened in these turns since, and the first of what
+-- happened in those behind them; or the front tells what they all led to. No line with a fault is found.
 pub record LeavesAnswered (first : Table) (limits : Limits) (seen : List Happened) (found : ℕ → List ℕ) : Type 0 where
-  pub left : SurvivesSince Gives first limits seen found
+  pub left : SurvivesSince (rules_of Gives Fronts) first limits seen found
   pub read : (j : ℕ) (o : ObjectForm) → j < limits.journals → Stood first j o →
-      AgreesIn j seen (left.survives.answered ++ left.survives.later) →
-      ReadsIn first j o (front_in j seen) left.survives.answered left.survives.later left.survives.last (found j)
+      IsFoundOf first j o seen left.survives.answered left.survives.later left.survives.last (found j)
 
 -- So it is after a crash at each moment of a loop that is honest, where answers wait for the disk.
 abbrev pub CrashLeavesAnswered : Type 0
 CrashLeavesAnswered =
     (first : Table) (limits : Limits) (seen : List Happened) (found : ℕ → List ℕ) → limits.waits ≡ true →
-    IsHonest Gives first limits seen →
+    IsHonest (rules_of Gives Fronts) first limits seen →
     ((j : ℕ) → j < limits.journals → IsBetween (stored_since j seen) (since_in j seen) (found j)) →
     LeavesAnswered first limits seen found

@@ -2,6 +2,7 @@
 
 ghost use Rattle.kept_law.specs.Kept.{RunsAreSteps, ObjectsStand, LinesAreRead, NextIsServed, CrashLeavesAnswered};
 ghost use Rattle.kept_law.specs.Starts.{FirstStands, BehindStands};
+ghost use Rattle.kept_law.specs.Lived.{StoodHasLived, TurnsLiveOn, ReadLivesOn, StartLivesOn, CrashLeavesOneHistory};
 
 /// An object that begins no epoch goes by steps, and the lines that all turns add to its journal are those of them.
 pub fn runs_are_steps()
@@ -20,8 +21,7 @@ pub fn lines_are_read()
     ensures { LinesAreRead }
 {}
 
-/// Where an object begins its next epoch, the front that was written stands for it as it then was; and where the past of that
-/// front is the one with which the epoch began, the object stands behind it.
+/// Where an object begins its next epoch, the front that was written tells it as it then was, and it stands behind that front.
 pub fn next_is_served()
     ensures { NextIsServed }
 {}
@@ -34,7 +34,7 @@ pub fn crash_leaves_answered()
     ensures { CrashLeavesAnswered }
 {}
 
-/// An object of which there was no journal stands behind the front with its past.
+/// An object of which there was no journal stands behind the front that is written for it.
 pub fn first_stands()
     ensures { FirstStands }
 {}
@@ -42,4 +42,33 @@ pub fn first_stands()
 /// So does an object that goes on behind the lines of its journal.
 pub fn behind_stands()
     ensures { BehindStands }
+{}
+
+/// An object has lived in the epoch in which it stands.
+pub fn stood_has_lived()
+    ensures { StoodHasLived }
+{}
+
+/// Over any turns, in which it begins any number of epochs, all its starts and ends are one trace, each prefix of which
+/// satisfies every path, and all ends are one legal history, which leads to the values of now; what had been done stays done.
+pub fn turns_live_on()
+    ensures { TurnsLiveOn }
+{}
+
+/// What a start reads of the text of its last epoch is an epoch behind the same ones.
+pub fn read_lives_on()
+    ensures { ReadLivesOn }
+{}
+
+/// An object that a start has begun behind its journal has lived in the epoch that was read, and in those before it: so all of
+/// that holds over all its lives.
+pub fn start_lives_on()
+    ensures { StartLivesOn }
+{}
+
+/// After a crash, where answers wait for the disk, there is one history of turns, of which both of that is so: each connection
+/// was written a front of what it is told there, and what was answered is recovered; and over it and all lives before each
+/// object keeps its paths at each moment, and its ends are one legal history.
+pub fn crash_leaves_one_history()
+    ensures { CrashLeavesOneHistory }
 {}

@@ -2,7 +2,7 @@
 
 ghost use Rattle.std.specs.Prelude.{◌≡◌, ◌≢◌, ℕ, ◌+◌, ◌-◌, ◌*◌, ◌<◌, ◌≤◌, ◌↔◌, [], ◌∷◌, ◌++◌, List, length, map, take};
 ghost use Rattle.std.specs.Prelude.{drop};
-ghost use Rattle.std.specs.Prelude.{IsTrue, IfOk, OnOk, OnErr, IfSome, IfNone, Some, slice_get, vec_capacity};
+ghost use Rattle.std.specs.Prelude.{IsTrue, Ok, true, false, IfOk, OnOk, OnErr, IfSome, IfNone, Some, slice_get, vec_capacity};
 ghost use Rattle.path_tree.specs.Path.{Path};
 ghost use Rattle.path_tree.specs.Trace.{Event, Call as PathCall, Start, End, IsFresh, running_calls};
 ghost use Rattle.path_tree.specs.Satisfies.{MayStart};
@@ -22,7 +22,6 @@ use crate::body::{are_of, do_call, fits};
 use crate::call::{Call, Limits, Ran};
 use crate::waiting::{first_to_start, place_for, place_of, renumber, take_at};
 use decl_core::object::Object;
-use past_core::finder::short_past;
 use past_core::past::{PastEvent, counters_behind};
 use path_count::counters::Counters;
 use path_tree::node::OpId;
@@ -121,27 +120,23 @@ fn counters_of(
     counters_behind(alloc, &object.paths, object.operations.len() as OpId, past)
 }
 
-// A short past found in a long one, which leaves the same counters, and the counters that it leaves.
-fn short_of(
+// The counters that a past leaves, where these are the same.
+fn counters_left(
     alloc: Global,
     object: &Object,
     counters: &Counters,
-    long: &[PastEvent],
-) -> Result<Option<(Vec<PastEvent>, Counters)>, AllocError>
-    ensures { IfOk result (λ found. IfSome found (λ p.
-        IsShortOf (object_of object.now) counters.now p.0.items p.1)) }
+    past: &[PastEvent],
+) -> Result<Option<Counters>, AllocError>
+    ensures { IfOk result (λ found. IfSome found (λ left.
+        IsShortOf (object_of object.now) counters.now past.now left)) }
 {
-    let operations = object.operations.len() as OpId;
-    let Some(past) = short_past(alloc, &object.paths, operations, long, counters)? else {
+    let Some(left) = counters_of(alloc, object, past)? else {
         return Ok(None);
     };
-    let Some(found) = counters_of(alloc, object, &past)? else {
-        return Ok(None);
-    };
-    if !found.leaves_same(counters) {
+    if !left.leaves_same(counters) {
         return Ok(None);
     }
-    Ok(Some((past, found)))
+    Ok(Some(left))
 }
 
 impl Hall {
@@ -228,30 +223,29 @@ impl Hall {
         }
     }
 
-    // Begins an epoch more, with the contents of now, behind a short past found in a long one: the calls that wait get
-    // the numbers from 1. `None`: no such past was found, or it leaves too few numbers for them; then nothing changes.
-    pub(crate) fn epoch(&mut self, long: &[PastEvent]) -> Result<Option<Vec<PastEvent>>, AllocError>
-        ensures begun { IfOk result (λ found. IfSome found (λ past. IsBegun self.old past.items self.new)) }
-        ensures kept { IfOk result (λ found. IfSome found (λ past. (t : Told) → IsKept self.old t →
-            IsKept self.new (told_behind past.items self.old.contents))) }
-        ensures rests { IfOk result (λ found. IfSome found (λ past. (t : Told) → IsHeld self.old t →
-            Rests (object_of self.new.object) self.new.waiting (told_behind past.items self.old.contents))) }
-        ensures none { IfOk result (λ found. IfNone found (self.new ≡ self.old)) }
+    // Begins an epoch more, with the contents of now, behind a past that leaves the same counters: the calls that wait get
+    // the numbers from 1. False: it does not leave them, or too few numbers for those calls; then nothing changes.
+    pub(crate) fn epoch(&mut self, past: &[PastEvent]) -> Result<bool, AllocError>
+        ensures begun { result ≡ Ok true → IsBegun self.old past.now self.new }
+        ensures kept { result ≡ Ok true → (t : Told) → IsKept self.old t →
+            IsKept self.new (told_behind past.now self.old.contents) }
+        ensures rests { result ≡ Ok true → (t : Told) → IsHeld self.old t →
+            Rests (object_of self.new.object) self.new.waiting (told_behind past.now self.old.contents) }
+        ensures none { result ≡ Ok false → self.new ≡ self.old }
         ensures err { OnErr result (self.new ≡ self.old) }
     {
-        let Some((past, counters)) = short_of(self.alloc, &self.object, &self.counters, long)?
-        else {
-            return Ok(None);
+        let Some(counters) = counters_left(self.alloc, &self.object, &self.counters, past)? else {
+            return Ok(false);
         };
         let calls = past.len() / 2;
         if calls + self.waiting.len() > MOST_NUMBERS as usize {
-            return Ok(None);
+            return Ok(false);
         }
         renumber(&mut self.waiting);
         self.counters = counters;
         self.given = self.waiting.len() as u32;
         self.before = calls as u32;
-        Ok(Some(past))
+        Ok(true)
     }
 
     // How many calls wait.

@@ -1,7 +1,7 @@
 //! An object that is kept.
 
-ghost use Rattle.std.specs.Prelude.{◌≡◌, ◌≢◌, ◌+◌, ◌-◌, ◌<◌, List, [], ◌∷◌, ◌++◌, length, false, IsTrue, IfOk, IfErr};
-ghost use Rattle.std.specs.Prelude.{IfSome, IfNone, OnErr};
+ghost use Rattle.std.specs.Prelude.{◌≡◌, ◌≢◌, ◌+◌, ◌-◌, ◌<◌, List, [], ◌∷◌, ◌++◌, length, Ok, true, false, IsTrue, IfOk, IfErr};
+ghost use Rattle.std.specs.Prelude.{IfSome, OnErr};
 ghost use Rattle.past_core.specs.Past.{events_of};
 ghost use Rattle.trace_core.specs.Events.{Called};
 ghost use Rattle.live_core.specs.declared.call.Carried.{Carried as ACarried};
@@ -166,20 +166,19 @@ impl Live {
         }
     }
 
-    /// Ends this epoch and begins the next one, with the contents of now, behind a short past that is found in a long
-    /// one, and answers the short one. The long one is the past of this epoch and all starts and ends since, the oldest
-    /// first. The calls that wait get the numbers from 1, in their order.
+    /// Ends this epoch and begins the next one, with the contents of now, behind a past that leaves the counters of now; a
+    /// short one is found by `past_core::finder`. The calls that wait get the numbers from 1, in their order.
     ///
-    /// `None`: the long one does not leave the counters of now, or the short one leaves too few numbers for the calls
-    /// that wait: then, and where memory is refused, this epoch goes on.
-    pub fn epoch(&mut self, long: &[PastEvent]) -> Result<Option<Vec<PastEvent>>, AllocError>
-        ensures begun { IfOk result (λ found. IfSome found (λ past. IsBegun self.old past.items self.new)) }
-        ensures held { IfOk result (λ found. IfSome found (λ past. (t : Told) → IsHeld self.old t →
-            IsHeld self.new (told_behind past.items self.old.contents))) }
-        ensures none { IfOk result (λ found. IfNone found (self.new ≡ self.old)) }
+    /// False: the past does not leave these counters, or too few numbers for the calls that wait. Then, and where memory is
+    /// refused, this epoch goes on.
+    pub fn epoch(&mut self, past: &[PastEvent]) -> Result<bool, AllocError>
+        ensures begun { result ≡ Ok true → IsBegun self.old past.now self.new }
+        ensures held { result ≡ Ok true → (t : Told) → IsHeld self.old t →
+            IsHeld self.new (told_behind past.now self.old.contents) }
+        ensures none { result ≡ Ok false → self.new ≡ self.old }
         ensures err { OnErr result (self.new ≡ self.old) }
     {
-        self.hall.epoch(long)
+        self.hall.epoch(past)
     }
 
     /// The object.

@@ -1,6 +1,6 @@
 //! `pathserve try`: an object at a prompt.
 
-use crate::lack::Need;
+use crate::lack::Wanted;
 use crate::{source_at, telling_of, told, told_unread, written};
 use answer_core::answer::REFUSED;
 use answer_core::attempt::answer_try;
@@ -137,7 +137,7 @@ fn answer_input(
         &mut io::writer(rt),
     );
     asking.end();
-    told_unread(rt, ended, Need::Input, "", &kept)
+    told_unread(rt, ended, Wanted::Input, "", &kept)
 }
 
 // Answers the lines of standard input over this object of a source, which is opened once more for what is told of them.

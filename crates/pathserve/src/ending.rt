@@ -3,9 +3,10 @@
 ghost use Rattle.std.specs.Prelude.{◌≡◌, [], OnOk, IfSome};
 ghost use Rattle.hand_core.specs.Papers.{Papers};
 ghost use Rattle.keep_loop.specs.Seen.{Always};
+ghost use Rattle.keep_loop.specs.Epochs.{rules_of};
 ghost use Rattle.keep_loop.specs.Stands.{IsHonest};
 ghost use Rattle.keep_start.specs.Ending.{ObjectsAreSaved};
-ghost use Rattle.table_core.specs.Moves.{Gives};
+ghost use Rattle.table_core.specs.Moves.{Gives, Fronts};
 ghost use Rattle.table_core.specs.Seen.{seen};
 ghost use Rattle.pathserve.specs.Ends.{keep_status};
 ghost use Rattle.pathserve.specs.Kept.{IsKept};
@@ -106,7 +107,7 @@ pub fn serve_table<O: Outside, S: Shelf, W: Write, E: Write>(
     error: &mut E,
 ) -> Result<Ended, Failure>
     requires { IfSome (O.seen outside.old) (λ seen. seen ≡ []) }
-    ensures honest { IfSome (O.seen outside.new) (λ seen. Always (IsHonest Gives table limits) seen) }
+    ensures honest { IfSome (O.seen outside.new) (λ seen. Always (IsHonest (rules_of Gives Fronts) table limits) seen) }
     ensures kept { OnOk result (IsKept Gives (λ last. (seen last).objects) table limits (O.seen outside.new) (λ papers. S.holds shelf.old papers)
         (λ papers. S.holds shelf.new papers)) }
 {

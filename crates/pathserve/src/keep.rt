@@ -1,11 +1,13 @@
 //! `pathserve keep`: objects in memory, over journals in a folder.
 
 use crate::ending::{Ended, KeepEnd, say, serve_table};
+use crate::status::{StatusFile, seconds_now};
 use crate::stuck::stuck_lines;
 use answer_core::failure::Failure;
 use audit_core::verdict::Fault as TraceFault;
 use command_line::past::Past;
 use command_line::request::{Address, Keeping, Sync, past_error};
+use command_line::watching::{LogForm, Watching};
 use decl_core::object::Object;
 use device_core::dir_shelf::DirShelf;
 use exclude_core::analyse::Accepted;
@@ -14,17 +16,23 @@ use journal_core::device::DeviceError;
 use journal_core::folder::FolderFile;
 use journal_core::journal::recover as lines_of;
 use keep_core::open::push_damaged;
+use keep_log::log::Log;
+use keep_log::logged::Logged;
+use keep_log::shown::Showing;
 use keep_loop::Limits as LoopLimits;
 use keep_start::start::{NotBegun, begin_behind, begin_first, opening_of, push_calls};
 use line_core::write_whole;
 use live_core::call::Limits;
+use log_core::line::LineForm;
 use mio_core::clock::Pace;
 use mio_core::journals::Journals;
 use mio_core::stream::Listener;
+use mio_core::traces::epoch_of;
 use mio_core::wires::{Serving, Wires};
 use past_core::past::PastEvent;
 use path_tree::node::OpId;
 use recover_core::recover::{House, RecoverFault};
+use status_text::numbers::{Server, Stored};
 use std::alloc::{AllocError, Global};
 use std::fs;
 use std::io::{self, Write};
@@ -199,19 +207,35 @@ fn journal_lines(rt: &HostRuntime, folder: &str, name: &str) -> Result<Vec<u8>, 
     }
 }
 
+// How many lines there are.
+fn count_lines(lines: &[u8]) -> u64 {
+    let mut count: u64 = 0;
+    for byte in lines {
+        if *byte == b'\n' {
+            count = count.saturating_add(1);
+        }
+    }
+    count
+}
+
 // Begins one object: behind its journal, or where that has no line yet with the parts in the folder.
-fn begin_one(
+fn begin_one<E: Write>(
     rt: &HostRuntime,
     object: Object,
     name: &str,
     folder: &str,
     pasts: &[Past<'_>],
     shelf: &mut DirShelf<HostRuntime>,
+    log: &mut Log<HostRuntime, E>,
 ) -> Result<Begun, Failure> {
     let alloc = rt.alloc();
     let lines = journal_lines(rt, folder, name)?;
     if lines.is_empty() {
-        return begin_new(alloc, object, name, pasts, shelf);
+        let begun = begin_new(alloc, object, name, pasts, shelf)?;
+        if let Begun::Ready(_) = &begun {
+            log.begun(name.as_bytes());
+        }
+        return Ok(begun);
     }
     if let Some(past) = first_past(&object, pasts) {
         return Err(told_twice(alloc, name, past)?);
@@ -222,7 +246,10 @@ fn begin_one(
         now: 0,
     };
     match begin_behind(alloc, object, &lines, house, LIMITS) {
-        Ok(hosted) => Ok(Begun::Ready(hosted)),
+        Ok(hosted) => {
+            log.recovered(name.as_bytes(), lines.len() as u64, count_lines(&lines));
+            Ok(Begun::Ready(hosted))
+        }
         Err(NotBegun::Refused(fault)) => Ok(Begun::Told(refused_line(alloc, name, fault)?)),
         Err(NotBegun::Memory) => Err(Failure::Memory),
         Err(_) => Ok(Begun::Told(object_line(alloc, name, b" past does not fit\n")?)),
@@ -260,11 +287,12 @@ fn name_of(alloc: Global, object: &Object) -> Result<String, Failure> {
 }
 
 // Begins the objects, in order, or gives the lines of those that are not.
-fn begin_all(
+fn begin_all<E: Write>(
     rt: &HostRuntime,
     accepted: Vec<Accepted>,
     folder: &str,
     pasts: &[Past<'_>],
+    log: &mut Log<HostRuntime, E>,
 ) -> Result<Result<Kept, Vec<u8>>, Failure> {
     let alloc = rt.alloc();
     let unknown = strangers(alloc, &accepted, pasts)?;
@@ -281,7 +309,7 @@ fn begin_all(
     for one in accepted {
         let object = one.into_object();
         let name = name_of(alloc, &object)?;
-        match begin_one(rt, object, name.as_str(), folder, pasts, &mut shelf)? {
+        match begin_one(rt, object, name.as_str(), folder, pasts, &mut shelf, log)? {
             Begun::Told(line) => told.extend_from_slice(&line)?,
             Begun::Ready(hosted) => {
                 if let Some(line) = add(alloc, &mut kept, hosted, name)? {
@@ -322,14 +350,80 @@ fn pace_of(sync: Sync) -> u64 {
     }
 }
 
+// The form of a log, where one is asked for.
+fn form_of(log: LogForm) -> Option<LineForm> {
+    match log {
+        LogForm::None => None,
+        LogForm::Text => Some(LineForm::Text),
+        LogForm::Json => Some(LineForm::Json),
+    }
+}
+
+// The names of objects, as bytes.
+fn names_of(alloc: Global, names: &[String]) -> Result<Vec<Vec<u8>>, AllocError> {
+    let mut all = Vec::with_capacity(alloc, names.len())?;
+    for name in names {
+        all.push(name.as_bytes().to_vec(alloc)?)?;
+    }
+    Ok(all)
+}
+
+// What is told of the journals of objects at a start.
+fn journals_of(
+    alloc: Global,
+    names: &[String],
+    fronts: &[Vec<u8>],
+) -> Result<Vec<Stored>, AllocError> {
+    let mut all = Vec::with_capacity(alloc, names.len())?;
+    for at in 0..names.len() {
+        let front: &[u8] = match fronts.get(at) {
+            Some(front) => front,
+            None => &[],
+        };
+        all.push(Stored {
+            name: names[at].as_bytes().to_vec(alloc)?,
+            epoch: epoch_of(front).unwrap_or(0),
+            bytes: front.len() as u64,
+            syncs: 0,
+            synced: 0,
+        })?;
+    }
+    Ok(all)
+}
+
+// The numbers of a server that starts at this time.
+fn server_of(asked: Keeping<'_>, watching: Watching, start: u64) -> Server {
+    Server {
+        looked: start,
+        start,
+        every: u64::from(watching.status),
+        connections: 0,
+        total: 0,
+        limit: asked.at_once as u64,
+        memory: 0,
+    }
+}
+
+// What a failure ends with.
+fn status_of(ended: &Result<Ended, Failure>) -> u8 {
+    match ended {
+        Ok(_) => 0,
+        Err(Failure::Usage(_)) => 2,
+        Err(Failure::ReadFault | Failure::WriteFault) => 3,
+        Err(Failure::Memory) => 4,
+    }
+}
+
 // Serves objects until the server is to end.
-fn serve_kept<W: Write, E: Write>(
+fn serve_kept<W: Write, E: Write, L: Write>(
     rt: &HostRuntime,
     kept: Kept,
     asked: Keeping<'_>,
+    watching: Watching,
     listener: Listener,
     writer: &mut W,
     error: &mut E,
+    log: &mut Log<HostRuntime, L>,
 ) -> Result<Ended, Failure> {
     let alloc = rt.alloc();
     let Kept {
@@ -353,22 +447,59 @@ fn serve_kept<W: Write, E: Write>(
         },
         stops_with_input: asked.stops,
     };
-    let mut wires = Wires::open(rt, *rt, listener, journals, serving, rt.stderr())?;
+    let start = seconds_now(rt);
+    let form = form_of(watching.log);
+    let told = names_of(alloc, &names)?;
+    let stored = journals_of(alloc, &names, &fronts)?;
+    let file = StatusFile::new(rt, asked.folder, Log::new(alloc, form, *rt, rt.stderr()))?;
+    let wires = Wires::open(rt, *rt, listener, journals, serving, rt.stderr())?;
+    let logged = Logged::new(wires, Log::new(alloc, form, *rt, rt.stderr()), told);
+    let mut outside = Showing::new(
+        alloc,
+        logged,
+        file,
+        server_of(asked, watching, start),
+        stored,
+    )?;
     tell_place(alloc, asked, writer)?;
+    log.started(
+        count as u64,
+        asked.folder.as_bytes(),
+        place_text(alloc, asked)?.as_bytes(),
+    );
     let limits = LoopLimits {
         places: asked.at_once,
         journals: count,
         waits: asked.sync == Sync::Always,
     };
-    serve_table(alloc, table, limits, &mut wires, &mut shelf, writer, error)
+    let ended = serve_table(
+        alloc,
+        table,
+        limits,
+        &mut outside,
+        &mut shelf,
+        writer,
+        error,
+    );
+    if watching.status > 0 {
+        outside.sink().remove();
+    }
+    log.ended(status_of(&ended), seconds_now(rt).saturating_sub(start));
+    ended
+}
+
+// The place where it listens.
+fn place_text(alloc: Global, asked: Keeping<'_>) -> Result<String, AllocError> {
+    match asked.address {
+        Address::Port(port) => format!(in alloc; "{port}"),
+        Address::Path(path) => format!(in alloc; "{path}"),
+    }
 }
 
 // `listening PLACE`.
 fn tell_place<W: Write>(alloc: Global, asked: Keeping<'_>, writer: &mut W) -> Result<(), Failure> {
-    let line = match asked.address {
-        Address::Port(port) => format!(in alloc; "listening {port}\n")?,
-        Address::Path(path) => format!(in alloc; "listening {path}\n")?,
-    };
+    let place = place_text(alloc, asked)?;
+    let line = format!(in alloc; "listening {place}\n")?;
     say(writer, line.as_bytes())
 }
 
@@ -402,16 +533,18 @@ pub fn keep_objects<W: Write, E: Write>(
     rt: &HostRuntime,
     accepted: Vec<Accepted>,
     asked: Keeping<'_>,
+    watching: Watching,
     pasts: &[Past<'_>],
     listener: Listener,
     writer: &mut W,
     error: &mut E,
 ) -> Result<KeepEnd, Failure> {
     let stuck = stuck_lines(rt.alloc(), &accepted)?;
-    match begin_all(rt, accepted, asked.folder, pasts)? {
+    let mut log = Log::new(rt.alloc(), form_of(watching.log), *rt, rt.stderr());
+    match begin_all(rt, accepted, asked.folder, pasts, &mut log)? {
         Ok(kept) => {
             let _ = write_whole(error, &stuck);
-            let ended = serve_kept(rt, kept, asked, listener, writer, error)?;
+            let ended = serve_kept(rt, kept, asked, watching, listener, writer, error, &mut log)?;
             Ok(KeepEnd::Whole(ended))
         }
         Err(lines) => {

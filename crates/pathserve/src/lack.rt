@@ -9,7 +9,7 @@ use std::io::{ErrorKind, Write};
 
 /// What a command needs.
 #[derive(Clone, Copy, Debug, PartialEq, Eq)]
-pub enum Need {
+pub enum Wanted {
     /// Standard input.
     Input,
     /// A file: the source, a script or a trace.
@@ -28,8 +28,8 @@ pub enum Need {
 
 /// What a command lacks, and why, as far as the system says.
 #[derive(Clone, Copy, Debug)]
-pub struct Lack {
-    pub need: Need,
+pub struct Unmet {
+    pub need: Wanted,
     pub cause: ErrorKind,
 }
 
@@ -39,12 +39,12 @@ pub struct Lacking {
     /// What the program ends with.
     pub failure: Failure,
     /// What it was about, where it was not memory.
-    pub lack: Option<Lack>,
+    pub lack: Option<Unmet>,
 }
 
 impl Lacking {
     /// The one of an error of the system.
-    pub fn of(need: Need, error: io::Error) -> Lacking {
+    pub fn of(need: Wanted, error: io::Error) -> Lacking {
         let cause = error.kind();
         match Failure::from(error) {
             Failure::ReadFault => Lacking::at(need, cause),
@@ -56,10 +56,10 @@ impl Lacking {
     }
 
     /// The one of what is not there, or is no such thing.
-    pub fn at(need: Need, cause: ErrorKind) -> Lacking {
+    pub fn at(need: Wanted, cause: ErrorKind) -> Lacking {
         Lacking {
             failure: Failure::ReadFault,
-            lack: Some(Lack { need, cause }),
+            lack: Some(Unmet { need, cause }),
         }
     }
 }
@@ -74,17 +74,17 @@ impl From<AllocError> for Lacking {
 }
 
 // What is said of a need.
-fn push_need(out: &mut Vec<u8>, need: Need, name: &str) -> Result<(), AllocError> {
+fn push_need(out: &mut Vec<u8>, need: Wanted, name: &str) -> Result<(), AllocError> {
     let said: &[u8] = match need {
-        Need::Input => return out.extend_from_slice(b"standard input cannot be read"),
-        Need::Port(port) => {
+        Wanted::Input => return out.extend_from_slice(b"standard input cannot be read"),
+        Wanted::Port(port) => {
             return push_number(out, b"nobody can listen at port ", u64::from(port));
         }
-        Need::Socket => b": nobody can listen at this path",
-        Need::File => b": this file cannot be read",
-        Need::Folder => b": this folder cannot be read",
-        Need::Lock => b": another server has this folder",
-        Need::Parts => b": in this folder a part cannot be read, or no file can be made",
+        Wanted::Socket => b": nobody can listen at this path",
+        Wanted::File => b": this file cannot be read",
+        Wanted::Folder => b": this folder cannot be read",
+        Wanted::Lock => b": another server has this folder",
+        Wanted::Parts => b": in this folder a part cannot be read, or no file can be made",
     };
     out.extend_from_slice(name.as_bytes())?;
     out.extend_from_slice(said)
@@ -104,7 +104,7 @@ fn cause_text(cause: ErrorKind) -> &'static [u8] {
 }
 
 // The line that says what is lacking.
-fn lack_line(alloc: Global, lack: Lack, name: &str) -> Result<Vec<u8>, AllocError> {
+fn lack_line(alloc: Global, lack: Unmet, name: &str) -> Result<Vec<u8>, AllocError> {
     let mut out = Vec::new(alloc);
     push_need(&mut out, lack.need, name)?;
     out.extend_from_slice(cause_text(lack.cause))?;
@@ -114,7 +114,7 @@ fn lack_line(alloc: Global, lack: Lack, name: &str) -> Result<Vec<u8>, AllocErro
 
 /// Tells `error` what is lacking, where something is, by its name on the command line. Where memory for that is refused
 /// nothing is told.
-pub fn tell_lack<E: Write>(alloc: Global, lack: Option<Lack>, name: &str, error: &mut E) {
+pub fn tell_lack<E: Write>(alloc: Global, lack: Option<Unmet>, name: &str, error: &mut E) {
     let Some(lack) = lack else {
         return;
     };

@@ -27,37 +27,36 @@ mod holds;
 mod keep;
 mod lack;
 mod pasts;
+mod plain;
 mod serve;
 mod socket;
+mod status;
 mod stuck;
 
 use ahead_core::ahead::AheadHand;
-use answer_core::answer::{ACCEPTED, REFUSED, answer_lines, check_source};
+use answer_core::answer::{ACCEPTED, REFUSED, answer_lines};
 use answer_core::audit::audit_trace;
-use answer_core::explanation::{Telling, explained, explained_audit, explained_run};
+use answer_core::explanation::{Telling, explained, explained_audit};
 use answer_core::failure::{Failure, exit_status, words_end};
-use answer_core::script::answer_script;
 use answer_core::source::read_source;
-use answer_core::stuck::check_stuck;
 use attempt::run_try;
 use command_line::past::Past;
-use command_line::request::{Address, Explain, Keeping, Request, Serving, request_of};
+use command_line::request::{Address, Explain, Keeping, Request, Serving, keep_error, request_of};
+use command_line::watching::{Apart, OddOption, Watching, taken_apart};
 use ending::{KeepEnd, status_of_keep};
 use exclude_core::analyse::Accepted;
-use explain_hold::pairs::explain_pairs;
 use explain_line::files::Files;
 use explain_line::kept::Kept;
 use folder_audit::audit::audit_folder;
 use folder_audit::files::FolderFault;
-use hold_read::read::{Held, Look, look_at};
-use holds::{check_held, refuse_faulty, refuse_held, run_held};
 use keep::{is_kept, keep_objects};
-use lack::{Lack, Lacking, Need, tell_lack};
+use lack::{Lacking, Unmet, Wanted, tell_lack};
 use line_core::write_whole;
 use mio::net::{TcpListener as PortListener, UnixListener as PathListener};
 use mio_core::stream::Listener as Ears;
 use pasts::pasts_in;
-use serve::{Source, place_of, serve_objects};
+use plain::{WithoutHolds, plain_source, run_check, run_script, without_holds};
+use serve::{ServedSource, place_of, serve_objects};
 use serve_core::gate::{Gate, Listener};
 use serve_core::serve::Place;
 use socket::{Socket, socket_at};
@@ -74,8 +73,8 @@ use std::{env, io, thread};
 const HEAD_BYTES: usize = 4_096;
 
 // What a server starts with.
-struct Started {
-    source: Source,
+struct ServerStart {
+    source: ServedSource,
     place: Place<AheadHand<HostRuntime>>,
     gate: Arc<Gate>,
     // The folder, which no other server has as long as this is open.
@@ -89,14 +88,14 @@ enum Prepared {
     // All, with the exit status.
     Ended(u8),
     // A server is to run: whether it stops with standard input.
-    Serves(Started, bool),
+    Serves(ServerStart, bool),
 }
 
 fn main(rt: HostRuntime) -> ExitCode {
     let ended = match prepare(&rt) {
         Ok(Prepared::Ended(status)) => Ok(status),
         Ok(Prepared::Serves(started, stops)) => {
-            let Started {
+            let ServerStart {
                 source,
                 place,
                 gate,
@@ -150,12 +149,12 @@ fn code_of(ended: &Result<u8, Failure>) -> ExitCode
 fn open_folder(rt: &HostRuntime, folder: &str) -> Result<File, Lacking> {
     let opened = match File::open(rt, folder) {
         Ok(opened) => opened,
-        Err(error) => return Err(Lacking::of(Need::Folder, error)),
+        Err(error) => return Err(Lacking::of(Wanted::Folder, error)),
     };
     match opened.metadata() {
         Ok(about) if about.is_dir() => Ok(opened),
-        Ok(_) => Err(Lacking::at(Need::Folder, ErrorKind::NotADirectory)),
-        Err(error) => Err(Lacking::of(Need::Folder, error)),
+        Ok(_) => Err(Lacking::at(Wanted::Folder, ErrorKind::NotADirectory)),
+        Err(error) => Err(Lacking::of(Wanted::Folder, error)),
     }
 }
 
@@ -164,8 +163,8 @@ fn lock_folder(rt: &HostRuntime, folder: &str) -> Result<File, Lacking> {
     let lock = open_folder(rt, folder)?;
     match lock.try_lock() {
         Ok(()) => Ok(lock),
-        Err(TryLockError::WouldBlock) => Err(Lacking::at(Need::Lock, ErrorKind::Other)),
-        Err(TryLockError::Error(error)) => Err(Lacking::of(Need::Folder, error)),
+        Err(TryLockError::WouldBlock) => Err(Lacking::at(Wanted::Lock, ErrorKind::Other)),
+        Err(TryLockError::Error(error)) => Err(Lacking::of(Wanted::Folder, error)),
     }
 }
 
@@ -173,7 +172,7 @@ fn lock_folder(rt: &HostRuntime, folder: &str) -> Result<File, Lacking> {
 fn open_file(rt: &HostRuntime, path: &str) -> Result<File, Lacking> {
     match File::open(rt, path) {
         Ok(file) => Ok(file),
-        Err(error) => Err(Lacking::of(Need::File, error)),
+        Err(error) => Err(Lacking::of(Wanted::File, error)),
     }
 }
 
@@ -181,7 +180,7 @@ fn open_file(rt: &HostRuntime, path: &str) -> Result<File, Lacking> {
 fn source_at(rt: &HostRuntime, path: &str) -> Result<Vec<u8>, Lacking> {
     match read_source(rt.alloc(), open_file(rt, path)?) {
         Ok(source) => Ok(source),
-        Err(error) => Err(Lacking::of(Need::File, error)),
+        Err(error) => Err(Lacking::of(Wanted::File, error)),
     }
 }
 
@@ -212,11 +211,11 @@ fn gate_at(
     match address {
         Address::Port(port) => match gate_at_port(rt, port, sessions) {
             Ok(gate) => Ok((gate, None)),
-            Err(error) => Err(Lacking::of(Need::Port(port), error)),
+            Err(error) => Err(Lacking::of(Wanted::Port(port), error)),
         },
         Address::Path(path) => match gate_at_path(rt, path, sessions) {
             Ok((gate, socket)) => Ok((gate, Some(socket))),
-            Err(error) => Err(Lacking::of(Need::Socket, error)),
+            Err(error) => Err(Lacking::of(Wanted::Socket, error)),
         },
     }
 }
@@ -230,25 +229,25 @@ fn shared(rt: &HostRuntime, gate: Gate) -> Result<Arc<Gate>, AllocError> {
 }
 
 // Takes what a server of this source needs, in this order: the folder, the place where clients connect.
-fn take_needs(rt: &HostRuntime, asked: Serving<'_>, text: Vec<u8>) -> Result<Started, Lacking> {
+fn take_needs(rt: &HostRuntime, asked: Serving<'_>, text: Vec<u8>) -> Result<ServerStart, Lacking> {
     let lock = lock_folder(rt, asked.folder)?;
     let (gate, socket) = gate_at(rt, asked.address, asked.sessions)?;
     let place = match place_of(rt, asked.folder, asked.sessions) {
         Ok(place) => place,
-        Err(Failure::ReadFault) => return Err(Lacking::at(Need::Folder, ErrorKind::Other)),
+        Err(Failure::ReadFault) => return Err(Lacking::at(Wanted::Folder, ErrorKind::Other)),
         Err(failure) => return Err(Lacking {
             failure,
             lack: None,
         }),
     };
     let gate = shared(rt, gate)?;
-    let source = Source {
+    let source = ServedSource {
         text,
         telling: telling_of(rt, asked.explain),
         file: String::from_str(rt.alloc(), asked.file)?,
         folder: String::from_str(rt.alloc(), asked.folder)?,
     };
-    Ok(Started {
+    Ok(ServerStart {
         source,
         place,
         gate,
@@ -310,12 +309,12 @@ fn told(rt: &HostRuntime, lacking: Lacking, name: &str) -> Failure {
 fn told_unread<R: Read + Drop>(
     rt: &HostRuntime,
     ended: Result<u8, Failure>,
-    need: Need,
+    need: Wanted,
     name: &str,
     kept: &Kept<R>,
 ) -> Result<u8, Failure> {
     if let Err(Failure::ReadFault) = &ended {
-        let lack = Lack {
+        let lack = Unmet {
             need,
             cause: kept.fault().unwrap_or(ErrorKind::Other),
         };
@@ -351,7 +350,7 @@ fn prepare_server(rt: &HostRuntime, asked: Serving<'_>) -> Result<Prepared, Fail
         Err(error) => {
             // (what is no folder, or may not be read, is told in its turn)
             if !is_told_later(&error) {
-                let lacking = Lacking::of(Need::Folder, error);
+                let lacking = Lacking::of(Wanted::Folder, error);
                 return Err(told(rt, lacking, asked.folder));
             }
         }
@@ -370,8 +369,8 @@ fn prepare_server(rt: &HostRuntime, asked: Serving<'_>) -> Result<Prepared, Fail
         Err(lacking) => {
             let name = match &lacking.lack {
                 Some(
-                    Lack {
-                        need: Need::Socket,
+                    Unmet {
+                        need: Wanted::Socket,
                         ..
                     },
                 ) => path_of(asked.address),
@@ -386,9 +385,10 @@ fn prepare_server(rt: &HostRuntime, asked: Serving<'_>) -> Result<Prepared, Fail
 fn prepare(rt: &HostRuntime) -> Result<Prepared, Failure> {
     let words: Vec<String> = env::args(rt)?.collect(rt.alloc())?;
     let words: Vec<&str> = words.iter().map(|word| word.as_str()).collect(rt.alloc())?;
-    let ended = match request_of(rt.alloc(), words.as_slice()) {
+    let words = taken_apart(rt.alloc(), words.as_slice())?;
+    let ended = match request_of(rt.alloc(), words.words()) {
         Ok(Request::Serve(asked)) => return prepare_server(rt, asked),
-        Ok(Request::Keep(asked)) => match run_keep(rt, asked, words.as_slice()) {
+        Ok(Request::Keep(asked)) => match run_keep(rt, asked, &words) {
             Ok(end) => Ok(status_of_keep(end)),
             Err(failure) => Err(failure),
         },
@@ -405,132 +405,7 @@ fn prepare(rt: &HostRuntime) -> Result<Prepared, Failure> {
 fn run_paths(rt: &HostRuntime) -> Result<u8, Failure> {
     let mut kept = Kept::new(rt.alloc(), rt.stdin(), 0);
     let ended = answer_lines(rt.alloc(), &mut kept, &mut io::writer(rt));
-    told_unread(rt, ended, Need::Input, "", &kept)
-}
-
-// What to do with a source whose objects have holds, for a command that takes them as objects without.
-enum WithoutHolds {
-    // Go on with this source, in which no object has holds.
-    Plain(Vec<u8>),
-    // It is refused, and that is told: the exit status.
-    Told(u8),
-}
-
-// A source without the holds of its objects. Where these have a fault that is told.
-fn without_holds(
-    rt: &HostRuntime,
-    source: Vec<u8>,
-    telling: Telling,
-    file: &str,
-) -> Result<WithoutHolds, Failure> {
-    match look_at(rt.alloc(), &source)? {
-        Look::Plain => Ok(WithoutHolds::Plain(source)),
-        Look::Held(held) => Ok(WithoutHolds::Plain(held.cut)),
-        Look::Faulty(fault) => Ok(WithoutHolds::Told(refuse_faulty(
-            rt.alloc(),
-            &source,
-            fault,
-            telling,
-            file,
-            &mut io::writer(rt),
-            &mut rt.stderr(),
-        )?)),
-    }
-}
-
-// A source whose objects have no holds. Where they have some, or a fault of them, that is told; this is to be used
-// instead.
-fn plain_source(
-    rt: &HostRuntime,
-    source: Vec<u8>,
-    telling: Telling,
-    file: &str,
-    instead: &[u8],
-) -> Result<WithoutHolds, Failure> {
-    match look_at(rt.alloc(), &source)? {
-        Look::Plain => Ok(WithoutHolds::Plain(source)),
-        Look::Held(held) => {
-            let status = refuse_held(rt.alloc(), &held, instead, &mut io::writer(rt))?;
-            Ok(WithoutHolds::Told(status))
-        }
-        Look::Faulty(_) => without_holds(rt, source, telling, file),
-    }
-}
-
-// `pathserve check` of a source that was read.
-fn check_text(
-    rt: &HostRuntime,
-    source: Vec<u8>,
-    path: &str,
-    telling: Telling,
-    stuck: bool,
-) -> Result<u8, Failure> {
-    if stuck {
-        return match without_holds(rt, source, telling, path)? {
-            WithoutHolds::Told(status) => Ok(status),
-            WithoutHolds::Plain(source) => check_stuck(
-                rt.alloc(),
-                source.as_slice(),
-                &mut io::writer(rt),
-                telling,
-                path,
-                &mut rt.stderr(),
-            ),
-        };
-    }
-    match look_at(rt.alloc(), &source)? {
-        Look::Held(held) => check_held(
-            rt.alloc(),
-            held,
-            telling,
-            path,
-            &mut io::writer(rt),
-            &mut rt.stderr(),
-        ),
-        Look::Faulty(_) => match without_holds(rt, source, telling, path)? {
-            WithoutHolds::Told(status) => Ok(status),
-            WithoutHolds::Plain(_) => Ok(REFUSED),
-        },
-        Look::Plain => check_source(
-            rt.alloc(),
-            source.as_slice(),
-            &mut io::writer(rt),
-            telling,
-            path,
-            &mut rt.stderr(),
-        ),
-    }
-}
-
-// What is said of each `a; b` of a source without a hold, where that is asked for.
-fn pairs_of(rt: &HostRuntime, source: &[u8], path: &str, when: Explain) -> Vec<u8> {
-    match when {
-        Explain::Always => match explain_pairs(rt.alloc(), path.as_bytes(), source) {
-            Ok(text) => text,
-            Err(_) => Vec::new(rt.alloc()),
-        },
-        Explain::AtTerminal | Explain::Never => Vec::new(rt.alloc()),
-    }
-}
-
-// `pathserve check`.
-fn run_check(rt: &HostRuntime, path: &str, when: Explain, stuck: bool) -> Result<u8, Failure> {
-    let file = match open_file(rt, path) {
-        Ok(file) => file,
-        Err(lacking) => return Err(told(rt, lacking, path)),
-    };
-    let mut kept = Kept::new(rt.alloc(), file, 0);
-    match read_source(rt.alloc(), &mut kept) {
-        Ok(source) => {
-            let pairs = pairs_of(rt, &source, path, when);
-            let ended = check_text(rt, source, path, telling_of(rt, when), stuck);
-            if let Ok(ACCEPTED) = &ended {
-                let _ = write_whole(&mut rt.stderr(), pairs.as_slice());
-            }
-            ended
-        }
-        Err(error) => told_unread(rt, Err(Failure::from(error)), Need::File, path, &kept),
-    }
+    told_unread(rt, ended, Wanted::Input, "", &kept)
 }
 
 // What `run` and `audit` read: a source, and a second file.
@@ -553,68 +428,6 @@ fn inputs_of(rt: &HostRuntime, files: Files<'_>, telling: Telling) -> Result<Inp
         }),
         Err(lacking) => Err(told(rt, lacking, files.text)),
     }
-}
-
-// `pathserve run`.
-fn run_script(rt: &HostRuntime, files: Files<'_>, when: Explain) -> Result<u8, Failure> {
-    let telling = telling_of(rt, when);
-    let Inputs { source, mut kept } = inputs_of(rt, files, telling)?;
-    let (ended, source) = match look_at(rt.alloc(), &source)? {
-        Look::Plain => {
-            let ended = answer_script(
-                rt.alloc(),
-                &source,
-                &mut kept,
-                &mut io::writer(rt),
-                telling,
-                files.source,
-                &mut rt.stderr(),
-            );
-            (ended, source)
-        }
-        Look::Held(
-            Held {
-                cut,
-                objects,
-                rules,
-            },
-        ) => {
-            let ended = run_held(
-                rt.alloc(),
-                &cut,
-                objects,
-                rules,
-                &mut kept,
-                &mut io::writer(rt),
-                telling,
-                files.source,
-                &mut rt.stderr(),
-            );
-            (ended, cut)
-        }
-        Look::Faulty(fault) => {
-            return refuse_faulty(
-                rt.alloc(),
-                &source,
-                fault,
-                telling,
-                files.source,
-                &mut io::writer(rt),
-                &mut rt.stderr(),
-            );
-        }
-    };
-    let ended = told_unread(rt, ended, Need::File, files.text, &kept);
-    let text = kept.text();
-    explained_run(
-        rt.alloc(),
-        ended,
-        telling,
-        files,
-        &source,
-        text,
-        &mut rt.stderr(),
-    )
 }
 
 // Whether there is a folder at a path.
@@ -640,7 +453,7 @@ fn tell_folder(rt: &HostRuntime, objects: &[Accepted], folder: &str) -> Result<u
         }
         Err(FolderFault::Memory) => Err(Failure::Memory),
         Err(FolderFault::Unread(path, cause)) => {
-            Err(told(rt, Lacking::at(Need::File, cause), path.as_str()))
+            Err(told(rt, Lacking::at(Wanted::File, cause), path.as_str()))
         }
     }
 }
@@ -677,11 +490,11 @@ fn ears_at(rt: &HostRuntime, address: Address<'_>) -> Result<(Ears, Option<Socke
     match address {
         Address::Port(port) => match port_at(rt, port) {
             Ok(listener) => Ok((Ears::Port(listener), None)),
-            Err(error) => Err(Lacking::of(Need::Port(port), error)),
+            Err(error) => Err(Lacking::of(Wanted::Port(port), error)),
         },
         Address::Path(path) => match path_at(rt, path) {
             Ok((listener, socket)) => Ok((Ears::Path(listener), Some(socket))),
-            Err(error) => Err(Lacking::of(Need::Socket, error)),
+            Err(error) => Err(Lacking::of(Wanted::Socket, error)),
         },
     }
 }
@@ -703,6 +516,7 @@ fn keep_source(
     rt: &HostRuntime,
     source: &[u8],
     asked: Keeping<'_>,
+    watching: Watching,
     pasts: &[Past<'_>],
     ears: Ears,
 ) -> Result<KeepEnd, Failure> {
@@ -711,6 +525,7 @@ fn keep_source(
             rt,
             objects,
             asked,
+            watching,
             pasts,
             ears,
             &mut io::writer(rt),
@@ -733,8 +548,18 @@ fn keep_source(
 }
 
 // `pathserve keep`.
-fn run_keep(rt: &HostRuntime, asked: Keeping<'_>, words: &[&str]) -> Result<KeepEnd, Failure> {
-    let pasts = pasts_in(rt.alloc(), words)?;
+fn run_keep(rt: &HostRuntime, asked: Keeping<'_>, words: &Apart<'_>) -> Result<KeepEnd, Failure> {
+    let pasts = pasts_in(rt.alloc(), words.words())?;
+    let watching = match words.watching() {
+        Ok(watching) => watching,
+        Err(
+            OddOption {
+                word,
+                option,
+                means,
+            },
+        ) => return Err(Failure::Usage(keep_error(rt.alloc(), word, option, means)?)),
+    };
     let source = match source_at(rt, asked.file) {
         Ok(source) => source,
         Err(lacking) => return Err(told(rt, lacking, asked.file)),
@@ -758,7 +583,7 @@ fn run_keep(rt: &HostRuntime, asked: Keeping<'_>, words: &[&str]) -> Result<Keep
         Ok(found) => found,
         Err(lacking) => return Err(told(rt, lacking, path_of(asked.address))),
     };
-    let ended = keep_source(rt, &source, asked, &pasts, ears);
+    let ended = keep_source(rt, &source, asked, watching, &pasts, ears);
     if let Some(socket) = socket {
         socket.remove(rt);
     }
@@ -779,7 +604,7 @@ fn run_audit(rt: &HostRuntime, files: Files<'_>, when: Explain) -> Result<u8, Fa
         WithoutHolds::Told(status) => return Ok(status),
     };
     let ended = audit_trace(rt.alloc(), &source, &mut kept, &mut io::writer(rt));
-    let ended = told_unread(rt, ended, Need::File, files.text, &kept);
+    let ended = told_unread(rt, ended, Wanted::File, files.text, &kept);
     let text = kept.text();
     explained_audit(
         rt.alloc(),

@@ -6,7 +6,7 @@ ghost use Rattle.std.specs.Arc.{arc_value};
 ghost use Rattle.serve_core.specs.Runs.{IsRun};
 ghost use Rattle.pathserve.specs.Ends.{serve_status, status_of_end};
 
-use crate::lack::{Lack, Need, tell_lack};
+use crate::lack::{Unmet, Wanted, tell_lack};
 use ahead_core::ahead::{AheadHand, Ends};
 use ahead_core::sealed::Sealed;
 use answer_core::answer::{ACCEPTED, REFUSED};
@@ -87,10 +87,10 @@ fn status_of_serve(end: ServeEnd) -> Result<u8, Failure>
 }
 
 // What was lacking where a server ended so.
-fn lack_of(ended: &Result<ServeEnd, LinesFault>) -> Option<Lack> {
+fn lack_of(ended: &Result<ServeEnd, LinesFault>) -> Option<Unmet> {
     match ended {
-        Ok(ServeEnd::Unopened) => Some(Lack {
-            need: Need::Parts,
+        Ok(ServeEnd::Unopened) => Some(Unmet {
+            need: Wanted::Parts,
             cause: ErrorKind::Other,
         }),
         _ => None,
@@ -100,7 +100,7 @@ fn lack_of(ended: &Result<ServeEnd, LinesFault>) -> Option<Lack> {
 /// The text of a source, how much is told of it where it is refused, and the names of its file and of the folder of the
 /// values, as the command line has them.
 #[derive(Drop)]
-pub struct Source {
+pub struct ServedSource {
     pub text: Vec<u8>,
     pub telling: Telling,
     pub file: String,
@@ -121,7 +121,7 @@ pub fn serve_objects<
     E: Write,
 >(
     rt: &R,
-    source: &Source,
+    source: &ServedSource,
     place: Place<H>,
     gate: &Gate,
     writer: &mut W,

@@ -2,9 +2,10 @@
 
 ghost use Rattle.std.specs.Prelude.{◌≡◌, [], Some, IfSome};
 ghost use Rattle.keep_loop.specs.Seen.{Always};
+ghost use Rattle.keep_loop.specs.Epochs.{rules_of};
 ghost use Rattle.keep_loop.specs.Stands.{IsHonest};
 ghost use Rattle.schedule_trial.specs.Told.{seen_of};
-ghost use Rattle.table_core.specs.Moves.{Gives};
+ghost use Rattle.table_core.specs.Moves.{Gives, Fronts};
 
 use crate::fake::Fake;
 use crate::plan::Plan;
@@ -88,7 +89,7 @@ fn hosted_of(alloc: Global, object: Object, past: Vec<PastEvent>) -> Result<Host
     let begun = Begun {
         live,
         guests: Guests::new(alloc, LIMITS.sessions, NAMES)?,
-        long: past,
+        past,
         epoch: 1,
         source,
         base: 0,
@@ -135,7 +136,7 @@ fn push_end(ended: Result<Table, LoopFault>, out: &mut Vec<u8>) -> Result<(), Al
 // Serves a table over a schedule, until the server is to end. What is told of that is honest at each moment.
 fn serve(alloc: Global, table: Table, limits: Limits, fake: &mut Fake) -> Result<Table, LoopFault>
     requires { seen_of fake.old.rows ≡ Some [] }
-    ensures { IfSome (seen_of fake.new.rows) (λ seen. Always (IsHonest Gives table limits) seen) }
+    ensures { IfSome (seen_of fake.new.rows) (λ seen. Always (IsHonest (rules_of Gives Fronts) table limits) seen) }
 {
     run(alloc, table, limits, fake, u64::MAX)
 }

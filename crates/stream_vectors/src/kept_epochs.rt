@@ -3,7 +3,9 @@
 use crate::kept::{FEW, carried_put, kept, kept_behind, one, opening, slot};
 use live_core::call::Carried;
 use live_core::live::Live;
+use past_core::finder::short_past;
 use past_core::past::PastEvent::{self, End, Start};
+use path_tree::node::OpId;
 use std::alloc::Global;
 use std::process::Abort;
 
@@ -63,6 +65,15 @@ fn what_does_not_fit_is_not_begun(rt: HostRuntime) {
     );
 }
 
+// The short past that is found in a long one.
+fn short(rt: &impl Abort, alloc: Global, live: &Live, long: &[PastEvent]) -> Vec<PastEvent> {
+    let object = live.object();
+    let operations = object.operations.len() as OpId;
+    short_past(alloc, &object.paths, operations, long, live.counters())
+        .expect(rt, "memory")
+        .expect(rt, "a short past")
+}
+
 #[test]
 fn an_epoch_follows_with_a_short_past(rt: HostRuntime) {
     let alloc = rt.alloc();
@@ -83,16 +94,15 @@ fn an_epoch_follows_with_a_short_past(rt: HostRuntime) {
         .expect(&rt, "a call");
     let early = live.epoch(&long).expect(&rt, "memory");
     assert!(rt;
-        early.is_none() && live.numbers_left() == 65_335,
+        !early && live.numbers_left() == 65_335,
         "the last call is not in it"
     );
     long.extend_from_slice(&[Start(0), End(0)])
         .expect(&rt, "memory");
-    let past = live
-        .epoch(&long)
-        .expect(&rt, "memory")
-        .expect(&rt, "a short past");
-    assert!(rt; past.as_slice() == [Start(0), End(0)].as_slice() && live.numbers_left() == 65_535);
+    let past = short(&rt, alloc, &live, &long);
+    assert!(rt; past.as_slice() == [Start(0), End(0)].as_slice());
+    let begun = live.epoch(&past).expect(&rt, "memory");
+    assert!(rt; begun && live.numbers_left() == 65_535);
     let taken = live
         .submit(1, 1, Vec::new(alloc))
         .ok()

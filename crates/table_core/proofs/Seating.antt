@@ -10,7 +10,8 @@ use Rattle.client_core.specs.declared.ask.Ask.{Ask}
 use Rattle.client_core.specs.declared.client.Client.{Client}
 use Rattle.client_core.specs.declared.client.Opened.{Opened}
 use Rattle.client_core.specs.declared.clients.Clients.{Clients}
-use Rattle.client_core.specs.Held.{waits_of, waits_in, is_not, is_some, rest_in, is_whole_before, IsSame, AreSame, AreSameRows, HasOpened, IsHeld, IsPassed, IsSetTo, IsTaken}
+use Rattle.client_core.specs.Held.{waits_of, waits_in, is_not, is_some, rest_in, is_whole_before, IsSame, AreSame, AreSameRows, HasOpened, IsHeld, IsPassed, IsSetTo, IsTaken, ChangesPerson}
+use Rattle.client_core.specs.People.{Person}
 use Rattle.client_core.specs.Places.{has_in, is_here_in, opened_in as has_opened, held_in as all_held, place_at, place_for, Elsewhere}
 use Rattle.client_core.specs.Asks.{Asks}
 use Rattle.told_core.specs.State.{Peer, State, cut_of, peer_of, peers_of, change, nobody, comer, opening, waiting, holding, left_with, who_in, opened_in, held_in}
@@ -239,17 +240,29 @@ holds old mid new place line whole elsewhere held same =
     (λ x y one two. held_peer line whole x y
     (at_some (IsHeld line whole) (place_at old place) (place_at mid place) x y one two (held (within old place x one))))
 
+change_none : (ps : List Peer) (k : ℕ) → change ps k (λ p. p) ≡ ps
+change_none [] k = refl
+change_none (p ∷ ps) zero = refl
+change_none (p ∷ ps) (suc k) = ap (λ l. p ∷ l) (change_none ps k)
+
 -- the same is there, at a place and at the others
 pub same_there : (old new : Clients) (place : ℕ) → Elsewhere old new place → IsSame (place_at old place) (place_at new place) → peers_of new ≡ peers_of old
 same_there old new place elsewhere same =
     changes old new place (λ p. p) elsewhere
     (λ x y one two. peer_same x y (at_some IsSame (place_at old place) (place_at new place) x y one two same))
     ∙ change_none (peers_of old) place
-  where
-    change_none : (ps : List Peer) (k : ℕ) → change ps k (λ p. p) ≡ ps
-    change_none [] k = refl
-    change_none (p ∷ ps) zero = refl
-    change_none (p ∷ ps) (suc k) = ap (λ l. p ∷ l) (change_none ps k)
+
+-- what is known of a client is not seen there
+known_peer : (f : Person → Person) (x y : Client) → ChangesPerson f (Some x) (Some y) → peer_of y ≡ peer_of x
+known_peer f x y h =
+    mk_is _ _ _ _ _ _ _ _ (same_by x.is_here y.is_here x.who y.who h.here h.who) h.opened h.rest (cut_is _ _ _ _ h.rest h.cut)
+
+pub known_there : (old new : Clients) (place : ℕ) (f : Person → Person) → Elsewhere old new place → ChangesPerson f (place_at old place) (place_at new place) →
+    peers_of new ≡ peers_of old
+known_there old new place f elsewhere known =
+    changes old new place (λ p. p) elsewhere
+    (λ x y one two. known_peer f x y (at_some (ChangesPerson f) (place_at old place) (place_at new place) x y one two known))
+    ∙ change_none (peers_of old) place
 
 drop_none : (n : ℕ) (xs : List ℕ) → xs ≡ [] → drop n xs ≡ []
 drop_none zero xs is = is

@@ -10,26 +10,38 @@ use Rattle.client_core.specs.declared.ask.Sight.{Sight}
 use Rattle.client_core.specs.declared.ask.Sight.TheVariants as insides
 use Rattle.client_core.specs.declared.client.Opened.{Opened}
 use Rattle.hosted_core.specs.Scene.{Scene}
-use Rattle.told_core.specs.State.{Peer, State, opened_at}
+use Rattle.client_core.specs.People.{Person}
+use Rattle.told_core.specs.State.{State, opened_at}
 use Rattle.told_core.specs.Deeds.{Texts, OnlyTold}
 use Rattle.told_core.specs.Asked.{IsRefusal, IsRefused, AnswersInside}
-use Rattle.told_core.specs.Inside.{IsWhy, IsWho, IsList, object_in}
+use Rattle.told_core.specs.Inside.{Crowd, IsWhy, IsWho, IsList, object_in}
 use Rattle.table_core.specs.Brings.{Brings}
+use Rattle.table_core.specs.Looks.{LooksOf}
 use Rattle.table_core.specs.Parts.{Shows, ShowsText}
 use Rattle.table_core.proofs.Bringing.{brings_as, refuses}
 
+-- the one that looks is told what it asks to see of these clients, or of any
+pub answers_inside : (a b : Post) (old new : State) (people : List Person) (now place : ℕ) (inside : Sight) →
+    Brings (LooksOf people now place inside) a old b new → Brings (AnswersInside place inside) a old b new
+answers_inside a b old new people now place inside brings =
+    brings_as (LooksOf people now place inside) (AnswersInside place inside) a b old new (λ said added is. of said added is) brings
+  where
+    of : (said added : Texts) → LooksOf people now place inside old said added new → AnswersInside place inside old said added new
+    of said added (inl sees) = inl (people, now, sees)
+    of said added (inr refused) = inr refused
+
 -- a text, or why not, is told to one that asks for it
-told_or : (place : ℕ) (inside : Sight) (text : List ℕ) (old new : State) (said added : Texts) →
-    (OnlyTold place text old said added new → AnswersInside place inside old said added new) → ShowsText place text old said added new →
-    AnswersInside place inside old said added new
-told_or place inside text old new said added each (inl only) = each only
-told_or place inside text old new said added each (inr refused) = inr refused
+told_or : (people : List Person) (now place : ℕ) (inside : Sight) (text : List ℕ) (old new : State) (said added : Texts) →
+    (OnlyTold place text old said added new → LooksOf people now place inside old said added new) → ShowsText place text old said added new →
+    LooksOf people now place inside old said added new
+told_or people now place inside text old new said added each (inl only) = each only
+told_or people now place inside text old new said added each (inr refused) = inr refused
 
 -- it is refused
-pub look_refused : (a b : Post) (old new : State) (place : ℕ) (inside : Sight) (line : Line) → IsRefusal line → Brings (OnlyTold place (line_text line)) a old b new →
-    Brings (AnswersInside place inside) a old b new
-look_refused a b old new place inside line is brings =
-    brings_as (IsRefused place) (AnswersInside place inside) a b old new (λ said added refused. inr refused) (refuses a b old new place line is brings)
+pub look_refused : (a b : Post) (old new : State) (people : List Person) (now place : ℕ) (inside : Sight) (line : Line) → IsRefusal line →
+    Brings (OnlyTold place (line_text line)) a old b new → Brings (LooksOf people now place inside) a old b new
+look_refused a b old new people now place inside line is brings =
+    brings_as (IsRefused place) (LooksOf people now place inside) a b old new (λ said added refused. inr refused) (refuses a b old new place line is brings)
 
 -- there is no memory for the text
 pub show_refused : (a b : Post) (old new : State) (place : ℕ) (text : List ℕ) (line : Line) → IsRefusal line → Brings (OnlyTold place (line_text line)) a old b new →
@@ -40,34 +52,34 @@ show_refused a b old new place text line is brings =
 pub show_told : (a b : Post) (old new : State) (place : ℕ) (text : List ℕ) → Brings (OnlyTold place text) a old b new → Brings (ShowsText place text) a old b new
 show_told a b old new place text brings = brings_as (OnlyTold place text) (ShowsText place text) a b old new (λ said added only. inl only) brings
 
-pub why_shown : (a b : Post) (old new : State) (place number : ℕ) (opened : Opened) (text : Result (Vec ℕ) AllocError) → Some opened ≡ opened_at old place →
+pub why_shown : (a b : Post) (old new : State) (people : List Person) (now place number : ℕ) (opened : Opened) (text : Result (Vec ℕ) AllocError) → Some opened ≡ opened_at old place →
     IfOk text (λ t. (object : Scene) × (slice_get old.objects opened.object ≡ Some object) × IsWhy object number t.items) →
-    Brings (Shows place text) a old b new → Brings (AnswersInside place (insides.Why number)) a old b new
-why_shown a b old new place number opened (Ok t) by (object, there, is) brings =
-    brings_as (ShowsText place t.items) (AnswersInside place (insides.Why number)) a b old new
-    (λ said added shown. told_or place (insides.Why number) t.items old new said added
+    Brings (Shows place text) a old b new → Brings (LooksOf people now place (insides.Why number)) a old b new
+why_shown a b old new people now place number opened (Ok t) by (object, there, is) brings =
+    brings_as (ShowsText place t.items) (LooksOf people now place (insides.Why number)) a b old new
+    (λ said added shown. told_or people now place (insides.Why number) t.items old new said added
     (λ only. inl (record { opened = opened; by = sym by; object = object; there = there; text = t.items; is = is; only = only })) shown) brings
-why_shown a b old new place number opened (Err e) by is brings =
-    brings_as (IsRefused place) (AnswersInside place (insides.Why number)) a b old new (λ said added refused. inr refused) brings
+why_shown a b old new people now place number opened (Err e) by is brings =
+    brings_as (IsRefused place) (LooksOf people now place (insides.Why number)) a b old new (λ said added refused. inr refused) brings
 
-pub who_shown : (a b : Post) (old new : State) (place from : ℕ) (opened : Opened) (text : Result (Vec ℕ) AllocError) → Some opened ≡ opened_at old place →
-    IfOk text (λ t. (object : Scene) × (slice_get old.objects opened.object ≡ Some object) × IsWho old.peers object opened.object from t.items) →
-    Brings (Shows place text) a old b new → Brings (AnswersInside place (insides.Who from)) a old b new
-who_shown a b old new place from opened (Ok t) by (object, there, is) brings =
-    brings_as (ShowsText place t.items) (AnswersInside place (insides.Who from)) a b old new
-    (λ said added shown. told_or place (insides.Who from) t.items old new said added
+pub who_shown : (a b : Post) (old new : State) (people : List Person) (now place from : ℕ) (opened : Opened) (text : Result (Vec ℕ) AllocError) → Some opened ≡ opened_at old place →
+    IfOk text (λ t. (object : Scene) × (slice_get old.objects opened.object ≡ Some object) × IsWho (record { peers = old.peers; people = people; now = now; at = opened.object }) object from t.items) →
+    Brings (Shows place text) a old b new → Brings (LooksOf people now place (insides.Who from)) a old b new
+who_shown a b old new people now place from opened (Ok t) by (object, there, is) brings =
+    brings_as (ShowsText place t.items) (LooksOf people now place (insides.Who from)) a b old new
+    (λ said added shown. told_or people now place (insides.Who from) t.items old new said added
     (λ only. inl (record { opened = opened; by = sym by; object = object; there = there; text = t.items; is = is; only = only })) shown) brings
-who_shown a b old new place from opened (Err e) by is brings =
-    brings_as (IsRefused place) (AnswersInside place (insides.Who from)) a b old new (λ said added refused. inr refused) brings
+who_shown a b old new people now place from opened (Err e) by is brings =
+    brings_as (IsRefused place) (LooksOf people now place (insides.Who from)) a b old new (λ said added refused. inr refused) brings
 
-pub list_shown : (a b : Post) (old new : State) (place : ℕ) (at : Option ℕ) (text : Result (Vec ℕ) AllocError) → at ≡ object_in (opened_at old place) →
-    IfOk text (λ t. IsList old.objects at t.items) → Brings (Shows place text) a old b new → Brings (AnswersInside place insides.List) a old b new
-list_shown a b old new place at (Ok t) same is brings =
-    brings_as (ShowsText place t.items) (AnswersInside place insides.List) a b old new
-    (λ said added shown. told_or place insides.List t.items old new said added
+pub list_shown : (a b : Post) (old new : State) (people : List Person) (now place : ℕ) (at : Option ℕ) (text : Result (Vec ℕ) AllocError) → at ≡ object_in (opened_at old place) →
+    IfOk text (λ t. IsList old.objects at t.items) → Brings (Shows place text) a old b new → Brings (LooksOf people now place insides.List) a old b new
+list_shown a b old new people now place at (Ok t) same is brings =
+    brings_as (ShowsText place t.items) (LooksOf people now place insides.List) a b old new
+    (λ said added shown. told_or people now place insides.List t.items old new said added
     (λ only. inl (record { text = t.items; is = subst (λ o. IsList old.objects o t.items) same is; only = only })) shown) brings
-list_shown a b old new place at (Err e) same is brings =
-    brings_as (IsRefused place) (AnswersInside place insides.List) a b old new (λ said added refused. inr refused) brings
+list_shown a b old new people now place at (Err e) same is brings =
+    brings_as (IsRefused place) (LooksOf people now place insides.List) a b old new (λ said added refused. inr refused) brings
 
 -- what is said of the object at a place
 pub why_there : (objects : List Scene) (at number : ℕ) (object : Scene) (text : Result (Vec ℕ) AllocError) → slice_get objects at ≡ Some object →
@@ -75,7 +87,7 @@ pub why_there : (objects : List Scene) (at number : ℕ) (object : Scene) (text 
 why_there objects at number object (Ok t) there is = (object, there, is)
 why_there objects at number object (Err e) there is = tt
 
-pub who_there : (objects : List Scene) (peers : List Peer) (at from : ℕ) (object : Scene) (text : Result (Vec ℕ) AllocError) → slice_get objects at ≡ Some object →
-    IfOk text (λ t. IsWho peers object at from t.items) → IfOk text (λ t. (x : Scene) × (slice_get objects at ≡ Some x) × IsWho peers x at from t.items)
-who_there objects peers at from object (Ok t) there is = (object, there, is)
-who_there objects peers at from object (Err e) there is = tt
+pub who_there : (objects : List Scene) (crowd : Crowd) (at from : ℕ) (object : Scene) (text : Result (Vec ℕ) AllocError) → slice_get objects at ≡ Some object →
+    IfOk text (λ t. IsWho crowd object from t.items) → IfOk text (λ t. (x : Scene) × (slice_get objects at ≡ Some x) × IsWho crowd x from t.items)
+who_there objects crowd at from object (Ok t) there is = (object, there, is)
+who_there objects crowd at from object (Err e) there is = tt

@@ -3,6 +3,7 @@ use Rattle.std.specs.Prelude.{ℕ, List}
 use Rattle.post_core.specs.Turns.{Asked}
 use Rattle.told_core.specs.Moves.{IsFrontAt}
 use Rattle.told_core.specs.Turns as told
+use Rattle.watch_core.specs.Looks.{IsStatus}
 use Rattle.table_core.specs.Seen.{seen}
 use Rattle.table_core.specs.declared.table.Table.{Table}
 
@@ -13,3 +14,7 @@ Fronts t journal front = IsFrontAt t.objects.items journal front
 -- what is asked of a table gives this
 abbrev pub Gives : Table → Asked → List (ℕ × List ℕ) → List (ℕ × List ℕ) → Table → Type 0
 Gives old asked said added new = told.Gives (seen old) asked said added (seen new)
+
+-- a text is a status of a table
+abbrev pub IsSeenIn : Table → List ℕ → Type 0
+IsSeenIn t text = IsStatus t.objects.items t.tallies.objects.items t.clients t.second text

@@ -3,10 +3,13 @@
 ghost use Rattle.std.specs.Prelude.{◌≡◌, Some, OnOk, IfOk, IfSome, slice_get};
 ghost use Rattle.hosted_core.specs.Scene.{Scene};
 ghost use Rattle.client_core.specs.declared.ask.Sight.TheVariants as insides;
+ghost use Rattle.client_core.specs.People.{people_of};
+ghost use Rattle.inside_core.specs.Adds.{crowd_of};
 ghost use Rattle.told_core.specs.Asked.{AnswersInside};
 ghost use Rattle.told_core.specs.Inside.{IsWhy, IsWho, object_in};
 ghost use Rattle.told_core.specs.State.{opened_in, peers_of};
 ghost use Rattle.table_core.specs.Brings.{Brings};
+ghost use Rattle.table_core.specs.Looks.{LooksOf};
 ghost use Rattle.table_core.specs.Parts.{Shows, ShowsText};
 ghost use Rattle.table_core.specs.Seen.{seen};
 
@@ -48,7 +51,7 @@ fn who_at(
     whom: Whom,
 ) -> Option<Result<Vec<u8>, AllocError>>
     ensures { IfSome result (λ r. IfOk r (λ text. (object : Scene) × (slice_get objects.now whom.at ≡ Some object)
-        × IsWho (peers_of clients.now) object whom.at whom.from text.items)) }
+        × IsWho (crowd_of clients.now whom) object whom.from text.items)) }
 {
     match objects.get(whom.at) {
         None => None,
@@ -68,6 +71,7 @@ fn object_of(clients: &Clients, place: usize) -> Option<usize>
 
 impl Table {
     // Tells the one at a place what it asks to see.
+    #[tactic(auto, using(crate::proofs::Showing::answers_inside))]
     pub(crate) fn look(
         &mut self,
         place: usize,
@@ -75,6 +79,20 @@ impl Table {
         post: &mut Post,
     ) -> Result<(), AllocError>
         ensures { OnOk result (Brings (AnswersInside place inside) post.old (seen self.old) post.new (seen self.new)) }
+    {
+        self.look_inside(place, inside, post)?;
+        Ok(())
+    }
+
+    // The same: what is told of clients is what is known of those that are there, in this second.
+    pub(crate) fn look_inside(
+        &mut self,
+        place: usize,
+        inside: Sight,
+        post: &mut Post,
+    ) -> Result<(), AllocError>
+        ensures { OnOk result (Brings (LooksOf (people_of self.old.clients) self.old.second place inside) post.old
+            (seen self.old) post.new (seen self.new)) }
     {
         match inside {
             Sight::Why(told) => {
@@ -93,8 +111,8 @@ impl Table {
     }
 
     fn look_why(&mut self, place: usize, told: u64, post: &mut Post) -> Result<(), AllocError>
-        ensures { OnOk result (Brings (AnswersInside place (insides.Why told)) post.old (seen self.old) post.new
-            (seen self.new)) }
+        ensures { OnOk result (Brings (LooksOf (people_of self.old.clients) self.old.second place (insides.Why told)) post.old
+            (seen self.old) post.new (seen self.new)) }
     {
         let Some(opened) = opened_at(&self.clients, place) else {
             self.refuse(place, Refusal::NotOpen, post)?;
@@ -113,8 +131,8 @@ impl Table {
     }
 
     fn look_who(&mut self, place: usize, from: u64, post: &mut Post) -> Result<(), AllocError>
-        ensures { OnOk result (Brings (AnswersInside place (insides.Who from)) post.old (seen self.old) post.new
-            (seen self.new)) }
+        ensures { OnOk result (Brings (LooksOf (people_of self.old.clients) self.old.second place (insides.Who from)) post.old
+            (seen self.old) post.new (seen self.new)) }
     {
         let Some(opened) = opened_at(&self.clients, place) else {
             self.refuse(place, Refusal::NotOpen, post)?;
@@ -138,8 +156,8 @@ impl Table {
     }
 
     fn look_list(&mut self, place: usize, post: &mut Post) -> Result<(), AllocError>
-        ensures { OnOk result (Brings (AnswersInside place insides.List) post.old (seen self.old) post.new
-            (seen self.new)) }
+        ensures { OnOk result (Brings (LooksOf (people_of self.old.clients) self.old.second place insides.List) post.old
+            (seen self.old) post.new (seen self.new)) }
     {
         let at = object_of(&self.clients, place);
         let text = list_of(self.alloc, &self.objects, at);

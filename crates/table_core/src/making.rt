@@ -20,7 +20,7 @@ use crate::objects::{
     Keying, Made, admit_at, call_at, cancel_at, key_at, operation_at, owner_at, seat_at, told_at,
     waits_at,
 };
-use crate::peers::{Waiting, open, open_called, opened_at, rest, waiter};
+use crate::peers::{ToldCall, open, open_called, opened_at, rest, waiter};
 use crate::table::{MOST_LINE, SHORT_LINE, Table};
 use crate::tell::{
     tell_accepted, tell_cancel, tell_ended, tell_kept, tell_line, tell_repeated, tell_withdrawn,
@@ -275,6 +275,7 @@ impl Table {
             }
             Ok(taken) => {
                 self.taken(place, ready.seat, &taken, post)?;
+                self.tallies.count(ready.seat.object, &taken);
                 Ok(())
             }
         }
@@ -349,7 +350,7 @@ impl Table {
         let session = ran.call.session();
         let told = told_at(&self.objects, at, ran.call.number());
         let thought = owner_at(&self.objects, at, session);
-        let call = Waiting { at, session, told };
+        let call = ToldCall { at, session, told };
         match waiter(&self.clients, thought, call) {
             None => Ok(()),
             Some(place) => {
@@ -496,7 +497,7 @@ impl Table {
     {
         let session = u32::from(session);
         let thought = owner_at(&self.objects, at, session);
-        let call = Waiting {
+        let call = ToldCall {
             at,
             session,
             told: number,

@@ -344,14 +344,18 @@ pub(crate) fn next_front(objects: &[Hosted], front: &mut Vec<u8>) -> Option<usiz
     None
 }
 
-/// Begins the next epoch of the object at a place. False: none could begin, and nothing changes.
-pub(crate) fn begin_at(objects: &mut Vec<Hosted>, at: usize) -> Result<bool, AllocError>
-    ensures begun { result ≡ Ok true → Begins objects.old.items at objects.new.items }
+/// Begins the next epoch of the object at a place by this front. False: none could begin, and nothing changes.
+pub(crate) fn begin_at(
+    objects: &mut Vec<Hosted>,
+    at: usize,
+    front: &[u8],
+) -> Result<bool, AllocError>
+    ensures begun { result ≡ Ok true → Begins objects.old.items at front.now objects.new.items }
     ensures none { result ≡ Ok false → objects.new.items ≡ objects.old.items }
 {
     match objects.get_mut(at) {
         None => Ok(false),
-        Some(object) => object.begin_next(),
+        Some(object) => object.begin_next(front),
     }
 }
 

@@ -178,14 +178,14 @@ pub(crate) fn wake(clients: &mut Clients)
 
 /// A call of the object at a place: by which session, and which number was told of it.
 #[derive(Clone, Copy)]
-pub(crate) struct Waiting {
+pub(crate) struct ToldCall {
     pub at: usize,
     pub session: u32,
     pub told: u64,
 }
 
 // Whether the one at a place waits for a call.
-fn is_waiter(clients: &Clients, place: usize, call: Waiting) -> bool
+fn is_waiter(clients: &Clients, place: usize, call: ToldCall) -> bool
     ensures yes { result ≡ true → (objects : List Scene) → Waits call.at call.session call.told (state_of objects clients.now) place }
     ensures no { result ≡ false → (objects : List Scene) → Waits call.at call.session call.told (state_of objects clients.now) place → ⊥ }
 {
@@ -195,7 +195,7 @@ fn is_waiter(clients: &Clients, place: usize, call: Waiting) -> bool
     }
 }
 
-fn is_its(opened: Opened, call: Waiting) -> bool
+fn is_its(opened: Opened, call: ToldCall) -> bool
     ensures yes { result ≡ true → IsFor call.at call.session call.told opened }
     ensures no { result ≡ false → IsFor call.at call.session call.told opened → ⊥ }
 {
@@ -212,7 +212,7 @@ fn is_its(opened: Opened, call: Waiting) -> bool
 }
 
 /// The place of one that waits for a call: the one that is thought to be it, or the first one.
-pub(crate) fn waiter(clients: &Clients, thought: Option<usize>, call: Waiting) -> Option<usize>
+pub(crate) fn waiter(clients: &Clients, thought: Option<usize>, call: ToldCall) -> Option<usize>
     ensures some { IfSome result (λ place. (objects : List Scene) → Waits call.at call.session call.told (state_of objects clients.now) place) }
     ensures none { IfNone result ((objects : List Scene) (place : ℕ) → Waits call.at call.session call.told (state_of objects clients.now) place → ⊥) }
 {
@@ -222,7 +222,7 @@ pub(crate) fn waiter(clients: &Clients, thought: Option<usize>, call: Waiting) -
     }
 }
 
-fn waiter_or(clients: &Clients, place: usize, call: Waiting) -> Option<usize>
+fn waiter_or(clients: &Clients, place: usize, call: ToldCall) -> Option<usize>
     ensures some { IfSome result (λ place. (objects : List Scene) → Waits call.at call.session call.told (state_of objects clients.now) place) }
     ensures none { IfNone result ((objects : List Scene) (place : ℕ) → Waits call.at call.session call.told (state_of objects clients.now) place → ⊥) }
 {
@@ -232,7 +232,7 @@ fn waiter_or(clients: &Clients, place: usize, call: Waiting) -> Option<usize>
     find_waiter(clients, call)
 }
 
-fn find_waiter(clients: &Clients, call: Waiting) -> Option<usize>
+fn find_waiter(clients: &Clients, call: ToldCall) -> Option<usize>
     ensures some { IfSome result (λ place. (objects : List Scene) → Waits call.at call.session call.told (state_of objects clients.now) place) }
     ensures none { IfNone result ((objects : List Scene) (place : ℕ) → Waits call.at call.session call.told (state_of objects clients.now) place → ⊥) }
 {

@@ -24,6 +24,7 @@ use keep_loop::Post;
 use path_tree::name::Name;
 use session_text::line::{Line, Refusal};
 use std::alloc::{AllocError, Global};
+use tally_core::tallies::Tallies;
 
 /// Where more than so many bytes are owed to a connection, its held lines are done later.
 pub const MOST_OWED: usize = 65_536;
@@ -45,6 +46,17 @@ pub struct Table {
     pub(crate) line: Vec<u8>,
     // the second of the last tick
     pub(crate) second: u64,
+    // how many calls were taken, and how they ended
+    pub(crate) tallies: Tallies,
+}
+
+// Counts of these objects, of which no call was taken.
+fn tallies_of(alloc: Global, objects: &[Hosted]) -> Result<Tallies, AllocError> {
+    let mut tallies = Tallies::new(alloc);
+    for object in objects {
+        tallies.add(object.live().object().operations.len())?;
+    }
+    Ok(tallies)
 }
 
 fn refusal_of(fault: EnterFault) -> Line
@@ -69,12 +81,14 @@ impl Table {
     {
         let clients = Clients::new(alloc, places)?;
         let line = Vec::with_capacity(alloc, MOST_LINE)?;
+        let tallies = tallies_of(alloc, &objects)?;
         Ok(Table {
             alloc,
             objects,
             clients,
             line,
             second: now,
+            tallies,
         })
     }
 

@@ -26,9 +26,10 @@ use crate::table::{MOST_OWED, Table};
 use ask_core::answer::SubmitFault;
 use client_core::ask::{Ask, Sight, ask_of, cancel_of, inside_of};
 use hosted_core::hosted::Hosted;
-use keep_loop::{LineEnd, Note, Post, Served};
+use keep_loop::{LineEnd, Note, Post, Served, Visible};
 use session_text::line::{Line, Refusal};
 use std::alloc::AllocError;
+use watch_core::look::write_look;
 
 impl Table {
     // Does what a line asks for.
@@ -652,14 +653,31 @@ impl Served for Table {
         Ok(next_front(&self.objects, front))
     }
 
-    fn changed(&mut self, journal: usize, _front: &[u8], went: bool) -> Result<(), AllocError> {
+    fn changed(&mut self, journal: usize, front: &[u8], went: bool) -> Result<(), AllocError> {
         if !went {
             put_off_at(&mut self.objects, journal);
             return Ok(());
         }
-        if begin_at(&mut self.objects, journal)? {
+        if begin_at(&mut self.objects, journal, front)? {
             return Ok(());
         }
         Err(AllocError)
+    }
+}
+
+impl Visible for Table {
+    ghost use Rattle.table_core.specs.Moves.{IsSeenIn};
+
+    ghost shows = { IsSeenIn };
+
+    fn status(&self, text: &mut Vec<u8>) -> Result<(), AllocError> {
+        write_look(
+            self.alloc,
+            &self.objects,
+            &self.tallies,
+            &self.clients,
+            self.second,
+            text,
+        )
     }
 }

@@ -128,9 +128,9 @@ cancel_moves place told old new said added (inr (inl is)) = by_keeping (OnlyTold
 cancel_moves place told old new said added (inr (inr is)) = by_keeping (IsRefused place) (refused_keeps place) old new said added is
 
 sees_keeps : (place : ℕ) (inside : Sight) → Keeps (Sees place inside)
-sees_keeps place (insides.Why number) old new said added is = told_keeps place is.text old new said added is.only
-sees_keeps place (insides.Who from) old new said added is = told_keeps place is.text old new said added is.only
-sees_keeps place insides.List old new said added is = told_keeps place is.text old new said added is.only
+sees_keeps place (insides.Why number) old new said added (people, now, is) = told_keeps place is.text old new said added is.only
+sees_keeps place (insides.Who from) old new said added (people, now, is) = told_keeps place is.text old new said added is.only
+sees_keeps place insides.List old new said added (people, now, is) = told_keeps place is.text old new said added is.only
 
 pub inside_moves : (place : ℕ) (inside : Sight) → MovesBy (AnswersInside place inside)
 inside_moves place inside old new said added (inl is) = by_keeping (Sees place inside) (sees_keeps place inside) old new said added is

@@ -1,22 +1,24 @@
 -- What is told to one that asks to see something.
-use Rattle.std.specs.Prelude.{◌≡◌, ◌≢◌, ◌⊎◌, ℕ, ◌==◌, ◌&&◌, not, nat_lt, Bool, true, false, List, [], ◌∷◌, Option, Some, None, map, flat_map, take}
-use Rattle.std.specs.Prelude.{slice_get, option_map, if◌then◌else◌}
+use Rattle.std.specs.Prelude.{◌≡◌, ◌≢◌, ◌⊎◌, ℕ, suc, ◌-◌, ◌==◌, ◌&&◌, not, nat_lt, Bool, true, false, List, [], ◌∷◌, ◌++◌, Option, Some, None}
+use Rattle.std.specs.Prelude.{slice_get, option_map, map, flat_map, take, MatchOption, if◌then◌else◌}
 use Rattle.std.specs.List.Sorted.{IsPermutation, IsNonDecreasingBy}
 use Rattle.decl_core.specs.ObjectMap.{object_of}
 use Rattle.decl_core.specs.ObjectForm.{ObjectForm}
 use Rattle.trace_core.specs.Events.{Called}
 use Rattle.live_core.specs.Hall.{Every, Told, IsHeld, trace}
-use Rattle.hosted_core.specs.Scene.{Scene, told_of}
+use Rattle.hosted_core.specs.Scene.{Scene, is_given, told_of}
 use Rattle.client_core.specs.declared.ask.Sight.{Sight}
 use Rattle.client_core.specs.declared.ask.Sight.TheVariants as insides
 use Rattle.client_core.specs.declared.client.Opened.{Opened}
+use Rattle.client_core.specs.People.{Person, name_in, since_in, called_in}
 use Rattle.why_core.specs.Lacks.{Why}
 use Rattle.why_core.specs.Tells.{Tells}
+use Rattle.inside_text.specs.declared.why.State.{State as CallState}
 use Rattle.inside_text.specs.declared.why.State.TheVariants as states
 use Rattle.inside_text.specs.Why.{state_line, why_text}
 use Rattle.inside_text.specs.Who.{Sitting, Refused, who_text}
 use Rattle.inside_text.specs.List.{list_text}
-use Rattle.told_core.specs.State.{Peer, State, opened_at}
+use Rattle.told_core.specs.State.{Peer, State, opened_in, opened_at}
 use Rattle.told_core.specs.Deeds.{Texts, Deed, OnlyTold}
 
 -- These are exactly the nodes of paths that refuse a start of an operation now, by all that happened to an object.
@@ -34,10 +36,15 @@ pub record SaysWhy (object : Scene) (told : ℕ) (text : List ℕ) : Type 0 wher
   pub are : AreWhys object call.operation whys
   pub text_is : text ≡ why_text (object_of object.hall.object) told whys []
 
+-- what a call of this number is that does not wait
+abbrev pub state_by : Bool → CallState
+state_by true = states.Ended
+state_by false = states.Unknown
+
 -- no call waits of which this number was told: it has ended, or none was made
 pub record SaysState (object : Scene) (told : ℕ) (text : List ℕ) : Type 0 where
   pub none : Every (λ (c : Called). told_of object c.number ≢ told) object.hall.waiting
-  pub text_is : (text ≡ state_line told states.Ended) ⊎ (text ≡ state_line told states.Unknown)
+  pub text_is : text ≡ state_line told (state_by (is_given object told))
 
 -- What is said of the call of a number.
 abbrev pub IsWhy : Scene → ℕ → List ℕ → Type 0
@@ -47,35 +54,50 @@ IsWhy object told text = SaysWhy object told text ⊎ SaysState object told text
 abbrev pub is_asked : ℕ → ℕ → Opened → Bool
 is_asked at from o = (o.object == at) && (nat_lt 0 o.session && not (nat_lt o.session from))
 
-abbrev pub sits_in : ℕ → ℕ → Option Opened → List Opened
-sits_in at from None = []
-sits_in at from (Some o) = if is_asked at from o then o ∷ [] else []
+-- The places of connections, what is known of the clients that are there, the second, and the place of the object that is
+-- looked at.
+pub record Crowd : Type 0 where
+  pub peers : List Peer
+  pub people : List Person
+  pub now : ℕ
+  pub at : ℕ
 
--- all of them, by the places of their connections
-abbrev pub sitting : ℕ → ℕ → List Peer → List Opened
-sitting at from peers = flat_map (λ p. sits_in at from p.opened) peers
+-- the one at a place, where it is asked for
+abbrev pub sits_in : ℕ → ℕ → ℕ → Option Opened → List (ℕ × Opened)
+sits_in at from place None = []
+sits_in at from place (Some o) = if is_asked at from o then (place, o) ∷ [] else []
+
+-- all of them, each with its place, of which the first is this
+abbrev pub sitting_from : ℕ → ℕ → ℕ → List Peer → List (ℕ × Opened)
+sitting_from place at from [] = []
+sitting_from place at from (p ∷ peers) = sits_in at from place p.opened ++ sitting_from (suc place) at from peers
 
 -- the same, by their numbers
-pub record AreSitting (at from : ℕ) (peers : List Peer) (all : List Opened) : Type 0 where
-  pub same : IsPermutation (sitting at from peers) all
-  pub rising : IsNonDecreasingBy (λ (o : Opened). o.session) all
+pub record AreSitting (at from : ℕ) (peers : List Peer) (all : List (ℕ × Opened)) : Type 0 where
+  pub same : IsPermutation (sitting_from 0 at from peers) all
+  pub rising : IsNonDecreasingBy (λ (seat : ℕ × Opened). seat.1.session) all
 
--- A row of an answer is of one that has opened an object: the number of its session and of its calls. One that has no name
--- is told without one.
-pub record IsSeatOf (o : Opened) (s : Sitting) : Type 0 where
-  pub session : s.seat.session ≡ o.session
-  pub calls : s.seat.calls ≡ o.calls
-  pub nameless : o.is_named ≡ false → s.name ≡ None
+-- the name by which the one at a place has opened an object, or none
+abbrev pub seat_name : Crowd → ℕ × Opened → Option (List ℕ)
+seat_name crowd seat = if seat.1.is_named then name_in (slice_get crowd.people seat.0) else None
+
+-- A row of an answer is of one that has opened an object: the number of its session and of its calls, its name where it has
+-- one, and for how many seconds it is there.
+pub record IsSeatOf (crowd : Crowd) (seat : ℕ × Opened) (s : Sitting) : Type 0 where
+  pub session : s.seat.session ≡ seat.1.session
+  pub calls : s.seat.calls ≡ seat.1.calls
+  pub name : s.name ≡ seat_name crowd seat
+  pub since : s.seat.seconds ≡ Some (crowd.now - since_in (slice_get crowd.people seat.0))
 
 -- rows are of these, one after the other
-abbrev pub AreSeats : List Opened → List Sitting → Type 0
-AreSeats [] [] = Unit {0}
-AreSeats (o ∷ all) (s ∷ rows) = IsSeatOf o s × AreSeats all rows
-AreSeats all rows = ⊥
+abbrev pub AreSeats : Crowd → List (ℕ × Opened) → List Sitting → Type 0
+AreSeats crowd [] [] = Unit {0}
+AreSeats crowd (o ∷ all) (s ∷ rows) = IsSeatOf crowd o s × AreSeats crowd all rows
+AreSeats crowd all rows = ⊥
 
 -- where 256 are told, the number of the last of them
-abbrev pub last_told : List Opened → Option ℕ
-last_told all = option_map (λ (o : Opened). o.session) (slice_get all 255)
+abbrev pub last_told : List (ℕ × Opened) → Option ℕ
+last_told all = option_map (λ (seat : ℕ × Opened). seat.1.session) (slice_get all 255)
 
 -- a session of this number is told of: it is this or a greater one, and at most the last one
 abbrev pub is_up_to : ℕ → Option ℕ → Bool
@@ -89,26 +111,42 @@ is_between from last session = not (nat_lt session from) && is_up_to session las
 abbrev pub waiting_in : ℕ → Option ℕ → List Called → List Called
 waiting_in from last calls = flat_map (λ (c : Called). if is_between from last c.session then c ∷ [] else []) calls
 
--- A row of an answer is of a call that waits: the number that was told of it, its session and its operation, and why.
-pub record IsWaitOf (object : Scene) (c : Called) (r : Refused) : Type 0 where
+-- one waits for a call of this session, of which it was told this number
+abbrev pub is_caller : ℕ → ℕ → ℕ → Option Opened → Bool
+is_caller at session told None = false
+is_caller at session told (Some o) = (o.object == at) && ((o.session == session) && (o.waits && (o.told == told)))
+
+abbrev pub calls_at : Crowd → ℕ → ℕ → ℕ → Bool
+calls_at crowd session told place = is_caller crowd.at session told (opened_in (slice_get crowd.peers place))
+
+-- For how many seconds a call waits: since the one that waits for it made it. It is not told where none of these does.
+abbrev pub WaitsFor : Crowd → List (ℕ × Opened) → ℕ → ℕ → Option ℕ → Type 0
+WaitsFor crowd seats session told seconds =
+    MatchOption seconds (Every (λ (seat : ℕ × Opened). calls_at crowd session told seat.0 ≡ false) seats)
+    (λ t. (place : ℕ) × (calls_at crowd session told place ≡ true) × (t ≡ crowd.now - called_in (slice_get crowd.people place)))
+
+-- A row of an answer is of a call that waits: the number that was told of it, its session and its operation, for how long,
+-- and why.
+pub record IsWaitOf (crowd : Crowd) (seats : List (ℕ × Opened)) (object : Scene) (c : Called) (r : Refused) : Type 0 where
   pub number : r.call.number ≡ told_of object c.number
   pub session : r.call.session ≡ c.session
   pub operation : r.call.operation ≡ c.operation
+  pub since : WaitsFor crowd seats c.session (told_of object c.number) r.call.seconds
   pub whys : AreWhys object c.operation r.whys
 
-abbrev pub AreWaits : Scene → List Called → List Refused → Type 0
-AreWaits object [] [] = Unit {0}
-AreWaits object (c ∷ calls) (r ∷ rows) = IsWaitOf object c r × AreWaits object calls rows
-AreWaits object calls rows = ⊥
+abbrev pub AreWaits : Crowd → List (ℕ × Opened) → Scene → List Called → List Refused → Type 0
+AreWaits crowd seats object [] [] = Unit {0}
+AreWaits crowd seats object (c ∷ calls) (r ∷ rows) = IsWaitOf crowd seats object c r × AreWaits crowd seats object calls rows
+AreWaits crowd seats object calls rows = ⊥
 
 -- What is said of those who are there: the first 256 sessions, and what waits of these.
-pub record IsWho (peers : List Peer) (object : Scene) (at from : ℕ) (text : List ℕ) : Type 0 where
-  pub all : List Opened
-  pub are_all : AreSitting at from peers all
+pub record IsWho (crowd : Crowd) (object : Scene) (from : ℕ) (text : List ℕ) : Type 0 where
+  pub all : List (ℕ × Opened)
+  pub are_all : AreSitting crowd.at from crowd.peers all
   pub seats : List Sitting
-  pub are_seats : AreSeats (take 256 all) seats
+  pub are_seats : AreSeats crowd (take 256 all) seats
   pub calls : List Refused
-  pub are_calls : AreWaits object (waiting_in from (last_told all) object.hall.waiting) calls
+  pub are_calls : AreWaits crowd (take 256 all) object (waiting_in from (last_told all) object.hall.waiting) calls
   pub text_is : text ≡ who_text (object_of object.hall.object) seats calls
 
 -- the object that is open
@@ -133,14 +171,14 @@ pub record SeesWhy (place number : ℕ) (old : State) (said added : Texts) (new 
   pub is : IsWhy object number text
   pub only : OnlyTold place text old said added new
 
--- or who is there
-pub record SeesWho (place from : ℕ) (old : State) (said added : Texts) (new : State) : Type 0 where
+-- or who is there, where these clients are, in this second
+pub record SeesWho (people : List Person) (now place from : ℕ) (old : State) (said added : Texts) (new : State) : Type 0 where
   pub opened : Opened
   pub by : opened_at old place ≡ Some opened
   pub object : Scene
   pub there : slice_get old.objects opened.object ≡ Some object
   pub text : List ℕ
-  pub is : IsWho old.peers object opened.object from text
+  pub is : IsWho (record { peers = old.peers; people = people; now = now; at = opened.object }) object from text
   pub only : OnlyTold place text old said added new
 
 -- or which objects there are
@@ -149,7 +187,12 @@ pub record SeesList (place : ℕ) (old : State) (said added : Texts) (new : Stat
   pub is : IsList old.objects (object_in (opened_at old place)) text
   pub only : OnlyTold place text old said added new
 
+-- where these clients are, in this second
+abbrev pub SeesOf : List Person → ℕ → ℕ → Sight → Deed
+SeesOf people now place (insides.Why number) = SeesWhy place number
+SeesOf people now place (insides.Who from) = SeesWho people now place from
+SeesOf people now place insides.List = SeesList place
+
+-- the same, of clients that are not named here
 abbrev pub Sees : ℕ → Sight → Deed
-Sees place (insides.Why number) = SeesWhy place number
-Sees place (insides.Who from) = SeesWho place from
-Sees place insides.List = SeesList place
+Sees place inside old said added new = (people : List Person) × (now : ℕ) × SeesOf people now place inside old said added new

@@ -13,7 +13,7 @@ use Rattle.told_core.specs.Turns.{Gives}
 abbrev pub MovesBy : State → Asked → Texts → State → Type 0
 MovesBy old (Heard who line end) added new = Moves old.objects added new.objects
 MovesBy old (Noted note) added new = Moves old.objects added new.objects
-MovesBy old (Changes journal front true) added new = Begins old.objects journal new.objects
+MovesBy old (Changes journal front true) added new = Begins old.objects journal front new.objects
 MovesBy old (Changes journal front false) added new = new.objects ≡ old.objects
 
 -- Each turn does so.

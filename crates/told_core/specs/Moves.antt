@@ -1,9 +1,8 @@
 -- What a turn adds to the journals of objects.
 use Rattle.std.specs.Prelude.{◌≡◌, ℕ, List, length, slice_get, slice_set, Some}
-use Rattle.past_core.specs.declared.past.PastEvent.{PastEvent}
 use Rattle.hosted_core.specs.Fronts.{IsNextFront}
 use Rattle.hosted_core.specs.Scene.{Scene}
-use Rattle.hosted_core.specs.Steps.{Steps, IsFollowed}
+use Rattle.hosted_core.specs.Steps.{Steps, BeginsBy}
 use Rattle.post_core.specs.Texts.{to}
 
 -- each object goes by such steps, and the lines that are added to its journal are those of them
@@ -17,11 +16,10 @@ pub record IsFrontAt (objects : List Scene) (journal : ℕ) (front : List ℕ) :
   pub there : slice_get objects journal ≡ Some object
   pub stands : IsNextFront object front
 
--- one object begins an epoch more, and the others stay as they are
-pub record Begins (old : List Scene) (journal : ℕ) (new : List Scene) : Type 0 where
-  pub past : List PastEvent
+-- one object begins an epoch more by a front, and the others stay as they are
+pub record Begins (old : List Scene) (journal : ℕ) (front : List ℕ) (new : List Scene) : Type 0 where
   pub before : Scene
   pub after : Scene
   pub there : slice_get old journal ≡ Some before
-  pub followed : IsFollowed before past after
+  pub begun : BeginsBy before front after
   pub left : new ≡ slice_set old journal after

@@ -159,5 +159,5 @@ abbrev pub Gives : State → Asked → Texts → Texts → State → Type 0
 Gives old (Heard who line end) said added new = IfHere who (λ place. Then (HearsAt place line end) GoesOn) old said added new
 Gives old (Noted note) said added new = Then (Notes note) GoesOn old said added new
 Gives old (Changes journal front true) said added new =
-    (said ≡ []) × (added ≡ []) × Begins old.objects journal new.objects × (new.peers ≡ old.peers) × IsFrontAt old.objects journal front
+    (said ≡ []) × (added ≡ []) × Begins old.objects journal front new.objects × (new.peers ≡ old.peers) × IsFrontAt old.objects journal front
 Gives old (Changes journal front false) said added new = Nothing old said added new

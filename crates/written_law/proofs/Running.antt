@@ -22,7 +22,8 @@ use Rattle.replay_core.specs.Said.{asks}
 use Rattle.replay_core.specs.Steps.{Step, ran, Begun, IsUnused, trace_by, told_by}
 use Rattle.replay_core.specs.Tells.{Tell, IsCall, start_told, end_told}
 use Rattle.recover_core.specs.Lines.{AreLines, joined}
-use Rattle.written_law.specs.Stands.{IsNamed, IsAwaited}
+use Rattle.named_law.specs.Named.{IsNamed}
+use Rattle.written_law.specs.Stands.{IsAwaited}
 use Rattle.written_law.specs.Happens.{with_ran}
 use Rattle.written_law.specs.Told.{heard_of}
 use Rattle.written_law.proofs.Saying.{start_written, end_written}

@@ -37,7 +37,8 @@ use Rattle.hosted_core.specs.Calls.{Does, Cancels, IsCancelLine}
 use Rattle.hosted_core.specs.Lines.{cancel_words, name_words, entered_lines}
 use Rattle.hosted_core.specs.Scene.{Scene, with_guests}
 use Rattle.hosted_core.specs.Steps as hosted
-use Rattle.written_law.specs.Stands.{IsNamed, IsAwaited, AreSeated, Stands}
+use Rattle.named_law.specs.Named.{IsNamed}
+use Rattle.written_law.specs.Stands.{IsAwaited, AreSeated, Stands}
 use Rattle.written_law.specs.Happens.{with_ran, with_entered, with_cancelled, happens, all_happen}
 use Rattle.written_law.specs.Told.{heard_of, AreTold, StepIsTold, StepsAreTold}
 use Rattle.written_law.proofs.Saying.{cancel_written, name_written}

@@ -11,7 +11,8 @@ use Rattle.recover_core.specs.Playing.{begun_by}
 use Rattle.recover_core.specs.Recovered.{IsBehind, RefusesBehind}
 use Rattle.hosted_core.specs.Scene.{Scene}
 use Rattle.hosted_core.specs.Steps as hosted
-use Rattle.written_law.specs.Stands.{IsNamed, Stands}
+use Rattle.named_law.specs.Named.{IsNamed}
+use Rattle.written_law.specs.Stands.{Stands}
 use Rattle.written_law.specs.Happens.{all_happen}
 
 -- What happened to an object since this front was written, and the bytes that this added behind it.

@@ -1,13 +1,9 @@
 -- An object with its clients, and what lines behind the front of its epoch told.
 use Rattle.std.specs.Prelude.{◌≡◌, ℕ, ◌<◌, ◌≤◌, List, All, length, Some, None, slice_get}
-use Rattle.path_tree.specs.Known.{place_of}
 use Rattle.value_core.specs.Datum.{IsDatum}
 use Rattle.decl_core.specs.ObjectForm.{ObjectForm}
 use Rattle.decl_core.specs.ObjectMap.{object_of}
 use Rattle.trace_core.specs.Events.{Called}
-use Rattle.trace_core.specs.Laws.{HasNames}
-use Rattle.trace_core.specs.Text.{operation_name}
-use Rattle.audit_core.specs.Operations.{operation_names}
 use Rattle.live_core.specs.Hall.{Every, IsHeld}
 use Rattle.guest_core.specs.declared.seats.Seat.TheVariants.{Void}
 use Rattle.guest_core.specs.Guests.{Guests, IsSound}
@@ -15,13 +11,6 @@ use Rattle.replay_core.specs.Carried.{IsTheOne}
 use Rattle.replay_core.specs.Steps.{Step, Begun, Heard, IsUnused, told_by}
 use Rattle.replay_core.specs.Tells.{IsSession}
 use Rattle.hosted_core.specs.Scene.{Scene}
-
--- An object, its parts and its operations have names, and each operation is the first of its name: so is what decl_read
--- reads.
-pub record IsNamed (o : ObjectForm) : Type 0 where
-  pub names : HasNames o
-  pub first : (place : ℕ) → place < length o.operations →
-      place_of (operation_names o.operations) (operation_name o place) ≡ Some place
 
 -- A call that waits: no line told of its number; its session and its arguments can be written; and where a call was
 -- carried into the epoch by its number, it is that call.

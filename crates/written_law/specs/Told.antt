@@ -7,7 +7,8 @@ use Rattle.replay_core.specs.Sound.{IsSound}
 use Rattle.recover_core.specs.Lines.{AreLines, joined}
 use Rattle.hosted_core.specs.Scene.{Scene}
 use Rattle.hosted_core.specs.Steps as hosted
-use Rattle.written_law.specs.Stands.{IsNamed, Stands}
+use Rattle.named_law.specs.Named.{IsNamed}
+use Rattle.written_law.specs.Stands.{Stands}
 use Rattle.written_law.specs.Happens.{happens, all_happen}
 
 -- what was heard where lines told these steps, and nothing runs

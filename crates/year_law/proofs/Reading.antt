@@ -5,7 +5,8 @@ use Rattle.path_tree.specs.Trace.{Event, Start, End}
 use Rattle.path_law.specs.Future.{later, AreUpTo}
 use Rattle.decl_core.specs.ObjectForm.{ObjectForm}
 use Rattle.trace_core.specs.Events.{Called, Happened, began, ended, trace_of}
-use Rattle.past_core.specs.Past.{AreBefore}
+use Rattle.past_core.specs.declared.past.PastEvent.{PastEvent}
+use Rattle.past_core.specs.Past.{AreBefore, events_of}
 use Rattle.past_core.proofs.Behind.{before_of}
 use Rattle.live_core.specs.Hall.{AreNumbered}
 use Rattle.audit_core.specs.Tells.{IsCallNumber}
@@ -112,6 +113,21 @@ positive_later : (base most : ℕ) (happened : List Happened) (t : List Event) �
 positive_later base most [] t n p = p
 positive_later base most (began c ∷ happened) t n p = (omega (arith, n.0), positive_later base most happened t n.2 p)
 positive_later base most (ended c reply ∷ happened) t n p = positive_later base most happened t n p
+
+positive_up_to : (n : ℕ) (t : List Event) → AreUpTo n t → Positive t
+positive_up_to n [] all = tt
+positive_up_to n (Start c ∷ t) all = (all.0, positive_up_to n t all.2)
+positive_up_to n (End c ∷ t) all = positive_up_to n t all
+
+-- so are those of epochs
+positive_epochs : (o : ObjectForm) (e : Epoch) (earlier : List Epoch) (past : List PastEvent) → e.told.past ≡ events_of past → AreEpochs o e earlier → Positive (all_events e earlier)
+positive_epochs o e [] past is epoch =
+    positive_on epoch.most e.told.happened e.told.past epoch.numbers (subst Positive (sym is) (positive_past (events_of past) (before_of past)))
+positive_epochs o e (d ∷ earlier) past is (epoch, follows, numbers, before) =
+    positive_later e.base epoch.most e.told.happened (all_events d earlier) epoch.numbers (positive_up_to e.base (all_events d earlier) numbers)
+
+pub epochs_up_to : (o : ObjectForm) (e : Epoch) (earlier : List Epoch) (past : List PastEvent) → e.told.past ≡ events_of past → AreEpochs o e earlier → (n : ℕ) × AreUpTo n (all_events e earlier)
+epochs_up_to o e earlier past is are = bounded (all_events e earlier) (positive_epochs o e earlier past is are)
 
 -- what texts tell, the newest first, of which the last one came to this
 record Told (o : ObjectForm) (text : List ℕ) (texts : List (List ℕ)) (all : Epochs) : Type 0 where

@@ -1,7 +1,7 @@
 use Rattle.std.proofs.Common.{◌≡◌, take}
 use Rattle.told_core.specs.State.{peers_of}
-use Rattle.told_core.specs.Inside.{sitting}
+use Rattle.told_core.specs.Inside.{sitting_from}
 use Rattle.inside_core.proofs.who.sitting.Given as goal
 
 abbrev pub invariant-loop-place : goal.invariant-loop-place
-invariant-loop-place l = l.all.items ≡ sitting l.whom.at l.whom.from (take l.place (peers_of l.clients))
+invariant-loop-place l = l.all.items ≡ sitting_from 0 l.whom.at l.whom.from (take l.place (peers_of l.clients))

@@ -1,24 +1,27 @@
-use Rattle.std.proofs.Common.{◌≡◌, ◌+◌, ◌∙◌, ap, subst, List, [], ◌++◌, length, take}
+use Rattle.std.proofs.Common.{◌≡◌, ◌+◌, ◌∙◌, ap, subst, ℕ, List, [], ◌++◌, length, take}
 use Rattle.client_core.specs.declared.client.Opened.{Opened}
 use Rattle.inside_text.specs.Who.{who_line}
-use Rattle.told_core.specs.State.{peers_of}
-use Rattle.told_core.specs.Inside.{last_told, waiting_in}
-use Rattle.inside_core.specs.Adds.{AddsSeats, AddsWaits}
+use Rattle.told_core.specs.Inside.{Crowd, last_told, waiting_in}
+use Rattle.inside_core.specs.Adds.{crowd_of, AddsSeats, AddsWaits}
 use Rattle.inside_core.proofs.Adding.{who_is}
 use Rattle.inside_core.proofs.who.who_of.Goals as goal
 
 pub returns : goal.returns
 returns c =
-    let all : List Opened = c.in_ok-all.all.items in
+    let all : List (ℕ × Opened) = c.in_ok-all.all.items in
+    let crowd : Crowd = crowd_of c.args.clients.now c.args.whom in
     let few : c.told-seats.result.now ≡ take 256 all = c.told-seats.ensures ∙ ap (take 256) c.deref.ensures.value in
     let last : c.last_told-last.result ≡ last_told all = c.last_told-last.ensures ∙ ap last_told c.deref-2.ensures.value in
-    who_is (peers_of c.args.clients.now) c.args.object.now c.args.whom.at c.args.whom.from all c.in_ok-calls.calls c.in_ok-count.count c.push_seats.new.out.items
+    who_is crowd c.args.object.now c.args.whom.from all c.in_ok-calls.calls c.in_ok-count.count c.push_seats.new.out.items
     c.push_calls.new.out.items c.push_who.new.out.items c.extend_from_slice.new.self.items c.in_ok-all.ensures
-    (subst (λ (l : List Opened). AddsSeats l [] c.push_seats.new.out.items) few
-    (subst (λ l. AddsSeats c.told-seats.result.now l c.push_seats.new.out.items) c.new-lines.ensures.items c.in_ok-push_seats.ensures))
+    (subst (λ (l : List (ℕ × Opened)). AddsSeats crowd l [] c.push_seats.new.out.items) few
+    (subst (λ l. AddsSeats crowd c.told-seats.result.now l c.push_seats.new.out.items) c.new-lines.ensures.items c.in_ok-push_seats.ensures))
     (subst
-    (λ o. AddsWaits c.args.object.now (waiting_in c.args.whom.from o c.args.object.now.hall.waiting) c.in_ok-calls.calls c.push_seats.new.out.items c.push_calls.new.out.items)
-    last c.in_ok-calls.ensures)
-    (subst (λ (l : List Opened). c.in_ok-count.count ≡ length l + c.in_ok-calls.calls) few c.in_ok-count.ensures)
+    (λ (l : List (ℕ × Opened)). AddsWaits crowd l c.args.object.now (waiting_in c.args.whom.from (last_told all) c.args.object.now.hall.waiting) c.in_ok-calls.calls c.push_seats.new.out.items c.push_calls.new.out.items)
+    few
+    (subst
+    (λ o. AddsWaits crowd c.told-seats.result.now c.args.object.now (waiting_in c.args.whom.from o c.args.object.now.hall.waiting) c.in_ok-calls.calls c.push_seats.new.out.items c.push_calls.new.out.items)
+    last c.in_ok-calls.ensures))
+    (subst (λ (l : List (ℕ × Opened)). c.in_ok-count.count ≡ length l + c.in_ok-calls.calls) few c.in_ok-count.ensures)
     (c.in_ok-push_who.ensures ∙ ap (λ l. l ++ who_line c.in_ok-count.count) c.new-out.ensures.items)
     (c.in_ok-extend_from_slice.ensures.items ∙ ap (λ l. c.push_who.new.out.items ++ l) c.deref-3.ensures.value)

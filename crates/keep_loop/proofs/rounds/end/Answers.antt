@@ -1,3 +1,4 @@
+use Rattle.keep_loop.specs.Epochs.{rules_of}
 use Rattle.std.proofs.Common.{sym, true≢false}
 use Rattle.post_core.specs.declared.served.Note.TheVariants.{Ends}
 use Rattle.keep_loop.specs.Seen.Happened.{Noticed}
@@ -6,10 +7,10 @@ use Rattle.keep_loop.proofs.rounds.end.Goals as goal
 
 pub returns-in_err-noted-clause-err : goal.returns-in_err-noted-clause-err
 returns-in_err-noted-clause-err g c =
-    on_err c.from_residual.result (fails_note g.O.Served.gives Ends (g.W.Outside.seen c.args.outside.now) (g.W.Outside.seen c.ends.new.self) c.args.keep.now (c.ends.ensures.ends c.if-not-ends.false)
+    on_err c.from_residual.result (fails_note (rules_of g.O.Served.gives g.O.Served.fronts) Ends (g.W.Outside.seen c.args.outside.now) (g.W.Outside.seen c.ends.new.self) c.args.keep.now (c.ends.ensures.ends c.if-not-ends.false)
     (λ k is. absurd (true≢false (sym is))))
 
 pub returns-clause-ok : goal.returns-clause-ok
 returns-clause-ok g c =
-    keeps_event g.O.Served.gives (Noticed Ends) (g.W.Outside.seen c.args.outside.now) (g.W.Outside.seen c.ends.new.self) c.args.keep.now c.noted.new.self (c.ends.ensures.ends c.if-not-ends.false)
+    keeps_event (rules_of g.O.Served.gives g.O.Served.fronts) (Noticed Ends) (g.W.Outside.seen c.args.outside.now) (g.W.Outside.seen c.ends.new.self) c.args.keep.now c.noted.new.self (c.ends.ensures.ends c.if-not-ends.false)
     c.in_ok-noted.ensures.stands

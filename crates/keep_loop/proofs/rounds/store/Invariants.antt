@@ -1,7 +1,8 @@
+use Rattle.keep_loop.specs.Epochs.{rules_of}
 use Rattle.keep_loop.specs.Stands.{Sends}
 use Rattle.keep_loop.proofs.rounds.store.Given as goal
 
 abbrev pub invariant-loop-journal : goal.invariant-loop-journal
 invariant-loop-journal g l = record {
-  goes : Sends g.O.Served.gives (g.W.Outside.seen l.fn.outside) l.fn.keep (g.W.Outside.seen l.outside) l.fn.keep;
+  goes : Sends (rules_of g.O.Served.gives g.O.Served.fronts) (g.W.Outside.seen l.fn.outside) l.fn.keep (g.W.Outside.seen l.outside) l.fn.keep;
 }

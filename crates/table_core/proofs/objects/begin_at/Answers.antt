@@ -4,12 +4,10 @@ use Rattle.table_core.proofs.objects.begin_at.Goals as goal
 
 pub returns-in-Some-clause-begun : goal.returns-in-Some-clause-begun
 returns-in-Some-clause-begun c = λ yes.
-    let next = c.begin_next.ensures.begun yes in
     record {
-      past = next.0;
       before = c.in-Some.object.now;
       after = c.begin_next.new.self;
       there = (at_place c.args.objects.now.items c.args.at c.in-Some.object.now c.in-Some.ensures.item.3.0 c.in-Some.ensures.value);
-      followed = next.1;
+      begun = c.begin_next.ensures.begun yes;
       left = refl;
     }

@@ -1,4 +1,4 @@
-use Rattle.std.proofs.Common.{rules, ◌≡◌, ◌/◌, ap, subst, arith, length}
+use Rattle.std.proofs.Common.{rules, ◌≡◌, ◌/◌, refl, ap, subst, arith, length}
 use Rattle.decl_core.specs.ObjectMap.{object_of}
 use Rattle.live_core.specs.Hall.{Hall, Told, IsKept, IsHeld, Rests}
 use Rattle.live_core.specs.Epochs.{IsBegun, IsShortOf, told_behind}
@@ -12,35 +12,31 @@ overflow_cast-self c = omega (arith, c.len-2.ensures, ap length c.renumber.ensur
 pub invariant_of-self : goal.invariant_of-self
 invariant_of-self c =
     let h = hall_of c.self.inside in
-    let short : IsShortOf (object_of h.object) h.counters c.in-Some.past.items c.in-Some.counters = search rules in
-    let halved : c.len-calls.result / 2 ≡ length c.in-Some.past.items / 2 = omega (arith, c.len-calls.ensures) in
+    let short : IsShortOf (object_of h.object) h.counters c.args.past.now c.in-Some.counters = search rules in
     let counted : c.len-2.result ≡ length c.renumber.new.waiting.items = omega (arith, c.len-2.ensures) in
     let t = c.self.invariant.0 in
-    (told_behind c.in-Some.past.items h.contents, begun_kept h t c.in-Some.counters c.in-Some.past.items (c.len-calls.result / 2) c.len-2.result c.renumber.new.waiting.items short c.renumber.ensures counted halved c.self.invariant.1 (omega (arith, c.if-calls-len.false, c.len.ensures)))
+    (told_behind c.args.past.now h.contents, begun_kept h t c.in-Some.counters c.args.past.now (length c.args.past.now / 2) c.len-2.result c.renumber.new.waiting.items short c.renumber.ensures counted refl c.self.invariant.1 (omega (arith, c.if-calls-len.false, c.len.ensures)))
 
 pub returns-clause-begun : goal.returns-clause-begun
-returns-clause-begun c =
+returns-clause-begun c = λ _.
     let h = hall_of c.self.inside in
-    let short : IsShortOf (object_of h.object) h.counters c.in-Some.past.items c.in-Some.counters = search rules in
-    let halved : c.len-calls.result / 2 ≡ length c.in-Some.past.items / 2 = omega (arith, c.len-calls.ensures) in
+    let short : IsShortOf (object_of h.object) h.counters c.args.past.now c.in-Some.counters = search rules in
     let counted : c.len-2.result ≡ length c.renumber.new.waiting.items = omega (arith, c.len-2.ensures) in
     let t = c.self.invariant.0 in
-    subst (λ (x : Hall). IsBegun x c.in-Some.past.items (begun h t c.in-Some.counters c.in-Some.past.items (c.len-calls.result / 2) c.len-2.result c.renumber.new.waiting.items short c.renumber.ensures counted halved)) c.self.view_is (is_begun h t c.in-Some.counters c.in-Some.past.items (c.len-calls.result / 2) c.len-2.result c.renumber.new.waiting.items short c.renumber.ensures counted halved)
+    subst (λ (x : Hall). IsBegun x c.args.past.now (begun h t c.in-Some.counters c.args.past.now (length c.args.past.now / 2) c.len-2.result c.renumber.new.waiting.items short c.renumber.ensures counted refl)) c.self.view_is (is_begun h t c.in-Some.counters c.args.past.now (length c.args.past.now / 2) c.len-2.result c.renumber.new.waiting.items short c.renumber.ensures counted refl)
 
 pub returns-clause-kept : goal.returns-clause-kept
-returns-clause-kept c =
+returns-clause-kept c = λ _.
     let h = hall_of c.self.inside in
-    let short : IsShortOf (object_of h.object) h.counters c.in-Some.past.items c.in-Some.counters = search rules in
-    let halved : c.len-calls.result / 2 ≡ length c.in-Some.past.items / 2 = omega (arith, c.len-calls.ensures) in
+    let short : IsShortOf (object_of h.object) h.counters c.args.past.now c.in-Some.counters = search rules in
     let counted : c.len-2.result ≡ length c.renumber.new.waiting.items = omega (arith, c.len-2.ensures) in
-    subst (λ (x : Hall). (t : Told) → IsKept x t → IsKept (begun h t c.in-Some.counters c.in-Some.past.items (c.len-calls.result / 2) c.len-2.result c.renumber.new.waiting.items short c.renumber.ensures counted halved) (told_behind c.in-Some.past.items x.contents)) c.self.view_is
-    (λ t kept. begun_kept h t c.in-Some.counters c.in-Some.past.items (c.len-calls.result / 2) c.len-2.result c.renumber.new.waiting.items short c.renumber.ensures counted halved kept (omega (arith, c.if-calls-len.false, c.len.ensures)))
+    subst (λ (x : Hall). (t : Told) → IsKept x t → IsKept (begun h t c.in-Some.counters c.args.past.now (length c.args.past.now / 2) c.len-2.result c.renumber.new.waiting.items short c.renumber.ensures counted refl) (told_behind c.args.past.now x.contents)) c.self.view_is
+    (λ t kept. begun_kept h t c.in-Some.counters c.args.past.now (length c.args.past.now / 2) c.len-2.result c.renumber.new.waiting.items short c.renumber.ensures counted refl kept (omega (arith, c.if-calls-len.false, c.len.ensures)))
 
 pub returns-clause-rests : goal.returns-clause-rests
-returns-clause-rests c =
+returns-clause-rests c = λ _.
     let h = hall_of c.self.inside in
-    let short : IsShortOf (object_of h.object) h.counters c.in-Some.past.items c.in-Some.counters = search rules in
-    let halved : c.len-calls.result / 2 ≡ length c.in-Some.past.items / 2 = omega (arith, c.len-calls.ensures) in
+    let short : IsShortOf (object_of h.object) h.counters c.args.past.now c.in-Some.counters = search rules in
     let counted : c.len-2.result ≡ length c.renumber.new.waiting.items = omega (arith, c.len-2.ensures) in
-    subst (λ (x : Hall). (t : Told) → IsHeld x t → Rests (object_of h.object) c.renumber.new.waiting.items (told_behind c.in-Some.past.items x.contents)) c.self.view_is
-    (λ t held. begun_rests h t c.in-Some.counters c.in-Some.past.items (c.len-calls.result / 2) c.len-2.result c.renumber.new.waiting.items short c.renumber.ensures counted halved held.kept held.rests)
+    subst (λ (x : Hall). (t : Told) → IsHeld x t → Rests (object_of h.object) c.renumber.new.waiting.items (told_behind c.args.past.now x.contents)) c.self.view_is
+    (λ t held. begun_rests h t c.in-Some.counters c.args.past.now (length c.args.past.now / 2) c.len-2.result c.renumber.new.waiting.items short c.renumber.ensures counted refl held.kept held.rests)

@@ -1,0 +1,13 @@
+use Rattle.std.proofs.Common.{refl}
+use Rattle.std.proofs.lemmas.Bool.{false≢true}
+use Rattle.command_line.proofs.Sorting.{goes_other, goes_over}
+use Rattle.command_line.proofs.watching.pass.Goals as goal
+
+pub returns-then-is_dashes : goal.returns-then-is_dashes
+returns-then-is_dashes c =
+    goes_over c.args.word c.args.found.now (record c.args.found.now { words = c.push.new.self }) (c.if-is_dashes.ensures.0 refl) refl refl c.in_ok-push.ensures.items
+
+pub returns : goal.returns
+returns c =
+    goes_other c.args.word c.args.found.now (record c.args.found.now { words = c.push.new.self }) (λ e. false≢true (c.if-is_dashes.ensures.1 e)) c.requires.status c.requires.log refl refl
+    c.in_ok-push.ensures.items

@@ -1,0 +1,64 @@
+-- One call behind the other.
+use Rattle.std.proofs.Common.{◌≡◌, ◌∙◌, ap, sym, subst, refl, ℕ, List, [], ◌∷◌, take, Result, Ok, Err, IfOk}
+use Rattle.std.specs.declared.alloc.AllocError.{AllocError}
+use Rattle.journal_core.specs.Journal.{recovered}
+use Rattle.crash_trial.specs.declared.device.Happened.{Happened}
+use Rattle.crash_trial.specs.declared.device.Happened.TheVariants.{Wrote, Stored, Replaced, Refused}
+use Rattle.crash_trial.specs.declared.judge.Standing.{Standing}
+use Rattle.crash_trial.specs.declared.judge.Outcome.{Outcome}
+use Rattle.crash_trial.specs.declared.judge.Outcome.TheVariants.{Right, Wrong}
+use Rattle.crash_trial.specs.Kept.{Leaves}
+use Rattle.crash_trial.specs.Standings.{lines_behind, stored_behind, begun_behind, Follows, StandsBehind, IsFrontOf, IsJudged}
+
+lines_then : (text : List ℕ) (c : Happened) (rest : List Happened) → lines_behind text (c ∷ rest) ≡ lines_behind (lines_behind text (c ∷ [])) rest
+lines_then text (Wrote at bytes) rest = refl
+lines_then text Stored rest = refl
+lines_then text (Replaced bytes) rest = refl
+lines_then text Refused rest = refl
+
+stored_then : (stored : ℕ) (text : List ℕ) (c : Happened) (rest : List Happened) →
+    stored_behind stored text (c ∷ rest) ≡ stored_behind (stored_behind stored text (c ∷ [])) (lines_behind text (c ∷ [])) rest
+stored_then stored text (Wrote at bytes) rest = refl
+stored_then stored text Stored rest = refl
+stored_then stored text (Replaced bytes) rest = refl
+stored_then stored text Refused rest = refl
+
+begun_then : (begun : ℕ) (c : Happened) (rest : List Happened) → begun_behind begun (c ∷ rest) ≡ begun_behind (begun_behind begun (c ∷ [])) rest
+begun_then begun (Wrote at bytes) rest = refl
+begun_then begun Stored rest = refl
+begun_then begun (Replaced bytes) rest = refl
+begun_then begun Refused rest = refl
+
+pub follows_then : (c : Happened) (rest : List Happened) (old mid new : Standing) → Follows (c ∷ []) old mid → Follows rest mid new → Follows (c ∷ rest) old new
+follows_then c rest old mid new one more = record {
+  text = more.text ∙ ap (λ t. lines_behind t rest) one.text ∙ sym (lines_then old.text.items c rest);
+  stored = more.stored ∙ ap (λ n. stored_behind n mid.text.items rest) one.stored
+      ∙ ap (λ t. stored_behind (stored_behind old.stored old.text.items (c ∷ [])) t rest) one.text ∙ sym (stored_then old.stored old.text.items c rest);
+  epochs = more.epochs ∙ ap (λ n. begun_behind n rest) one.epochs ∙ sym (begun_then old.epochs c rest);
+}
+
+pub follows_none : (old : Standing) → Follows [] old old
+follows_none old = record { text = refl; stored = refl; epochs = refl }
+
+pub stands : (happened : List Happened) (old new : Standing) → old.text.items ≡ [] → old.stored ≡ 0 → old.epochs ≡ 0 → Follows happened old new → StandsBehind happened new
+stands happened old new text stored epochs is = record {
+  text = is.text ∙ ap (λ t. lines_behind t happened) text;
+  stored = is.stored ∙ ap (λ n. stored_behind n old.text.items happened) stored ∙ ap (λ t. stored_behind 0 t happened) text;
+  epochs = is.epochs ∙ ap (λ n. begun_behind n happened) epochs;
+}
+
+-- the lines that a crash left are judged
+pub judged : (file : List ℕ) (happened : List Happened) (left lines : List ℕ) (standing : Standing) (outcome : Outcome) → Leaves file file happened left →
+    StandsBehind happened standing → lines ≡ recovered left → IsFrontOf standing lines outcome → IsJudged file happened outcome
+judged file happened left lines standing (Right found) leaves behind is front =
+    (left, standing, leaves, behind, subst (λ l. IsFrontOf standing l (Right found)) is front)
+judged file happened left lines standing (Wrong why) leaves behind is front = tt
+
+-- the same, of the lines that are recovered of what is left, which is read twice
+pub judged_or : (file : List ℕ) (happened : List Happened) (left x y : List ℕ) (n : ℕ) (standing : Standing) (r : Result Outcome AllocError) →
+    Leaves file file happened left → StandsBehind happened standing → x ≡ left → y ≡ left → take n y ≡ recovered y →
+    IfOk r (IsFrontOf standing (take n x)) → IfOk r (IsJudged file happened)
+judged_or file happened left x y n standing (Ok outcome) leaves behind one two is front =
+    judged file happened left (take n x) standing outcome leaves behind
+    (ap (take n) (one ∙ sym two) ∙ is ∙ ap recovered two) front
+judged_or file happened left x y n standing (Err e) leaves behind one two is front = tt

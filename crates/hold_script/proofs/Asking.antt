@@ -1,0 +1,75 @@
+-- What the lines that ask are answered.
+use Rattle.std.proofs.Common.{◌≡◌, ℕ, ◌+◌, ◌<◌, ◌≤◌, List, [], ◌∷◌, ◌++◌, length, Option, Some, None, refl, sym, ap, subst, ◌∙◌, get_or, take, map, append_assoc, arith}
+use Rattle.std.specs.Prelude.{slice_get, option_map, sum, codes, decimal}
+use Rattle.std.specs.List.{flat_map}
+use Rattle.std.proofs.lemmas.List.{append-nil, length-map}
+use Rattle.std.proofs.lemmas.Option.{slice_get-get_or, slice_get-map, slice_get_past}
+use Rattle.std.proofs.lemmas.Grind.{flat_map-append}
+use Rattle.value_core.proofs.Encoding.{list_next}
+use Rattle.decl_core.specs.declared.object.Object.{Object}
+use Rattle.decl_core.specs.ObjectForm.{ObjectForm}
+use Rattle.decl_core.specs.ObjectMap.{object_of}
+use Rattle.word_core.specs.Words.{bare, line_of}
+use Rattle.word_core.specs.Data.{session_word}
+use Rattle.trace_core.specs.Text.{operation_name}
+use Rattle.board_core.specs.Board.{Board}
+use Rattle.inside_text.specs.Who.{Refused, who_line, waits_line}
+use Rattle.inside_desk.specs.Asked.{who}
+use Rattle.inside_desk.specs.Told.{AreWaitLines}
+use Rattle.hold_form.specs.declared.hold.Hold.{Hold}
+use Rattle.hold_form.specs.HoldForm.{HoldForm}
+use Rattle.hold_form.specs.HoldMap.{hold_of, holds_of}
+use Rattle.hold_core.specs.Held.{HeldCall}
+use Rattle.hold_core.proofs.Ending.{take_whole}
+use Rattle.hold_script.specs.Asked.{op_by, op_of, holds_line, held_who_text, IsHeldTold, who_holds}
+
+-- the operation of the hold that a look finds, and where there is none
+pub op_there : (holds : List Hold) (place : ℕ) (hold : Hold) → place < length holds → hold ≡ get_or holds place hold → hold.op ≡ op_of (holds_of holds) place
+op_there holds place hold within is = sym (ap op_by (slice_get-map hold_of holds place ∙ ap (option_map hold_of) (slice_get-get_or holds place hold within ∙ ap Some (sym is))))
+
+pub op_nowhere : (holds : List Hold) (place : ℕ) → length holds ≤ place → 0 ≡ op_of (holds_of holds) place
+op_nowhere holds place past = sym (ap op_by (slice_get_past (holds_of holds) place (omega (arith, past, length-map holds hold_of))))
+
+-- the line of a call that is held
+pub line_made : (o : ObjectForm) (holds : List HoldForm) (h : HeldCall) (old new name : List ℕ) (number session rule op : ℕ) →
+    new ≡ old ++ line_of (bare (codes "holds") ∷ bare (decimal number) ∷ session_word session ∷ bare name ∷ []) → number ≡ h.number → session ≡ h.session → rule ≡ h.rule → op ≡ op_of holds rule → name ≡ operation_name o op →
+    new ≡ old ++ holds_line o holds h
+line_made o holds h old new name number session rule op made numbered seated ruled is named =
+    made
+    ∙ ap (λ n. old ++ line_of (bare (codes "holds") ∷ bare (decimal n) ∷ session_word session ∷ bare name ∷ [])) numbered
+    ∙ ap (λ s. old ++ line_of (bare (codes "holds") ∷ bare (decimal h.number) ∷ session_word s ∷ bare name ∷ [])) seated
+    ∙ ap (λ xs. old ++ line_of (bare (codes "holds") ∷ bare (decimal h.number) ∷ session_word h.session ∷ bare xs ∷ [])) (named ∙ ap (operation_name o) (is ∙ ap (op_of holds) ruled))
+
+-- the lines of so many of the calls that are held
+abbrev pub AreTold : ObjectForm → List HoldForm → List HeldCall → ℕ → List ℕ → List ℕ → Type 0
+AreTold o holds held place old out = out ≡ old ++ flat_map (holds_line o holds) (take place held)
+
+pub told_none : (o : ObjectForm) (holds : List HoldForm) (held : List HeldCall) (old : List ℕ) → AreTold o holds held 0 old old
+told_none o holds held old = sym (append-nil old)
+
+pub told_more : (o : ObjectForm) (holds : List HoldForm) (held : List HeldCall) (place : ℕ) (h : HeldCall) (old before out : List ℕ) → AreTold o holds held place old before → slice_get held place ≡ Some h → out ≡ before ++ holds_line o holds h →
+    AreTold o holds held (place + 1) old out
+told_more o holds held place h old before out told there grown =
+    let f : HeldCall → List ℕ = holds_line o holds in
+    grown ∙ ap (λ xs. xs ++ f h) told ∙ append_assoc old (flat_map f (take place held)) (f h)
+    ∙ ap (λ xs. old ++ xs) (ap (λ xs. flat_map f (take place held) ++ xs) (sym (append-nil (f h))) ∙ sym (flat_map-append f (take place held) (h ∷ [])) ∙ ap (flat_map f) (list_next held place h there))
+
+pub told_all : (o : ObjectForm) (holds : List HoldForm) (held : List HeldCall) (place : ℕ) (old out : List ℕ) → length held ≤ place → AreTold o holds held place old out → out ≡ old ++ flat_map (holds_line o holds) held
+told_all o holds held place old out past told = told ∙ ap (λ hs. old ++ flat_map (holds_line o holds) hs) (take_whole held place past)
+
+-- the answer to `who`
+pub who_made : (b : Board) (holds : List HoldForm) (held given : List HeldCall) (object : Object) (count number len : ℕ) (text lent old first second last : List ℕ) → AreWaitLines b count text → object ≡ b.object → given ≡ held → len ≡ length held → number ≡ count + len → lent ≡ text →
+    first ≡ old ++ who_line number → second ≡ first ++ lent → last ≡ second ++ flat_map (holds_line (object_of object) holds) given → (said : List ℕ) × (last ≡ old ++ said) × IsHeldTold holds held b who said
+who_made b holds held given object count number len text lent old first second last waits same same_held long many is a b' c =
+    let lines : List ℕ = flat_map (λ (r : Refused). flat_map (waits_line (object_of b.object) r.call) r.whys) waits.all in
+    let total : ℕ = sum (map (λ (r : Refused). length r.whys) waits.all) + length held in
+    let all : number ≡ total = omega (arith, many, long, waits.many) in
+    let head : first ≡ old ++ who_line total = a ∙ ap (λ n. old ++ who_line n) all in
+    let body : second ≡ old ++ (who_line total ++ lines) =
+    b' ∙ ap (λ xs. xs ++ lent) head ∙ append_assoc old (who_line total) lent ∙ ap (λ xs. old ++ (who_line total ++ xs)) (is ∙ waits.said) in
+    let end = ap (λ (x : Object). second ++ flat_map (holds_line (object_of x) holds) given) same ∙ ap (λ hs. second ++ flat_map (holds_line (object_of b.object) holds) hs) same_held in
+    let tail : List ℕ = flat_map (holds_line (object_of b.object) holds) held in (
+      held_who_text (object_of b.object) holds waits.all held,
+      c ∙ end ∙ ap (λ xs. xs ++ tail) body ∙ append_assoc old (who_line total ++ lines) tail,
+      who_holds waits.all waits.are,
+    )

@@ -1,0 +1,8 @@
+use Rattle.log_core.specs.Events.{carries_on}
+use Rattle.keep_log.proofs.Telling.{told_line}
+use Rattle.keep_log.proofs.log.Log.recovered.Goals as goal
+
+pub returns : goal.returns
+returns g c = told_line c.args.self.now.form c.in-Some.form c.moment_at-moment.result (λ form moment. carries_on form moment c.args.object.now c.args.bytes c.args.lines) c.push_recovered-made.result
+    c.clear.new.self.items c.push_recovered-made.new.out.items (g.E.Write.contents c.args.self.now.errors) (g.E.Write.contents c.tell.new.self.errors)
+    c.in-Some.is c.clear.ensures.items c.push_recovered-made.ensures c.tell.ensures.made c.tell.ensures.none

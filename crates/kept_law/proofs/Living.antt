@@ -1,0 +1,238 @@
+-- Objects over all their epochs and lives.
+use Rattle.std.proofs.Common.{◌≡◌, inl, inr, ◌∙◌, ap, sym, subst, refl, arith, ℕ, List, [], ◌∷◌, ◌++◌, length, append_assoc, eqb-true}
+use Rattle.std.specs.Prelude.{Bool, true, false, ◌==◌, slice_get}
+use Rattle.std.proofs.lemmas.Bool.{eqb-false}
+use Rattle.std.proofs.lemmas.List.{append-nil, length-map}
+use Rattle.std.proofs.lemmas.Option.{same_Some}
+use Rattle.path_tree.specs.Trace.{Event, running_calls}
+use Rattle.path_count.specs.Stands.{StandsFor}
+use Rattle.value_core.specs.Contents.{Contents}
+use Rattle.decl_core.specs.ObjectForm.{ObjectForm}
+use Rattle.decl_core.specs.ObjectMap.{object_of}
+use Rattle.apply_core.specs.History.{End}
+use Rattle.past_core.specs.Past.{events_of}
+use Rattle.live_core.specs.Hall.{Told}
+use Rattle.front_core.specs.Text.{front_text}
+use Rattle.replay_core.specs.Steps.{Begun, nothing_heard, told_by}
+use Rattle.recover_core.specs.Playing.{begun_by}
+use Rattle.hosted_core.specs.Fronts.{front_of}
+use Rattle.hosted_core.specs.Scene.{Scene, next_base, next_epoch}
+use Rattle.hosted_core.specs.Steps.{BeginsBy}
+use Rattle.written_law.specs.Happens.{all_happen}
+use Rattle.written_law.specs.Told.{heard_of}
+use Rattle.written_law.proofs.Beginning.{followed_stands}
+use Rattle.written_law.proofs.Telling.{steps_are_told}
+use Rattle.year_law.specs.Year.{Epoch, IsEpoch, Follows, epoch_of, all_ends, first_opening}
+use Rattle.year_law.proofs.Reading.{read_is_epoch, epochs_up_to}
+use Rattle.year_law.proofs.Sound.{kept_is_epoch, begun_follows, epochs_are_sound}
+use Rattle.post_core.specs.Turns.{Asked, Turn}
+use Rattle.post_core.specs.Turns.Asked.{Heard, Noted, Changes}
+use Rattle.keep_loop.specs.Epochs.{BeginsNone, change_to}
+use Rattle.told_core.specs.Deeds.{Texts}
+use Rattle.told_core.specs.Moves.{Begins}
+use Rattle.table_core.specs.Moves.{Gives}
+use Rattle.table_core.specs.declared.table.Table.{Table}
+use Rattle.kept_law.specs.Lived.{HasLived, epoch_in, StoodHasLived, IsBegunIn, LivesOn, TurnsLiveOn, ReadLivesOn, StartLivesOn, CrashLeavesOneHistory}
+use Rattle.kept_law.specs.Kept.{LeavesAnswered}
+use Rattle.kept_law.proofs.Going.{Went, one_went, set_at, crash_leaves_answered}
+use Rattle.kept_law.proofs.Grown.{all_grew, epochs_grow, opening_grows, ends_grow}
+use Rattle.kept_law.proofs.Starting.{behind_stands}
+
+pub stood_has_lived : StoodHasLived
+stood_has_lived t j o s = record {
+  scene = s.scene;
+  there = s.there;
+  names = s.names;
+  heard = s.heard;
+  stands = s.stands;
+  base = 0;
+  epochs = subst (λ x. IsEpoch x (epoch_of s.scene.hall (told_by s.begun s.heard.steps) 0)) s.stands.object
+      (kept_is_epoch s.scene.hall (told_by s.begun s.heard.steps) 0 s.stands.held.kept);
+}
+
+-- it has lived on
+lived_on : (last : Table) (j : ℕ) (o : ObjectForm) (turns : List Turn) (was : Begun) (opening : List Contents) (ends : List End) (begun : Begun) → IsBegunIn o j turns was begun →
+    (earlier : List Epoch) (l : HasLived last j o begun earlier) → first_opening (epoch_in l) earlier ≡ opening → (done : List End) → all_ends o (epoch_in l) earlier ≡ ends ++ done →
+    LivesOn last j o turns was opening ends
+lived_on last j o turns was opening ends begun by earlier l opened done is = record {
+  begun = begun;
+  by = by;
+  earlier = earlier;
+  lived = l;
+  sound = epochs_are_sound o (epoch_in l) earlier l.epochs;
+  opening_is = opened;
+  done = done;
+  ends_are = is;
+}
+
+module _ (old new : Table) (j : ℕ) (o : ObjectForm) (b : Begun) (earlier : List Epoch) (l : HasLived old j o b earlier) where
+  abbrev d : Epoch
+  d = epoch_in l
+
+  -- in the same epoch
+  lives_in : (turn : Turn) → BeginsNone j (turn ∷ []) → (lines : List ℕ) → Went j l.scene lines new.objects.items →
+      LivesOn new j o (turn ∷ []) b (first_opening d earlier) (all_ends o d earlier)
+  lives_in turn none lines went =
+      let told = steps_are_told o b l.heard l.scene went.0 lines went.2 l.names l.stands in
+      let steps = all_happen went.2 l.heard.steps in
+      let now : Epoch = epoch_of went.0.hall (told_by b steps) l.base in
+      let is : IsEpoch o now =
+      subst (λ x. IsEpoch x now) told.stands.object (kept_is_epoch went.0.hall (told_by b steps) l.base told.stands.held.kept) in
+      let more = all_grew o l.scene went.0 lines went.2 l.heard.steps in
+      lived_on new j o (turn ∷ []) b (first_opening d earlier) (all_ends o d earlier) b (inl (none, refl)) earlier (record {
+        scene = went.0;
+        there = went.1;
+        names = l.names;
+        heard = heard_of steps;
+        stands = told.stands;
+        base = l.base;
+        epochs = epochs_grow o d now earlier refl refl refl is l.epochs;
+      }) (opening_grows d now earlier refl) more.0 (ends_grow o d now earlier more.0 more.1)
+
+  -- where it begins the next one
+  lives_changed : (front : List ℕ) (said added : Texts) → said ≡ [] → added ≡ [] → Begins old.objects.items j front new.objects.items →
+      LivesOn new j o (record { asked = Changes j front true; said = said; added = added } ∷ []) b (first_opening d earlier) (all_ends o d earlier)
+  lives_changed front said added quiet nothing begins =
+      let s = l.scene in
+      let s' = begins.after in
+      let same : begins.before ≡ s = same_Some begins.before s (sym begins.there ∙ l.there) in
+      let by : BeginsBy s front s' = subst (λ (x : Scene). BeginsBy x front s') same begins.begun in
+      let w = by.written in
+      let f = front_of s (next_epoch s) w.runs (next_base s) in
+      let stands = followed_stands o b l.heard s s' s'.past w.runs (next_epoch s) (next_base s) l.stands by.followed w.events in
+      let up = epochs_up_to o d earlier b.past refl l.epochs in
+      let now : Epoch = epoch_of s'.hall (told_by (begun_by f) []) up.0 in
+      let is : IsEpoch o now =
+      subst (λ x. IsEpoch x now) stands.object (kept_is_epoch s'.hall (told_by (begun_by f) []) up.0 stands.held.kept) in
+      let follows : Follows o d now =
+      subst (λ x. Follows x d now) l.stands.object
+      (begun_follows s.hall s'.hall (told_by b l.heard.steps) l.base now s'.past by.followed.begun (by.followed.held (told_by b l.heard.steps) l.stands.held).kept
+      (ap events_of w.events) refl) in
+      let text : front ≡ front_text o f = w.added ∙ ap (λ x. front_text x f) l.stands.object in
+      lived_on new j o (record { asked = Changes j front true; said = said; added = added } ∷ []) b (first_opening d earlier) (all_ends o d earlier) (begun_by f)
+      (inr (record {
+        front = f;
+        before = [];
+        since = [];
+        cut = ap (λ (x : Texts). record { asked = Changes j front true; said = x; added = added } ∷ []) quiet
+            ∙ ap (λ (x : Texts). record { asked = Changes j front true; said = []; added = x } ∷ []) nothing ∙ ap (λ x. change_to j x ∷ []) text;
+        none = tt;
+        is = refl;
+      })) (d ∷ earlier) (record {
+        scene = s';
+        there = ap (λ (x : List Scene). slice_get x j) begins.left ∙ set_at old.objects.items j s' begins.before begins.there;
+        names = l.names;
+        heard = nothing_heard;
+        stands = stands;
+        base = up.0;
+        epochs = (is, follows, up.1, l.epochs);
+      }) refl [] refl
+
+  lives_one : (asked : Asked) (said added : Texts) → Gives old asked said added new →
+      LivesOn new j o (record { asked = asked; said = said; added = added } ∷ []) b (first_opening d earlier) (all_ends o d earlier)
+  lives_one (Heard who line end) said added gives =
+      let went = one_went old new (Heard who line end) said added j l.scene gives tt l.there in
+      lives_in (record { asked = Heard who line end; said = said; added = added }) (tt, tt) _ went
+  lives_one (Noted note) said added gives =
+      let went = one_went old new (Noted note) said added j l.scene gives tt l.there in
+      lives_in (record { asked = Noted note; said = said; added = added }) (tt, tt) _ went
+  lives_one (Changes journal front true) said added gives = by (journal == j) refl
+    where
+      turn : Turn
+      turn = record { asked = Changes journal front true; said = said; added = added }
+
+      by : (is : Bool) → (journal == j) ≡ is → LivesOn new j o (turn ∷ []) b (first_opening d earlier) (all_ends o d earlier)
+      by false other =
+          let apart : journal ≡ j → ⊥ = λ e. absurd (let no = eqb-false journal j other in omega (arith, no, e)) in
+          lives_in turn (apart, tt) _ (one_went old new (Changes journal front true) said added j l.scene gives apart l.there)
+      by true same =
+          let at : journal ≡ j = eqb-true journal j same in
+          let begins : Begins old.objects.items j front new.objects.items =
+          subst (λ n. Begins old.objects.items n front new.objects.items) at gives.2 in
+          subst (λ n. LivesOn new j o (record { asked = Changes n front true; said = said; added = added } ∷ []) b (first_opening d earlier) (all_ends o d earlier))
+          (sym at) (lives_changed front said added gives.0 gives.1 begins)
+  lives_one (Changes journal front false) said added gives =
+      let went = one_went old new (Changes journal front false) said added j l.scene gives tt l.there in
+      lives_in (record { asked = Changes journal front false; said = said; added = added }) (tt, tt) _ went
+
+none_both : (j : ℕ) (ts us : List Turn) → BeginsNone j ts → BeginsNone j us → BeginsNone j (ts ++ us)
+none_both j [] us none more = more
+none_both j (t ∷ ts) us none more = (none.0, none_both j ts us none.1 more)
+
+-- a turn, and those behind it
+begun_then : (o : ObjectForm) (j : ℕ) (t : Turn) (turns : List Turn) (was mid now : Begun) → IsBegunIn o j (t ∷ []) was mid → IsBegunIn o j turns mid now → IsBegunIn o j (t ∷ turns) was now
+begun_then o j t turns was mid now first (inr m) = inr (record {
+  front = m.front;
+  before = t ∷ m.before;
+  since = m.since;
+  cut = ap (λ (l : List Turn). t ∷ l) m.cut;
+  none = m.none;
+  is = m.is;
+})
+begun_then o j t turns was mid now (inl (none, same)) (inl (more, on)) = inl ((none.0, more), on ∙ same)
+begun_then o j t turns was mid now (inr m) (inl (more, on)) = inr (record {
+  front = m.front;
+  before = m.before;
+  since = m.since ++ turns;
+  cut = ap (λ (l : List Turn). l ++ turns) m.cut ∙ append_assoc m.before (change_to j (front_text o m.front) ∷ m.since) turns;
+  none = none_both j m.since turns m.none more;
+  is = on ∙ m.is;
+})
+
+pub turns_live_on : TurnsLiveOn
+turns_live_on first last [] j o b earlier runs l =
+    subst (λ (t : Table). LivesOn t j o [] b (first_opening (epoch_in l) earlier) (all_ends o (epoch_in l) earlier)) (sym runs)
+    (lived_on first j o [] b (first_opening (epoch_in l) earlier) (all_ends o (epoch_in l) earlier) b (inl (tt, refl)) earlier l refl []
+    (sym (append-nil (all_ends o (epoch_in l) earlier))))
+turns_live_on first last (t ∷ turns) j o b earlier (mid, gives, runs) l =
+    let opening = first_opening (epoch_in l) earlier in
+    let ends = all_ends o (epoch_in l) earlier in
+    let one : LivesOn mid j o (t ∷ []) b opening ends = lives_one first mid j o b earlier l t.asked t.said t.added gives in
+    let more = turns_live_on mid last turns j o one.begun one.earlier runs one.lived in
+    lived_on last j o (t ∷ turns) b opening ends more.begun (begun_then o j t turns b one.begun more.begun one.by more.by) more.earlier more.lived (more.opening_is ∙ one.opening_is) (one.done ++ more.done)
+    (more.ends_are ∙ ap (λ (x : List End). x ++ more.done) one.ends_are ∙ append_assoc ends one.done more.done)
+
+pub read_lives_on : ReadLivesOn
+read_lives_on t j o b earlier text came e l is same base =
+    let past = ap (λ (t : Told). t.past) is.told ∙ ap (λ (x : Begun). events_of x.past) (sym same) in
+    let opening = ap (λ (t : Told). t.opening) is.told ∙ ap (λ (x : Begun). x.opening) (sym same) in
+    let are = epochs_grow o (epoch_in l) e earlier base past opening (read_is_epoch o text came e is) l.epochs in
+    (are, epochs_are_sound o e earlier are)
+
+pub start_lives_on : StartLivesOn
+start_lives_on t j object h lines limits b e earlier is are =
+    let o = object_of object in
+    let s = b.scene in
+    let again = b.begins.again in
+    let f = front_of s s.epoch b.adds.tells.runs s.base in
+    let stands = behind_stands object h lines limits s b.before b.after b.begins b.adds b.few b.known in
+    let up = epochs_up_to o e earlier (begun_by is.front).past (ap (λ (t : Told). t.past) is.told) are in
+    let now : Epoch = epoch_of s.hall (told_by (begun_by f) []) up.0 in
+    let epoch : IsEpoch o now = subst (λ x. IsEpoch x now) stands.object (kept_is_epoch s.hall (told_by (begun_by f) []) up.0 stands.held.kept) in
+    let past : now.told.past ≡ events_of again.past = ap events_of (b.adds.tells.events ∙ again.past_is) in
+    let follows : Follows o e now = record {
+      contents = again.held.kept.contents ∙ sym is.contents;
+      counters = again.counted.counters;
+      stands = subst (λ (t : List Event). StandsFor again.counted.counters (length o.operations) o.paths t) (sym past)
+          (subst (λ n. StandsFor again.counted.counters n o.paths (events_of again.past)) (sym (length-map object.operations.items _)) again.counted.stands);
+      quiet = ap running_calls past ∙ again.counted.quiet;
+      same = again.counted.same ∙ ap (λ c. c.words) (sym is.counters);
+    } in
+    record {
+      scene = s;
+      there = b.there;
+      names = b.names;
+      heard = nothing_heard;
+      stands = stands;
+      base = up.0;
+      epochs = (epoch, follows, up.1, are);
+    }
+
+pub crash_leaves_one_history : CrashLeavesOneHistory
+crash_leaves_one_history first limits seen found waits honest between =
+    let left : LeavesAnswered first limits seen found = crash_leaves_answered first limits seen found waits honest between in
+    let s = left.left.survives in
+    record {
+      answered = left;
+      lived = λ j o begun earlier l. turns_live_on first s.last (s.answered ++ s.later) j o begun earlier s.runs l;
+    }

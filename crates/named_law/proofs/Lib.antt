@@ -1,0 +1,3 @@
+pub mod Clear
+pub mod Placed
+pub mod Objects

@@ -1,0 +1,3 @@
+pub mod Metrics
+pub mod Server
+pub mod Objects
