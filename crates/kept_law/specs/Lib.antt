@@ -1,3 +1,4 @@
 pub mod Kept
 pub mod Starts
 pub mod Lived
+pub mod Replied
