@@ -45,7 +45,6 @@ use Rattle.kept_law.specs.Kept.{LeavesAnswered}
 use Rattle.kept_law.specs.Replied.{AreTold, ends_in, Lives, TurnsHaveOneHistory}
 use Rattle.kept_law.proofs.Going.{get_at, set_at, set_other, crash_leaves_answered}
 use Rattle.kept_law.proofs.Grown.{ends_more, epochs_grow, opening_grows, ends_grow}
-use Rattle.kept_law.proofs.Reading.{same_front}
 use Rattle.kept_law.proofs.Starting.{behind_stands}
 
 pub stood_has_lived : StoodHasLived
@@ -60,11 +59,11 @@ stood_has_lived t j o s = record {
       (kept_is_epoch s.scene.hall (told_by s.begun s.heard.steps) 0 s.stands.held.kept);
 }
 
--- it has lived on
+-- it has lived on, by these ends
 lived_on : (last : Table) (j : ℕ) (o : ObjectForm) (turns : List Turn) (was : Begun) (opening : List Contents) (ends : List End) (begun : Begun) → IsBegunIn o j turns was begun →
     (earlier : List Epoch) (l : HasLived last j o begun earlier) → first_opening (epoch_in l) earlier ≡ opening → (done : List End) → all_ends o (epoch_in l) earlier ≡ ends ++ done →
-    LivesOn last j o turns was opening ends
-lived_on last j o turns was opening ends begun by earlier l opened done is = record {
+    Lives last j o turns was opening ends done
+lived_on last j o turns was opening ends begun by earlier l opened done is = (record {
   begun = begun;
   by = by;
   earlier = earlier;
@@ -73,7 +72,7 @@ lived_on last j o turns was opening ends begun by earlier l opened done is = rec
   opening_is = opened;
   done = done;
   ends_are = is;
-}
+}, refl)
 
 module _ (old new : Table) (j : ℕ) (o : ObjectForm) (b : Begun) (earlier : List Epoch) (l : HasLived old j o b earlier) where
   abbrev d : Epoch
@@ -96,7 +95,7 @@ module _ (old new : Table) (j : ℕ) (o : ObjectForm) (b : Begun) (earlier : Lis
       let more : history_of o (happened_of heard) ≡ history_of o (happened_of l.heard.steps) ++ done =
       ap (λ (x : List Step). history_of o (happened_of x)) (all_more l.scene k lines all l.heard.steps ∙ ap (λ (x : List Step). x ++ l.heard.steps) (sym is_all))
       ∙ ends_more o steps l.heard.steps in
-      (lived_on new j o (turn ∷ []) b (first_opening d earlier) (all_ends o d earlier) b (inl (none, refl)) earlier (record {
+      lived_on new j o (turn ∷ []) b (first_opening d earlier) (all_ends o d earlier) b (inl (none, refl)) earlier (record {
         scene = k;
         there = there;
         names = l.names;
@@ -104,7 +103,7 @@ module _ (old new : Table) (j : ℕ) (o : ObjectForm) (b : Begun) (earlier : Lis
         stands = told.stands;
         base = l.base;
         epochs = epochs_grow o d now earlier refl refl refl is l.epochs;
-      }) (opening_grows d now earlier refl) done (ends_grow o d now earlier done more), refl)
+      }) (opening_grows d now earlier refl) done (ends_grow o d now earlier done more)
 
   -- where it is as it was
   lives_still : (turn : Turn) → BeginsNone j (turn ∷ []) → (lines : List ℕ) → lines ≡ [] → slice_get new.objects.items j ≡ slice_get old.objects.items j →
@@ -130,7 +129,7 @@ module _ (old new : Table) (j : ℕ) (o : ObjectForm) (b : Begun) (earlier : Lis
       (begun_follows s.hall s'.hall (told_by b l.heard.steps) l.base now s'.past by.followed.begun (by.followed.held (told_by b l.heard.steps) l.stands.held).kept
       (ap events_of w.events) refl) in
       let text : front ≡ front_text o f = w.added ∙ ap (λ x. front_text x f) l.stands.object in
-      (lived_on new j o (record { asked = Changes j front true; said = said; added = added } ∷ []) b (first_opening d earlier) (all_ends o d earlier) (begun_by f)
+      lived_on new j o (record { asked = Changes j front true; said = said; added = added } ∷ []) b (first_opening d earlier) (all_ends o d earlier) (begun_by f)
       (inr (record {
         front = f;
         before = [];
@@ -147,7 +146,7 @@ module _ (old new : Table) (j : ℕ) (o : ObjectForm) (b : Begun) (earlier : Lis
         stands = stands;
         base = up.0;
         epochs = (is, follows, up.1, l.epochs);
-      }) refl [] (sym (append-nil (all_ends o d earlier))), refl)
+      }) refl [] refl
 
   -- by what happened to it
   lives_went : (asked : Asked) (said added : Texts) (account : Account) → BeginsNot j asked → AllWent old.objects.items added account new.objects.items → LivesBy asked said added (history_of o (happened_of (account j)))
@@ -210,7 +209,7 @@ lives_on : (first last : Table) (turns : List Turn) (accounts : List Account) (j
 lives_on first last [] [] j o b earlier told l =
     subst (λ (t : Table). Lives t j o [] b (first_opening (epoch_in l) earlier) (all_ends o (epoch_in l) earlier) []) (sym told)
     (lived_on first j o [] b (first_opening (epoch_in l) earlier) (all_ends o (epoch_in l) earlier) b (inl (tt, refl)) earlier l refl []
-    (sym (append-nil (all_ends o (epoch_in l) earlier))), refl)
+    (sym (append-nil (all_ends o (epoch_in l) earlier))))
 lives_on first last [] (a ∷ accounts) j o b earlier told l = absurd told
 lives_on first last (t ∷ turns) [] j o b earlier told l = absurd told
 lives_on first last (t ∷ turns) (a ∷ accounts) j o b earlier (mid, gives, says, told) l =
@@ -220,9 +219,9 @@ lives_on first last (t ∷ turns) (a ∷ accounts) j o b earlier (mid, gives, sa
     let one = lives_one first mid j o b earlier l t.asked t.said t.added a gives says in
     let on = one.0 in
     let more = lives_on mid last turns accounts j o on.begun on.earlier told on.lived in
-    (lived_on last j o (t ∷ turns) b opening ends more.0.begun (begun_then o j t turns b on.begun more.0.begun on.by more.0.by) more.0.earlier more.0.lived (more.0.opening_is ∙ on.opening_is) (on.done ++ more.0.done)
-    (more.0.ends_are ∙ ap (λ (x : List End). x ++ more.0.done) on.ends_are ∙ append_assoc ends on.done more.0.done),
-    ap (λ (x : List End). x ++ more.0.done) one.1 ∙ ap (λ (x : List End). first_ends ++ x) more.1)
+    let all = lived_on last j o (t ∷ turns) b opening ends more.0.begun (begun_then o j t turns b on.begun more.0.begun on.by more.0.by) more.0.earlier more.0.lived (more.0.opening_is ∙ on.opening_is) (on.done ++ more.0.done)
+    (more.0.ends_are ∙ ap (λ (x : List End). x ++ more.0.done) on.ends_are ∙ append_assoc ends on.done more.0.done) in
+    (all.0, all.1 ∙ ap (λ (x : List End). x ++ more.0.done) one.1 ∙ ap (λ (x : List End). first_ends ++ x) more.1)
 
 -- what happened in turns
 tell_all : (first last : Table) (turns : List Turn) → Runs Gives first turns last → (accounts : List Account) × AreTold first turns accounts last
@@ -241,13 +240,13 @@ pub turns_live_on : TurnsLiveOn
 turns_live_on first last turns j o b earlier runs l = ((turns_have_one_history first last turns runs).lives j o b earlier l).0
 
 pub read_lives_on : ReadLivesOn
-read_lives_on t j o b earlier h f g text lines found lost came l begun rows adds cut text_is read =
-    let same : g ≡ f = same_front o h f g text lines found lost came l.names.names rows adds cut text_is read in
-    let e : Epoch = record { counters = came.played.counters; contents = came.played.contents.items; told = told_by (begun_by g) read.is.steps; base = l.base } in
-    let is : IsReadOf o text came e = record { house = h; front = g; read = read; told = refl; counters = refl; contents = refl } in
-    let began : begun_by g ≡ b = ap begun_by same ∙ sym begun in
-    let are = epochs_grow o (epoch_in l) e earlier refl (ap (λ (x : Begun). events_of x.past) began) (ap (λ (x : Begun). x.opening) began) (read_is_epoch o text came e is) l.epochs in
-    (same, e, is, are, epochs_are_sound o e earlier are)
+read_lives_on t j o b earlier h f text came l began read =
+    let e : Epoch = record { counters = came.played.counters; contents = came.played.contents.items; told = told_by (begun_by f) read.is.steps; base = l.base } in
+    let is : IsReadOf o text came e = record { house = h; front = f; read = read; told = refl; counters = refl; contents = refl } in
+    let past : e.told.past ≡ events_of b.past = ap (λ (x : Begun). events_of x.past) (sym began) in
+    let opening : e.told.opening ≡ b.opening = ap (λ (x : Begun). x.opening) (sym began) in
+    let are = epochs_grow o (epoch_in l) e earlier refl past opening (read_is_epoch o text came e is) l.epochs in
+    (e, is, are, epochs_are_sound o e earlier are)
 
 pub start_lives_on : StartLivesOn
 start_lives_on t j object h lines limits b e earlier is are =

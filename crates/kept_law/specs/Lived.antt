@@ -6,7 +6,7 @@ use Rattle.decl_core.specs.ObjectForm.{ObjectForm}
 use Rattle.decl_core.specs.ObjectMap.{object_of}
 use Rattle.apply_core.specs.History.{End}
 use Rattle.live_core.specs.declared.call.Limits.{Limits}
-use Rattle.front_core.specs.Front.{Opening, HasRows}
+use Rattle.front_core.specs.Front.{Opening}
 use Rattle.front_core.specs.Text.{front_text}
 use Rattle.replay_core.specs.Steps.{Begun, Heard, told_by}
 use Rattle.recover_core.specs.declared.recover.House.{House}
@@ -17,7 +17,6 @@ use Rattle.hosted_core.specs.Fronts.{AddsFirst, front_of}
 use Rattle.hosted_core.specs.Scene.{Scene}
 use Rattle.keep_start.specs.Behind.{BeginsBehind}
 use Rattle.named_law.specs.Named.{IsNamed}
-use Rattle.written_law.specs.Read.{Adds}
 use Rattle.written_law.specs.Stands.{Stands}
 use Rattle.year_law.specs.Year.{Epoch, epoch_of, AreEpochs, IsSound, all_ends, first_opening}
 use Rattle.year_law.specs.Read.{IsReadOf}
@@ -81,14 +80,13 @@ TurnsLiveOn =
     (first last : Table) (turns : List Turn) (j : ℕ) (o : ObjectForm) (begun : Begun) (earlier : List Epoch) → Runs Gives first turns last →
     (l : HasLived first j o begun earlier) → LivesOn last j o turns begun (first_opening (epoch_in l) earlier) (all_ends o (epoch_in l) earlier)
 
--- What is read of the text of its last epoch, however much a crash has left of the lines behind the front, has this front, each
--- line of which says something by itself; and it is an epoch behind the same ones.
+-- What is read of a text whose front tells the beginning of its last epoch, however much of the lines behind that a crash has
+-- left, is an epoch behind the same ones.
 abbrev pub ReadLivesOn : Type 0
 ReadLivesOn =
-    (t : Table) (j : ℕ) (o : ObjectForm) (begun : Begun) (earlier : List Epoch) (h : House) (front read_front : Opening) (text lines found lost : List ℕ) (came : Recovered)
-    (l : HasLived t j o begun earlier) → begun ≡ begun_by front → HasRows o front → Adds o front lines → lines ≡ found ++ lost →
-    text ≡ front_text o front ++ found → IsRead o h text read_front came →
-    (read_front ≡ front) × ((e : Epoch) × IsReadOf o text came e × AreEpochs o e earlier × IsSound o e earlier)
+    (t : Table) (j : ℕ) (o : ObjectForm) (begun : Begun) (earlier : List Epoch) (h : House) (front : Opening) (text : List ℕ) (came : Recovered)
+    (l : HasLived t j o begun earlier) → begun ≡ begun_by front → IsRead o h text front came →
+    (e : Epoch) × IsReadOf o text came e × AreEpochs o e earlier × IsSound o e earlier
 
 -- An object of a new life has begun behind the lines of its journal, and has added the front of its epoch.
 pub record BeginsAt (t : Table) (j : ℕ) (object : Object) (h : House) (lines : List ℕ) (limits : Limits) : Type 0 where

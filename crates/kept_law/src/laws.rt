@@ -4,6 +4,7 @@ ghost use Rattle.kept_law.specs.Kept.{RunsAreSteps, ObjectsStand, LinesAreRead, 
 ghost use Rattle.kept_law.specs.Starts.{FirstStands, BehindStands};
 ghost use Rattle.kept_law.specs.Lived.{StoodHasLived, TurnsLiveOn, ReadLivesOn, StartLivesOn, CrashLeavesOneHistory};
 ghost use Rattle.kept_law.specs.Replied.{TurnsHaveOneHistory, RepliesStand, CrashLeavesReplied};
+ghost use Rattle.kept_law.specs.Keys.{TurnsKeepKeys, StartHasKeys, RepeatsAreOfTheirKeys};
 
 /// An object that begins no epoch goes by steps, and the lines that all turns add to its journal are those of them.
 pub fn runs_are_steps()
@@ -90,4 +91,20 @@ pub fn replies_stand()
 /// After a crash, where answers wait for the disk, the one history of turns is such: what was told is true of it.
 pub fn crash_leaves_replied()
     ensures { CrashLeavesReplied }
+{}
+
+/// Over any turns, in which an object begins any number of epochs, each key of a name stands once in what is told of names.
+pub fn turns_keep_keys()
+    ensures { TurnsKeepKeys }
+{}
+
+/// An object that a start has begun behind its journal has the keys of all epochs that were read.
+pub fn start_has_keys()
+    ensures { StartHasKeys }
+{}
+
+/// Who is told of a call that was made before under a key is told of the one call of this name under this key, with its
+/// number and its reply.
+pub fn repeats_are_of_their_keys()
+    ensures { RepeatsAreOfTheirKeys }
 {}

@@ -5,10 +5,8 @@ use Rattle.std.proofs.lemmas.List.{append-nil}
 use Rattle.std.proofs.lemmas.Slice.Eq.{bytes_eq-Decides}
 use Rattle.line_core.specs.Words.{drop_spaces}
 use Rattle.word_core.specs.Words.{Word, bare, quoted, AreWords}
-use Rattle.trace_core.specs.Laws.{HasNames}
 use Rattle.decl_core.specs.ObjectForm.{ObjectForm}
-use Rattle.front_core.specs.Front.{Opening, HasRows}
-use Rattle.front_core.specs.Text.{front_text}
+use Rattle.front_core.specs.Front.{Opening}
 use Rattle.front_read.specs.Text.{begins, goes_on, goes_on_behind_parts, goes_on_with_calls}
 use Rattle.front_read.proofs.Whole.{front_there, found_of}
 use Rattle.replay_core.specs.Said.{Says, Said, Asked, said_by, start_of, end_of, cancel_of, name_of}
@@ -22,6 +20,7 @@ use Rattle.recover_core.specs.Playing.{begun_by}
 use Rattle.recover_text.specs.Text.{IsRead}
 use Rattle.written_law.specs.Read.{Adds}
 use Rattle.written_law.proofs.Telling.{steps_are_told}
+use Rattle.front_law.specs.Written.{WrittenIsRead}
 
 -- A line that says something behind a front is no line of one.
 
@@ -159,10 +158,8 @@ read_apart o h text g came read =
     let is = read.is in
     ap goes_on is.cut ∙ joined_apart is.lines is.rest (first_played o (begun_by g) _ is.lines is.played) (ap goes_on read.whole)
 
--- The front that is read is the one that was written, where each line of this says something by itself.
-pub same_front : (o : ObjectForm) (h : House) (f g : Opening) (text lines found lost : List ℕ) (came : Recovered) → HasNames o → HasRows o f → Adds o f lines → lines ≡ found ++ lost →
-    text ≡ front_text o f ++ found → IsRead o h text g came → g ≡ f
-same_front o h f g text lines found lost came named rows adds cut text_is read =
+pub written_is_read : WrittenIsRead
+written_is_read o h f g text lines found lost came named rows adds cut text_is read =
     let ends = front_apart found lost (ap goes_on (sym cut) ∙ adds_apart o f lines adds) in
     let on = front_there o text read.behind g read.rows (read_apart o h text g came read) read.text_is in
     (found_of o text read.behind g named on f found rows ends text_is).0
