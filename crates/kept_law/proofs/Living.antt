@@ -63,16 +63,19 @@ stood_has_lived t j o s = record {
 lived_on : (last : Table) (j : ℕ) (o : ObjectForm) (turns : List Turn) (was : Begun) (opening : List Contents) (ends : List End) (begun : Begun) → IsBegunIn o j turns was begun →
     (earlier : List Epoch) (l : HasLived last j o begun earlier) → first_opening (epoch_in l) earlier ≡ opening → (done : List End) → all_ends o (epoch_in l) earlier ≡ ends ++ done →
     Lives last j o turns was opening ends done
-lived_on last j o turns was opening ends begun by earlier l opened done is = (record {
-  begun = begun;
-  by = by;
-  earlier = earlier;
-  lived = l;
-  sound = epochs_are_sound o (epoch_in l) earlier l.epochs;
-  opening_is = opened;
-  done = done;
-  ends_are = is;
-}, refl)
+lived_on last j o turns was opening ends begun by earlier l opened done is = (
+  record {
+    begun = begun;
+    by = by;
+    earlier = earlier;
+    lived = l;
+    sound = epochs_are_sound o (epoch_in l) earlier l.epochs;
+    opening_is = opened;
+    done = done;
+    ends_are = is;
+  },
+  refl,
+)
 
 module _ (old new : Table) (j : ℕ) (o : ObjectForm) (b : Begun) (earlier : List Epoch) (l : HasLived old j o b earlier) where
   abbrev d : Epoch

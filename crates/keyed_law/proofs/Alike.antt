@@ -1,11 +1,9 @@
 -- Clients, and what is known of their calls, change by change.
-use Rattle.std.proofs.Common.{◌≡◌, ◌≢◌, ◌⊎◌, inl, inr, ◌∙◌, ap, sym, subst, refl, arith, ℕ, zero, suc, ◌+◌, ◌-◌, List, [], ◌∷◌, ◌++◌, take, Bool, true, false, Option, Some, None}
+use Rattle.std.proofs.Common.{◌≡◌, ◌≢◌, ◌⊎◌, inl, inr, ◌∙◌, ap, sym, subst, refl, arith, ℕ, zero, suc, ◌+◌, ◌-◌, List, [], ◌∷◌, take, Option, Some}
 use Rattle.std.specs.Prelude.{map, slice_get, slice_set, unwrap_or}
-use Rattle.apply_core.specs.declared.reply.Reply.{Reply}
 use Rattle.front_core.specs.declared.front.Client.{Client}
 use Rattle.front_core.specs.Front.{Opening}
 use Rattle.guest_core.specs.declared.guest.Guest.{Guest}
-use Rattle.guest_core.specs.declared.kept.Asked.{Asked}
 use Rattle.guest_core.specs.declared.kept.Kept.{Kept}
 use Rattle.guest_core.specs.Guests.{Guests, IsSound, IsUnknown, guest_of}
 use Rattle.guest_core.specs.Keys.{Keys, HasKey, fresh_keys, remembered}

@@ -11,25 +11,24 @@ use Rattle.guest_core.specs.declared.guests.EnterFault.{EnterFault}
 use Rattle.guest_core.specs.declared.guests.EnterFault.TheVariants.{InUse, Full, Memory}
 use Rattle.guest_core.specs.declared.kept.Asked.{Asked}
 use Rattle.guest_core.specs.declared.kept.Kept.{Kept}
-use Rattle.guest_core.specs.declared.keys.Judged.TheVariants.{Repeat}
 use Rattle.guest_core.specs.declared.seats.Seat.{Seat}
 use Rattle.guest_core.specs.declared.seats.Seat.TheVariants.{Free, Nameless, Named}
-use Rattle.guest_core.specs.Entering.{Enters, Leaves, ComesAgain, ComesNew}
-use Rattle.guest_core.specs.Guests.{Guests, IsNamed, IsSound, with_away, with_guest, with_other, with_keys, with_seat, guest_of}
-use Rattle.guest_core.specs.Keys.{Keys, HasKey, Ends, Judges, remembered, asks}
-use Rattle.guest_core.proofs.Items.{get_more, get_set, one_item}
+use Rattle.guest_core.specs.Entering.{Enters, Leaves}
+use Rattle.guest_core.specs.Guests.{Guests, IsNamed, with_away, with_guest, with_other, with_keys, with_seat, guest_of}
+use Rattle.guest_core.specs.Keys.{Keys, Ends}
+use Rattle.guest_core.proofs.Items.{get_more, get_set}
 use Rattle.guest_core.proofs.Sound.{sound_changed, sound_seat, sound_more, sound_other}
-use Rattle.hosted_core.specs.Calls.{IsAsked, IsRemembered, AreRemembered, seat_of}
+use Rattle.hosted_core.specs.Calls.{IsAsked, AreRemembered, seat_of}
 use Rattle.hosted_core.specs.Fronts.{client_of as client_from}
 use Rattle.hosted_core.specs.Scene.{Scene, told_of}
 use Rattle.hosted_core.specs.Steps as hosted
-use Rattle.year_law.specs.Keys.{KeyEvent, epoch_began, name_came, call_ended, client_of, IsRemembered as IsKnown, all_told, oldest}
+use Rattle.year_law.specs.Keys.{epoch_began, name_came, call_ended, client_of, IsRemembered as IsKnown, all_told, oldest}
 use Rattle.year_law.proofs.Counted.{Events, no_calls, nothing_told}
 use Rattle.year_law.proofs.Keyed.{keys_stand_once}
 use Rattle.year_law.proofs.Lasting.{repeats_stand}
 use Rattle.year_law.proofs.Tables.{whose}
 use Rattle.keyed_law.specs.Keyed.{HaveKeys, ended_as, ended_by, with_ran, with_came, with_step, with_steps, StepsKeepKeys, EpochKeepsKeys, NobodyHasKeys, ReadHaveKeys, RepeatIsTheCall}
-use Rattle.keyed_law.proofs.Alike.{IsLike, AreLike, like_same, like_set, keys_alike, keys_call, keys_came, keys_began}
+use Rattle.keyed_law.proofs.Alike.{like_same, like_set, keys_alike, keys_call, keys_came, keys_began}
 
 -- a client has other keys, of which the same is told
 keys_set : (f : Opening) (told : Events) (v new : Guests) (p : ℕ) (g : Guest) (keys : Keys) → HaveKeys f told v → slice_get v.guests p ≡ Some g → keys.next ≡ g.keys.next → keys.kept ≡ g.keys.kept →
