@@ -1,12 +1,10 @@
 -- The calls of which it is told by names stand in the one history.
 use Rattle.std.proofs.Common.{◌≡◌, ◌⊎◌, inl, inr, ◌∙◌, ap, sym, subst, refl, ℕ, List, [], ◌∷◌, ◌++◌, Bool, true, false, Option, Some, None, Result, Ok, Err, append_assoc}
 use Rattle.std.specs.Prelude.{IfSome, slice_get, if◌then◌else◌}
-use Rattle.std.proofs.lemmas.Option.{same_Some}
 use Rattle.apply_core.specs.declared.reply.Reply.{Reply}
 use Rattle.trace_core.specs.Events.{Called}
 use Rattle.live_core.specs.declared.call.Ran.{Ran}
 use Rattle.live_core.specs.Hall.{Every}
-use Rattle.front_core.specs.Front.{Opening}
 use Rattle.guest_core.specs.declared.guest.Guest.{Guest}
 use Rattle.guest_core.specs.declared.guests.Entered.{Entered}
 use Rattle.guest_core.specs.declared.guests.EnterFault.{EnterFault}
@@ -25,8 +23,8 @@ use Rattle.post_core.specs.Turns.Asked.{Heard, Noted, Changes}
 use Rattle.said_law.specs.Said.{Account}
 use Rattle.said_law.proofs.Going.{ran_more, all_more, TellsAlike, all_alike, told_alike}
 use Rattle.table_core.specs.declared.table.Table.{Table}
-use Rattle.kept_law.specs.Replied.{AreTold, HaveOneHistory, IsRepeated}
-use Rattle.kept_law.specs.Keys.{NamesIn, NamesOver, IsOfItsKey}
+use Rattle.kept_law.specs.Replied.{AreTold, HaveOneHistory}
+use Rattle.kept_law.specs.Keys.{NamesIn, NamesOver}
 use Rattle.kept_law.proofs.Replying.{stands_in}
 use Rattle.repeat_law.specs.Repeat.{IsEndIn, HasStood, RepeatsStand}
 
