@@ -55,7 +55,7 @@ use line_core::write_whole;
 use mio::net::{TcpListener as PortListener, UnixListener as PathListener};
 use mio_core::stream::Listener as Ears;
 use pasts::pasts_in;
-use plain::{WithoutHolds, plain_source, run_check, run_script, without_holds};
+use plain::{Ruled, WithoutHolds, plain_source, ruled_source, run_check, run_script, without_holds};
 use serve::{ServedSource, place_of, serve_objects};
 use serve_core::gate::{Gate, Listener};
 use serve_core::serve::Place;
@@ -565,15 +565,9 @@ fn run_keep(rt: &HostRuntime, asked: Keeping<'_>, words: &Apart<'_>) -> Result<K
         Err(lacking) => return Err(told(rt, lacking, asked.file)),
     };
     let telling = telling_of(rt, asked.explain);
-    let source = match plain_source(
-        rt,
-        source,
-        telling,
-        asked.file,
-        b"keep does not follow them yet",
-    )? {
-        WithoutHolds::Plain(source) => source,
-        WithoutHolds::Told(_) => return Ok(KeepEnd::Refused),
+    let (source, rules) = match ruled_source(rt, source, telling, asked.file)? {
+        Ruled::By(source, rules) => (source, rules),
+        Ruled::Told(_) => return Ok(KeepEnd::Refused),
     };
     let lock = match lock_folder(rt, asked.folder) {
         Ok(lock) => lock,
@@ -583,7 +577,7 @@ fn run_keep(rt: &HostRuntime, asked: Keeping<'_>, words: &Apart<'_>) -> Result<K
         Ok(found) => found,
         Err(lacking) => return Err(told(rt, lacking, path_of(asked.address))),
     };
-    let ended = keep_source(rt, &source, asked, watching, &pasts, ears);
+    let ended = keep_source(rt, &source, rules, asked, watching, &pasts, ears);
     if let Some(socket) = socket {
         socket.remove(rt);
     }

@@ -6,14 +6,14 @@ use Rattle.post_core.specs.Turns.Asked.{Heard, Noted, Changes}
 use Rattle.told_core.specs.State.{State}
 use Rattle.told_core.specs.Deeds.{Texts}
 use Rattle.told_core.specs.Asked.{IsCancelled}
-use Rattle.told_core.specs.Moves.{Moves, Begins}
-use Rattle.told_core.specs.Turns.{Gives}
+use Rattle.told_core.specs.Moves.{Moves, BeginsHeld}
+use Rattle.told_core.specs.Given.{Gives}
 
 -- the objects go by steps whose lines are those that are added, or one begins its next epoch
 abbrev pub MovesBy : State → Asked → Texts → State → Type 0
 MovesBy old (Heard who line end) added new = Moves old.objects added new.objects
 MovesBy old (Noted note) added new = Moves old.objects added new.objects
-MovesBy old (Changes journal front true) added new = Begins old.objects journal front new.objects
+MovesBy old (Changes journal front true) added new = BeginsHeld old journal front new
 MovesBy old (Changes journal front false) added new = new.objects ≡ old.objects
 
 -- Each turn does so.
