@@ -1,6 +1,6 @@
 //! What is held of all objects of a table.
 
-ghost use Rattle.std.specs.Prelude.{◌≡◌, ◌×◌, ◌++◌, ◌∷◌, [], true, false, Option, Some, None, OnOk, IfOk, IfSome, MatchOption, slice_get};
+ghost use Rattle.std.specs.Prelude.{◌≡◌, ◌++◌, ◌∷◌, [], true, false, Option, Some, None, OnOk, IfOk, IfSome, MatchOption, slice_get};
 ghost use Rattle.decl_core.specs.ObjectMap.{object_of};
 ghost use Rattle.hosted_core.specs.Scene.{Scene};
 ghost use Rattle.hold_form.specs.HoldForm.{EveryForm};

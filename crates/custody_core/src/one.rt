@@ -1,6 +1,6 @@
 //! What is held of one object.
 
-ghost use Rattle.std.specs.Prelude.{◌≡◌, ◌×◌, [], OnOk, IfOk, IfSome, true, false};
+ghost use Rattle.std.specs.Prelude.{◌≡◌, [], OnOk, IfOk, IfSome, true, false};
 ghost use Rattle.hosted_core.specs.Scene.{Scene};
 ghost use Rattle.told_core.specs.Custody.{HeldBehind, HeldBehindAll, HasNone, HasSome, as_told};
 ghost use Rattle.custody_core.specs.Views.{custody_of};

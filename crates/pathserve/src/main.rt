@@ -22,6 +22,7 @@ ghost use Rattle.std.specs.Process.{exit_status as code};
 ghost use Rattle.answer_core.specs.Status.{exit_status_of};
 
 mod attempt;
+mod custody;
 mod ending;
 mod holds;
 mod keep;
@@ -49,6 +50,7 @@ use explain_line::files::Files;
 use explain_line::kept::Kept;
 use folder_audit::audit::audit_folder;
 use folder_audit::files::FolderFault;
+use hold_form::hold::Rules;
 use keep::{is_kept, keep_objects};
 use lack::{Lacking, Unmet, Wanted, tell_lack};
 use line_core::write_whole;
@@ -511,10 +513,11 @@ fn path_at(rt: &HostRuntime, path: &str) -> io::Result<(PathListener, Socket)> {
     Ok((PathListener::from_std(listener), socket))
 }
 
-// Keeps the objects of a source, where each is accepted.
+// Keeps the objects of a source by these rules, where each is accepted.
 fn keep_source(
     rt: &HostRuntime,
     source: &[u8],
+    rules: Vec<Rules>,
     asked: Keeping<'_>,
     watching: Watching,
     pasts: &[Past<'_>],
@@ -524,6 +527,7 @@ fn keep_source(
         Judged::Ready(objects) => keep_objects(
             rt,
             objects,
+            rules,
             asked,
             watching,
             pasts,

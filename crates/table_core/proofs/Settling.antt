@@ -1,6 +1,8 @@
 -- What is done for those that are gone.
 use Rattle.std.proofs.Common.{◌≡◌, ◌∙◌, ap, sym, subst, refl, ℕ, inl, inr, List, [], ◌∷◌, ◌++◌, append_assoc, append-nil}
-use Rattle.std.specs.Prelude.{Bool, true, false, Option, Some, None, slice_get, slice_set}
+use Rattle.std.specs.Prelude.{false, Option, Some, slice_get, slice_set}
+use Rattle.std.proofs.lemmas.List.{append_cancel_right}
+use Rattle.std.proofs.lemmas.Option.{same_Some}
 use Rattle.post_core.specs.Posts.{Tells}
 use Rattle.post_core.specs.declared.post.Post.{Post}
 use Rattle.value_core.specs.declared.datum.Datum.{Datum}
@@ -8,23 +10,30 @@ use Rattle.decl_core.specs.ObjectMap.{object_of}
 use Rattle.live_core.specs.declared.call.Ran.{Ran}
 use Rattle.live_core.specs.declared.live.Taken.{Taken}
 use Rattle.live_core.specs.Lines.{all_lines}
+use Rattle.session_text.specs.declared.line.Line.{Line}
+use Rattle.session_text.specs.Lines.{line_text}
+use Rattle.guest_core.specs.declared.seats.Seat.TheVariants.{Nameless}
+use Rattle.guest_core.specs.Guests.{with_seat}
+use Rattle.hold_form.specs.HoldForm.{EveryForm}
 use Rattle.client_core.specs.declared.client.Opened.{Opened}
 use Rattle.client_core.specs.declared.clients.Clients.{Clients}
 use Rattle.hosted_core.specs.Scene.{Scene, with_guests}
-use Rattle.told_core.specs.Custody.{Custody, Custodies, IsFreeOf, HasNone, HasSome, FollowsIn}
-use Rattle.told_core.specs.State.{Peer, State, changed, opened_at, peers_of, with_object}
+use Rattle.told_core.specs.Custody.{Custody, Custodies, IsFreeOf, IsOwed, HasNone, HasSome, FollowsIn, MayMake, held_lines_in, not_held_text}
+use Rattle.told_core.specs.Custody.IsOwed.{again}
+use Rattle.told_core.specs.Moves.{Begins, BeginsHeld, FrontsHeld}
+use Rattle.told_core.specs.State.{State, opened_at, peers_of}
 use Rattle.told_core.specs.Deeds.{Texts, Deed, OnlyTold}
-use Rattle.told_core.specs.Asked.{AllEnd, Follows, HoldsStill}
+use Rattle.told_core.specs.Asked.{AllEnd, Follows, HoldsStill, IsRefusal}
 use Rattle.told_core.specs.Gone.{CallsFor, SeatsOne, Frees, NoneHas, Settles}
 use Rattle.told_core.specs.Gone.Settles.{rests, goes_on, calls, seats, frees}
 use Rattle.told_core.specs.Turns.{GoesOn}
 use Rattle.told_core.proofs.Doing.{all_end_keeps}
 use Rattle.table_core.specs.Brings.{Brings, Continues, SettlesOn}
 use Rattle.table_core.specs.Objects.{LeavesAt, SeatsAt}
-use Rattle.table_core.specs.Parts.{EndsAll, FreesOr, HasCustody, HasMade, IsOwedAt, LeavesOf, SeatsOr, TellsAll, TellsTaken, bare_seat}
+use Rattle.table_core.specs.Parts.{AsksCall, EndsAll, FreesOr, HasMade, IsOwedAt, LeavesOf, MakesCall, MayAsk, MayNotAsk, SeatsOr, TellsAll, TellsTaken, TellsUnheld, bare_seat}
 use Rattle.table_core.specs.Seen.{state_of}
-use Rattle.table_core.proofs.Bringing.{continued}
-use Rattle.table_core.proofs.Entering.{of, objects_are}
+use Rattle.table_core.proofs.Bringing.{brings_as, continued}
+use Rattle.table_core.proofs.Entering.{of, leaves_of, objects_are}
 use Rattle.table_core.proofs.Submitting.{set_there}
 use Rattle.table_core.proofs.Telling.{tells_none, tells_then}
 
@@ -198,3 +207,110 @@ stays_held custody new objects clients place opened by same (bare, c, has, some)
   has = has;
   some = some;
 }), held_same custody new objects clients same)
+
+-- the session of one that has opened an object leaves, or stays
+pub leaves_held : (custody kept : Custodies) (old new : List Scene) (clients : Clients) (place now : ℕ) (opened : Opened) →
+    Some opened ≡ opened_at (state_of custody old clients) place → kept ≡ custody →
+    IsFreeOf (slice_get custody opened.object) opened.is_named opened.session → LeavesAt old opened.object opened.session now new →
+    LeavesOf place (state_of custody old clients) (state_of kept new clients)
+leaves_held custody kept old new clients place now opened by same free leaves =
+    leaves_of custody kept old new (peers_of clients) place opened.session now opened by same free leaves
+
+-- it may not make the call
+pub asks_not : (a b : Post) (old new : State) (place : ℕ) (opened : Opened) (operation : Option ℕ) (arguments : List Datum) →
+    MayNotAsk old opened operation arguments → Brings (TellsUnheld place) a old b new → Brings (AsksCall place opened operation arguments) a old b new
+asks_not a b old new place opened operation arguments not brings =
+    brings_as (TellsUnheld place) (AsksCall place opened operation arguments) a b old new (λ said added is. inr (not, is)) brings
+
+pub asks_it : (a b : Post) (old new : State) (place : ℕ) (opened : Opened) (operation : Option ℕ) (arguments : List Datum) →
+    MayAsk old opened operation arguments → Brings (MakesCall place opened operation arguments) a old b new →
+    Brings (AsksCall place opened operation arguments) a old b new
+asks_it a b old new place opened operation arguments may brings =
+    brings_as (MakesCall place opened operation arguments) (AsksCall place opened operation arguments) a b old new (λ said added is. inl (may, is)) brings
+
+pub unheld_told : (a b : Post) (old new : State) (place : ℕ) → Brings (OnlyTold place not_held_text) a old b new → Brings (TellsUnheld place) a old b new
+unheld_told a b old new place brings = brings_as (OnlyTold place not_held_text) (TellsUnheld place) a b old new (λ said added is. inl is) brings
+
+pub unheld_refused : (a b : Post) (old new : State) (place : ℕ) (line : Line) → IsRefusal line → Brings (OnlyTold place (line_text line)) a old b new →
+    Brings (TellsUnheld place) a old b new
+unheld_refused a b old new place line is brings =
+    brings_as (OnlyTold place (line_text line)) (TellsUnheld place) a b old new (λ said added only. inr (line, is, only)) brings
+
+-- whether a session may make a call
+pub may_ask : (s : State) (opened : Opened) (operation : Option ℕ) (o : ℕ) (arguments : List Datum) → operation ≡ Some o →
+    MayMake (slice_get s.custody opened.object) opened.session o arguments → MayAsk s opened operation arguments
+may_ask s opened operation o arguments is may asked asked_is =
+    subst (λ (n : ℕ). MayMake (slice_get s.custody opened.object) opened.session n arguments) (same_Some o asked (sym is ∙ asked_is)) may
+
+-- nothing of what is seen changes behind what is done
+pub brings_still : (P : Deed) (a b : Post) (old mid new : State) → Brings P a old b mid → new ≡ mid → Brings P a old b new
+brings_still P a b old mid new brings same = subst (λ (s : State). Brings P a old b s) (sym same) brings
+
+-- a session that no connection has leaves
+pub free_left : (custody : Custodies) (old new : List Scene) (clients : Clients) (at session now : ℕ) → NoneHas at session (state_of custody old clients) →
+    ((c : Custody) × (slice_get custody at ≡ Some c) × HasNone session c.held) → LeavesAt old at session now new →
+    FreesOr at session (state_of custody old clients) (state_of custody new clients)
+free_left custody old new clients at session now apart (c, has, none) (inl left) = inl (record {
+  told = refl;
+  lines = refl;
+  apart = apart;
+  object = left.object;
+  there = left.there;
+  custody = c;
+  has = has;
+  none = none;
+  now = now;
+  was_here = left.was_here;
+  guests = left.guests;
+  leaves = left.leaves;
+  left = objects_are custody (slice_set old at (with_guests left.object left.guests)) new (peers_of clients) left.left;
+})
+free_left custody old new clients at session now apart c (inr none) = inr (objects_are custody old new (peers_of clients) none.1)
+
+-- the same, where what is held was noted before
+pub free_noted : (custody kept : Custodies) (old new : List Scene) (clients : Clients) (at session : ℕ) → kept ≡ custody →
+    FreesOr at session (state_of kept old clients) (state_of kept new clients) → FreesOr at session (state_of custody old clients) (state_of kept new clients)
+free_noted custody kept old new clients at session same frees =
+    subst (λ (c : Custodies). FreesOr at session (state_of c old clients) (state_of kept new clients)) same frees
+
+-- a session gets a number
+pub seat_given : (custody kept : Custodies) (old new : List Scene) (clients : Clients) (at session : ℕ) →
+    ((c : Custody) × (slice_get custody at ≡ Some c)) → SeatsAt old at session new → kept ≡ custody →
+    SeatsOr at (state_of custody old clients) (state_of kept new clients)
+seat_given custody kept old new clients at session (c, has) seat same = inl (session, record {
+  told = refl;
+  lines = refl;
+  object = seat.object;
+  there = seat.there;
+  custody = c;
+  has = has;
+  free = seat.free;
+  left = ap (λ (k : Custodies). of k new (peers_of clients)) same
+      ∙ objects_are custody (slice_set old at (with_guests seat.object (with_seat seat.object.guests session Nameless))) new (peers_of clients) seat.left;
+})
+
+-- what is made again and again is owed, and what gives back what a session holds
+pub owed_again : (s : State) (at session operation place : ℕ) (arguments : List Datum) → arguments ≡ [] →
+    ((c : Custody) × (slice_get s.custody at ≡ Some c) × ((e : EveryForm) × (slice_get c.rules.everies place ≡ Some e) × (operation ≡ e.op))) →
+    IsOwedAt s at session operation arguments
+owed_again s at session operation place arguments none (c, has, e, there, is) object found = (c, has, again place e there (sym is) none)
+
+pub owed_back : (s : State) (at session operation : ℕ) (arguments : List Datum) (object : Scene) → slice_get s.objects at ≡ Some object →
+    ((c : Custody) × (slice_get s.custody at ≡ Some c) × IsOwed (object_of object.hall.object) c session operation arguments) →
+    IsOwedAt s at session operation arguments
+owed_back s at session operation arguments object there owed other found =
+    subst (λ (o : Scene). (c : Custody) × (slice_get s.custody at ≡ Some c) × IsOwed (object_of o.hall.object) c session operation arguments)
+    (same_Some object other (sym there ∙ found)) owed
+
+-- an object begins its next epoch by a text
+pub begins_held : (custody : Custodies) (old new : List Scene) (clients : Clients) (at : ℕ) (text front lines : List ℕ) →
+    FrontsHeld (state_of custody old clients) at text → lines ≡ held_lines_in custody at (slice_get old at) → text ≡ front ++ lines →
+    Begins old at front new → BeginsHeld (state_of custody old clients) at text (state_of custody new clients)
+begins_held custody old new clients at text front lines fronts is cut begins =
+    let same : front ≡ fronts.front = append_cancel_right front fronts.front lines (sym cut ∙ fronts.told ∙ ap (λ (l : List ℕ). fronts.front ++ l) (sym is)) in
+    record {
+      fronts = fronts;
+      begins = subst (λ (f : List ℕ). Begins old at f new) same begins;
+      peers = refl;
+      custody = refl;
+    }

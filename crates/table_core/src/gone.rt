@@ -3,7 +3,7 @@
 //! Each such call is an ordinary one: it has the next number, and where its session has a name the next key of that. Nobody
 //! is told that it was taken. Where no object says anything of gone clients and of time, all of this is held lines alone.
 
-ghost use Rattle.std.specs.Prelude.{◌≡◌, ◌×◌, ◌++◌, [], List, Bool, Some, None, Ok, true, false, OnOk, IfOk, IfSome, MatchOption, slice_get};
+ghost use Rattle.std.specs.Prelude.{◌≡◌, ◌++◌, [], List, Bool, Some, None, Ok, true, false, OnOk, IfOk, IfSome, MatchOption, slice_get};
 ghost use Rattle.hosted_core.specs.Scene.{Scene};
 ghost use Rattle.client_core.specs.declared.client.Opened.{Opened as AnOpened};
 ghost use Rattle.post_core.specs.Posts.{Tells};

@@ -1,5 +1,5 @@
 -- What a turn of a table gives.
-use Rattle.std.specs.Prelude.{◌≡◌, ℕ, true, false, [], ◌×◌}
+use Rattle.std.specs.Prelude.{◌≡◌, ℕ, true, false, []}
 use Rattle.post_core.specs.Turns.{Asked}
 use Rattle.post_core.specs.Turns.Asked.{Heard, Noted, Changes}
 use Rattle.told_core.specs.State.{State}
