@@ -123,13 +123,8 @@ DueIn s second session Waits new =
     (Every (λ (c : Called). c.session ≢ session) s.hall.waiting × (new ≡ At (later second 1)))
     ⊎ (((k : ℕ) × (c : Called) × (slice_get s.hall.waiting k ≡ Some c) × (c.session ≡ session)) × (new ≡ Waits))
 
--- it is this second, for one that is gone and for all
+-- it is this second, for one that is gone
 pub record LooksAt (s : Scene) (second : ℕ) (old new : Holder) : Type 0 where
   pub session : new.session ≡ old.session
   pub is_named : new.is_named ≡ old.is_named
   pub when : DueIn s second old.session old.when new.when
-
-abbrev pub LooksAtAll : Scene → ℕ → List Holder → List Holder → Type 0
-LooksAtAll s second [] new = new ≡ []
-LooksAtAll s second (g ∷ old) new =
-    (h : Holder) × (rest : List Holder) × LooksAt s second g h × LooksAtAll s second old rest × (new ≡ h ∷ rest)

@@ -1,1 +1,6 @@
 mod Adding
+mod Named
+mod Numerals
+mod Reading
+mod Safe
+mod Texts

@@ -1,2 +1,3 @@
 pub mod HeldLines
+pub mod HeldSo
 pub mod HeldText

@@ -7,5 +7,7 @@
 #![tactic(auto)]
 
 pub mod lines;
+mod number;
 pub mod past;
+pub mod read;
 pub mod text;

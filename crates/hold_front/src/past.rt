@@ -1,7 +1,7 @@
 //! What was held at the end of a journal.
 
-use crate::lines::take_held;
-use crate::text::split_line;
+use crate::read::take_held;
+use crate::text::{HeldFront, split_line};
 use apply_core::reply::Reply;
 use audit_core::told::ToldReply;
 use decl_core::object::Object;

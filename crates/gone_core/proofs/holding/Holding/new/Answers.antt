@@ -1,0 +1,4 @@
+use Rattle.gone_core.proofs.holding.Holding.new.Goals as goal
+
+pub invariant_of-result : goal.invariant_of-result
+invariant_of-result c = ?

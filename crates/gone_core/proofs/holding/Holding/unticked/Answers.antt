@@ -1,0 +1,4 @@
+use Rattle.gone_core.proofs.holding.Holding.unticked.Goals as goal
+
+pub invariant_of-self : goal.invariant_of-self
+invariant_of-self c = ?
