@@ -1,6 +1,6 @@
 -- What is due for who is gone.
-use Rattle.std.proofs.Common.{◌≡◌, ◌≢◌, ◌⊎◌, inl, inr, ℕ, zero, suc, ◌+◌, ◌<◌, ◌≤◌, List, [], ◌∷◌, ◌++◌, length, drop, Some, None, refl, sym, ap, subst, ◌∙◌, arith}
-use Rattle.std.specs.Prelude.{All, IfOk, MatchOption, Option, Result, Ok, Err, slice_get}
+use Rattle.std.proofs.Common.{◌≡◌, ◌≢◌, ◌⊎◌, inl, inr, ℕ, suc, ◌+◌, ◌≤◌, List, [], ◌∷◌, ◌++◌, length, drop, Some, None, refl, sym, subst, arith}
+use Rattle.std.specs.Prelude.{All, IfOk, MatchOption, Option, Result, Ok, Err}
 use Rattle.std.proofs.lemmas.Bool.{cases_eq}
 use Rattle.std.proofs.lemmas.List.Elements.{All-cons, All-nil}
 use Rattle.value_core.specs.declared.datum.Datum.{Datum}
@@ -15,7 +15,7 @@ use Rattle.hold_core.specs.Held.{HeldCall, AreHeld, Gives, at_end, begun}
 use Rattle.hold_core.specs.Places.{IsNewest}
 use Rattle.hold_core.specs.Undo.{IsUndoOf}
 use Rattle.gone_core.specs.declared.holding.OwedCall.{OwedCall}
-use Rattle.gone_core.specs.Holding.{Holding, HoldsNone, HoldsSome, IsCrowded, IsDueOf, KeepsPlace, NothingIsDueOf}
+use Rattle.gone_core.specs.Holding.{Holding, HoldsNone, HoldsSome, IsCrowded, IsDueOf, NothingIsDueOf}
 
 -- a session holds nothing, or something
 pub holds_cases : (held : List HeldCall) (session : ℕ) → HoldsNone held session ⊎ HoldsSome held session
@@ -60,6 +60,9 @@ due_ok o h session k call (Ok found) newest undo = due_by o h session k call fou
 due_ok o h session k call (Err e) newest undo = tt
 
 -- what is held behind a call that ended
-pub held_follows : (holds : List HoldForm) (c : Called) (reply : Reply) (old new : List HeldCall) (past : List Happened) → ((left : List HeldCall) × Gives holds c old left × (new ≡ left ++ begun holds c reply)) → AreHeld holds past old
-    → AreHeld holds (ended c reply ∷ past) new
-held_follows holds c reply old new past ends are = subst (λ xs. AreHeld holds (ended c reply ∷ past) xs) (sym ends.2) (at_end old ends.0 are ends.1)
+pub held_follows : (holds to : List HoldForm) (c told : Called) (reply : Reply) (held old new : List HeldCall) (past : List Happened) → holds ≡ to → c ≡ told → held ≡ old → ((left : List HeldCall) × Gives holds c held left × (new ≡ left ++ begun holds c reply))
+    → AreHeld to past old → AreHeld to (ended told reply ∷ past) new
+held_follows holds to c told reply held old new past e f g ends are =
+    let was : AreHeld holds past held = subst (λ r. AreHeld r past held) (sym e) (subst (λ xs. AreHeld to past xs) (sym g) are) in
+    let now : AreHeld holds (ended c reply ∷ past) new = subst (λ xs. AreHeld holds (ended c reply ∷ past) xs) (sym ends.2) (at_end held ends.0 was ends.1) in
+    subst (λ r. AreHeld r (ended told reply ∷ past) new) e (subst (λ x. AreHeld holds (ended x reply ∷ past) new) f now)

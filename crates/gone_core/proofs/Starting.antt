@@ -1,22 +1,19 @@
 -- What the server begins with, where something is held.
-use Rattle.std.proofs.Common.{◌≡◌, ◌≢◌, ◌⊎◌, inl, inr, ℕ, zero, suc, ◌+◌, ◌<◌, ◌≤◌, List, [], ◌∷◌, ◌++◌, length, get_or, take, Some, None, refl, sym, ap, subst, ◌∙◌, arith, Bool, true, false}
+use Rattle.std.proofs.Common.{◌≡◌, ◌≢◌, inl, inr, ℕ, zero, suc, ◌+◌, ◌<◌, ◌≤◌, List, [], ◌∷◌, ◌++◌, length, get_or, take, Some, refl, sym, ap, subst, ◌∙◌, arith, Bool, true, false}
 use Rattle.std.specs.Prelude.{slice_get, slice_set, All}
 use Rattle.std.proofs.lemmas.Bool.{cases_lt, cases_eq}
-use Rattle.std.proofs.lemmas.List.Elements.{All-more, All-push}
-use Rattle.std.proofs.lemmas.Option.{slice_get-get_or}
-use Rattle.guest_core.proofs.Items.{get_here, get_there, get_within, one_item}
-use Rattle.guest_core.specs.declared.guest.Guest.{Guest}
-use Rattle.guest_core.specs.declared.seats.Seat.{Seat}
+use Rattle.std.proofs.lemmas.List.Elements.{All-more}
+use Rattle.guest_core.proofs.Items.{get_here, get_there}
 use Rattle.guest_core.specs.declared.seats.Seat.TheVariants.{Free, Nameless, Named}
 use Rattle.guest_core.specs.Entering.{Leaves}
-use Rattle.guest_core.specs.Guests.{Guests, IsNamed, HasNoName, with_seat}
+use Rattle.guest_core.specs.Guests.{Guests, with_seat}
 use Rattle.guest_core.specs.Seats.{IsLeastFree, NoneIsFree}
 use Rattle.hosted_core.specs.Calls.{seat_of}
 use Rattle.hosted_core.specs.Scene.{Scene, with_guests}
-use Rattle.hosted_core.specs.Steps.{Step, Steps, does, goes_on, gets_number, leaves, rests}
+use Rattle.hosted_core.specs.Steps.{Steps, does, goes_on, gets_number, leaves, rests}
 use Rattle.hold_core.specs.Held.{HeldCall}
 use Rattle.gone_core.specs.declared.holder.Holder.{Holder}
-use Rattle.gone_core.specs.Start.{HoldsNoneOf, IsAmong, IsBelow, IsGoneBy, IsKept, KeepsTaken, NoneFreeBelow}
+use Rattle.gone_core.specs.Start.{HoldsNoneOf, IsAmong, IsBelow, IsKept, KeepsTaken, NoneFreeBelow}
 
 -- steps without lines, one after the other
 pub steps_both : (a b c : Scene) → Steps a [] b → Steps b [] c → Steps a [] c

@@ -119,7 +119,7 @@ fn before(text: &[u8], place: usize) -> &[u8]
     front
 }
 
-fn from(text: &[u8], place: usize) -> &[u8]
+pub(crate) fn from(text: &[u8], place: usize) -> &[u8]
     ensures { result.now ≡ drop place text.now }
 {
     if place >= text.len() {

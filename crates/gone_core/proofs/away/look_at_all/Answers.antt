@@ -1,6 +1,6 @@
 use Rattle.std.proofs.Common.{[], arith, refl}
 use Rattle.gone_core.specs.Holding.{LooksAt}
-use Rattle.gone_core.proofs.Rows.{Moved, next_moved, all_moved}
+use Rattle.gone_core.proofs.Rows.{next_moved, all_moved}
 use Rattle.gone_core.proofs.away.look_at_all.Goals as goal
 
 pub loop-place-init : goal.loop-place-init

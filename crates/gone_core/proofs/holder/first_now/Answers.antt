@@ -1,4 +1,4 @@
-use Rattle.std.proofs.Common.{◌≢◌, ◌<◌, length, refl, arith}
+use Rattle.std.proofs.Common.{◌≢◌, arith}
 use Rattle.std.proofs.lemmas.Option.{slice_get-get_or, slice_get_within}
 use Rattle.gone_core.specs.declared.holder.Holder.{Holder}
 use Rattle.gone_core.specs.declared.holder.WhenDue.TheVariants.{Now}

@@ -1,4 +1,4 @@
-use Rattle.std.proofs.Common.{◌≡◌, ◌==◌, not, Bool, rules}
+use Rattle.std.proofs.Common.{◌==◌, not, Bool, rules}
 use Rattle.std.proofs.lemmas.Fn.{filter_same}
 use Rattle.gone_core.specs.declared.holder.Holder.{Holder}
 use Rattle.gone_core.proofs.holder.take_out.Goals as goal

@@ -1,4 +1,4 @@
-use Rattle.std.proofs.Common.{◌<◌, length, refl, arith}
+use Rattle.std.proofs.Common.{◌<◌, arith}
 use Rattle.std.proofs.lemmas.Option.{slice_get_within}
 use Rattle.gone_core.specs.declared.ticking.Ticking.{Ticking}
 use Rattle.gone_core.proofs.Places.{all_places, first_due_is}

@@ -1,6 +1,6 @@
 use Rattle.std.proofs.Common.{◌<◌, length, arith}
 use Rattle.gone_core.specs.Ticks.{ticked}
-use Rattle.gone_core.proofs.Places.{changed_here, changed_none}
+use Rattle.gone_core.proofs.Places.{changed_here}
 use Rattle.gone_core.proofs.ticking.tick_at.Goals as goal
 
 pub returns : goal.returns

@@ -1,6 +1,6 @@
 use Rattle.std.proofs.Common.{◌<◌, length, arith}
 use Rattle.gone_core.specs.Ticks.{unticked}
-use Rattle.gone_core.proofs.Places.{changed_here, changed_none}
+use Rattle.gone_core.proofs.Places.{changed_here}
 use Rattle.gone_core.proofs.ticking.untick_at.Goals as goal
 
 pub returns : goal.returns
