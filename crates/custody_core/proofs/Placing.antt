@@ -1,13 +1,17 @@
 -- What is held of the object at a place.
 use Rattle.std.proofs.Common.{◌≡◌, ◌∙◌, ap, sym, subst, refl, ℕ, zero, suc, ◌<◌, List, [], ◌∷◌, ◌++◌, length, map}
-use Rattle.std.specs.Prelude.{Bool, true, false, Option, Some, None, slice_get, slice_set, slice_index_or}
+use Rattle.decl_core.specs.ObjectForm.{ObjectForm}
+use Rattle.std.specs.declared.alloc.AllocError.{AllocError}
+use Rattle.std.specs.Prelude.{Bool, false, Option, Some, None, Result, Ok, Err, IfOk, IfSome, MatchOption, slice_get, slice_set, slice_index_or}
 use Rattle.std.proofs.lemmas.Option.{same_Some, slice_get-get_or, slice_get-map}
 use Rattle.hosted_core.specs.Scene.{Scene}
 use Rattle.live_core.specs.declared.call.Ran.{Ran}
 use Rattle.hold_form.specs.HoldForm.{RulesForm}
 use Rattle.hold_core.specs.Held.{HeldCall}
-use Rattle.gone_core.specs.Holding.{Holding}
-use Rattle.told_core.specs.Custody.{Custody, Custodies, FollowsIn, HeldBehindAll, HasSome, HasNone, IsFreeOf}
+use Rattle.gone_core.specs.declared.holding.OwedCall.{OwedCall}
+use Rattle.gone_core.specs.Holding.{Holding, IsDueOf, NothingIsDueOf}
+use Rattle.told_core.specs.Custody.{Custody, Custodies, FollowsIn, HeldBehindAll, HasSome, HasNone, IsFreeOf, IsOwed}
+use Rattle.told_core.specs.Custody.IsOwed.{gives_back}
 use Rattle.custody_core.specs.Views.{custody_of}
 
 -- the one at a place
@@ -58,3 +62,23 @@ not_followed rows at object ran none =
 pub push_more : (rows : List Holding) (h : Holding) → map custody_of (rows ++ h ∷ []) ≡ map custody_of rows ++ custody_of h ∷ []
 push_more [] h = refl
 push_more (r ∷ rows) h = ap (λ (l : Custodies). custody_of r ∷ l) (push_more rows h)
+
+-- a session stays, or holds nothing
+pub stays_at : (rows : List Holding) (at : ℕ) (h : Holding) (session : ℕ) (is_named : Bool) → slice_get rows at ≡ Some h →
+    (is_named ≡ false) × HasSome session h.held →
+    (is_named ≡ false) × ((c : Custody) × (slice_get (map custody_of rows) at ≡ Some c) × HasSome session c.held)
+stays_at rows at h session is_named there (bare, some) = (bare, custody_of h, some_at rows at h there, some)
+
+pub free_at : (rows : List Holding) (at : ℕ) (h : Holding) (session : ℕ) (is_named : Bool) → slice_get rows at ≡ Some h →
+    (is_named ≡ false → HasNone session h.held) → IsFreeOf (slice_get (map custody_of rows) at) is_named session
+free_at rows at h session is_named there free =
+    subst (λ (f : Option Custody). IsFreeOf f is_named session) (sym (some_at rows at h there)) free
+
+-- what is to be called for a session
+pub undone : (r : Result (Option OwedCall) AllocError) (custody : Custodies) (at : ℕ) (h : Holding) (o : ObjectForm) (session : ℕ) →
+    slice_get custody at ≡ Some (custody_of h) →
+    IfOk r (λ found. MatchOption found (NothingIsDueOf o h session) (λ u. IsDueOf o h session u.operation u.arguments.items)) →
+    IfOk r (λ found. IfSome found (λ u. (c : Custody) × (slice_get custody at ≡ Some c) × IsOwed o c session u.operation u.arguments.items))
+undone (Ok None) custody at h o session there is = tt
+undone (Ok (Some u)) custody at h o session there is = (custody_of h, there, gives_back is.place is.call is.newest is.undo)
+undone (Err e) custody at h o session there is = tt

@@ -1,6 +1,6 @@
 //! What is held of all objects of a table.
 
-ghost use Rattle.std.specs.Prelude.{◌≡◌, ◌++◌, ◌∷◌, [], true, false, Option, Some, None, OnOk, IfOk, IfSome, MatchOption, slice_get};
+ghost use Rattle.std.specs.Prelude.{◌≡◌, ◌++◌, ◌∷◌, [], true, false, Option, Some, None, OnOk, IfOk, IfSome, MatchOption, map, slice_get};
 ghost use Rattle.decl_core.specs.ObjectMap.{object_of};
 ghost use Rattle.hosted_core.specs.Scene.{Scene};
 ghost use Rattle.hold_form.specs.HoldForm.{EveryForm};
@@ -55,6 +55,72 @@ fn due_of(holding: &Holding, at: usize, second: u64) -> Option<DueCall> {
     match holding.next_tick(second) {
         Some(place) => Some(DueCall::Tick(at, place)),
         None => None,
+    }
+}
+
+// Calls of the object at a place ran.
+fn ended_in(
+    rows: &mut Vec<Holding>,
+    at: usize,
+    object: &Hosted,
+    all: &[Ran],
+) -> Result<(), AllocError>
+    ensures { OnOk result (FollowsIn (slice_get (map custody_of rows.old.items) at) at object.now all.now
+        (map custody_of rows.old.items) (map custody_of rows.new.items)) }
+{
+    match rows.get_mut(at) {
+        None => Ok(()),
+        Some(holding) => {
+            all_ended(holding, object, all)?;
+            Ok(())
+        }
+    }
+}
+
+// A session of the object at a place has left.
+fn leaves_in(
+    rows: &mut Vec<Holding>,
+    at: usize,
+    session: u16,
+    is_named: bool,
+    second: u64,
+) -> Result<bool, AllocError>
+    ensures same { OnOk result (map custody_of rows.new.items ≡ map custody_of rows.old.items) }
+    ensures stays { IfOk result (λ stays. stays ≡ true → (is_named ≡ false) × ((c : Custody)
+        × (slice_get (map custody_of rows.old.items) at ≡ Some c) × HasSome session c.held)) }
+    ensures free { IfOk result (λ stays. stays ≡ false
+        → IsFreeOf (slice_get (map custody_of rows.old.items) at) is_named session) }
+{
+    match rows.get_mut(at) {
+        None => Ok(false),
+        Some(holding) => {
+            let stays = leaves_one(holding, session, is_named, second)?;
+            Ok(stays)
+        }
+    }
+}
+
+// Something is noted of the object at a place.
+fn note_in(rows: &mut Vec<Holding>, at: usize, note: HoldNote)
+    ensures { map custody_of rows.new.items ≡ map custody_of rows.old.items }
+{
+    match rows.get_mut(at) {
+        None => {}
+        Some(holding) => {
+            note_one(holding, note);
+        }
+    }
+}
+
+// It is this second, for the object at a place.
+fn look_in(rows: &mut Vec<Holding>, at: usize, object: &Hosted, second: u64)
+    ensures { map custody_of rows.new.items ≡ map custody_of rows.old.items }
+{
+    match rows.get_mut(at) {
+        None => {}
+        Some(holding) => {
+            look_one(holding, object, second);
+        }
     }
 }
 
@@ -174,7 +240,10 @@ impl AllHeld {
     {
         match objects.get(at) {
             None => Ok(()),
-            Some(object) => self.push_lines_of(at, object, front),
+            Some(object) => {
+                self.push_lines_of(at, object, front)?;
+                Ok(())
+            }
         }
     }
 
@@ -189,12 +258,15 @@ impl AllHeld {
     {
         match self.at(at) {
             None => Ok(()),
-            Some(holding) => push_held(
-                front,
-                object.live().object(),
-                &holding.rules().holds,
-                holding.holds(),
-            ),
+            Some(holding) => {
+                push_held(
+                    front,
+                    object.live().object(),
+                    &holding.rules().holds,
+                    holding.holds(),
+                )?;
+                Ok(())
+            }
         }
     }
 
@@ -205,7 +277,10 @@ impl AllHeld {
     {
         match objects.get(at) {
             None => Ok(()),
-            Some(object) => self.ended_of(at, object, all),
+            Some(object) => {
+                self.ended_of(at, object, all)?;
+                Ok(())
+            }
         }
     }
 
@@ -213,10 +288,8 @@ impl AllHeld {
     fn ended_of(&mut self, at: usize, object: &Hosted, all: &[Ran]) -> Result<(), AllocError>
         ensures { OnOk result (FollowsIn (slice_get self.old at) at object.now all.now self.old self.new) }
     {
-        match self.rows.get_mut(at) {
-            None => Ok(()),
-            Some(holding) => all_ended(holding, object, all),
-        }
+        ended_in(&mut self.rows, at, object, all)?;
+        Ok(())
     }
 
     /// A session of the object at a place has left in this second, and no call of it waits: where it holds something it is
@@ -234,30 +307,15 @@ impl AllHeld {
             × ((c : Custody) × (slice_get self.old at ≡ Some c) × HasSome session c.held)) }
         ensures free { IfOk result (λ stays. stays ≡ false → IsFreeOf (slice_get self.old at) is_named session) }
     {
-        match self.rows.get_mut(at) {
-            None => Ok(false),
-            Some(holding) => leaves_one(holding, session, is_named, second),
-        }
+        let stays = leaves_in(&mut self.rows, at, session, is_named, second)?;
+        Ok(stays)
     }
 
     /// Something is noted of the object at a place: what is held stays.
     pub fn note(&mut self, at: usize, note: HoldNote)
         ensures { self.new ≡ self.old }
     {
-        match self.rows.get_mut(at) {
-            None => {}
-            Some(holding) => note_one(holding, note),
-        }
-    }
-
-    // It is this second, for the object at a place.
-    fn look_at(&mut self, at: usize, object: &Hosted, second: u64)
-        ensures { self.new ≡ self.old }
-    {
-        match self.rows.get_mut(at) {
-            None => {}
-            Some(holding) => look_one(holding, object, second),
-        }
+        note_in(&mut self.rows, at, note);
     }
 
     /// It is this second: calls are due for those whose time has come.
@@ -265,7 +323,7 @@ impl AllHeld {
         ensures { self.new ≡ self.old }
     {
         for at in 0..objects.len() {
-            self.look_at(at, &objects[at], second);
+            look_in(&mut self.rows, at, &objects[at], second);
         }
     }
 }

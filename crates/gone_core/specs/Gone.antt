@@ -1,5 +1,5 @@
 -- Who is gone and holds something, and when a call is due.
-use Rattle.std.specs.Prelude.{◌≡◌, ◌==◌, ℕ, zero, suc, ◌+◌, ◌-◌, ◌^◌, Bool, true, false, List, map, min, not, if◌then◌else◌}
+use Rattle.std.specs.Prelude.{◌≡◌, ◌==◌, ℕ, zero, suc, ◌+◌, ◌-◌, ◌^◌, Bool, true, false, List, [], ◌∷◌, min, not, if◌then◌else◌}
 use Rattle.std.specs.List.{filter}
 use Rattle.gone_core.specs.declared.holder.Holder.{Holder}
 use Rattle.gone_core.specs.declared.holder.WhenDue.{WhenDue}
@@ -8,6 +8,11 @@ use Rattle.gone_core.specs.declared.holder.WhenDue.TheVariants.{Now, At, Waits}
 -- who is gone but for this session
 abbrev pub without : ℕ → List Holder → List Holder
 without session gone = filter (λ (g : Holder). not (g.session == session)) gone
+
+-- each of these became one, as a relation says, in their order
+abbrev pub Each : (Holder → Holder → Type 0) → List Holder → List Holder → Type 0
+Each R [] new = new ≡ []
+Each R (g ∷ old) new = (h : Holder) × (rest : List Holder) × R g h × Each R old rest × (new ≡ h ∷ rest)
 
 -- seconds are counted up to the greatest number of 64 bits
 abbrev pub later : ℕ → ℕ → ℕ

@@ -1,5 +1,5 @@
 -- What is held of an object that is kept, who is gone, and what is due.
-use Rattle.std.specs.Prelude.{◌≡◌, ◌≢◌, ◌⊎◌, ℕ, ◌+◌, ◌≤◌, ◌<◌, Bool, true, false, List, [], ◌∷◌, ◌++◌, Option, Some, None, All}
+use Rattle.std.specs.Prelude.{◌≡◌, ◌≢◌, ◌⊎◌, ℕ, ◌+◌, ◌≤◌, ◌<◌, Bool, List, [], ◌∷◌, ◌++◌, Some, All}
 use Rattle.std.specs.Prelude.{length, map, slice_get}
 use Rattle.value_core.specs.declared.datum.Datum.{Datum}
 use Rattle.apply_core.specs.declared.reply.Reply.{Reply}
@@ -7,11 +7,10 @@ use Rattle.decl_core.specs.ObjectForm.{ObjectForm}
 use Rattle.trace_core.specs.Events.{Called}
 use Rattle.live_core.specs.Hall.{Every}
 use Rattle.guest_core.specs.declared.guest.Guest.{Guest}
-use Rattle.guest_core.specs.declared.seats.Seat.TheVariants.{Free}
-use Rattle.guest_core.specs.Guests.{Guests, IsNamed, HasNoName, IsUnknown}
+use Rattle.guest_core.specs.Guests.{Guests, IsNamed, IsUnknown}
 use Rattle.hosted_core.specs.Calls.{seat_of}
 use Rattle.hosted_core.specs.Scene.{Scene}
-use Rattle.hold_form.specs.HoldForm.{RulesForm, EveryForm, called_in}
+use Rattle.hold_form.specs.HoldForm.{RulesForm}
 use Rattle.hold_core.specs.Held.{HeldCall, Gives, begun}
 use Rattle.hold_core.specs.Places.{IsNewest}
 use Rattle.hold_core.specs.Undo.{IsUndoOf}
@@ -123,13 +122,8 @@ DueIn s second session Waits new =
     (Every (λ (c : Called). c.session ≢ session) s.hall.waiting × (new ≡ At (later second 1)))
     ⊎ (((k : ℕ) × (c : Called) × (slice_get s.hall.waiting k ≡ Some c) × (c.session ≡ session)) × (new ≡ Waits))
 
--- it is this second, for one that is gone and for all
+-- it is this second, for one that is gone
 pub record LooksAt (s : Scene) (second : ℕ) (old new : Holder) : Type 0 where
   pub session : new.session ≡ old.session
   pub is_named : new.is_named ≡ old.is_named
   pub when : DueIn s second old.session old.when new.when
-
-abbrev pub LooksAtAll : Scene → ℕ → List Holder → List Holder → Type 0
-LooksAtAll s second [] new = new ≡ []
-LooksAtAll s second (g ∷ old) new =
-    (h : Holder) × (rest : List Holder) × LooksAt s second g h × LooksAtAll s second old rest × (new ≡ h ∷ rest)

@@ -5,7 +5,8 @@ ghost use Rattle.guest_core.specs.declared.guest.Guest.{Guest as AGuest};
 ghost use Rattle.guest_core.specs.Entering.{IsLongestAway};
 ghost use Rattle.guest_core.specs.Guests.{IsNamed, IsUnknown};
 ghost use Rattle.gone_core.specs.declared.holder.WhenDue.TheVariants.{Waits as ItWaits};
-ghost use Rattle.gone_core.specs.Holding.{HoldsNone, HoldsSome, IsBusy, IsCrowded, KeepsPlace, DueIn, LooksAt, LooksAtAll};
+ghost use Rattle.gone_core.specs.Gone.{Each};
+ghost use Rattle.gone_core.specs.Holding.{HoldsNone, HoldsSome, IsBusy, IsCrowded, KeepsPlace, DueIn, LooksAt};
 
 use crate::holder::{Holder, WhenDue};
 use guest_core::guest::Guest;
@@ -14,8 +15,8 @@ use hold_core::held::Holds;
 use hosted_core::hosted::Hosted;
 use path_tree::name::Name;
 
-/// A client that is away for so many seconds may be forgotten, unless it holds something.
-pub const LEAST_AWAY: u64 = 3_600;
+// A client that is away for so many seconds may be forgotten, unless it holds something.
+const LEAST_AWAY: u64 = 3_600;
 
 // Whether a call that was made for the client of this name waits, by what is known of one that is gone.
 fn is_of(guests: &Guests, one: Holder, name: &Name) -> bool
@@ -117,18 +118,19 @@ fn due_in(hosted: &Hosted, one: Holder, second: u64) -> WhenDue
     }
 }
 
-// It is this second, for one that is gone.
-fn look_at(row: &mut Holder, hosted: &Hosted, second: u64)
-    ensures { LooksAt hosted.now second row.old row.new }
+// A row in this second.
+fn look_at(row: Holder, hosted: &Hosted, second: u64) -> Holder
+    ensures { LooksAt hosted.now second row result }
 {
-    row.when = due_in(hosted, *row, second);
+    let when = due_in(hosted, row, second);
+    Holder { when, ..row }
 }
 
 // It is this second, for all that are gone.
-pub(crate) fn look_at_all(rows: &mut [Holder], hosted: &Hosted, second: u64)
-    ensures { LooksAtAll hosted.now second rows.old rows.new }
+pub(crate) fn look_at_all(rows: &mut Vec<Holder>, hosted: &Hosted, second: u64)
+    ensures { Each (LooksAt hosted.now second) rows.old.items rows.new.items }
 {
-    for row in rows.iter_mut() {
-        look_at(row, hosted, second);
+    for place in 0..rows.len() {
+        rows[place] = look_at(rows[place], hosted, second);
     }
 }

@@ -1,9 +1,9 @@
 //! Sessions that are gone and hold something.
 
-ghost use Rattle.std.specs.Prelude.{◌≡◌, ◌≢◌, ◌++◌, ◌∷◌, [], All, MatchOption, OnOk, OnErr, Some, map, slice_get, take, true, false, ℕ};
+ghost use Rattle.std.specs.Prelude.{◌≡◌, ◌≢◌, ◌++◌, ◌∷◌, [], All, MatchOption, OnOk, OnErr, Some, map, slice_get, take, vec_capacity, vec_len, ◌≤◌, true, false, ℕ};
 ghost use Rattle.gone_core.specs.declared.holder.Holder.{Holder as AHolder};
 ghost use Rattle.gone_core.specs.declared.holder.WhenDue.TheVariants.{Now as IsNow};
-ghost use Rattle.gone_core.specs.Gone.{due_from, due_then, ended_for, without};
+ghost use Rattle.gone_core.specs.Gone.{due_from, due_then, ended_for, when_ended, without};
 
 use std::alloc::AllocError;
 
@@ -53,7 +53,8 @@ pub(crate) fn due_for(is_named: bool, second: u64, away: u64) -> WhenDue
 
 // A session is gone no more, or holds nothing any more.
 pub(crate) fn take_out(rows: &mut Vec<Holder>, session: u16)
-    ensures { rows.new.items ≡ without session rows.old.items }
+    ensures left { rows.new.items ≡ without session rows.old.items }
+    ensures room { (vec_len rows.new ≤ vec_len rows.old) × (vec_capacity rows.new ≡ vec_capacity rows.old) }
 {
     rows.retain(|row| row.session != session);
 }
@@ -65,45 +66,59 @@ pub(crate) fn put_in(rows: &mut Vec<Holder>, one: Holder) -> Result<(), AllocErr
 {
     rows.reserve(1)?;
     take_out(rows, one.session);
-    rows.push(one)?;
+    rows.push_reserved(one);
     Ok(())
 }
 
-// A call is due then for this session, where it is the one of this row.
-fn put_due(row: &mut Holder, session: u16, when: WhenDue)
-    ensures { row.new ≡ due_then session when row.old }
+// A row, where it is of this session with a call that is due then.
+fn due_row(row: Holder, session: u16, when: WhenDue) -> Holder
+    ensures { result ≡ due_then session when row }
 {
     if row.session == session {
-        row.when = when;
+        return Holder { when, ..row };
     }
+    row
 }
 
 // A call is due then for a session that is gone.
-pub(crate) fn set_due(rows: &mut [Holder], session: u16, when: WhenDue)
-    ensures { rows.new ≡ map (due_then session when) rows.old }
+pub(crate) fn set_due(rows: &mut Vec<Holder>, session: u16, when: WhenDue)
+    ensures { rows.new.items ≡ map (due_then session when) rows.old.items }
 {
-    for row in rows.iter_mut() {
-        put_due(row, session, when);
+    for place in 0..rows.len() {
+        rows[place] = due_row(rows[place], session, when);
     }
 }
 
-// A call of this session has ended.
-fn end_row(row: &mut Holder, session: u16)
-    ensures { row.new ≡ ended_for session row.old }
+// When the next call is due where one has ended.
+fn due_behind(when: WhenDue) -> WhenDue
+    ensures { result ≡ when_ended when }
+{
+    match when {
+        WhenDue::Now => WhenDue::Now,
+        WhenDue::At(second) => WhenDue::At(second),
+        WhenDue::Waits => WhenDue::Now,
+    }
+}
+
+// A row, where it is of this session with its call ended.
+fn ended_row(row: Holder, session: u16) -> Holder
+    ensures { result ≡ ended_for session row }
 {
     if row.session == session {
-        if let WhenDue::Waits = row.when {
-            row.when = WhenDue::Now;
-        }
+        return Holder {
+            when: due_behind(row.when),
+            ..row
+        };
     }
+    row
 }
 
 // A call of a session has ended: where it was made for one that is gone, the next is due.
-pub(crate) fn end_one(rows: &mut [Holder], session: u16)
-    ensures { rows.new ≡ map (ended_for session) rows.old }
+pub(crate) fn end_one(rows: &mut Vec<Holder>, session: u16)
+    ensures { rows.new.items ≡ map (ended_for session) rows.old.items }
 {
-    for row in rows.iter_mut() {
-        end_row(row, session);
+    for place in 0..rows.len() {
+        rows[place] = ended_row(rows[place], session);
     }
 }
 

@@ -15,8 +15,8 @@ ghost use Rattle.value_core.specs.declared.datum.Datum.{Datum as ADatum};
 ghost use Rattle.gone_core.specs.declared.holder.Holder.{Holder as AHolder};
 ghost use Rattle.gone_core.specs.declared.ticking.Ticking.{Ticking as ATicking};
 ghost use Rattle.gone_core.specs.declared.holder.WhenDue.TheVariants.{At as ItIsAt, Now as IsNow, Waits as ItWaits};
-ghost use Rattle.gone_core.specs.Gone.{due_then, later, without};
-ghost use Rattle.gone_core.specs.Holding.{Ends, Goes, HoldsNone, HoldsSome, IsBusy, IsCrowded, IsDueOf, LooksAtAll};
+ghost use Rattle.gone_core.specs.Gone.{Each, due_then, later, without};
+ghost use Rattle.gone_core.specs.Holding.{Ends, Goes, HoldsNone, HoldsSome, IsBusy, IsCrowded, IsDueOf, LooksAt};
 ghost use Rattle.gone_core.specs.Holding.{NothingIsDueOf, begun_with, told_as, with_gone, with_ticking};
 ghost use Rattle.gone_core.specs.Start.{Begins, IsKept};
 ghost use Rattle.gone_core.specs.Ticks.{ChangesAt, IsFirstDue, seated_by, ticked as ticked_in, unticked as unticked_in};
@@ -24,7 +24,7 @@ ghost use Rattle.gone_core.specs.Ticks.{ChangesAt, IsFirstDue, seated_by, ticked
 use crate::away::{is_busy_by, is_crowded_by, look_at_all};
 use crate::holder::{Holder, WhenDue, due_for, end_one, first_now, put_in, set_due, take_out};
 use crate::start::{go_all, seat_all, seat_of};
-use crate::ticking::{Ticking, first_due, first_ticks, seat_at, tick_at, untick_at};
+use crate::ticking::{Ticking, first_due, first_ticks, seat_at, tick_at, tick_in, untick_at};
 use apply_core::reply::Reply;
 use decl_core::object::Object;
 use hold_core::held::{EndedCall, HeldCall, Holds, undo_of};
@@ -238,7 +238,7 @@ impl Holding {
     /// more, and did not end, it is due again a second later.
     pub fn look(&mut self, hosted: &Hosted, second: u64)
         ensures left { self.new ≡ with_gone self.old self.new.gone }
-        ensures looks { LooksAtAll hosted.now second self.old.gone self.new.gone }
+        ensures looks { Each (LooksAt hosted.now second) self.old.gone self.new.gone }
     {
         look_at_all(&mut self.gone, hosted, second);
     }
@@ -303,10 +303,7 @@ impl Holding {
         ensures every { IfSome result (λ t. (e : EveryForm) × (slice_get self.now.rules.everies place ≡ Some e)
             × (t.op ≡ e.op)) }
     {
-        match self.ticking.get(place) {
-            None => None,
-            Some(one) => Some(*one),
-        }
+        tick_in(&self.ticking, place)
     }
 
     /// The call at a place that is made again and again is made by this session.

@@ -6,7 +6,7 @@
 //! clients and of time has none.
 #![tactic(auto)]
 
-pub mod away;
+mod away;
 pub mod holder;
 pub mod holding;
 mod start;

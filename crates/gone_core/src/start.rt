@@ -72,6 +72,17 @@ fn holds_one(held: &[HeldCall], session: u16) -> bool
     false
 }
 
+// Notes a session, where it holds nothing.
+fn note_other(held: &[HeldCall], session: u16, others: &mut Vec<u16>) -> Result<(), AllocError>
+    ensures { OnOk result (All (HoldsNoneOf held.now) others.old.items → All (HoldsNoneOf held.now) others.new.items) }
+{
+    if holds_one(held, session) {
+        return Ok(());
+    }
+    others.push(session)?;
+    Ok(())
+}
+
 // Gives the least free number to a session without a name, and notes it where it holds nothing. False: none is free.
 fn seat_one(
     hosted: &mut Hosted,
@@ -85,13 +96,13 @@ fn seat_one(
     ensures none { IfOk result (λ more. more ≡ false → NoneIsFree hosted.new.guests.seats) }
     ensures others { OnOk result (All (HoldsNoneOf held.now) others.old.items → All (HoldsNoneOf held.now) others.new.items) }
 {
-    let Some(session) = hosted.seat() else {
-        return Ok(false);
-    };
-    if !holds_one(held, session) {
-        others.push(session)?;
+    match hosted.seat() {
+        None => Ok(false),
+        Some(session) => {
+            note_other(held, session, others)?;
+            Ok(true)
+        }
     }
-    Ok(true)
 }
 
 // Gives all numbers up to this one to sessions without a name, and answers which of them hold nothing.

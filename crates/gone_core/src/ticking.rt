@@ -57,29 +57,69 @@ pub(crate) fn first_due(ticking: &[Ticking], second: u64) -> Option<usize>
     None
 }
 
-// The one at a place is made by this session.
-pub(crate) fn seat_at(ticking: &mut [Ticking], place: usize, session: u16)
-    ensures { ChangesAt place (seated_by session) ticking.old ticking.new }
+// The one at a place.
+pub(crate) fn tick_in(ticking: &[Ticking], place: usize) -> Option<Ticking>
+    ensures { result ≡ slice_get ticking.now place }
 {
-    if let Some(row) = ticking.get_mut(place) {
-        row.session = session;
+    match ticking.get(place) {
+        None => None,
+        Some(one) => Some(*one),
+    }
+}
+
+// A call, made by this session.
+fn seated(row: Ticking, session: u16) -> Ticking
+    ensures { result ≡ seated_by session row }
+{
+    Ticking { session, ..row }
+}
+
+// The one at a place is made by this session.
+pub(crate) fn seat_at(ticking: &mut Vec<Ticking>, place: usize, session: u16)
+    ensures { ChangesAt place (seated_by session) ticking.old.items ticking.new.items }
+{
+    if place >= ticking.len() {
+        return;
+    }
+    ticking[place] = seated(ticking[place], session);
+}
+
+// A call that was made in this second, or still waited.
+fn made(row: Ticking, second: u64) -> Ticking
+    ensures { result ≡ ticked second row }
+{
+    Ticking {
+        at: second.saturating_add(u64::from(row.seconds)),
+        ..row
     }
 }
 
 // The one at a place was made in this second, or still waited.
-pub(crate) fn tick_at(ticking: &mut [Ticking], place: usize, second: u64)
-    ensures { ChangesAt place (ticked second) ticking.old ticking.new }
+pub(crate) fn tick_at(ticking: &mut Vec<Ticking>, place: usize, second: u64)
+    ensures { ChangesAt place (ticked second) ticking.old.items ticking.new.items }
 {
-    if let Some(row) = ticking.get_mut(place) {
-        row.at = second.saturating_add(u64::from(row.seconds));
+    if place >= ticking.len() {
+        return;
+    }
+    ticking[place] = made(ticking[place], second);
+}
+
+// A call that was refused in this second.
+fn refused(row: Ticking, second: u64) -> Ticking
+    ensures { result ≡ unticked second row }
+{
+    Ticking {
+        at: second.saturating_add(1),
+        ..row
     }
 }
 
 // The one at a place was refused in this second.
-pub(crate) fn untick_at(ticking: &mut [Ticking], place: usize, second: u64)
-    ensures { ChangesAt place (unticked second) ticking.old ticking.new }
+pub(crate) fn untick_at(ticking: &mut Vec<Ticking>, place: usize, second: u64)
+    ensures { ChangesAt place (unticked second) ticking.old.items ticking.new.items }
 {
-    if let Some(row) = ticking.get_mut(place) {
-        row.at = second.saturating_add(1);
+    if place >= ticking.len() {
+        return;
     }
+    ticking[place] = refused(ticking[place], second);
 }

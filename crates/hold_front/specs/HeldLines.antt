@@ -10,7 +10,7 @@ use Rattle.trace_core.specs.Text.{lines_of}
 use Rattle.front_core.specs.Front.{Every, IsOperation, IsSession, IsLong}
 use Rattle.front_core.specs.Text.{call_words, rows}
 use Rattle.hold_form.specs.HoldForm.{HoldForm, reply_sorts}
-use Rattle.hold_core.specs.Held.{HeldCall}
+use Rattle.hold_core.specs.Held.{HeldCall, hold_of_op}
 
 -- the operation whose calls are held so; a number that no operation has, where there is no such hold
 abbrev pub op_by : Option HoldForm → ℕ
@@ -34,6 +34,7 @@ held_text o holds held = lines_of (rows (codes "held") (held_words o holds) held
 pub record IsHeldLine (o : ObjectForm) (holds : List HoldForm) (h : HeldCall) : Type 0 where
   pub rule : HoldForm
   pub there : slice_get holds h.rule ≡ Some rule
+  pub first : hold_of_op holds rule.op ≡ Some h.rule
   pub number : IsLong h.number
   pub session : IsSession h.session
   pub operation : IsOperation o rule.op
