@@ -6,11 +6,12 @@ use Rattle.std.specs.Prelude.{Bool, false, Option, Some, None, Result, Ok, Err, 
 use Rattle.std.proofs.lemmas.Option.{same_Some, slice_get-get_or, slice_get-map}
 use Rattle.hosted_core.specs.Scene.{Scene}
 use Rattle.live_core.specs.declared.call.Ran.{Ran}
-use Rattle.hold_form.specs.HoldForm.{RulesForm}
+use Rattle.hold_form.specs.HoldForm.{HoldForm, RulesForm}
+use Rattle.hold_front.specs.HeldLines.{held_text}
 use Rattle.hold_core.specs.Held.{HeldCall}
 use Rattle.gone_core.specs.declared.holding.OwedCall.{OwedCall}
 use Rattle.gone_core.specs.Holding.{Holding, IsDueOf, NothingIsDueOf}
-use Rattle.told_core.specs.Custody.{Custody, Custodies, FollowsIn, HeldBehindAll, HasSome, HasNone, IsFreeOf, IsOwed}
+use Rattle.told_core.specs.Custody.{Custody, Custodies, FollowsIn, HeldBehindAll, HasSome, HasNone, IsFreeOf, IsOwed, held_lines}
 use Rattle.told_core.specs.Custody.IsOwed.{gives_back}
 use Rattle.custody_core.specs.Views.{custody_of}
 
@@ -67,7 +68,7 @@ push_more (r ∷ rows) h = ap (λ (l : Custodies). custody_of r ∷ l) (push_mor
 pub stays_at : (rows : List Holding) (at : ℕ) (h : Holding) (session : ℕ) (is_named : Bool) → slice_get rows at ≡ Some h →
     (is_named ≡ false) × HasSome session h.held →
     (is_named ≡ false) × ((c : Custody) × (slice_get (map custody_of rows) at ≡ Some c) × HasSome session c.held)
-stays_at rows at h session is_named there (bare, some) = (bare, custody_of h, some_at rows at h there, some)
+stays_at rows at h session is_named there (bare, some) = (bare, (custody_of h, some_at rows at h there, some))
 
 pub free_at : (rows : List Holding) (at : ℕ) (h : Holding) (session : ℕ) (is_named : Bool) → slice_get rows at ≡ Some h →
     (is_named ≡ false → HasNone session h.held) → IsFreeOf (slice_get (map custody_of rows) at) is_named session
@@ -82,3 +83,10 @@ pub undone : (r : Result (Option OwedCall) AllocError) (custody : Custodies) (at
 undone (Ok None) custody at h o session there is = tt
 undone (Ok (Some u)) custody at h o session there is = (custody_of h, there, gives_back is.place is.call is.newest is.undo)
 undone (Err e) custody at h o session there is = tt
+
+-- the lines of what is held
+pub lines_are : (o form : ObjectForm) (kept : List HoldForm) (held : List HeldCall) (h : Holding) (custody : Custodies) (at : ℕ) → form ≡ o → kept ≡ h.rules.holds →
+    held ≡ h.held → slice_get custody at ≡ Some (custody_of h) → held_text form kept held ≡ held_lines o (slice_get custody at)
+lines_are o form kept held h custody at one two three there =
+    ap (λ (f : ObjectForm). held_text f kept held) one ∙ ap (λ (l : List HoldForm). held_text o l held) two
+    ∙ ap (λ (l : List HeldCall). held_text o h.rules.holds l) three ∙ sym (ap (λ (c : Option Custody). held_lines o c) there)

@@ -124,6 +124,15 @@ fn look_in(rows: &mut Vec<Holding>, at: usize, object: &Hosted, second: u64)
     }
 }
 
+// It is this second, for all objects.
+fn look_all(rows: &mut Vec<Holding>, objects: &[Hosted], second: u64)
+    ensures { map custody_of rows.new.items ≡ map custody_of rows.old.items }
+{
+    for at in 0..objects.len() {
+        look_in(rows, at, &objects[at], second);
+    }
+}
+
 impl AllHeld {
     /// No object says something of gone clients and of time.
     pub fn new(alloc: Global) -> AllHeld
@@ -322,8 +331,6 @@ impl AllHeld {
     pub fn look(&mut self, objects: &[Hosted], second: u64)
         ensures { self.new ≡ self.old }
     {
-        for at in 0..objects.len() {
-            look_in(&mut self.rows, at, &objects[at], second);
-        }
+        look_all(&mut self.rows, objects, second);
     }
 }

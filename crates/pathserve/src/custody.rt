@@ -7,8 +7,8 @@ use gone_core::holding::Holding;
 use hold_core::held::Holds;
 use hold_form::hold::Rules;
 use hold_front::lines::push_held;
-use hold_front::past::{held_of, play_held};
-use hold_front::text::{Cut, cut_held};
+use hold_front::past::play_held;
+use hold_front::text::{HeldFront, cut_held, read_held};
 use hosted_core::hosted::Hosted;
 use keep_start::start::{NotBegun, begin_behind};
 use recover_core::recover::{House, RecoverFault};
@@ -44,6 +44,17 @@ impl AllRules {
     }
 }
 
+// How many lines there are.
+fn count_lines(lines: &[u8]) -> u64 {
+    let mut count: u64 = 0;
+    for byte in lines {
+        if *byte == b'\n' {
+            count = count.saturating_add(1);
+        }
+    }
+    count
+}
+
 // The fault of a journal without held lines, as it is of the journal that has so many behind others.
 fn moved(fault: RecoverFault, before: u64, count: u64) -> RecoverFault {
     match fault {
@@ -56,11 +67,24 @@ fn moved(fault: RecoverFault, before: u64, count: u64) -> RecoverFault {
 }
 
 // What is not begun with, where held lines stood in the journal.
-fn moved_by(why: NotBegun, before: u64, count: u64) -> NotBegun {
+fn moved_by(why: NotBegun, text: &[u8], front: usize, behind: usize) -> NotBegun {
     match why {
-        NotBegun::Refused(fault) => NotBegun::Refused(moved(fault, before, count)),
+        NotBegun::Refused(fault) => {
+            let before = text.get(..front).unwrap_or(text);
+            let held = text.get(front..behind).unwrap_or(&[]);
+            NotBegun::Refused(moved(fault, count_lines(before), count_lines(held)))
+        }
         why => why,
     }
+}
+
+// The fault of a front that could not be read with what is held: an object of which nothing can be held had holds when its
+// journal was begun.
+fn fault_of(rules: &Rules, line: u64) -> RecoverFault {
+    if rules.holds.is_empty() {
+        return RecoverFault::Changed;
+    }
+    RecoverFault::Front(line)
 }
 
 /// Begins one object behind the lines of its journal, which has held lines or none.
@@ -70,38 +94,42 @@ pub(crate) fn begin_held(
     rules: &Rules,
     lines: &[u8],
 ) -> Result<BegunHeld, AllocError> {
-    let Some(cut) = cut_held(alloc, lines)? else {
-        return begin_played(alloc, object, rules, lines, Holds::new(alloc));
-    };
-    match held_of(alloc, &object, &rules.holds, &cut.held)? {
-        Err(line) => Ok(Err(NotBegun::Refused(fault_of(rules, &cut, line)))),
-        Ok(held) => match begin_played(alloc, object, rules, &cut.text, held)? {
-            Ok(begun) => Ok(Ok(begun)),
-            Err(why) => Ok(Err(moved_by(why, cut.before, cut.count))),
-        },
+    if rules.holds.is_empty() && rules.everies.is_empty() {
+        return begin_plain(alloc, object, lines, Holds::new(alloc));
+    }
+    match read_held(alloc, &object, &rules.holds, lines)? {
+        Err(line) => Ok(Err(NotBegun::Refused(fault_of(rules, line)))),
+        Ok(read) => begin_read(alloc, object, rules, lines, read),
     }
 }
 
-// The fault of a line that is no held line of an object: one of which nothing can be held had holds when its journal was
-// begun.
-fn fault_of(rules: &Rules, cut: &Cut, line: u64) -> RecoverFault {
-    if rules.holds.is_empty() {
-        return RecoverFault::Changed;
-    }
-    RecoverFault::Front(cut.before.saturating_add(line))
-}
-
-// Begins one object behind its journal without held lines, at the beginning of which this was held.
-fn begin_played(
+// Begins one object behind its journal, whose front was read with what is held.
+fn begin_read(
     alloc: Global,
     object: Object,
     rules: &Rules,
     lines: &[u8],
-    mut held: Holds,
+    read: HeldFront,
 ) -> Result<BegunHeld, AllocError> {
-    if !rules.holds.is_empty() {
-        play_held(alloc, &object, &rules.holds, &mut held, lines)?;
+    let cut = cut_held(alloc, lines, &read)?;
+    let (front, behind) = (read.front, read.behind);
+    let held = match play_held(alloc, &object, &rules.holds, read, lines)? {
+        Some(held) => held,
+        None => Holds::new(alloc),
+    };
+    match begin_plain(alloc, object, &cut, held)? {
+        Ok(begun) => Ok(Ok(begun)),
+        Err(why) => Ok(Err(moved_by(why, lines, front, behind))),
     }
+}
+
+// Begins one object behind its journal without held lines, of which this is held.
+fn begin_plain(
+    alloc: Global,
+    object: Object,
+    lines: &[u8],
+    held: Holds,
+) -> Result<BegunHeld, AllocError> {
     let house = House {
         sessions: LIMITS.sessions,
         names: NAMES,

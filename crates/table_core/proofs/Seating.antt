@@ -398,3 +398,8 @@ none_more clients at session number place before none k less custody objects wai
     by : ((eqb k place ≡ true) × (k ≡ place)) ⊎ ((eqb k place ≡ false) × (k ≢ place)) → ⊥
     by (inl same) = none custody objects (subst (λ n. Waits at session number (state_of custody objects clients) n) same.1 waits)
     by (inr other) = before k (let ne = other.1 in omega (arith, less, ne)) custody objects waits
+
+-- the one at a place has not this session of the object at a place
+abbrev pub HasNot : Clients → ℕ → ℕ → ℕ → Type 0
+HasNot clients at session place =
+    (o : Opened) → opened_in (slice_get (peers_of clients) place) ≡ Some o → o.object ≡ at → o.session ≡ session → ⊥

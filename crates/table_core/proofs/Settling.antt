@@ -1,6 +1,9 @@
 -- What is done for those that are gone.
 use Rattle.std.proofs.Common.{◌≡◌, ◌∙◌, ap, sym, subst, refl, ℕ, inl, inr, List, [], ◌∷◌, ◌++◌, append_assoc, append-nil}
-use Rattle.std.specs.Prelude.{false, Option, Some, slice_get, slice_set}
+use Rattle.std.specs.Prelude.{false, Option, Some, None, Result, Ok, Err, IfOk, IfSome, slice_get, slice_set}
+use Rattle.std.specs.declared.alloc.AllocError.{AllocError}
+use Rattle.decl_core.specs.ObjectForm.{ObjectForm}
+use Rattle.gone_core.specs.declared.holding.OwedCall.{OwedCall}
 use Rattle.std.proofs.lemmas.List.{append_cancel_right}
 use Rattle.std.proofs.lemmas.Option.{same_Some}
 use Rattle.post_core.specs.Posts.{Tells}
@@ -199,7 +202,7 @@ pub stays_held : (custody new : Custodies) (objects : List Scene) (clients : Cli
     Some opened ≡ opened_at (state_of custody objects clients) place → new ≡ custody →
     (opened.is_named ≡ false) × ((c : Custody) × (slice_get custody opened.object ≡ Some c) × HasSome opened.session c.held) →
     LeavesOf place (state_of custody objects clients) (state_of new objects clients)
-stays_held custody new objects clients place opened by same (bare, c, has, some) = inr (inr (record {
+stays_held custody new objects clients place opened by same (bare, (c, has, some)) = inr (inr (record {
   opened = opened;
   by = sym by;
   bare = bare;
@@ -270,8 +273,8 @@ free_left custody old new clients at session now apart c (inr none) = inr (objec
 -- the same, where what is held was noted before
 pub free_noted : (custody kept : Custodies) (old new : List Scene) (clients : Clients) (at session : ℕ) → kept ≡ custody →
     FreesOr at session (state_of kept old clients) (state_of kept new clients) → FreesOr at session (state_of custody old clients) (state_of kept new clients)
-free_noted custody kept old new clients at session same frees =
-    subst (λ (c : Custodies). FreesOr at session (state_of c old clients) (state_of kept new clients)) same frees
+free_noted custody kept old new clients at session same left =
+    subst (λ (c : Custodies). FreesOr at session (state_of c old clients) (state_of kept new clients)) same left
 
 -- a session gets a number
 pub seat_given : (custody kept : Custodies) (old new : List Scene) (clients : Clients) (at session : ℕ) →
@@ -293,7 +296,7 @@ seat_given custody kept old new clients at session (c, has) seat same = inl (ses
 pub owed_again : (s : State) (at session operation place : ℕ) (arguments : List Datum) → arguments ≡ [] →
     ((c : Custody) × (slice_get s.custody at ≡ Some c) × ((e : EveryForm) × (slice_get c.rules.everies place ≡ Some e) × (operation ≡ e.op))) →
     IsOwedAt s at session operation arguments
-owed_again s at session operation place arguments none (c, has, e, there, is) object found = (c, has, again place e there (sym is) none)
+owed_again s at session operation place arguments none (c, has, (e, there, is)) object found = (c, has, again place e there (sym is) none)
 
 pub owed_back : (s : State) (at session operation : ℕ) (arguments : List Datum) (object : Scene) → slice_get s.objects at ≡ Some object →
     ((c : Custody) × (slice_get s.custody at ≡ Some c) × IsOwed (object_of object.hall.object) c session operation arguments) →
@@ -314,3 +317,14 @@ begins_held custody old new clients at text front lines fronts is cut begins =
       peers = refl;
       custody = refl;
     }
+
+-- what was found is owed
+pub owed_found : (r : Result (Option OwedCall) AllocError) (s : State) (at session : ℕ) (object : Scene) (o : ObjectForm) → slice_get s.objects at ≡ Some object →
+    o ≡ object_of object.hall.object →
+    IfOk r (λ found. IfSome found (λ u. (c : Custody) × (slice_get s.custody at ≡ Some c) × IsOwed o c session u.operation u.arguments.items)) →
+    IfOk r (λ found. IfSome found (λ u. IsOwedAt s at session u.operation u.arguments.items))
+owed_found (Ok None) s at session object o there same is = tt
+owed_found (Ok (Some u)) s at session object o there same is =
+    owed_back s at session u.operation u.arguments.items object there
+    (subst (λ (f : ObjectForm). (c : Custody) × (slice_get s.custody at ≡ Some c) × IsOwed f c session u.operation u.arguments.items) same is)
+owed_found (Err e) s at session object o there same is = tt

@@ -45,7 +45,7 @@ refuses_one : (old new : State) (said added : Texts) (place : ℕ) (key : Option
 refuses_one old new said added place key name arguments opened by seat mid (inl same) refused =
     inr (inr (inl (subst (λ (s : State). IsRefused place s said added new) same.1 refused)))
 refuses_one old new said added place key name arguments opened by seat mid (inr gets) refused =
-    inr (inr (inr (record { opened = opened; by = by; seat = seat; mid = mid; gets = gets; refused = refused })))
+    inr (inr (inr (inl (record { opened = opened; by = by; seat = seat; mid = mid; gets = gets; refused = refused }))))
 
 named_as : (object : Scene) (operation : Option ℕ) (asked : ℕ) (name : List ℕ) → operation ≡ Some asked →
     IfSome operation (λ o. operation_name (object_of object.hall.object) o ≡ name) → operation_name (object_of object.hall.object) asked ≡ name

@@ -8,7 +8,7 @@ ghost use Rattle.hosted_core.specs.Scene.{Scene};
 ghost use Rattle.client_core.specs.declared.client.Opened.{Opened as AnOpened};
 ghost use Rattle.post_core.specs.Posts.{Tells};
 ghost use Rattle.told_core.specs.Asked.{Opens, Follows};
-ghost use Rattle.told_core.specs.Custody.{not_held_text};
+ghost use Rattle.told_core.specs.Custody.{Custody, HasNone, not_held_text};
 ghost use Rattle.told_core.specs.Deeds.{OnlyTold};
 ghost use Rattle.told_core.specs.Gone.{Settles, NoneHas};
 ghost use Rattle.told_core.specs.Moves.{BeginsHeld, FrontsHeld, IsFrontAt};
@@ -351,8 +351,14 @@ impl Table {
     }
 
     // Whether a session holds nothing, and no connection has it.
-    fn may_free(&self, at: usize, session: u16) -> bool {
-        self.custody.holds_none(at, session) && !has_session(&self.clients, at, session)
+    fn may_free(&self, at: usize, session: u16) -> bool
+        ensures none { result ≡ true → (c : Custody) × (slice_get self.now.custody at ≡ Some c) × HasNone session c.held }
+        ensures apart { result ≡ true → NoneHas at session (seen self.now) }
+    {
+        if has_session(&self.clients, at, session) {
+            return false;
+        }
+        self.custody.holds_none(at, session)
     }
 
     // Makes a call for a gone session, and notes what became of it.

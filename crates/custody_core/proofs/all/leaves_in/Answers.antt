@@ -2,7 +2,7 @@ use Rattle.custody_core.proofs.Placing.{at_place, same_at, stays_at, free_at}
 use Rattle.custody_core.proofs.all.leaves_in.Goals as goal
 
 pub returns-in_ok-stays-in-Some-clause-same : goal.returns-in_ok-stays-in-Some-clause-same
-returns-in_ok-stays-in-Some-clause-same c = same_at c.args.rows.now.items c.args.at c.in-Some.holding.now c.leaves_one-stays.new.holding
+returns-in_ok-stays-in-Some-clause-same c = same_at c.args.rows.now.items c.args.at c.in-Some.holding.now c.leaves_one.new.holding
     (at_place c.args.rows.now.items c.args.at c.in-Some.holding.now c.in-Some.ensures.item.3.0 c.in-Some.ensures.value)
     c.in_ok-stays-in-Some.ensures.same
 
