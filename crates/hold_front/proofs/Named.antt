@@ -8,8 +8,6 @@ use Rattle.std.proofs.lemmas.Slice.Eq.{bytes_eq-Decides}
 use Rattle.path_tree.specs.Known.{place_of, next}
 use Rattle.std.specs.declared.sync.Arc.{Arc}
 use Rattle.std.specs.Arc.{arc_value}
-use Rattle.value_core.specs.declared.datum.Datum.{Datum}
-use Rattle.value_core.specs.Datum.{elem_of}
 use Rattle.decl_core.specs.declared.object.Operation.{Operation}
 use Rattle.decl_core.specs.declared.object.Param.{Param}
 use Rattle.decl_core.specs.Form.{Body}

@@ -1,24 +1,23 @@
 -- The lines of what is held, in a text.
-use Rattle.std.proofs.Common.{◌≡◌, ℕ, zero, suc, ◌+◌, ◌-◌, ◌≤◌, true, false, Bool, List, [], ◌∷◌, ◌++◌, length, take, drop, refl, sym, ap, ◌∙◌, subst, append_assoc, arith, ◌⊎◌, inl, inr, length-append}
+use Rattle.std.proofs.Common.{◌≡◌, ℕ, zero, suc, ◌-◌, true, false, List, [], ◌∷◌, ◌++◌, length, take, drop, refl, sym, ap, ◌∙◌, subst, append_assoc, arith, ◌⊎◌, inr, length-append}
 use Rattle.std.specs.Prelude.{codes, ◌==◌, Result, Ok, Err, IfErr, IfOk, MatchResult}
 use Rattle.std.proofs.lemmas.Bool.{false≢true}
 use Rattle.std.proofs.lemmas.Bool.Decides.{nat_tests}
 use Rattle.std.proofs.lemmas.List.Elements.{All-head, All-tail}
 use Rattle.decl_core.specs.ObjectForm.{ObjectForm}
 use Rattle.line_core.specs.Runs.{NoLineFeed}
-use Rattle.word_core.specs.Words.{Word, words_text, line_of}
+use Rattle.word_core.specs.Words.{words_text, line_of}
 use Rattle.trace_core.specs.Laws.{HasNames}
-use Rattle.trace_core.specs.Text.{lines_of}
 use Rattle.front_core.specs.declared.front.Front.{Front}
 use Rattle.front_core.specs.Front.{Every, HasRows, Opening, opening_of}
 use Rattle.front_core.specs.Text.{front_text, rows}
 use Rattle.front_read.specs.Fault.{IsFirstFault}
-use Rattle.front_read.specs.Rows.{AreRows, Breaks, IsRow, NoRow, has_verb, row_words}
+use Rattle.front_read.specs.Rows.{AreRows, IsRow, NoRow, has_verb, row_words}
 use Rattle.hold_form.specs.HoldForm.{HoldForm}
 use Rattle.hold_core.specs.Held.{HeldCall}
 use Rattle.hold_front.specs.declared.text.HeldFront.{HeldFront}
 use Rattle.hold_front.specs.HeldLines.{held_text, held_words, IsHeldLine}
-use Rattle.hold_front.specs.HeldSo.{TakesHeld, Tells}
+use Rattle.hold_front.specs.HeldSo.{TakesHeld}
 use Rattle.hold_front.specs.HeldText.{HasHeld, IsBehind, IsHeldFault}
 use Rattle.hold_front.proofs.Reading.{held_clear, held_once, words_in}
 use Rattle.hold_front.proofs.Safe.{no_feed}

@@ -1,7 +1,7 @@
 use Rattle.std.proofs.Common.{refl}
 use Rattle.decl_core.specs.ObjectMap.{object_of}
 use Rattle.hold_form.specs.HoldMap.{holds_of}
-use Rattle.hold_front.proofs.Reading.{have_none, have_words, no_words}
+use Rattle.hold_front.proofs.Reading.{have_none, no_words}
 use Rattle.hold_front.proofs.read.take_held.Goals as goal
 
 pub returns-in-None : goal.returns-in-None

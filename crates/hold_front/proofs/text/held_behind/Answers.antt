@@ -1,7 +1,7 @@
 use Rattle.std.proofs.Common.{◌≡◌, drop, false, refl, subst, sym}
 use Rattle.std.specs.Prelude.{codes}
 use Rattle.decl_core.specs.ObjectMap.{object_of}
-use Rattle.front_read.specs.Rows.{AreRows, has_verb, TakesAll}
+use Rattle.front_read.specs.Rows.{AreRows, has_verb}
 use Rattle.hold_form.specs.HoldMap.{holds_of}
 use Rattle.hold_front.specs.HeldLines.{held_words, IsHeldLine}
 use Rattle.hold_front.proofs.Texts.{behind_is}

@@ -1,4 +1,4 @@
-use Rattle.std.proofs.Common.{true, false, subst}
+use Rattle.std.proofs.Common.{subst}
 use Rattle.decl_core.specs.ObjectMap.{object_of}
 use Rattle.hold_form.specs.HoldMap.{holds_of}
 use Rattle.hold_front.specs.HeldSo.{TakesHeld}
