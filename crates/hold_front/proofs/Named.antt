@@ -1,14 +1,13 @@
 -- Operations by their names, and as they lie in an object.
-use Rattle.std.proofs.Common.{◌≡◌, ℕ, ◌<◌, ◌++◌, List, [], ◌∷◌, length, refl, sym, ap, ◌∙◌, subst, arith, zero, suc, get_or}
+use Rattle.std.proofs.Common.{◌≡◌, ℕ, ◌<◌, ◌++◌, List, [], ◌∷◌, length, refl, sym, ap, ◌∙◌, subst, arith, zero, suc, get_or, inl, inr}
 use Rattle.std.specs.Prelude.{map, Option, Some, None, true, false, Bool, cond, bytes_eq, slice_index_or, slice_get, ◌==◌}
 use Rattle.std.proofs.lemmas.List.{length-map}
-use Rattle.std.proofs.lemmas.Bool.{eqb_tells}
+use Rattle.std.proofs.lemmas.Bool.{false≢true}
+use Rattle.std.proofs.lemmas.Bool.Decides.{eqb_tells}
 use Rattle.std.proofs.lemmas.Slice.Eq.{bytes_eq-Decides}
 use Rattle.path_tree.specs.Known.{place_of, next}
 use Rattle.std.specs.declared.sync.Arc.{Arc}
 use Rattle.std.specs.Arc.{arc_value}
-use Rattle.value_core.specs.declared.datum.Datum.{Datum}
-use Rattle.value_core.specs.Datum.{elem_of}
 use Rattle.decl_core.specs.declared.object.Operation.{Operation}
 use Rattle.decl_core.specs.declared.object.Param.{Param}
 use Rattle.decl_core.specs.Form.{Body}
@@ -79,4 +78,4 @@ rule_step false h holds op r same later is =
 
 pub rule_at : (holds : List HoldForm) (op r : ℕ) → hold_of_op holds op ≡ Some r → (rule : HoldForm) × (slice_get holds r ≡ Some rule) × (rule.op ≡ op)
 rule_at [] op r is = absurd cc
-rule_at (h ∷ holds) op r is = rule_step (h.op == op) h holds op r (λ e. eqb_tells h.op op e) (λ j e. rule_at holds op j e) is
+rule_at (h ∷ holds) op r is = rule_step (h.op == op) h holds op r (λ e. elim (eqb_tells h.op op) [ inl same ↦ same.1 | inr other ↦ absurd (false≢true (sym other.0 ∙ e)) ]) (λ j e. rule_at holds op j e) is

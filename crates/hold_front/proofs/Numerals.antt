@@ -7,7 +7,6 @@ use Rattle.std.proofs.lemmas.Bool.{cases_lt, and_parts}
 use Rattle.std.proofs.lemmas.Bool.Decides.{nat_tests}
 use Rattle.std.proofs.lemmas.Fmt.{digits_decimal, digits_value-decimal, decimal_nonempty}
 use Rattle.word_core.proofs.Numerals.{digits}
-use Rattle.word_core.specs.Data.{integer_of}
 use Rattle.front_read.specs.Words.{long_of}
 
 pub long_of-decimal : (n : ℕ) → n < 2 ^ 64 → long_of (decimal n) ≡ Some n

@@ -1,13 +1,12 @@
 -- What is held behind lines.
 use Rattle.std.proofs.Common.{◌≡◌, ℕ, List, [], ◌∷◌, ◌++◌, refl, sym, ap, ◌∙◌, subst}
-use Rattle.std.proofs.lemmas.List.{append-nil}
 use Rattle.decl_core.specs.ObjectForm.{ObjectForm}
 use Rattle.apply_core.specs.declared.reply.Reply.{Reply}
 use Rattle.trace_core.specs.Events.{Called, Happened, ended}
 use Rattle.front_core.specs.declared.front.CarriedCall.{CarriedCall}
 use Rattle.replay_core.specs.declared.replay.Replay.{Replay}
 use Rattle.replay_core.specs.Stands.{Stands}
-use Rattle.replay_core.specs.Steps.{Begun, Heard, Step, nothing_heard}
+use Rattle.replay_core.specs.Steps.{Begun, Heard, nothing_heard}
 use Rattle.replay_core.specs.Tells.{Tells, Tell}
 use Rattle.recover_core.specs.Lines.{AreLines, IsLine, joined}
 use Rattle.recover_core.proofs.Cutting.{joined_more, lines_more}

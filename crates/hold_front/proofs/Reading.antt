@@ -1,11 +1,14 @@
 -- Held calls are read from the words of their lines.
-use Rattle.std.proofs.Common.{◌≡◌, ℕ, ◌<◌, ◌≤◌, ◌^◌, ◌==◌, true, false, Bool, cond, List, [], ◌∷◌, ◌++◌, refl, sym, ap, ◌∙◌, subst, arith, map}
-use Rattle.std.specs.Prelude.{Option, Some, None, MatchOption, decimal, nat_lt, codes, slice_get}
+use Rattle.std.proofs.Common.{◌≡◌, ℕ, ◌≤◌, ◌==◌, true, false, Bool, cond, List, [], ◌∷◌, ◌++◌, refl, sym, ap, ◌∙◌, subst, arith, map}
+use Rattle.std.specs.Prelude.{Option, Some, None, decimal, nat_lt, codes}
 use Rattle.std.proofs.lemmas.Bool.Decides.{nat_tests}
 use Rattle.std.proofs.lemmas.List.{same_from_push}
 use Rattle.value_core.specs.declared.datum.Datum.{Datum}
 use Rattle.value_core.specs.Datum.{IsDatum}
 use Rattle.decl_core.specs.ObjectForm.{ObjectForm}
+use Rattle.std.specs.Global.{Vec}
+use Rattle.word_core.specs.declared.word.Word as declared
+use Rattle.word_core.specs.View.{AreWordsOf, words_of}
 use Rattle.word_core.specs.Words.{Word, bare, AreWords, words_text, line_of}
 use Rattle.word_core.specs.Data.{◌>>=◌, bare_of, session_of, session_word, datum_word, data_of}
 use Rattle.word_core.proofs.Clear.{written_data}
@@ -18,13 +21,13 @@ use Rattle.front_core.specs.Front.{Every, IsLong, IsSession, IsOperation}
 use Rattle.front_core.specs.Text.{call_words}
 use Rattle.front_read.specs.Calls.{operation_in}
 use Rattle.front_read.specs.Rows.{row_words}
-use Rattle.front_read.specs.Words.{behind_verb, long_first, session_first}
+use Rattle.front_read.specs.Words.{behind_verb, long_first, long_of, session_first}
 use Rattle.hold_form.specs.HoldForm.{HoldForm}
 use Rattle.hold_core.specs.Held.{HeldCall, hold_of_op}
 use Rattle.hold_front.specs.HeldLines.{held_op, held_words, op_by, IsHeldLine}
 use Rattle.hold_front.specs.HeldSo.{held_head, held_so, IsHeldBy, TakesBy, TakesHeld, Tells}
 use Rattle.hold_front.proofs.Named.{first_of, rule_at}
-use Rattle.hold_front.proofs.Numerals.{long_of-decimal}
+use Rattle.hold_front.proofs.Numerals.{long_fits, long_of-decimal}
 use Rattle.hold_front.proofs.Safe.{all_of, decimal_safe, known, named_safe, session_safe}
 
 pub some_same : {X : Type 0} {x y : X} → ◌≡◌ {A = Option X} (Some x) (Some y) → x ≡ y
@@ -70,6 +73,13 @@ session_is ws r is =
     let d = two_tests (b.0 == 0) (nat_lt 65535 b.0) (b.0, a.0.1) r b.2 in
     subst (λ (x : ℕ × List Word). IsSession x.0) d.2 (zero_not b.0 d.0, few_not b.0 d.1)
 
+long_is : (ws : List Word) (r : ℕ × List Word) → long_first ws ≡ Some r → IsLong r.0
+long_is ws r is =
+    let a = bind_some (bare_of ws) _ r is in
+    let b = bind_some (long_of a.0.0) _ r a.2 in
+    let same : b.0 ≡ r.0 = ap (λ (x : ℕ × List Word). x.0) (some_same b.2) in
+    subst IsLong same (long_fits a.0.0 b.0 b.1)
+
 -- the words of a held line, and that they stand on one line
 abbrev pub words_in : ObjectForm → List HoldForm → HeldCall → List Word
 words_in o holds h = row_words (codes "held") (held_words o holds) h
@@ -89,6 +99,15 @@ held_told o holds h is =
     let name : ℕ → ℕ × List Word → Option (ℕ × ℕ × List ℕ × List Word) = λ s n. bare_of n.1 >>= λ d. Some (s, n.0, d.0, d.1) in
     ap (λ r. r >>= λ (b : ℕ × List Word). long_first b.1 >>= λ n. name b.0 n) (session_told h.session (bare (decimal h.number) ∷ call) is.session)
     ∙ ap (λ r. r >>= λ (n : ℕ × List Word). name h.session n) (long_told h.number call is.number)
+
+-- the words of a line, as they were read
+pub have_words : (first : List ℕ) (found : Option (Vec declared.Word)) (v : Vec declared.Word) (slice : List declared.Word) → AreWordsOf first found → found ≡ Some v → slice ≡ v.items → AreWords first (words_of slice)
+have_words first None v slice are is same = absurd (not_some v is)
+have_words first (Some u) v slice are is same = subst (λ ws. AreWords first (words_of ws)) (ap (λ (x : Vec declared.Word). x.items) (some_same is) ∙ sym same) are
+
+pub have_none : (first : List ℕ) (found : Option (Vec declared.Word)) → AreWordsOf first found → found ≡ None → (all : List Word) → AreWords first all → ⊥
+have_none first None none is all are = none all are
+have_none first (Some u) has is all are = absurd (not_some u (sym is))
 
 -- a line that tells a held call has its words
 line_words : (o : ObjectForm) (holds : List HoldForm) (line : List ℕ) (ws : List Word) (h : HeldCall) → HasNames o → AreWords line ws → Tells o holds line h → ws ≡ words_in o holds h
@@ -134,6 +153,14 @@ head_session ws rest s n name is =
     let d = bind_some (bare_of t.0.1) _ (s, n, name, rest) t.2 in
     subst IsSession (ap (λ (p : Head). p.0) (some_same {X = Head} d.2)) (session_is a.0 b.0 b.1)
 
+head_long : (ws rest : List Word) (s n : ℕ) (name : List ℕ) → held_head ws ≡ Some (s, n, name, rest) → IsLong n
+head_long ws rest s n name is =
+    let a = bind_some (behind_verb (codes "held") ws) _ (s, n, name, rest) is in
+    let b = bind_some (session_first a.0) _ (s, n, name, rest) a.2 in
+    let t = bind_some (long_first b.0.1) _ (s, n, name, rest) b.2 in
+    let d = bind_some (bare_of t.0.1) _ (s, n, name, rest) t.2 in
+    subst IsLong (ap (λ (p : Head). p.1) (some_same {X = Head} d.2)) (long_is b.0.1 t.0 t.1)
+
 is_line : (o : ObjectForm) (holds : List HoldForm) (s n r op : ℕ) (name : List ℕ) (values : List Datum) → IsSession s → IsLong n → operation_in o name ≡ Some op → hold_of_op holds op ≡ Some r → IsHeldBy o op values → Every IsDatum values → IsHeldLine o holds (held_so s n r values)
 is_line o holds s n r op name values session long place rule by each =
     let at = rule_at holds op r rule in
@@ -150,12 +177,12 @@ is_line o holds s n r op name values session long place rule by each =
     }
 
 -- what was taken by its words
-pub takes_told : (o : ObjectForm) (holds : List HoldForm) (line : List ℕ) (ws rest : List Word) (s n : ℕ) (name : List ℕ) (values : List Datum) (old new : List HeldCall) (taken : Bool) → HasNames o → AreWords line ws → IsLong n
+pub takes_told : (o : ObjectForm) (holds : List HoldForm) (line : List ℕ) (ws rest : List Word) (s n : ℕ) (name : List ℕ) (values : List Datum) (old new : List HeldCall) (taken : Bool) → HasNames o → AreWords line ws
     → ◌≡◌ {A = Option Head} (Some (s, n, name, rest)) (held_head ws) → ◌≡◌ {A = Option (List Datum)} (Some values) (data_of rest)
     → TakesBy o holds line s n name values old taken new → TakesHeld o holds line old taken new
-takes_told o holds line ws rest s n name values old new true named are long head those takes =
-    (held_so s n takes.1 values, record { is = is_line o holds s n takes.1 takes.0 name values (head_session ws rest s n name (sym head)) long takes.2 takes.3 takes.4 takes.5; told = takes.6 }, takes.7)
-takes_told o holds line ws rest s n name values old new false named are long head those takes = (
+takes_told o holds line ws rest s n name values old new true named are head those takes =
+    (held_so s n takes.1 values, record { is = is_line o holds s n takes.1 takes.0 name values (head_session ws rest s n name (sym head)) (head_long ws rest s n name (sym head)) takes.2 takes.3 takes.4 takes.5; told = takes.6 }, takes.7)
+takes_told o holds line ws rest s n name values old new false named are head those takes = (
   (λ h tells.
       let is = tells.is in
       let e = same_head o holds line ws rest s n name named are head h tells in

@@ -1,6 +1,6 @@
 -- What is written of held calls stands on one line.
-use Rattle.std.proofs.Common.{◌≡◌, ℕ, zero, suc, ◌<◌, ◌^◌, true, List, [], ◌∷◌, length, refl, arith, inl, inr, map, false}
-use Rattle.std.specs.Prelude.{All, codes, decimal, nat_lt, ◌&&◌, ◌==◌, Bool, slice_index_or}
+use Rattle.std.proofs.Common.{◌≡◌, ℕ, zero, suc, ◌<◌, ◌^◌, true, List, [], ◌∷◌, length, arith, inl, inr, map, false}
+use Rattle.std.specs.Prelude.{All, decimal, nat_lt, ◌&&◌, ◌==◌, Bool, slice_index_or}
 use Rattle.std.specs.List.{list_all}
 use Rattle.std.proofs.lemmas.Bool.{and_parts}
 use Rattle.std.proofs.lemmas.Bool.Decides.{nat_tests}

@@ -1,22 +1,24 @@
 -- The lines of what is held, in a text.
-use Rattle.std.proofs.Common.{◌≡◌, ℕ, zero, suc, ◌+◌, ◌-◌, ◌≤◌, true, false, Bool, List, [], ◌∷◌, ◌++◌, length, take, drop, refl, sym, ap, ◌∙◌, subst, append_assoc, arith, inl, inr, length-append}
-use Rattle.std.specs.Prelude.{codes, ◌==◌, Result, Ok, Err, MatchResult}
+use Rattle.std.proofs.Common.{◌≡◌, ℕ, zero, suc, ◌-◌, true, false, List, [], ◌∷◌, ◌++◌, length, take, drop, refl, sym, ap, ◌∙◌, subst, append_assoc, arith, ◌⊎◌, inr, length-append}
+use Rattle.std.specs.Prelude.{codes, ◌==◌, Result, Ok, Err, IfErr, IfOk, MatchResult}
 use Rattle.std.proofs.lemmas.Bool.{false≢true}
 use Rattle.std.proofs.lemmas.Bool.Decides.{nat_tests}
 use Rattle.std.proofs.lemmas.List.Elements.{All-head, All-tail}
 use Rattle.decl_core.specs.ObjectForm.{ObjectForm}
 use Rattle.line_core.specs.Runs.{NoLineFeed}
-use Rattle.word_core.specs.Words.{Word, words_text, line_of}
+use Rattle.word_core.specs.Words.{words_text, line_of}
 use Rattle.trace_core.specs.Laws.{HasNames}
-use Rattle.trace_core.specs.Text.{lines_of}
 use Rattle.front_core.specs.declared.front.Front.{Front}
-use Rattle.front_core.specs.Front.{Every, HasRows, Opening}
+use Rattle.front_core.specs.Front.{Every, HasRows, Opening, opening_of}
 use Rattle.front_core.specs.Text.{front_text, rows}
-use Rattle.front_read.specs.Rows.{AreRows, Breaks, IsRow, NoRow, has_verb, row_words}
+use Rattle.front_read.specs.Fault.{IsFirstFault}
+use Rattle.front_read.specs.Rows.{AreRows, IsRow, NoRow, has_verb, row_words}
 use Rattle.hold_form.specs.HoldForm.{HoldForm}
 use Rattle.hold_core.specs.Held.{HeldCall}
+use Rattle.hold_front.specs.declared.text.HeldFront.{HeldFront}
 use Rattle.hold_front.specs.HeldLines.{held_text, held_words, IsHeldLine}
-use Rattle.hold_front.specs.HeldSo.{TakesHeld, Tells}
+use Rattle.hold_front.specs.HeldSo.{TakesHeld}
+use Rattle.hold_front.specs.HeldText.{HasHeld, IsBehind, IsHeldFault}
 use Rattle.hold_front.proofs.Reading.{held_clear, held_once, words_in}
 use Rattle.hold_front.proofs.Safe.{no_feed}
 
@@ -135,3 +137,46 @@ front_by text front rest is = subst (λ t. take (length t - length rest) t ≡ f
 
 pub rest_by : (text front rest : List ℕ) → text ≡ front ++ rest → drop (length text - length rest) text ≡ rest
 rest_by text front rest is = subst (λ t. drop (length t - length rest) t ≡ rest) (sym is) (ap (λ n. drop n (front ++ rest)) (less_rest front rest) ∙ rest_is front rest)
+
+-- where the rest of a text begins
+pub behind_is : (o : ObjectForm) (holds : List HoldForm) (front n : ℕ) (text rest : List ℕ) (held : List HeldCall) → AreRows (IsHeldLine o holds) (codes "held") (held_words o holds) (drop front text) held rest → n ≡ length text - length rest → drop n text ≡ rest
+behind_is o holds front n text rest held are is =
+    ap (λ k. drop k text) is ∙ rest_by text (take front text ++ held_text o holds held) rest (whole_is front text ∙ ap (λ t. take front text ++ t) are.stand ∙ sym (append_assoc (take front text) (held_text o holds held) rest))
+
+-- what was read of a front with what is held
+pub told_by : (o : ObjectForm) (holds : List HoldForm) (opening : Front) (front : ℕ) (text : List ℕ) (found : Result HeldFront ℕ) → take front text ≡ front_text o (opening_of opening) → HasRows o (opening_of opening) → IsBehind o holds opening front text found
+    → IfOk found (λ c. HasHeld o holds text (opening_of c.opening) c.held (drop c.behind text) × (take c.front text ≡ front_text o (opening_of c.opening)))
+told_by o holds opening front text (Ok c) is rows behind = (
+  record {
+    rows = subst (λ f. HasRows o (opening_of f)) (sym behind.0) rows;
+    each = behind.3.each;
+    told = whole_is front text ∙ ap (λ t. t ++ drop front text) (is ∙ ap (λ f. front_text o (opening_of f)) (sym behind.0)) ∙ ap (λ t. front_text o (opening_of c.opening) ++ t) behind.3.stand;
+    ends = behind.2;
+  },
+  ap (λ n. take n text) behind.1 ∙ is ∙ ap (λ f. front_text o (opening_of f)) (sym behind.0),
+)
+told_by o holds opening front text (Err number) is rows behind = tt
+
+pub found_by : (o : ObjectForm) (holds : List HoldForm) (opening : Front) (front : ℕ) (text : List ℕ) (found : Result HeldFront ℕ) (f : Opening) (held : List HeldCall) (behind : List ℕ) → HasNames o → HasHeld o holds text f held behind
+    → ((opening_of opening ≡ f) × (front ≡ length (front_text o f))) → IsBehind o holds opening front text found
+    → MatchResult found (λ c. (opening_of c.opening ≡ f) × (c.held ≡ held) × (take c.front text ≡ front_text o f) × (drop c.behind text ≡ behind)) (λ _. ⊥)
+found_by o holds opening front text (Ok c) f held behind named has same is =
+    let ft = front_text o f in
+    let rest : drop front text ≡ held_text o holds held ++ behind = ap (λ n. drop n text) same.1 ∙ ap (drop (length ft)) has.told ∙ rest_is ft (held_text o holds held ++ behind) in
+    let once = rows_once o holds c.held held (drop c.behind text) behind named is.3.each has.each is.2 has.ends (sym is.3.stand ∙ rest) in
+    (ap opening_of is.0 ∙ same.0, once.0, ap (λ n. take n text) (is.1 ∙ same.1) ∙ ap (take (length ft)) has.told ∙ front_is ft (held_text o holds held ++ behind), once.1)
+found_by o holds opening front text (Err number) f held behind named has same is =
+    let ft = front_text o f in
+    let rest : drop front text ≡ held_text o holds held ++ behind = ap (λ n. drop n text) same.1 ∙ ap (drop (length ft)) has.told ∙ rest_is ft (held_text o holds held ++ behind) in
+    breaks_once o holds is.1.before held is.0 behind named is.1.rows_are.each has.each is.1.goes is.1.none has.ends (sym is.1.rows_are.stand ∙ rest)
+
+pub fault_by : (o : ObjectForm) (holds : List HoldForm) (opening : Front) (front : ℕ) (text : List ℕ) (found : Result HeldFront ℕ) → take front text ≡ front_text o (opening_of opening) → HasRows o (opening_of opening) → IsBehind o holds opening front text found
+    → IfErr found (λ line. IsFirstFault o text line ⊎ IsHeldFault o holds text line)
+fault_by o holds opening front text (Ok c) is rows behind = tt
+fault_by o holds opening front text (Err number) is rows behind =
+    let f = opening_of opening in
+    let b = behind.1 in
+    let ft = front_text o f in
+    let lines = held_text o holds b.before in
+    let whole : text ≡ ft ++ (lines ++ behind.0) = whole_is front text ∙ ap (λ t. t ++ drop front text) is ∙ ap (λ t. ft ++ t) b.rows_are.stand in
+    inr (record { opening = f; rows = rows; held = b.before; each = b.rows_are.each; rest = behind.0; told = whole; counted = behind.2 (ft ++ lines) (whole ∙ sym (append_assoc ft lines behind.0)); goes = b.goes; none = b.none })

@@ -1,6 +1,5 @@
 -- What is held, as the front of an epoch tells it.
-use Rattle.std.specs.Prelude.{◌≡◌, ℕ, ◌<◌, ◌≤◌, ◌^◌, List, [], ◌∷◌, ◌++◌, Option, Some, None, codes, decimal, map, slice_get}
-use Rattle.value_core.specs.declared.datum.Datum.{Datum}
+use Rattle.std.specs.Prelude.{◌≡◌, ℕ, List, ◌∷◌, ◌++◌, Option, Some, None, codes, decimal, map, slice_get}
 use Rattle.value_core.specs.Datum.{IsDatum, elem_of}
 use Rattle.decl_core.specs.ObjectForm.{ObjectForm}
 use Rattle.word_core.specs.Words.{Word, bare}

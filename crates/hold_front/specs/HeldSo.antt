@@ -1,5 +1,5 @@
 -- Held calls, as the words of their lines tell them.
-use Rattle.std.specs.Prelude.{◌≡◌, ℕ, Bool, true, false, List, [], ◌∷◌, ◌++◌, Option, Some, MatchOption, MatchBool, codes, map}
+use Rattle.std.specs.Prelude.{◌≡◌, ℕ, Bool, true, false, List, [], ◌∷◌, ◌++◌, Option, Some, MatchOption, codes, map}
 use Rattle.std.specs.Borrow.{Bor}
 use Rattle.value_core.specs.declared.datum.Datum.{Datum}
 use Rattle.value_core.specs.Datum.{IsDatum, elem_of}

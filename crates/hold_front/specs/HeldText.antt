@@ -1,5 +1,5 @@
 -- Journals with what is held.
-use Rattle.std.specs.Prelude.{◌≡◌, ℕ, suc, false, true, List, [], ◌∷◌, ◌++◌, ◌≤◌, codes, drop, length, Result, MatchResult}
+use Rattle.std.specs.Prelude.{◌≡◌, ℕ, suc, false, true, List, ◌++◌, codes, drop, Result, MatchResult}
 use Rattle.decl_core.specs.ObjectForm.{ObjectForm}
 use Rattle.front_core.specs.declared.front.Front.{Front}
 use Rattle.front_core.specs.Front.{Every, HasRows, Opening}

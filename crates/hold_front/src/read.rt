@@ -1,6 +1,6 @@
 //! The lines of a front that tell what is held, read.
 
-ghost use Rattle.std.specs.Prelude.{◌≡◌, ◌<◌, ◌≤◌, ◌↔◌, ◌++◌, ◌∷◌, ℕ, [], IfOk, IfSome, IsTrue, MatchOption, Some, codes, length, map, option_map};
+ghost use Rattle.std.specs.Prelude.{◌≡◌, ◌<◌, ◌≤◌, ◌↔◌, ◌++◌, ◌∷◌, ℕ, [], List, IfOk, IfSome, IsTrue, MatchOption, Some, codes, length, map, option_map};
 ghost use Rattle.path_tree.specs.Known.{place_of};
 ghost use Rattle.value_core.specs.Datum.{IsDatum, elem_of};
 ghost use Rattle.decl_core.specs.ObjectMap.{object_of, operations_of};
@@ -110,13 +110,44 @@ fn are_data(all: &[Datum])
     }
 }
 
+// What stands behind these bytes, where a text begins with them.
+fn behind<'a>(text: &'a [u8], front: &[u8]) -> Option<&'a [u8]>
+    ensures { MatchOption result ((rest : List ℕ) → text.now ≡ front.now ++ rest → ⊥)
+        (λ rest. text.now ≡ front.now ++ rest.now) }
+{
+    if text.len() < front.len() {
+        return None;
+    }
+    let (start, rest) = text.split_at(front.len());
+    if is_same(start, front) {
+        return Some(rest);
+    }
+    None
+}
+
+fn is_same(a: &[u8], b: &[u8]) -> bool
+    ensures { IsTrue result ↔ (a.now ≡ b.now) }
+{
+    a == b
+}
+
+// Whether these are the end of a line.
+fn is_feed(bytes: &[u8]) -> bool
+    ensures { IsTrue result ↔ (bytes.now ≡ 10 ∷ []) }
+{
+    match bytes {
+        [byte] => *byte == b'\n',
+        _ => false,
+    }
+}
+
 // Whether a text is this line, with its end.
 fn is_line(text: &[u8], line: &[u8]) -> bool
     ensures { IsTrue result ↔ (text.now ≡ line.now ++ 10 ∷ []) }
 {
-    match text.split_last() {
+    match behind(text, line) {
         None => false,
-        Some((last, front)) => *last == b'\n' && front == line,
+        Some(rest) => is_feed(rest),
     }
 }
 

@@ -187,6 +187,7 @@ pub fn read_held(
     ensures fault { IfOk result (λ found. IfErr found (λ line. IsFirstFault (object_of object.now) text.now line
         ⊎ IsHeldFault (object_of object.now) (holds_of holds.now) text.now line)) }
 {
+    object_has_names(object);
     match read_front(alloc, object, text)? {
         Err(line) => Ok(Err(line)),
         Ok((opening, front)) => {
