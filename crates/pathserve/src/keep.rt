@@ -58,9 +58,6 @@ const ROOM: usize = MOST_LINES;
 /// So many bytes are a megabyte.
 const MEGABYTE: u64 = 1_000_000;
 
-/// A client with a name may be away for so many seconds before what it holds is given back.
-const AWAY: u64 = 30;
-
 /// So often, in milliseconds, objects are told the time, and lines are done that wait for their client to read.
 const TICK: u64 = 20;
 
@@ -298,6 +295,7 @@ fn begin_all<E: Write>(
     mut rules: AllRules,
     folder: &str,
     pasts: &[Past<'_>],
+    away: u64,
     log: &mut Log<HostRuntime, E>,
 ) -> Result<Result<Kept, Vec<u8>>, Failure> {
     let alloc = rt.alloc();
@@ -330,7 +328,7 @@ fn begin_all<E: Write>(
             Begun::Told(line) => told.extend_from_slice(&line)?,
             Begun::Ready(hosted, held) => {
                 let ruled = if rules.any { Some((own, held)) } else { None };
-                if let Some(line) = add(alloc, &mut kept, hosted, name, ruled)? {
+                if let Some(line) = add(alloc, &mut kept, hosted, name, ruled, away)? {
                     told.extend_from_slice(&line)?;
                 }
             }
@@ -350,6 +348,7 @@ fn add(
     mut hosted: Hosted,
     name: String,
     ruled: Option<(Rules, Holds)>,
+    away: u64,
 ) -> Result<Option<Vec<u8>>, AllocError> {
     let mut front = Vec::new(alloc);
     if !hosted.push_first(&mut front)? {
@@ -363,7 +362,7 @@ fn add(
             &mut hosted,
             rules,
             held,
-            AWAY,
+            away,
             &mut front,
         )?;
     }
@@ -467,7 +466,7 @@ fn limits_of(asked: Keeping<'_>, journals: usize) -> LoopLimits {
 }
 
 // What is outside of the objects of a server.
-type Around = Showing<
+type AllOutside = Showing<
     Logged<Wires<HostRuntime, Stderr>, HostRuntime, Stderr>,
     StatusFile<Stderr>,
 >;
@@ -481,7 +480,7 @@ fn outside_of(
     watching: Watching,
     listener: Listener,
     start: u64,
-) -> Result<Around, Failure> {
+) -> Result<AllOutside, Failure> {
     let alloc = rt.alloc();
     let traces = u64::from(asked.traces).saturating_mul(MEGABYTE);
     let begun = Journals::begin(*rt, asked.folder, names, fronts, ROOM, traces);
@@ -600,6 +599,7 @@ pub fn keep_objects<W: Write, E: Write>(
         AllRules::new(rules),
         asked.folder,
         pasts,
+        u64::from(watching.away),
         &mut log,
     )? {
         Ok(kept) => {

@@ -87,6 +87,14 @@ settles_still a old new same = settles_same a a old old new (settles_none a old)
 pub settles_more : (a b c : Post) (old mid new : State) → SettlesOn a old b mid → SettlesOn b mid c new → SettlesOn a old c new
 settles_more a b c old mid new one two p first so = two p first (one p first so)
 
+-- memory is taken
+pub settles_room : (a b : Post) (old new : State) → Tells a b [] [] → new ≡ old → SettlesOn a old b new
+settles_room a b old new quiet same =
+    settles_same a b old old new (settles_by a b old old (record { said = []; added = []; tells = quiet; is = rests })) same
+
+pub settles_quiet : (a b c : Post) (old mid new : State) → Tells a b [] [] → mid ≡ old → SettlesOn b mid c new → SettlesOn a old c new
+settles_quiet a b c old mid new quiet same settles = settles_more a b c old mid new (settles_room a b old mid quiet same) settles
+
 goes_alone : (a b : Post) (old new : State) → Brings GoesOn a old b new → Brings Settles a old b new
 goes_alone a b old new brings = record {
   said = brings.said;

@@ -119,6 +119,7 @@ impl Table {
     }
 
     // A call that is to be made, where it may be.
+    #[tactic(auto, using(crate::proofs::Settling::asks_not, crate::proofs::Settling::asks_it))]
     pub(crate) fn ask_new(
         &mut self,
         asker: Asker,
@@ -174,6 +175,7 @@ impl Table {
     }
 
     // Opens the object at a place for a client, where it may come for what is held.
+    #[tactic(auto, using(crate::proofs::Settling::brings_still))]
     pub(crate) fn enter_held(
         &mut self,
         place: usize,
@@ -262,7 +264,7 @@ impl Table {
     }
 
     // Does the held lines of those of whom no call waits any more, and makes the calls that are due, until none is left.
-    #[tactic(auto, using(crate::proofs::Settling::settled, crate::proofs::Settling::settles_behind))]
+    #[tactic(auto, using(crate::proofs::Settling::settled))]
     pub(crate) fn settle(&mut self, post: &mut Post) -> Result<(), AllocError>
         ensures { OnOk result (Brings Settles post.old (seen self.old) post.new (seen self.new)) }
     {
@@ -284,6 +286,7 @@ impl Table {
     }
 
     // Makes the next call that is due, and does the held lines that this lets go on. `false`: none is due.
+    #[tactic(auto, using(crate::proofs::Settling::settles_goes))]
     fn settle_next(&mut self, post: &mut Post) -> Result<bool, AllocError>
         ensures { OnOk result (SettlesOn post.old (seen self.old) post.new (seen self.new)) }
     {
@@ -314,6 +317,7 @@ impl Table {
     }
 
     // Gives back the newest of what a gone session holds; where it holds nothing any more, it leaves.
+    #[tactic(auto, using(crate::proofs::Settling::settles_free))]
     fn give_back(&mut self, at: usize, one: Holder, post: &mut Post) -> Result<(), AllocError>
         ensures { OnOk result (SettlesOn post.old (seen self.old) post.new (seen self.new)) }
     {
@@ -362,6 +366,7 @@ impl Table {
     }
 
     // Makes a call for a gone session, and notes what became of it.
+    #[tactic(auto, using(crate::proofs::Settling::settles_same, crate::proofs::Settling::held_same))]
     fn call_owed(
         &mut self,
         at: usize,
@@ -395,6 +400,7 @@ impl Table {
     }
 
     // Makes the call at a place that is made again and again, where the one before it does not wait.
+    #[tactic(auto, using(crate::proofs::Settling::settles_still, crate::proofs::Settling::settles_seat, crate::proofs::Settling::settles_more, crate::proofs::Settling::settles_same, crate::proofs::Settling::held_same))]
     fn tick_one(&mut self, at: usize, place: usize, post: &mut Post) -> Result<(), AllocError>
         ensures { OnOk result (SettlesOn post.old (seen self.old) post.new (seen self.new)) }
     {
@@ -423,6 +429,7 @@ impl Table {
     }
 
     // The same, by this session.
+    #[tactic(auto, using(crate::proofs::Settling::settles_still, crate::proofs::Settling::settles_same, crate::proofs::Settling::held_same))]
     fn tick_by(
         &mut self,
         at: usize,
@@ -456,11 +463,15 @@ impl Table {
     {
         match self.custody.tick(at, place) {
             None => Ok(false),
-            Some(one) => self.call_for(at, session, one.op, Vec::new(self.alloc), post),
+            Some(one) => {
+                let made = self.call_for(at, session, one.op, Vec::new(self.alloc), post)?;
+                Ok(made)
+            }
         }
     }
 
     // Makes a call of a session that no connection has. False: it is refused.
+    #[tactic(auto, using(crate::proofs::Settling::settles_room, crate::proofs::Settling::settles_quiet))]
     fn call_for(
         &mut self,
         at: usize,
@@ -472,13 +483,14 @@ impl Table {
         requires { IsOwedAt (seen self.old) at session operation arguments.items }
         ensures { OnOk result (SettlesOn post.old (seen self.old) post.new (seen self.new)) }
     {
-        if has_session(&self.clients, at, session) {
-            return Ok(false);
-        }
         if !self.has_room_for(at, operation, &arguments, post) {
             return Ok(false);
         }
-        self.make_owed(at, session, operation, arguments, post)
+        if has_session(&self.clients, at, session) {
+            return Ok(false);
+        }
+        let made = self.make_owed(at, session, operation, arguments, post)?;
+        Ok(made)
     }
 
     // Whether such a call may be submitted: the memory that it needs is taken.
