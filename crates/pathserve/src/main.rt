@@ -57,7 +57,9 @@ use line_core::write_whole;
 use mio::net::{TcpListener as PortListener, UnixListener as PathListener};
 use mio_core::stream::Listener as Ears;
 use pasts::pasts_in;
-use plain::{Ruled, WithoutHolds, plain_source, ruled_source, run_check, run_script, without_holds};
+use plain::{
+    Ruled, WithoutHolds, plain_source, ruled_source, run_check, run_script, without_holds,
+};
 use serve::{ServedSource, place_of, serve_objects};
 use serve_core::gate::{Gate, Listener};
 use serve_core::serve::Place;

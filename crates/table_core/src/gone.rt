@@ -119,7 +119,6 @@ impl Table {
     }
 
     // A call that is to be made, where it may be.
-    #[tactic(auto, using(crate::proofs::Settling::asks_not, crate::proofs::Settling::asks_it))]
     pub(crate) fn ask_new(
         &mut self,
         asker: Asker,
@@ -317,7 +316,6 @@ impl Table {
     }
 
     // Gives back the newest of what a gone session holds; where it holds nothing any more, it leaves.
-    #[tactic(auto, using(crate::proofs::Settling::settles_free))]
     fn give_back(&mut self, at: usize, one: Holder, post: &mut Post) -> Result<(), AllocError>
         ensures { OnOk result (SettlesOn post.old (seen self.old) post.new (seen self.new)) }
     {
@@ -400,7 +398,6 @@ impl Table {
     }
 
     // Makes the call at a place that is made again and again, where the one before it does not wait.
-    #[tactic(auto, using(crate::proofs::Settling::settles_still, crate::proofs::Settling::settles_seat, crate::proofs::Settling::settles_more, crate::proofs::Settling::settles_same, crate::proofs::Settling::held_same))]
     fn tick_one(&mut self, at: usize, place: usize, post: &mut Post) -> Result<(), AllocError>
         ensures { OnOk result (SettlesOn post.old (seen self.old) post.new (seen self.new)) }
     {

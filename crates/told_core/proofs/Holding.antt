@@ -67,9 +67,10 @@ behind_all kept object [] past old new are same = ([], subst (λ (l : List HeldC
 behind_all kept object (r ∷ ran) past old new are (mid, (left, gives, is), later) =
     let one : AreHeld kept (ended (as_told object r.call) r.reply ∷ past) mid =
     subst (λ (l : List HeldCall). AreHeld kept (ended (as_told object r.call) r.reply ∷ past) l) (sym is) (at_end old left are gives) in
-    let every = behind_all kept object ran (ended (as_told object r.call) r.reply ∷ past) mid new one later in
-    (every.0 ++ ended (as_told object r.call) r.reply ∷ [],
-    subst (λ (l : List Happened). AreHeld kept l new) (sym (append_assoc every.0 (ended (as_told object r.call) r.reply ∷ []) past)) every.1)
+    let every = behind_all kept object ran (ended (as_told object r.call) r.reply ∷ past) mid new one later in (
+      every.0 ++ ended (as_told object r.call) r.reply ∷ [],
+      subst (λ (l : List Happened). AreHeld kept l new) (sym (append_assoc every.0 (ended (as_told object r.call) r.reply ∷ []) past)) every.1,
+    )
 
 set_other : (xs : Custodies) (i j : ℕ) (x : Custody) → i ≢ j → slice_get (slice_set xs i x) j ≡ slice_get xs j
 set_other [] i j x ne = refl
