@@ -1,5 +1,5 @@
 -- An object of a table over all its epochs, and over all its lives.
-use Rattle.std.specs.Prelude.{◌≡◌, ◌⊎◌, ◌<◌, ◌≤◌, ℕ, true, List, [], ◌∷◌, ◌++◌, Some, slice_get}
+use Rattle.std.specs.Prelude.{◌≡◌, ◌⊎◌, ◌<◌, ◌≤◌, ℕ, true, List, [], ◌∷◌, ◌++◌, Option, Some, slice_get}
 use Rattle.value_core.specs.Contents.{Contents}
 use Rattle.decl_core.specs.declared.object.Object.{Object}
 use Rattle.decl_core.specs.ObjectForm.{ObjectForm}
@@ -25,6 +25,7 @@ use Rattle.keep_loop.specs.declared.keep.Limits.{Limits as LoopLimits}
 use Rattle.keep_loop.specs.Seen.{Happened}
 use Rattle.keep_loop.specs.Epochs.{rules_of, since_in, stored_since, BeginsNone, change_to}
 use Rattle.keep_loop.specs.Stands.{IsHonest, IsBetween}
+use Rattle.told_core.specs.Custody.{Custody, held_lines}
 use Rattle.table_core.specs.Moves.{Gives, Fronts}
 use Rattle.table_core.specs.declared.table.Table.{Table}
 use Rattle.kept_law.specs.Kept.{Stood, LeavesAnswered}
@@ -48,12 +49,13 @@ epoch_in {begun = begun} l = epoch_of l.scene.hall (told_by begun l.heard.steps)
 abbrev pub StoodHasLived : Type 0
 StoodHasLived = (t : Table) (j : ℕ) (o : ObjectForm) (s : Stood t j o) → HasLived t j o s.begun []
 
--- the last change of its epochs among these turns was by a front that tells of this beginning
+-- the last change of its epochs among these turns was by a front that tells of this beginning, and lines of what is held
 pub record BeganBy (o : ObjectForm) (j : ℕ) (turns : List Turn) (now : Begun) : Type 0 where
   pub front : Opening
+  pub held : Option Custody
   pub before : List Turn
   pub since : List Turn
-  pub cut : turns ≡ before ++ change_to j (front_text o front) ∷ since
+  pub cut : turns ≡ before ++ change_to j (front_text o front ++ held_lines o held) ∷ since
   pub none : BeginsNone j since
   pub is : now ≡ begun_by front
 
