@@ -26,8 +26,8 @@ use Rattle.told_core.specs.Custody.IsOwed.{again}
 use Rattle.told_core.specs.Moves.{Begins, BeginsHeld, FrontsHeld}
 use Rattle.told_core.specs.State.{State, opened_at, peers_of}
 use Rattle.told_core.specs.Deeds.{Texts, Deed, OnlyTold}
-use Rattle.told_core.specs.Asked.{AllEnd, Follows, HoldsStill, IsRefusal}
-use Rattle.told_core.specs.Gone.{CallsFor, SeatsOne, Frees, NoneHas, Settles}
+use Rattle.told_core.specs.Asked.{AllEnd, Follows, IsRefusal}
+use Rattle.told_core.specs.Gone.{CallsFor, NoneHas, Settles}
 use Rattle.told_core.specs.Gone.Settles.{rests, goes_on, calls, seats, frees}
 use Rattle.told_core.specs.Turns.{GoesOn}
 use Rattle.told_core.proofs.Doing.{all_end_keeps}
