@@ -409,8 +409,7 @@ pub const KEEP_USAGE: &str = "pathserve keep [OPTIONS] <FILE> <DIR> <PLACE>";
 pub const KEEP_MORE: &str =
     "      --status <S>                 DIR/status.prom is written each S seconds, 1 to 86400
       --log <WORD>                 A log on standard error: `text`, `json`, else `none`
-      --away <S>                   A client with a name may be away so long, and holds
-                                   what it held: 0 to 86400 seconds, 30 if not given
+      --away <S>                   Away, a named client holds for S seconds, 0 to 86400; 30
 
 Takes up the objects as the journals in DIR have them, writes
 `listening PLACE`, and serves all clients in one loop, until it is stopped. What

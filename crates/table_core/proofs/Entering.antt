@@ -153,8 +153,10 @@ leaves_of custody kept old new peers place session now opened by same free (inl 
       ∙ objects_are custody (slice_set old opened.object (with_guests has.object has.guests)) new peers has.left;
 })
 leaves_of custody kept old new peers place session now opened by same free (inr none) =
-    inr (inl (λ other is ne. subst (λ (o : Opened). slice_get old o.object ≡ None) (same_Some opened other (by ∙ is)) none.0),
-    ap (λ (c : Custodies). of c new peers) same ∙ objects_are custody old new peers none.1)
+    inr (
+      inl (λ other is ne. subst (λ (o : Opened). slice_get old o.object ≡ None) (same_Some opened other (by ∙ is)) none.0),
+      ap (λ (c : Custodies). of c new peers) same ∙ objects_are custody old new peers none.1,
+    )
 
 -- it stays as it is
 pub leaves_none : (s : State) (place : ℕ) → HasNoSession s place → LeavesOf place s s

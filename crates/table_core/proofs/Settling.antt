@@ -26,8 +26,8 @@ use Rattle.told_core.specs.Custody.IsOwed.{again}
 use Rattle.told_core.specs.Moves.{Begins, BeginsHeld, FrontsHeld}
 use Rattle.told_core.specs.State.{State, opened_at, peers_of}
 use Rattle.told_core.specs.Deeds.{Texts, Deed, OnlyTold}
-use Rattle.told_core.specs.Asked.{AllEnd, Follows, HoldsStill, IsRefusal}
-use Rattle.told_core.specs.Gone.{CallsFor, SeatsOne, Frees, NoneHas, Settles}
+use Rattle.told_core.specs.Asked.{AllEnd, Follows, IsRefusal}
+use Rattle.told_core.specs.Gone.{CallsFor, NoneHas, Settles}
 use Rattle.told_core.specs.Gone.Settles.{rests, goes_on, calls, seats, frees}
 use Rattle.told_core.specs.Turns.{GoesOn}
 use Rattle.told_core.proofs.Doing.{all_end_keeps}
@@ -210,14 +210,17 @@ pub stays_held : (custody new : Custodies) (objects : List Scene) (clients : Cli
     Some opened ≡ opened_at (state_of custody objects clients) place → new ≡ custody →
     (opened.is_named ≡ false) × ((c : Custody) × (slice_get custody opened.object ≡ Some c) × HasSome opened.session c.held) →
     LeavesOf place (state_of custody objects clients) (state_of new objects clients)
-stays_held custody new objects clients place opened by same (bare, (c, has, some)) = inr (inr (record {
-  opened = opened;
-  by = sym by;
-  bare = bare;
-  custody = c;
-  has = has;
-  some = some;
-}), held_same custody new objects clients same)
+stays_held custody new objects clients place opened by same (bare, (c, has, some)) = inr (
+  inr (record {
+    opened = opened;
+    by = sym by;
+    bare = bare;
+    custody = c;
+    has = has;
+    some = some;
+  }),
+  held_same custody new objects clients same,
+)
 
 -- the session of one that has opened an object leaves, or stays
 pub leaves_held : (custody kept : Custodies) (old new : List Scene) (clients : Clients) (place now : ℕ) (opened : Opened) →
@@ -288,17 +291,20 @@ free_noted custody kept old new clients at session same left =
 pub seat_given : (custody kept : Custodies) (old new : List Scene) (clients : Clients) (at session : ℕ) →
     ((c : Custody) × (slice_get custody at ≡ Some c)) → SeatsAt old at session new → kept ≡ custody →
     SeatsOr at (state_of custody old clients) (state_of kept new clients)
-seat_given custody kept old new clients at session (c, has) seat same = inl (session, record {
-  told = refl;
-  lines = refl;
-  object = seat.object;
-  there = seat.there;
-  custody = c;
-  has = has;
-  free = seat.free;
-  left = ap (λ (k : Custodies). of k new (peers_of clients)) same
-      ∙ objects_are custody (slice_set old at (with_guests seat.object (with_seat seat.object.guests session Nameless))) new (peers_of clients) seat.left;
-})
+seat_given custody kept old new clients at session (c, has) seat same = inl (
+  session,
+  record {
+    told = refl;
+    lines = refl;
+    object = seat.object;
+    there = seat.there;
+    custody = c;
+    has = has;
+    free = seat.free;
+    left = ap (λ (k : Custodies). of k new (peers_of clients)) same
+        ∙ objects_are custody (slice_set old at (with_guests seat.object (with_seat seat.object.guests session Nameless))) new (peers_of clients) seat.left;
+  },
+)
 
 -- what is made again and again is owed, and what gives back what a session holds
 pub owed_again : (s : State) (at session operation place : ℕ) (arguments : List Datum) → arguments ≡ [] →

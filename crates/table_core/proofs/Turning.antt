@@ -35,7 +35,7 @@ use Rattle.table_core.specs.Brings.{Brings, Continues, EndsSome}
 use Rattle.table_core.specs.Moves.{Gives}
 use Rattle.table_core.specs.Seen.{seen, state_of}
 use Rattle.table_core.specs.declared.table.Table.{Table}
-use Rattle.table_core.proofs.Bringing.{brings_as, brings_none, brings_then, continues_by, continued}
+use Rattle.table_core.proofs.Bringing.{brings_as, brings_none, brings_then, continues_by}
 use Rattle.table_core.proofs.Entering.{peers_are}
 use Rattle.table_core.proofs.Telling.{tells_none, tells_then}
 

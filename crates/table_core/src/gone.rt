@@ -109,12 +109,9 @@ impl Table {
     {
         match operation {
             None => false,
-            Some(operation) => !self.custody.may_call(
-                opened.object,
-                opened.session,
-                operation,
-                arguments,
-            ),
+            Some(operation) => !self
+                .custody
+                .may_call(opened.object, opened.session, operation, arguments),
         }
     }
 
@@ -405,7 +402,8 @@ impl Table {
             return Ok(());
         };
         let Some(session) = self.tick_seat(at, place, one) else {
-            self.custody.note(at, HoldNote::Unticked(place, self.second));
+            self.custody
+                .note(at, HoldNote::Unticked(place, self.second));
             return Ok(());
         };
         self.tick_by(at, place, session, post)?;
@@ -444,7 +442,8 @@ impl Table {
             self.custody.note(at, HoldNote::Ticked(place, self.second));
             return Ok(());
         }
-        self.custody.note(at, HoldNote::Unticked(place, self.second));
+        self.custody
+            .note(at, HoldNote::Unticked(place, self.second));
         Ok(())
     }
 

@@ -15,7 +15,7 @@ use Rattle.hosted_core.specs.Scene.{Scene}
 use Rattle.hosted_core.specs.Steps.{does, comes, gets_number, leaves, calls, cancels}
 use Rattle.told_core.specs.State.{State}
 use Rattle.told_core.specs.Deeds.{Texts, Deed, Nothing, OnlyTold, Then}
-use Rattle.told_core.specs.Asked.{IsRefused, OpensBare, OpensAs, Opens, Ends, AllEnd, Follows, IsUnheld, Submits, GetsNumber, Sits, Calls, RepeatsUnder, IsTurnedAway, AnswersCall, LetsGo, AnswersCancel, AnswersInside, LeavesObject, Goes, Quits, Acts, Heeds}
+use Rattle.told_core.specs.Asked.{IsRefused, OpensBare, OpensAs, Opens, Ends, AllEnd, Follows, Submits, GetsNumber, Sits, Calls, RepeatsUnder, IsTurnedAway, AnswersCall, LetsGo, AnswersCancel, AnswersInside, LeavesObject, Goes, Quits, Acts, Heeds}
 use Rattle.told_core.specs.Inside.{Sees}
 use Rattle.told_core.specs.Moves.{Moves}
 use Rattle.told_core.proofs.Moving.{moves_none, moves_one, moves_quiet, moves_then}

@@ -9,7 +9,7 @@ use Rattle.trace_core.specs.Events.{Happened, ended}
 use Rattle.live_core.specs.declared.call.Ran.{Ran}
 use Rattle.hosted_core.specs.Scene.{Scene}
 use Rattle.hold_form.specs.HoldForm.{HoldForm, RulesForm}
-use Rattle.hold_core.specs.Held.{HeldCall, AreHeld, begun}
+use Rattle.hold_core.specs.Held.{HeldCall, AreHeld}
 use Rattle.hold_core.specs.Held.AreHeld.{at_end}
 use Rattle.post_core.specs.Turns.Asked.{Heard, Noted, Changes}
 use Rattle.post_core.specs.declared.served.LineEnd.{LineEnd}
@@ -21,11 +21,11 @@ use Rattle.client_core.specs.declared.ask.Ask.TheVariants as asks
 use Rattle.client_core.specs.declared.ask.Sight.{Sight}
 use Rattle.client_core.specs.declared.ask.Sight.TheVariants as insides
 use Rattle.client_core.specs.declared.client.Opened.{Opened}
-use Rattle.told_core.specs.Custody.{Custody, Custodies, FollowsIn, HeldBehind, HeldBehindAll, as_told, holding_now}
+use Rattle.told_core.specs.Custody.{Custody, Custodies, FollowsIn, HeldBehindAll, as_told, holding_now}
 use Rattle.told_core.specs.State.{State}
 use Rattle.told_core.specs.Deeds.{Texts, Deed, Nothing, OnlyTold, Then}
-use Rattle.told_core.specs.Asked.{IsRefused, OpensBare, Opens, Ends, AllEnd, Follows, Submits, GetsNumber, Sits, Calls, RepeatsUnder, IsTurnedAway, AnswersCall, LetsGo, AnswersCancel, AnswersInside, LeavesObject, Goes, Quits, Acts, Heeds}
-use Rattle.told_core.specs.Gone.{CallsFor, SeatsOne, Frees, Settles}
+use Rattle.told_core.specs.Asked.{IsRefused, Opens, Ends, AllEnd, Follows, Submits, Sits, AnswersCall, LetsGo, AnswersCancel, AnswersInside, Goes, Acts, Heeds}
+use Rattle.told_core.specs.Gone.{CallsFor, Settles}
 use Rattle.told_core.specs.Gone.Settles.{rests as settled, goes_on as settles_on, calls as calls_one, seats as seats_one, frees as frees_one}
 use Rattle.told_core.specs.Inside.{Sees}
 use Rattle.told_core.specs.Laws.{HoldsBehind, HeldFollows}

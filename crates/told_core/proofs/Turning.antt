@@ -17,7 +17,7 @@ use Rattle.post_core.specs.declared.served.Note.TheVariants as notes
 use Rattle.client_core.specs.declared.ask.Ask.{Ask}
 use Rattle.client_core.specs.declared.ask.Ask.TheVariants as asks
 use Rattle.told_core.specs.State.{State}
-use Rattle.told_core.specs.Deeds.{Texts, Deed, Nothing, OnlyTold, Then}
+use Rattle.told_core.specs.Deeds.{Texts, Deed, Nothing, Then}
 use Rattle.told_core.specs.Asked.{Goes}
 use Rattle.told_core.specs.Laws.{TurnsMove}
 use Rattle.told_core.specs.Moves.{Moves}

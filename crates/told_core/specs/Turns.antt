@@ -11,8 +11,6 @@ use Rattle.session_text.specs.Lines.{bye_text, line_text}
 use Rattle.trace_core.specs.Events.{Called}
 use Rattle.live_core.specs.Hall.{Every}
 use Rattle.hosted_core.specs.Scene.{Scene}
-use Rattle.post_core.specs.Turns.{Asked}
-use Rattle.post_core.specs.Turns.Asked.{Heard, Noted, Changes}
 use Rattle.post_core.specs.declared.served.LineEnd.{LineEnd}
 use Rattle.post_core.specs.declared.served.LineEnd.TheVariants as ends
 use Rattle.post_core.specs.declared.served.Note.{Note}

@@ -1,4 +1,4 @@
-use Rattle.std.proofs.Common.{◌≡◌, ◌∙◌, ap, ℕ, List, ◌++◌, slice_get}
+use Rattle.std.proofs.Common.{◌∙◌, ap, ℕ, List, ◌++◌, slice_get}
 use Rattle.hosted_core.specs.Scene.{Scene}
 use Rattle.told_core.specs.Custody.{held_lines_in}
 use Rattle.table_core.proofs.Settling.{begins_held}

@@ -1,4 +1,4 @@
-use Rattle.std.proofs.Common.{◌≡◌, ◌∙◌, ap, sym, subst, List, Some, slice_get}
+use Rattle.std.proofs.Common.{◌∙◌, ap, subst, List, slice_get}
 use Rattle.hosted_core.specs.Scene.{Scene}
 use Rattle.live_core.specs.declared.call.Ran.{Ran}
 use Rattle.told_core.specs.Asked.{AllEnd}

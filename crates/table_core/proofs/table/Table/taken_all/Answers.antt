@@ -1,4 +1,4 @@
-use Rattle.std.proofs.Common.{◌≡◌, ◌∙◌, ap, List, Some, slice_get}
+use Rattle.std.proofs.Common.{◌∙◌, ap, List, slice_get}
 use Rattle.hosted_core.specs.Scene.{Scene}
 use Rattle.table_core.specs.Seen.{seen}
 use Rattle.table_core.proofs.Settling.{tells_all, taken_same}
