@@ -83,14 +83,15 @@ TurnsLiveOn =
     (l : HasLived first j o begun earlier) → LivesOn last j o turns begun (first_opening (epoch_in l) earlier) (all_ends o (epoch_in l) earlier)
 
 -- What is read of a text whose front tells the beginning of its last epoch, however much of the lines behind that a crash has
--- left, is an epoch behind the same ones.
+-- left, is an epoch behind the same ones. Where lines of what is held stood behind the front, it is the text without these.
 abbrev pub ReadLivesOn : Type 0
 ReadLivesOn =
     (t : Table) (j : ℕ) (o : ObjectForm) (begun : Begun) (earlier : List Epoch) (h : House) (front : Opening) (text : List ℕ) (came : Recovered)
     (l : HasLived t j o begun earlier) → begun ≡ begun_by front → IsRead o h text front came →
     (e : Epoch) × IsReadOf o text came e × AreEpochs o e earlier × IsSound o e earlier
 
--- An object of a new life has begun behind the lines of its journal, and has added the front of its epoch.
+-- An object of a new life has begun behind the lines of its journal, without those of what was held, and has added the front
+-- of its epoch.
 pub record BeginsAt (t : Table) (j : ℕ) (object : Object) (h : House) (lines : List ℕ) (limits : Limits) : Type 0 where
   pub scene : Scene
   pub there : slice_get t.objects.items j ≡ Some scene
