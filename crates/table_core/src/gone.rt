@@ -260,7 +260,6 @@ impl Table {
     }
 
     // Does the held lines of those of whom no call waits any more, and makes the calls that are due, until none is left.
-    #[tactic(auto, using(crate::proofs::Settling::settled))]
     pub(crate) fn settle(&mut self, post: &mut Post) -> Result<(), AllocError>
         ensures { OnOk result (Brings Settles post.old (seen self.old) post.new (seen self.new)) }
     {
