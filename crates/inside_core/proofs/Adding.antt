@@ -71,15 +71,15 @@ seats_then crowd os ps before mid after one two = record {
   added = added_then (λ s. seat_line s.seat s.name) one.rows two.rows before mid after one.added two.added;
 }
 
--- one more is told
-pub seats_next : (crowd : Crowd) (all : List (ℕ × Opened)) (k : ℕ) (d o : ℕ × Opened) (before mid after : List ℕ) → k < length all → o ≡ get_or all k d → AddsSeats crowd (take k all) before mid →
-    AddsSeats crowd (o ∷ []) mid after → AddsSeats crowd (take (k + 1) all) before after
-seats_next crowd all k d o before mid after inside is one two =
-    subst (λ l. AddsSeats crowd l before after) (sym (take_more all k d inside ∙ ap (λ y. take k all ++ y ∷ []) (sym is)))
-    (seats_then crowd (take k all) (o ∷ []) before mid after one two)
+-- what stands where nothing does
+abbrev pub no_seat : ℕ × Opened
+no_seat = (0, record { object = 0; session = 0; is_named = false; waits = false; calls = 0; told = 0 })
 
-pub seats_none : (crowd : Crowd) (out : List ℕ) → AddsSeats crowd [] out out
-seats_none crowd out = record { rows = []; are = tt; added = sym (append-nil out) }
+-- one more is told
+pub seats_next : (crowd : Crowd) (all : List (ℕ × Opened)) (k : ℕ) (before mid after : List ℕ) → k < length all → AddsSeats crowd (take k all) before mid →
+    AddsSeats crowd (get_or all k no_seat ∷ []) mid after → AddsSeats crowd (take (k + 1) all) before after
+seats_next crowd all k before mid after inside one two =
+    subst (λ l. AddsSeats crowd l before after) (sym (take_more all k no_seat inside)) (seats_then crowd (take k all) (get_or all k no_seat ∷ []) before mid after one two)
 
 pub one_seat : (crowd : Crowd) (o : ℕ × Opened) (s : Sitting) (before after : List ℕ) → IsSeatOf crowd o s → after ≡ before ++ seat_line s.seat s.name → AddsSeats crowd (o ∷ []) before after
 one_seat crowd o s before after is added =
