@@ -8,10 +8,8 @@ use Rattle.std.proofs.lemmas.Option.{same_Some}
 use Rattle.apply_core.specs.declared.reply.Reply.{Reply}
 use Rattle.apply_core.specs.declared.reply.Reply.TheVariants.{Done, Refused, Failed}
 use Rattle.live_core.specs.declared.call.Ran.{Ran}
-use Rattle.live_core.specs.declared.live.Taken.{Taken}
 use Rattle.tally_core.specs.declared.tallies.CallEnds.{CallEnds}
-use Rattle.tally_core.specs.declared.tallies.ObjectTally.{ObjectTally}
-use Rattle.tally_core.specs.Tallies.{CountsTaken, nones, next, more, put_more, counted, counted_all, ends_of, taken_of}
+use Rattle.tally_core.specs.Tallies.{nones, next, more, put_more, counted, counted_all, ends_of, taken_of}
 use Rattle.tally_core.specs.Laws.{is_done, is_refused, is_failed, ends_sum, sum_of, AreKnown, CountsAreOfTheCalls, SumsGrowAsTheHistory, TakenIsCounted}
 
 next_is : (n : ℕ) → n + 1 < 2 ^ 64 → next n ≡ n + 1
@@ -145,10 +143,10 @@ sums_grow es (r ∷ rs) small known =
 
 -- a value that is chosen by a test
 chosen : {X : Type 0} (b : Bool) (x y z : X) → z ≡ (if b then x else y) → b ≡ true → z ≡ x
-chosen b x y z is yes = subst (λ (t : Bool). z ≡ (if t then x else y)) yes is
+chosen b x y z is holds = subst (λ (t : Bool). z ≡ (if t then x else y)) holds is
 
 left : {X : Type 0} (b : Bool) (x y z : X) → z ≡ (if b then x else y) → b ≡ false → z ≡ y
-left b x y z is no = subst (λ (t : Bool). z ≡ (if t then x else y)) no is
+left b x y z is fails = subst (λ (t : Bool). z ≡ (if t then x else y)) fails is
 
 is_itself : (n : ℕ) → (n == n) ≡ true
 is_itself n = elim (eqb_tells n n) [ inl x ↦ x.0 | inr x ↦ absurd (x.1 refl) ]
@@ -156,9 +154,9 @@ is_itself n = elim (eqb_tells n n) [ inl x ↦ x.0 | inr x ↦ absurd (x.1 refl)
 pub taken_counted : TakenIsCounted
 taken_counted at taken old new counts one small known =
     let here : taken_of (slice_get new at) ≡ next (taken_of (slice_get old at)) =
-        chosen (at == at) (next (taken_of (slice_get old at))) (taken_of (slice_get old at)) (taken_of (slice_get new at)) (counts.calls at) (is_itself at) in
+    chosen (at == at) (next (taken_of (slice_get old at))) (taken_of (slice_get old at)) (taken_of (slice_get new at)) (counts.calls at) (is_itself at) in
     let ends : ends_of (slice_get new at) ≡ counted_all taken.ran.items (ends_of (slice_get old at)) =
-        chosen (at == at) (counted_all taken.ran.items (ends_of (slice_get old at))) (ends_of (slice_get old at)) (ends_of (slice_get new at)) (counts.ends at) (is_itself at) in (
+    chosen (at == at) (counted_all taken.ran.items (ends_of (slice_get old at))) (ends_of (slice_get old at)) (ends_of (slice_get new at)) (counts.ends at) (is_itself at) in (
       here ∙ next_is (taken_of (slice_get old at)) one,
       ap sum_of ends ∙ sums_grow (ends_of (slice_get old at)) taken.ran.items small known,
       λ k other. (
