@@ -1,15 +1,15 @@
 -- The front of a text that is read is the one that was written.
-use Rattle.std.proofs.Common.{◌≡◌, ◌⊎◌, inl, inr, ◌∙◌, ap, sym, subst, refl, ℕ, List, [], ◌∷◌, ◌++◌, append_assoc, eqb-true, bytes_eq}
+use Rattle.std.proofs.Common.{◌≡◌, inl, inr, ◌∙◌, ap, sym, subst, refl, ℕ, List, [], ◌∷◌, ◌++◌, append_assoc, eqb-true, bytes_eq}
 use Rattle.std.specs.Prelude.{Bool, true, false, ◌||◌, ◌&&◌, ◌==◌, Option, Some, None, codes, if◌then◌else◌}
 use Rattle.std.proofs.lemmas.List.{append-nil}
 use Rattle.std.proofs.lemmas.Slice.Eq.{bytes_eq-Decides}
 use Rattle.line_core.specs.Words.{drop_spaces}
-use Rattle.word_core.specs.Words.{Word, bare, quoted, AreWords}
+use Rattle.word_core.specs.Words.{Word, bare, quoted}
 use Rattle.decl_core.specs.ObjectForm.{ObjectForm}
 use Rattle.front_core.specs.Front.{Opening}
 use Rattle.front_read.specs.Text.{begins, goes_on, goes_on_behind_parts, goes_on_with_calls}
 use Rattle.front_read.proofs.Whole.{front_there, found_of}
-use Rattle.replay_core.specs.Said.{Says, Said, Asked, said_by, start_of, end_of, cancel_of, name_of}
+use Rattle.replay_core.specs.Said.{Says, Said, a_start, said_by, start_of, end_of, cancel_of, name_of}
 use Rattle.replay_core.specs.Sound.{IsCut, IsPlayed}
 use Rattle.replay_core.specs.Steps.{Begun, Heard, nothing_heard}
 use Rattle.replay_core.specs.Tells.{Tells, Tell, start_told, end_told, cancel_told, name_told}
@@ -76,7 +76,7 @@ said_in : (o : ObjectForm) (e : Begun) (heard : Heard) (line : List ℕ) (after 
 said_in o e heard line after (start_told says is few) = (_, says)
 said_in o e heard line after (end_told says runs is) = (_, says)
 said_in o e heard line after (cancel_told says is) = (_, says)
-said_in o e heard line after (name_told says rests is) = (_, says)
+said_in o e heard line after (name_told says rests is spelled) = (_, says)
 
 -- lines that say something, or none
 joined_apart : (lines : List (List ℕ)) (rest : List ℕ) → ((line : List ℕ) (more : List (List ℕ)) → lines ≡ line ∷ more → (said : Said) × Says line said) → goes_on rest ≡ false →
@@ -106,7 +106,7 @@ first_played o e heard lines p line more is = by p.kept p.told p.cut
   where
     by : (kept : List (List ℕ)) → Tell o e nothing_heard kept heard → IsCut lines kept → (said : Said) × Says line said
     by kept told (inl whole) = first_told o e nothing_heard heard kept told line more (sym whole ∙ is)
-    by [] told (inr (last, asked, says, short)) = (_, subst (λ x. Says x _) (heads last line [] more (sym short ∙ is)) says)
+    by [] told (inr (last, asked, says, short)) = (a_start asked, subst (λ x. Says x (a_start asked)) (heads last line [] more (sym short ∙ is)) says)
     by (k ∷ kept) told (inr (last, asked, says, short)) = first_told o e nothing_heard heard (k ∷ kept) told line kept
         (ap (λ x. x ∷ kept) (heads k line (kept ++ last ∷ []) more (sym short ∙ is)))
 
