@@ -437,7 +437,10 @@ fn limits_of(asked: Keeping<'_>, journals: usize) -> LoopLimits {
 }
 
 // What is outside of the objects of a server.
-type Around = Showing<Logged<Wires<HostRuntime, Stderr>, HostRuntime, Stderr>, StatusFile<Stderr>>;
+type KeepOutside = Showing<
+    Logged<Wires<HostRuntime, Stderr>, HostRuntime, Stderr>,
+    StatusFile<Stderr>,
+>;
 
 // What is outside of the objects of a server that starts: its connections and its journals, which are logged and shown.
 fn outside_of(
@@ -448,7 +451,7 @@ fn outside_of(
     watching: Watching,
     listener: Listener,
     start: u64,
-) -> Result<Around, Failure> {
+) -> Result<KeepOutside, Failure> {
     let alloc = rt.alloc();
     let traces = u64::from(asked.traces).saturating_mul(MEGABYTE);
     let begun = Journals::begin(*rt, asked.folder, names, fronts, ROOM, traces);
