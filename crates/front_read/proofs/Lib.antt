@@ -12,4 +12,4 @@ mod Standing
 mod Telling
 mod Texts
 mod Unique
-mod Whole
+pub mod Whole

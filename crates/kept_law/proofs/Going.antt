@@ -40,12 +40,12 @@ use Rattle.kept_law.proofs.Empty.{no_bytes, no_lines, not_within, nothing_played
 abbrev pub Went : ℕ → Scene → List ℕ → List Scene → Type 0
 Went j old lines objects = (new : Scene) × (slice_get objects j ≡ Some new) × Steps old lines new
 
-get_at : (xs : List Scene) (j : ℕ) → j < length xs → (m : Scene) × (slice_get xs j ≡ Some m)
+pub get_at : (xs : List Scene) (j : ℕ) → j < length xs → (m : Scene) × (slice_get xs j ≡ Some m)
 get_at [] j within = absurd (omega (arith, within))
 get_at (x ∷ xs) zero within = (x, refl)
 get_at (x ∷ xs) (suc j) within = get_at xs j (omega (arith, within))
 
-set_other : (xs : List Scene) (i j : ℕ) (x : Scene) → i ≢ j → slice_get (slice_set xs i x) j ≡ slice_get xs j
+pub set_other : (xs : List Scene) (i j : ℕ) (x : Scene) → i ≢ j → slice_get (slice_set xs i x) j ≡ slice_get xs j
 set_other [] i j x ne = refl
 set_other (y ∷ xs) zero zero x ne = absurd (ne refl)
 set_other (y ∷ xs) zero (suc j) x ne = refl

@@ -3,3 +3,5 @@ pub mod Going
 pub mod Starting
 pub mod Grown
 pub mod Living
+pub mod Replying
+pub mod Keying

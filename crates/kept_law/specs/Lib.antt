@@ -1,3 +1,5 @@
 pub mod Kept
 pub mod Starts
 pub mod Lived
+pub mod Replied
+pub mod Keys

@@ -12,6 +12,7 @@ use Rattle.replay_core.specs.Steps.{Begun, Heard, told_by}
 use Rattle.recover_core.specs.declared.recover.House.{House}
 use Rattle.recover_core.specs.declared.recover.Recovered.{Recovered}
 use Rattle.recover_core.specs.Playing.{begun_by}
+use Rattle.recover_text.specs.Text.{IsRead}
 use Rattle.hosted_core.specs.Fronts.{AddsFirst, front_of}
 use Rattle.hosted_core.specs.Scene.{Scene}
 use Rattle.keep_start.specs.Behind.{BeginsBehind}
@@ -79,12 +80,13 @@ TurnsLiveOn =
     (first last : Table) (turns : List Turn) (j : ℕ) (o : ObjectForm) (begun : Begun) (earlier : List Epoch) → Runs Gives first turns last →
     (l : HasLived first j o begun earlier) → LivesOn last j o turns begun (first_opening (epoch_in l) earlier) (all_ends o (epoch_in l) earlier)
 
--- What is read of the text of its last epoch, however much of it a crash has left, is an epoch behind the same ones.
+-- What is read of a text whose front tells the beginning of its last epoch, however much of the lines behind that a crash has
+-- left, is an epoch behind the same ones.
 abbrev pub ReadLivesOn : Type 0
 ReadLivesOn =
-    (t : Table) (j : ℕ) (o : ObjectForm) (begun : Begun) (earlier : List Epoch) (text : List ℕ) (came : Recovered) (e : Epoch)
-    (l : HasLived t j o begun earlier) (is : IsReadOf o text came e) → begun ≡ begun_by is.front → e.base ≡ l.base →
-    AreEpochs o e earlier × IsSound o e earlier
+    (t : Table) (j : ℕ) (o : ObjectForm) (begun : Begun) (earlier : List Epoch) (h : House) (front : Opening) (text : List ℕ) (came : Recovered)
+    (l : HasLived t j o begun earlier) → begun ≡ begun_by front → IsRead o h text front came →
+    (e : Epoch) × IsReadOf o text came e × AreEpochs o e earlier × IsSound o e earlier
 
 -- An object of a new life has begun behind the lines of its journal, and has added the front of its epoch.
 pub record BeginsAt (t : Table) (j : ℕ) (object : Object) (h : House) (lines : List ℕ) (limits : Limits) : Type 0 where

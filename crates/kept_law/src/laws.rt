@@ -3,6 +3,8 @@
 ghost use Rattle.kept_law.specs.Kept.{RunsAreSteps, ObjectsStand, LinesAreRead, NextIsServed, CrashLeavesAnswered};
 ghost use Rattle.kept_law.specs.Starts.{FirstStands, BehindStands};
 ghost use Rattle.kept_law.specs.Lived.{StoodHasLived, TurnsLiveOn, ReadLivesOn, StartLivesOn, CrashLeavesOneHistory};
+ghost use Rattle.kept_law.specs.Replied.{TurnsHaveOneHistory, RepliesStand, CrashLeavesReplied};
+ghost use Rattle.kept_law.specs.Keys.{TurnsKeepKeys, StartHasKeys, RepeatsAreOfTheirKeys};
 
 /// An object that begins no epoch goes by steps, and the lines that all turns add to its journal are those of them.
 pub fn runs_are_steps()
@@ -71,4 +73,38 @@ pub fn start_lives_on()
 /// object keeps its paths at each moment, and its ends are one legal history.
 pub fn crash_leaves_one_history()
     ensures { CrashLeavesOneHistory }
+{}
+
+/// Any turns have one history: what happened in each of them, of which what it tells is true, and by just which each object
+/// has lived on.
+pub fn turns_have_one_history()
+    ensures { TurnsHaveOneHistory }
+{}
+
+/// A text that a connection is told in a turn tells the end of a call, with its number and its reply, and the call stands in
+/// the one history of its object, where this is the reply of the sequential object; or the end of a call that was made before
+/// under a key, as the object remembers it; or no reply.
+pub fn replies_stand()
+    ensures { RepliesStand }
+{}
+
+/// After a crash, where answers wait for the disk, the one history of turns is such: what was told is true of it.
+pub fn crash_leaves_replied()
+    ensures { CrashLeavesReplied }
+{}
+
+/// Over any turns, in which an object begins any number of epochs, each key of a name stands once in what is told of names.
+pub fn turns_keep_keys()
+    ensures { TurnsKeepKeys }
+{}
+
+/// An object that a start has begun behind its journal has the keys of all epochs that were read.
+pub fn start_has_keys()
+    ensures { StartHasKeys }
+{}
+
+/// Who is told of a call that was made before under a key is told of the one call of this name under this key, with its
+/// number and its reply.
+pub fn repeats_are_of_their_keys()
+    ensures { RepeatsAreOfTheirKeys }
 {}

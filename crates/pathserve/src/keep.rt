@@ -36,6 +36,7 @@ use status_text::numbers::{Server, Stored};
 use std::alloc::{AllocError, Global};
 use std::fs;
 use std::io::{self, Write};
+use std::rt::Stderr;
 use table_core::table::Table;
 
 /// So many names an object knows before a new one takes the place of another.
@@ -414,6 +415,59 @@ fn status_of(ended: &Result<Ended, Failure>) -> u8 {
     }
 }
 
+// What serves the connections of a server: how long it waits, and for what it stops.
+fn serving_of(asked: Keeping<'_>) -> Serving {
+    Serving {
+        places: asked.at_once,
+        pace: Pace {
+            tick: TICK,
+            sync: pace_of(asked.sync),
+        },
+        stops_with_input: asked.stops,
+    }
+}
+
+// The bounds of a server of so many objects.
+fn limits_of(asked: Keeping<'_>, journals: usize) -> LoopLimits {
+    LoopLimits {
+        places: asked.at_once,
+        journals,
+        waits: asked.sync == Sync::Always,
+    }
+}
+
+// What is outside of the objects of a server.
+type KeepOutside = Showing<
+    Logged<Wires<HostRuntime, Stderr>, HostRuntime, Stderr>,
+    StatusFile<Stderr>,
+>;
+
+// What is outside of the objects of a server that starts: its connections and its journals, which are logged and shown.
+fn outside_of(
+    rt: &HostRuntime,
+    names: &[String],
+    fronts: &[Vec<u8>],
+    asked: Keeping<'_>,
+    watching: Watching,
+    listener: Listener,
+    start: u64,
+) -> Result<KeepOutside, Failure> {
+    let alloc = rt.alloc();
+    let traces = u64::from(asked.traces).saturating_mul(MEGABYTE);
+    let begun = Journals::begin(*rt, asked.folder, names, fronts, ROOM, traces);
+    let Some(journals) = begun else {
+        return Err(Failure::WriteFault);
+    };
+    let form = form_of(watching.log);
+    let told = names_of(alloc, names)?;
+    let stored = journals_of(alloc, names, fronts)?;
+    let file = StatusFile::new(rt, asked.folder, Log::new(alloc, form, *rt, rt.stderr()))?;
+    let wires = Wires::open(rt, *rt, listener, journals, serving_of(asked), rt.stderr())?;
+    let logged = Logged::new(wires, Log::new(alloc, form, *rt, rt.stderr()), told);
+    let server = server_of(asked, watching, start);
+    Ok(Showing::new(alloc, logged, file, server, stored)?)
+}
+
 // Serves objects until the server is to end.
 fn serve_kept<W: Write, E: Write, L: Write>(
     rt: &HostRuntime,
@@ -433,49 +487,16 @@ fn serve_kept<W: Write, E: Write, L: Write>(
     } = kept;
     let count = objects.len();
     let mut shelf = DirShelf::new(*rt, asked.folder)?;
-    let traces = u64::from(asked.traces).saturating_mul(MEGABYTE);
-    let begun = Journals::begin(*rt, asked.folder, &names, &fronts, ROOM, traces);
-    let Some(journals) = begun else {
-        return Err(Failure::WriteFault);
-    };
     let table = Table::new(alloc, objects, asked.at_once, 0)?;
-    let serving = Serving {
-        places: asked.at_once,
-        pace: Pace {
-            tick: TICK,
-            sync: pace_of(asked.sync),
-        },
-        stops_with_input: asked.stops,
-    };
     let start = seconds_now(rt);
-    let form = form_of(watching.log);
-    let told = names_of(alloc, &names)?;
-    let stored = journals_of(alloc, &names, &fronts)?;
-    let file = StatusFile::new(rt, asked.folder, Log::new(alloc, form, *rt, rt.stderr()))?;
-    let wires = Wires::open(rt, *rt, listener, journals, serving, rt.stderr())?;
-    let logged = Logged::new(wires, Log::new(alloc, form, *rt, rt.stderr()), told);
-    let mut outside = Showing::new(
-        alloc,
-        logged,
-        file,
-        server_of(asked, watching, start),
-        stored,
-    )?;
+    let mut outside = outside_of(rt, &names, &fronts, asked, watching, listener, start)?;
     tell_place(alloc, asked, writer)?;
-    log.started(
-        count as u64,
-        asked.folder.as_bytes(),
-        place_text(alloc, asked)?.as_bytes(),
-    );
-    let limits = LoopLimits {
-        places: asked.at_once,
-        journals: count,
-        waits: asked.sync == Sync::Always,
-    };
+    let place = place_text(alloc, asked)?;
+    log.started(count as u64, asked.folder.as_bytes(), place.as_bytes());
     let ended = serve_table(
         alloc,
         table,
-        limits,
+        limits_of(asked, count),
         &mut outside,
         &mut shelf,
         writer,

@@ -1,0 +1,8 @@
+//! The law, a function without a body whose contract it is.
+
+ghost use Rattle.front_law.specs.Written.{WrittenIsRead};
+
+/// The front that is read of a text is the one that was written, however much stands behind that of what was added since.
+pub fn written_is_read()
+    ensures { WrittenIsRead }
+{}

@@ -1,0 +1,4 @@
+mod Owing
+mod Places
+mod Rows
+mod Starting

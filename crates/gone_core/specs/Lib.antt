@@ -1,0 +1,5 @@
+pub mod Gone
+pub mod Ticks
+pub mod Holding
+pub mod Start
+pub mod Views

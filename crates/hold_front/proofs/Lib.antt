@@ -1,0 +1,7 @@
+mod Adding
+mod Named
+mod Numerals
+mod Playing
+mod Reading
+mod Safe
+mod Texts

@@ -1,0 +1,4 @@
+pub mod HeldLines
+pub mod HeldPlay
+pub mod HeldSo
+pub mod HeldText

@@ -1,0 +1,4 @@
+pub mod Plain
+pub mod Going
+pub mod Doing
+pub mod Turning
