@@ -1,5 +1,5 @@
 -- Keys over turns.
-use Rattle.std.proofs.Common.{◌≡◌, ◌≢◌, ◌⊎◌, inl, inr, ◌∙◌, ap, sym, subst, refl, arith, ℕ, ◌<◌, List, [], ◌∷◌, length, eqb-true}
+use Rattle.std.proofs.Common.{◌≡◌, ◌≢◌, inl, inr, ◌∙◌, ap, sym, subst, refl, arith, ℕ, ◌<◌, List, [], ◌∷◌, length, eqb-true}
 use Rattle.std.specs.Prelude.{Bool, true, false, ◌==◌, Some, map, slice_get, slice_set}
 use Rattle.std.proofs.lemmas.Bool.{eqb-false}
 use Rattle.std.proofs.lemmas.Option.{same_Some, slice_get_within}
@@ -15,7 +15,7 @@ use Rattle.year_law.specs.Keys.{KeyEvent, epoch_began, all_told, oldest}
 use Rattle.keyed_law.specs.Keyed.{HaveKeys, with_steps}
 use Rattle.keyed_law.proofs.Keeping.{steps_keep_keys, epoch_keeps_keys, read_have_keys, repeat_is_the_call}
 use Rattle.post_core.specs.Texts.{to}
-use Rattle.post_core.specs.Turns.{Asked, Turn}
+use Rattle.post_core.specs.Turns.{Asked}
 use Rattle.post_core.specs.Turns.Asked.{Heard, Noted, Changes}
 use Rattle.post_core.specs.declared.served.LineEnd.{LineEnd}
 use Rattle.post_core.specs.declared.served.Note.{Note}
@@ -102,7 +102,7 @@ turns_keep_keys first last [] [] j f old told all there keys = record {
   scene = old;
   there = ap (λ (t : Table). slice_get t.objects.items j) all ∙ there;
   events = told;
-  names = (refl, refl);
+  names = (all, refl);
   keys = keys;
 }
 turns_keep_keys first last [] (a ∷ accounts) j f old told all there keys = absurd all
@@ -110,7 +110,7 @@ turns_keep_keys first last (t ∷ turns) [] j f old told all there keys = absurd
 turns_keep_keys first last (t ∷ turns) (a ∷ accounts) j f old told (mid, gives, says, all) there keys =
     let one = keeps first mid j f old told there keys t.asked t.said t.added a gives says in
     let more = turns_keep_keys mid last turns accounts j f one.scene one.events all one.there one.keys in
-    record { scene = more.scene; there = more.there; events = more.events; names = (one.scene, one.events, one.names, more.names); keys = more.keys }
+    record { scene = more.scene; there = more.there; events = more.events; names = (mid, gives, says, old, there, one.scene, one.there, one.events, one.names, more.names); keys = more.keys }
 
 pub start_has_keys : StartHasKeys
 start_has_keys t j object h lines limits b e earlier came are =

@@ -40,7 +40,7 @@ use Rattle.said_law.proofs.Turning.{turns_say}
 use Rattle.table_core.specs.Moves.{Gives}
 use Rattle.table_core.specs.Seen.{seen}
 use Rattle.table_core.specs.declared.table.Table.{Table}
-use Rattle.kept_law.specs.Lived.{HasLived, epoch_in, StoodHasLived, IsBegunIn, LivesOn, TurnsLiveOn, ReadLivesOn, StartLivesOn, CrashLeavesOneHistory}
+use Rattle.kept_law.specs.Lived.{HasLived, epoch_in, StoodHasLived, IsBegunIn, TurnsLiveOn, ReadLivesOn, StartLivesOn, CrashLeavesOneHistory}
 use Rattle.kept_law.specs.Kept.{LeavesAnswered}
 use Rattle.kept_law.specs.Replied.{AreTold, ends_in, Lives, TurnsHaveOneHistory}
 use Rattle.kept_law.proofs.Going.{get_at, set_at, set_other, crash_leaves_answered}

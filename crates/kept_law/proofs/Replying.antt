@@ -4,21 +4,21 @@ use Rattle.value_core.specs.Contents.{Contents}
 use Rattle.decl_core.specs.ObjectForm.{ObjectForm}
 use Rattle.apply_core.specs.declared.reply.Reply.{Reply}
 use Rattle.apply_core.specs.History.{End, IsReplyOn, IsLegal, leads_to, left_by}
-use Rattle.trace_core.specs.Events.{Called, Happened, ended, began, end_of, history_of}
+use Rattle.trace_core.specs.Events.{Called, end_of, history_of}
 use Rattle.live_core.specs.Hall.{Every}
-use Rattle.replay_core.specs.Steps.{Step, ran, happened_of}
-use Rattle.year_law.specs.Year.{all_ends, first_opening}
+use Rattle.session_text.specs.Lines.{ended_text}
+use Rattle.replay_core.specs.Steps.{Step, Begun, ran, happened_of}
+use Rattle.year_law.specs.Year.{Epoch, all_ends, first_opening}
 use Rattle.post_core.specs.Turns.{Asked, Turn}
 use Rattle.post_core.specs.Turns.Asked.{Heard, Noted, Changes}
 use Rattle.told_core.specs.Deeds.{Texts}
 use Rattle.told_core.specs.State.{State}
 use Rattle.said_law.specs.Said.{Account, SaysIn, IsTrue, SaysNoReply}
-use Rattle.table_core.specs.Moves.{Gives}
 use Rattle.table_core.specs.Seen.{seen}
 use Rattle.table_core.specs.declared.table.Table.{Table}
 use Rattle.kept_law.specs.Kept.{LeavesAnswered}
 use Rattle.kept_law.specs.Lived.{HasLived, epoch_in}
-use Rattle.kept_law.specs.Replied.{AreTold, ends_in, HaveOneHistory, IsReplied, IsRepeated, RepliesStand, CrashLeavesReplied}
+use Rattle.kept_law.specs.Replied.{AreTold, ends_in, HaveOneHistory, StandsIn, IsReplied, IsRepeated, RepliesStand, CrashLeavesReplied}
 use Rattle.kept_law.proofs.Going.{crash_leaves_answered}
 use Rattle.kept_law.proofs.Grown.{ends_more}
 use Rattle.kept_law.proofs.Living.{turns_have_one_history}
@@ -95,13 +95,46 @@ text_true old new (Noted note) said added account front behind s says cut =
     every_at (λ (x : ℕ × List ℕ). IsTrue old.objects account x.1) front s behind (subst (λ (l : Texts). Every (λ (x : ℕ × List ℕ). IsTrue old.objects account x.1) l) cut says.true_all)
 text_true old new (Changes journal front' went) said added account front behind s says cut = absurd (none_said front behind s (sym says.0 ∙ cut))
 
+-- a call that ran in one of the turns stands in the history of its object
+pub stands_in : (first last : Table) (turns : List Turn) (h : HaveOneHistory first last turns) (j : ℕ) (before_all : List Account) (account : Account) (after_all : List Account) →
+    h.accounts ≡ before_all ++ account ∷ after_all → (later before : List Step) (call : Called) (reply : Reply) → account j ≡ later ++ ran call reply ∷ before →
+    (o : ObjectForm) (begun : Begun) (earlier : List Epoch) (l : HasLived first j o begun earlier) →
+    StandsIn o (all_ends o (epoch_in (h.lives j o begun earlier l).0.lived) (h.lives j o begun earlier l).0.earlier) (first_opening (epoch_in l) earlier) call reply
+stands_in first last turns h j before_all account after_all cut later before call reply ran_so o begun earlier l =
+    let lives = h.lives j o begun earlier l in
+    let on = lives.0 in
+    let e : End = end_of o call reply in
+    let was = history_of o (happened_of before) in
+    let then = history_of o (happened_of later) in
+    let here : history_of o (happened_of (account j)) ≡ was ++ e ∷ then =
+    ap (λ (x : List Step). history_of o (happened_of x)) ran_so ∙ ran_stands o later before call reply in
+    let ends = all_ends o (epoch_in l) earlier in
+    let done : on.done ≡ (ends_in o j before_all ++ was) ++ e ∷ (then ++ ends_in o j after_all) =
+    lives.1 ∙ ap (ends_in o j) cut ∙ ends_both o j before_all (account ∷ after_all)
+    ∙ ap (λ (x : List End). ends_in o j before_all ++ (x ++ ends_in o j after_all)) here
+    ∙ ap (λ (x : List End). ends_in o j before_all ++ x) (append_assoc was (e ∷ then) (ends_in o j after_all))
+    ∙ sym (append_assoc (ends_in o j before_all) was (e ∷ (then ++ ends_in o j after_all))) in
+    let before_it = ends ++ (ends_in o j before_all ++ was) in
+    let behind_it = then ++ ends_in o j after_all in
+    let all : all_ends o (epoch_in on.lived) on.earlier ≡ before_it ++ e ∷ behind_it =
+    on.ends_are ∙ ap (λ (x : List End). ends ++ x) done ∙ sym (append_assoc ends (ends_in o j before_all ++ was) (e ∷ behind_it)) in
+    let legal : IsLegal (before_it ++ e ∷ behind_it) (first_opening (epoch_in l) earlier) =
+    subst (λ (p : List Contents). IsLegal (before_it ++ e ∷ behind_it) p) on.opening_is
+    (subst (λ (x : List End). IsLegal x (first_opening (epoch_in on.lived) on.earlier)) all on.sound.legal) in
+    record {
+      before = before_it;
+      after = behind_it;
+      stands = all;
+      given = legal_at before_it e behind_it (first_opening (epoch_in l) earlier) legal;
+    }
+
 pub replies_stand : RepliesStand
 replies_stand first last before after t h who text front behind is = by (text_true (seen at.mid) (seen at.next) t.asked t.said t.added at.account front behind (who, text) at.says is)
   where
     at : At first before t h.accounts
     at = turn_at first last before after t h.accounts h.told
 
-    by : IsTrue at.mid.objects.items at.account text → IsReplied first last (before ++ t ∷ after) h text ⊎ (IsRepeated first last (before ++ t ∷ after) before h text ⊎ SaysNoReply text)
+    by : IsTrue at.mid.objects.items at.account text → IsReplied first last (before ++ t ∷ after) before h text ⊎ (IsRepeated first last (before ++ t ∷ after) before h text ⊎ SaysNoReply text)
     by (inr none) = inr (inr none)
     by (inl (n, reply, inr (text_is, remembered))) = inr (inl (record {
       earlier = at.earlier;
@@ -116,39 +149,16 @@ replies_stand first last before after t h who text front behind is = by (text_tr
       remembered = remembered;
     }))
     by (inl (n, reply, inl (text_is, run))) = inl (record {
+      earlier = at.earlier;
+      mid = at.mid;
+      led = at.led;
       object = run.object;
-      number = n;
+      scene = run.scene;
+      there = run.there;
       call = run.call;
       reply = reply;
-      text_is = text_is;
-      stands = λ o begun earlier l.
-          let j = run.object in
-          let lives = h.lives j o begun earlier l in
-          let on = lives.0 in
-          let e : End = end_of o run.call reply in
-          let was = history_of o (happened_of run.before) in
-          let then = history_of o (happened_of run.later) in
-          let here : history_of o (happened_of (at.account j)) ≡ was ++ e ∷ then =
-          ap (λ (l : List Step). history_of o (happened_of l)) run.ran_so ∙ ran_stands o run.later run.before run.call reply in
-          let ends = all_ends o (epoch_in l) earlier in
-          let done : on.done ≡ (ends_in o j at.earlier ++ was) ++ e ∷ (then ++ ends_in o j at.later) =
-          lives.1 ∙ ap (ends_in o j) at.cut ∙ ends_both o j at.earlier (at.account ∷ at.later)
-          ∙ ap (λ (l : List End). ends_in o j at.earlier ++ (l ++ ends_in o j at.later)) here
-          ∙ ap (λ (l : List End). ends_in o j at.earlier ++ l) (append_assoc was (e ∷ then) (ends_in o j at.later))
-          ∙ sym (append_assoc (ends_in o j at.earlier) was (e ∷ (then ++ ends_in o j at.later))) in
-          let before_it = ends ++ (ends_in o j at.earlier ++ was) in
-          let behind_it = then ++ ends_in o j at.later in
-          let all : all_ends o (epoch_in on.lived) on.earlier ≡ before_it ++ e ∷ behind_it =
-          on.ends_are ∙ ap (λ (l : List End). ends ++ l) done ∙ sym (append_assoc ends (ends_in o j at.earlier ++ was) (e ∷ behind_it)) in
-          let legal : IsLegal (before_it ++ e ∷ behind_it) (first_opening (epoch_in l) earlier) =
-          subst (λ (p : List Contents). IsLegal (before_it ++ e ∷ behind_it) p) on.opening_is
-          (subst (λ (x : List End). IsLegal x (first_opening (epoch_in on.lived) on.earlier)) all on.sound.legal) in
-          record {
-            before = before_it;
-            after = behind_it;
-            stands = all;
-            given = legal_at before_it e behind_it (first_opening (epoch_in l) earlier) legal;
-          };
+      text_is = text_is ∙ ap (λ m. ended_text m reply) run.told_is;
+      stands = λ o begun earlier l. stands_in first last (before ++ t ∷ after) h run.object at.earlier at.account at.later at.cut run.later run.before run.call reply run.ran_so o begun earlier l;
     })
 
 pub crash_leaves_replied : CrashLeavesReplied

@@ -14,7 +14,9 @@ use Rattle.keyed_law.specs.Keyed.{HaveKeys, IsTheCall, with_steps}
 use Rattle.post_core.specs.Texts.{to}
 use Rattle.post_core.specs.Turns.{Asked, Turn}
 use Rattle.post_core.specs.Turns.Asked.{Heard, Noted, Changes}
-use Rattle.said_law.specs.Said.{Account, Went}
+use Rattle.said_law.specs.Said.{Account, SaysIn, Went}
+use Rattle.table_core.specs.Moves.{Gives}
+use Rattle.table_core.specs.Seen.{seen}
 use Rattle.table_core.specs.declared.table.Table.{Table}
 use Rattle.kept_law.specs.Lived.{BeginsAt}
 use Rattle.kept_law.specs.Replied.{AreTold, HaveOneHistory, IsRepeated}
@@ -32,27 +34,29 @@ NamesIn j (Changes journal front true) old told added steps new now =
     ⊎ ((journal ≢ j) × (new ≡ old) × (now ≡ told))
 NamesIn j (Changes journal front false) old told added steps new now = (new ≡ old) × (now ≡ told)
 
--- what turns tell of them, in which this happened
-abbrev pub NamesOver : ℕ → List Turn → List Account → Scene → List KeyEvent → Scene → List KeyEvent → Type 0
-NamesOver j [] [] old told new now = (new ≡ old) × (now ≡ told)
-NamesOver j [] (a ∷ accounts) old told new now = ⊥
-NamesOver j (t ∷ turns) [] old told new now = ⊥
-NamesOver j (t ∷ turns) (a ∷ accounts) old told new now =
-    (mid : Scene) × (so_far : List KeyEvent) × NamesIn j t.asked old told t.added (a j) mid so_far × NamesOver j turns accounts mid so_far new now
+-- these turns lead from old to new, this happened in each of them, and this is what they tell of the names of one object
+abbrev pub NamesOver : ℕ → Table → List Turn → List Account → Table → List KeyEvent → List KeyEvent → Type 0
+NamesOver j old [] [] new told now = (new ≡ old) × (now ≡ told)
+NamesOver j old [] (a ∷ accounts) new told now = ⊥
+NamesOver j old (t ∷ turns) [] new told now = ⊥
+NamesOver j old (t ∷ turns) (a ∷ accounts) new told now =
+    (mid : Table) × Gives old t.asked t.said t.added mid × SaysIn (seen old) t.asked t.said t.added a (seen mid)
+    × (before : Scene) × (slice_get old.objects.items j ≡ Some before) × (after : Scene) × (slice_get mid.objects.items j ≡ Some after)
+    × (so_far : List KeyEvent) × NamesIn j t.asked before told t.added (a j) after so_far × NamesOver j mid turns accounts new so_far now
 
 -- An object stands at a place, these turns have led there and told this of names, and each key stands once in it.
-pub record HasKeysAt (last : Table) (j : ℕ) (f : Opening) (turns : List Turn) (accounts : List Account) (old : Scene) (told : List KeyEvent) : Type 0 where
+pub record HasKeysAt (first last : Table) (j : ℕ) (f : Opening) (turns : List Turn) (accounts : List Account) (told : List KeyEvent) : Type 0 where
   pub scene : Scene
   pub there : slice_get last.objects.items j ≡ Some scene
   pub events : List KeyEvent
-  pub names : NamesOver j turns accounts old told scene events
+  pub names : NamesOver j first turns accounts last told events
   pub keys : HaveKeys f events scene.guests
 
 -- So it is behind any turns, in which an object begins any number of epochs.
 abbrev pub TurnsKeepKeys : Type 0
 TurnsKeepKeys =
     (first last : Table) (turns : List Turn) (accounts : List Account) (j : ℕ) (f : Opening) (old : Scene) (told : List KeyEvent) → AreTold first turns accounts last →
-    slice_get first.objects.items j ≡ Some old → HaveKeys f told old.guests → HasKeysAt last j f turns accounts old told
+    slice_get first.objects.items j ≡ Some old → HaveKeys f told old.guests → HasKeysAt first last j f turns accounts told
 
 -- An object of a new life has the keys of all epochs that were read, and its own begins behind them.
 abbrev pub StartHasKeys : Type 0
@@ -64,11 +68,11 @@ StartHasKeys =
 -- A text that tells how a call ended that an object remembers tells it of the one call of this name under this key, which the
 -- turns before had told of; or which the front of the oldest epoch has.
 pub record IsOfItsKey (first last : Table) (turns before : List Turn) (h : HaveOneHistory first last turns) (text : List ℕ) (r : IsRepeated first last turns before h text) (f : Opening)
-    (old : Scene) (told : List KeyEvent) : Type 0 where
-  pub at : HasKeysAt r.mid r.remembered.object f before r.earlier old told
+    (told : List KeyEvent) : Type 0 where
+  pub at : HasKeysAt first r.mid r.remembered.object f before r.earlier told
   pub the_call : IsTheCall f (with_steps r.remembered.since at.events) r.remembered.now r.remembered.session r.remembered.key r.remembered.asked r.number (Some r.reply)
 
 abbrev pub RepeatsAreOfTheirKeys : Type 0
 RepeatsAreOfTheirKeys =
     (first last : Table) (turns before : List Turn) (h : HaveOneHistory first last turns) (text : List ℕ) (r : IsRepeated first last turns before h text) (f : Opening) (old : Scene)
-    (told : List KeyEvent) → slice_get first.objects.items r.remembered.object ≡ Some old → HaveKeys f told old.guests → IsOfItsKey first last turns before h text r f old told
+    (told : List KeyEvent) → slice_get first.objects.items r.remembered.object ≡ Some old → HaveKeys f told old.guests → IsOfItsKey first last turns before h text r f told

@@ -1,5 +1,5 @@
 -- Each reply that a connection is told is that of its call in the one history.
-use Rattle.std.specs.Prelude.{◌≡◌, ◌⊎◌, ◌<◌, ℕ, true, List, [], ◌∷◌, ◌++◌}
+use Rattle.std.specs.Prelude.{◌≡◌, ◌⊎◌, ◌<◌, ℕ, true, List, [], ◌∷◌, ◌++◌, Some, slice_get}
 use Rattle.value_core.specs.Contents.{Contents}
 use Rattle.decl_core.specs.ObjectForm.{ObjectForm}
 use Rattle.apply_core.specs.declared.reply.Reply.{Reply}
@@ -7,6 +7,7 @@ use Rattle.apply_core.specs.History.{End, IsReplyOn, leads_to}
 use Rattle.trace_core.specs.Events.{Called, body_at, end_of, history_of}
 use Rattle.session_text.specs.Lines.{ended_text, repeated_text}
 use Rattle.replay_core.specs.Steps.{Begun, happened_of}
+use Rattle.hosted_core.specs.Scene.{Scene, told_of}
 use Rattle.year_law.specs.Year.{Epoch, all_ends, first_opening}
 use Rattle.post_core.specs.Turns.{Turn, Runs}
 use Rattle.keep_loop.specs.declared.keep.Limits.{Limits}
@@ -55,14 +56,18 @@ pub record StandsIn (o : ObjectForm) (history : List End) (opening : List Conten
   pub stands : history ≡ before ++ end_of o call reply ∷ after
   pub given : IsReplyOn reply (body_at o call.operation) call.arguments (leads_to before opening)
 
--- A text tells the end of a call of an object, with its reply; and so the call stands in the history of all epochs of this
--- object.
-pub record IsReplied (first last : Table) (turns : List Turn) (h : HaveOneHistory first last turns) (text : List ℕ) : Type 0 where
+-- A text tells the end of a call of an object, which ran once these turns before had led so far, with the number that was told
+-- of it and its reply; and so the call stands in the history of all epochs of this object.
+pub record IsReplied (first last : Table) (turns before : List Turn) (h : HaveOneHistory first last turns) (text : List ℕ) : Type 0 where
+  pub earlier : List Account
+  pub mid : Table
+  pub led : AreTold first before earlier mid
   pub object : ℕ
-  pub number : ℕ
+  pub scene : Scene
+  pub there : slice_get mid.objects.items object ≡ Some scene
   pub call : Called
   pub reply : Reply
-  pub text_is : text ≡ ended_text number reply
+  pub text_is : text ≡ ended_text (told_of scene call.number) reply
   pub stands : (o : ObjectForm) (begun : Begun) (earlier : List Epoch) (l : HasLived first object o begun earlier) →
       StandsIn o (all_ends o (epoch_in (h.lives object o begun earlier l).0.lived) (h.lives object o begun earlier l).0.earlier) (first_opening (epoch_in l) earlier) call reply
 
@@ -83,7 +88,7 @@ pub record IsRepeated (first last : Table) (turns before : List Turn) (h : HaveO
 abbrev pub RepliesStand : Type 0
 RepliesStand =
     (first last : Table) (before after : List Turn) (t : Turn) (h : HaveOneHistory first last (before ++ t ∷ after)) (who : ℕ) (text : List ℕ) (front behind : List (ℕ × List ℕ)) →
-    t.said ≡ front ++ (who, text) ∷ behind → IsReplied first last (before ++ t ∷ after) h text ⊎ (IsRepeated first last (before ++ t ∷ after) before h text ⊎ SaysNoReply text)
+    t.said ≡ front ++ (who, text) ∷ behind → IsReplied first last (before ++ t ∷ after) before h text ⊎ (IsRepeated first last (before ++ t ∷ after) before h text ⊎ SaysNoReply text)
 
 -- A crash leaves one history of turns, as before, and what is told in them is true of it.
 pub record LeavesReplied (first : Table) (limits : Limits) (seen : List Happened) (found : ℕ → List ℕ) : Type 0 where

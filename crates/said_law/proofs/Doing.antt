@@ -1,5 +1,5 @@
 -- What each deed says.
-use Rattle.std.proofs.Common.{◌≡◌, ◌∙◌, ap, sym, subst, refl, ℕ, inl, inr, List, [], ◌∷◌, ◌++◌, Option, Some, None, Result, Ok, Err, append_assoc}
+use Rattle.std.proofs.Common.{◌≡◌, ◌∙◌, ap, sym, subst, refl, ℕ, inl, inr, List, [], ◌∷◌, ◌++◌, Option, Some, None, Result, Ok, Err}
 use Rattle.std.specs.Prelude.{map, slice_get, slice_set}
 use Rattle.std.specs.declared.alloc.AllocError.{AllocError}
 use Rattle.value_core.specs.declared.datum.Datum.{Datum}
@@ -10,12 +10,10 @@ use Rattle.live_core.specs.Hall.{Every}
 use Rattle.live_core.specs.Lines.{all_lines}
 use Rattle.guest_core.specs.Keys.{asks as asks_for}
 use Rattle.replay_core.specs.Steps.{Step, ran}
-use Rattle.ask_core.specs.declared.answer.Cancelled.{Cancelled}
 use Rattle.ask_core.specs.declared.answer.Cancelled.TheVariants as cancels_by
 use Rattle.ask_core.specs.declared.answer.SubmitFault.TheVariants as faults
-use Rattle.session_text.specs.declared.line.Line.{Line}
 use Rattle.session_text.specs.declared.line.Line.TheVariants as lines
-use Rattle.session_text.specs.Lines.{accepted_text, bye_text, cancel_name, ended_text, line_text, opened_text, repeated_text, withdrawn_text}
+use Rattle.session_text.specs.Lines.{accepted_text, bye_text, cancel_name, ended_text, line_text, opened_text, withdrawn_text}
 use Rattle.script_text.specs.Answers.{cancelled_line}
 use Rattle.hosted_core.specs.declared.hosted.Keyed.{Keyed}
 use Rattle.hosted_core.specs.declared.hosted.Keyed.TheVariants as keys
@@ -34,9 +32,9 @@ use Rattle.told_core.specs.Deeds.{Texts, Deed, Nothing, OnlyTold, Then}
 use Rattle.told_core.specs.Asked.{IsRefused, OpensBare, OpensAs, Opens, Ends, AllEnd, Submits, GetsNumber, Sits, Calls, Repeats, RepeatsUnder, IsTurnedAway, AnswersCall, LetsGo, AnswersCancel, AnswersInside, LeavesObject, Goes, Quits, Acts, Heeds, keyed_text}
 use Rattle.told_core.specs.Inside.{Sees, IsWhy, state_by, form_at, object_in}
 use Rattle.told_core.proofs.Doing.{ends_keeps, all_end_keeps}
-use Rattle.said_law.specs.Said.{Account, AllWent, HasRun, HasRemembered, SaysNoReply, IsTrue, Says}
+use Rattle.said_law.specs.Said.{Account, AllWent, SaysNoReply, IsTrue, Says}
 use Rattle.said_law.proofs.Plain.{refusal_plain, opened_plain, accepted_plain, withdrawn_plain, cancelled_plain, bye_plain, waiting_plain, gone_plain, why_plain, state_plain, who_plain, list_plain}
-use Rattle.said_law.proofs.Going.{ran_more, all_more, TellsAlike, all_alike, told_alike, no_account, both, went_none, went_then, at_one, at_own, went_one, went_quiet, true_before, true_behind, every_map, every_both}
+use Rattle.said_law.proofs.Going.{ran_more, all_alike, told_alike, no_account, both, went_none, went_then, at_one, at_own, went_one, went_quiet, true_before, true_behind, every_map, every_both}
 
 -- it says what happened
 abbrev pub Tells : State → Texts → Texts → State → Type 0

@@ -12,7 +12,7 @@ use Rattle.guest_core.specs.declared.guests.Entered.{Entered}
 use Rattle.guest_core.specs.declared.guests.EnterFault.{EnterFault}
 use Rattle.guest_core.specs.declared.seats.Seat.{Seat}
 use Rattle.guest_core.specs.declared.seats.Seat.TheVariants.{Void, Free, Nameless, Named, Retired}
-use Rattle.replay_core.specs.Steps.{Step, ran, cancelled, named}
+use Rattle.replay_core.specs.Steps.{Step, ran, named}
 use Rattle.hosted_core.specs.Scene.{Scene, told_of}
 use Rattle.hosted_core.specs.Steps as hosted
 use Rattle.hosted_core.specs.Steps.{Steps, rests, goes_on}

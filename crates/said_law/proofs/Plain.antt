@@ -1,18 +1,16 @@
 -- Texts that say of no call what it replied.
-use Rattle.std.proofs.Common.{◌≡◌, ◌≢◌, ◌⊎◌, inl, inr, ◌∙◌, ap, sym, subst, refl, ℕ, List, [], ◌∷◌, ◌++◌, Option, Some, None, arith}
-use Rattle.std.specs.Prelude.{codes, decimal}
+use Rattle.std.proofs.Common.{◌≡◌, ◌≢◌, ◌⊎◌, inl, inr, ◌∙◌, sym, subst, refl, ℕ, List, [], ◌∷◌, ◌++◌, Option, Some, None, arith}
+use Rattle.std.specs.Prelude.{codes}
 use Rattle.apply_core.specs.declared.reply.Reply.{Reply}
 use Rattle.apply_core.specs.declared.reply.Reply.TheVariants.{Done, Refused, Failed}
-use Rattle.ask_core.specs.declared.answer.Cancelled.{Cancelled}
 use Rattle.decl_core.specs.ObjectForm.{ObjectForm}
-use Rattle.word_core.specs.Words.{Word, bare, line_of, behind_word}
 use Rattle.why_core.specs.Lacks.{Why}
 use Rattle.inside_text.specs.declared.why.State.{State}
 use Rattle.inside_text.specs.Why.{state_line, why_text}
 use Rattle.inside_text.specs.Who.{Sitting, Refused as Waits, who_text}
 use Rattle.inside_text.specs.List.{list_text}
 use Rattle.script_text.specs.Answers.{kept_line, cancelled_line, finished_line}
-use Rattle.session_text.specs.Lines.{accepted_text, bye_text, ended_text, line_text, opened_text, repeated_text, withdrawn_text, refusal_name, fault_name, keyed_name}
+use Rattle.session_text.specs.Lines.{accepted_text, bye_text, ended_text, line_text, opened_text, withdrawn_text}
 use Rattle.session_text.specs.declared.line.Line.{Line}
 use Rattle.session_text.specs.declared.line.Line.TheVariants as lines
 use Rattle.told_core.specs.Asked.{IsRefusal}

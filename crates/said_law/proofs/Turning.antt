@@ -1,5 +1,5 @@
 -- What each turn says.
-use Rattle.std.proofs.Common.{◌≡◌, ap, subst, refl, sym, ℕ, zero, suc, inl, inr, List, [], ◌∷◌, Bool, true, false, Result, Ok, Err}
+use Rattle.std.proofs.Common.{◌≡◌, ap, refl, ℕ, zero, suc, inl, inr, List, [], ◌∷◌, Bool, true, false, Result, Ok, Err}
 use Rattle.std.specs.Prelude.{length}
 use Rattle.std.specs.declared.alloc.AllocError.{AllocError}
 use Rattle.ask_core.specs.declared.answer.SubmitFault.TheVariants as faults
@@ -14,7 +14,7 @@ use Rattle.post_core.specs.declared.served.Note.TheVariants as notes
 use Rattle.client_core.specs.declared.ask.Ask.{Ask}
 use Rattle.client_core.specs.declared.ask.Ask.TheVariants as asks
 use Rattle.told_core.specs.State.{State}
-use Rattle.told_core.specs.Deeds.{Texts, Deed, Nothing, OnlyTold, Then}
+use Rattle.told_core.specs.Deeds.{Texts, Deed, OnlyTold, Then}
 use Rattle.told_core.specs.Asked.{Goes}
 use Rattle.told_core.specs.Turns.HearsLine.{does, cancels, sees, puts_off, holds, refuses}
 use Rattle.told_core.specs.Turns.GoesOn.{rests, does as does_more}
@@ -23,7 +23,7 @@ use Rattle.told_core.specs.Turns.{HearsLine, HearsLast, HearsAt, TakesLine, Goes
 use Rattle.said_law.specs.Said.{TurnsSay}
 use Rattle.said_law.proofs.Plain.{refusal_plain, bye_plain}
 use Rattle.said_law.proofs.Going.{no_account}
-use Rattle.said_law.proofs.Doing.{Tells, TellsBy, tells_nothing, tells_only, tells_still, tells_two, tells_as, tells_then, heeds, cancel, inside, lets_go, goes}
+use Rattle.said_law.proofs.Doing.{Tells, TellsBy, tells_nothing, tells_only, tells_still, tells_two, tells_then, heeds, cancel, inside, lets_go, goes}
 
 -- objects that are the same
 from_same : (old mid new : State) (said added : Texts) → mid.objects ≡ old.objects → Tells mid said added new → Tells old said added new
