@@ -1,5 +1,4 @@
 mod Adding
-mod Ending
 mod Named
 mod Numerals
 mod Playing

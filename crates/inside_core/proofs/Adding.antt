@@ -64,10 +64,6 @@ seats_count crowd [] (r ∷ rs) are = absurd are
 seats_count crowd (o ∷ os) [] are = absurd are
 seats_count crowd (o ∷ os) (r ∷ rs) are = let h = seats_count crowd os rs are.1 in omega (arith, h)
 
-pub seats_end : (crowd : Crowd) (all : List (ℕ × Opened)) (out : List ℕ) → length all ≡ 0 → AddsSeats crowd all out out
-seats_end crowd [] out none = record { rows = []; are = tt; added = sym (append-nil out) }
-seats_end crowd (o ∷ all) out none = absurd (omega (arith, none))
-
 seats_then : (crowd : Crowd) (os ps : List (ℕ × Opened)) (before mid after : List ℕ) → AddsSeats crowd os before mid → AddsSeats crowd ps mid after → AddsSeats crowd (os ++ ps) before after
 seats_then crowd os ps before mid after one two = record {
   rows = one.rows ++ two.rows;
@@ -75,9 +71,15 @@ seats_then crowd os ps before mid after one two = record {
   added = added_then (λ s. seat_line s.seat s.name) one.rows two.rows before mid after one.added two.added;
 }
 
-pub seats_more : (crowd : Crowd) (all rest : List (ℕ × Opened)) (o : ℕ × Opened) (before mid after : List ℕ) → all ≡ o ∷ rest → AddsSeats crowd (o ∷ []) before mid → AddsSeats crowd rest mid after →
-    AddsSeats crowd all before after
-seats_more crowd all rest o before mid after is one more = subst (λ l. AddsSeats crowd l before after) (sym is) (seats_then crowd (o ∷ []) rest before mid after one more)
+-- what stands where nothing does
+abbrev pub no_seat : ℕ × Opened
+no_seat = (0, record { object = 0; session = 0; is_named = false; waits = false; calls = 0; told = 0 })
+
+-- one more is told
+pub seats_next : (crowd : Crowd) (all : List (ℕ × Opened)) (k : ℕ) (before mid after : List ℕ) → k < length all → AddsSeats crowd (take k all) before mid →
+    AddsSeats crowd (get_or all k no_seat ∷ []) mid after → AddsSeats crowd (take (k + 1) all) before after
+seats_next crowd all k before mid after inside one two =
+    subst (λ l. AddsSeats crowd l before after) (sym (take_more all k no_seat inside)) (seats_then crowd (take k all) (get_or all k no_seat ∷ []) before mid after one two)
 
 pub one_seat : (crowd : Crowd) (o : ℕ × Opened) (s : Sitting) (before after : List ℕ) → IsSeatOf crowd o s → after ≡ before ++ seat_line s.seat s.name → AddsSeats crowd (o ∷ []) before after
 one_seat crowd o s before after is added =

@@ -2,13 +2,16 @@
 use Rattle.std.specs.Prelude.{◌≡◌, ℕ, List, ◌++◌, map, flat_map, length, sum}
 use Rattle.decl_core.specs.ObjectMap.{object_of}
 use Rattle.trace_core.specs.Events.{Called}
+use Rattle.live_core.specs.Hall.{Every}
 use Rattle.hosted_core.specs.Scene.{Scene}
 use Rattle.client_core.specs.declared.client.Opened.{Opened}
 use Rattle.client_core.specs.declared.clients.Clients.{Clients}
 use Rattle.client_core.specs.People.{people_of}
 use Rattle.inside_text.specs.Who.{Sitting, Refused, seat_line, waits_line}
 use Rattle.told_core.specs.State.{peers_of}
-use Rattle.told_core.specs.Inside.{Crowd, AreSeats, AreWaits}
+use Rattle.why_core.specs.Found.{whys_of}
+use Rattle.told_core.specs.Inside.{Crowd, AreSeats, AreWaits, AreWhys}
+use Rattle.inside_core.specs.declared.who.Refusing.{Refusing}
 use Rattle.inside_core.specs.declared.who.Whom.{Whom}
 
 -- those that are looked at
@@ -27,3 +30,7 @@ pub record AddsWaits (crowd : Crowd) (seats : List (ℕ × Opened)) (object : Sc
   pub are : AreWaits crowd seats object calls rows
   pub count : n ≡ sum (map (λ r. length r.whys) rows)
   pub added : after ≡ before ++ flat_map (λ r. flat_map (waits_line (object_of object.hall.object) r.call) r.whys) rows
+
+-- what is known of operations are the nodes that refuse a start of them now
+abbrev pub AreKnown : Scene → List Refusing → Type 0
+AreKnown object all = Every (λ (r : Refusing). AreWhys object r.operation (whys_of r.reasons.items)) all

@@ -8,12 +8,12 @@ ghost use Rattle.client_core.specs.People.{people_of, name_in, since_in, called_
 ghost use Rattle.live_core.specs.Hall.{Every};
 ghost use Rattle.told_core.specs.State.{peers_of, opened_in};
 ghost use Rattle.told_core.specs.Inside.{is_asked, sits_in, sitting_from, AreSitting, seat_name, last_told, is_between, waiting_in};
-ghost use Rattle.told_core.specs.Inside.{is_caller, calls_at, WaitsFor, IsWho};
+ghost use Rattle.told_core.specs.Inside.{is_caller, calls_at, AreWhys, WaitsFor, IsWho};
 ghost use Rattle.decl_core.specs.ObjectMap.{object_of};
-ghost use Rattle.hosted_core.specs.Scene.{told_of};
+ghost use Rattle.hosted_core.specs.Scene.{Scene, told_of};
 ghost use Rattle.why_core.specs.Found.{whys_of};
 ghost use Rattle.inside_text.specs.Who.{waits_line};
-ghost use Rattle.inside_core.specs.Adds.{crowd_of, AddsSeats, AddsWaits};
+ghost use Rattle.inside_core.specs.Adds.{crowd_of, AddsSeats, AddsWaits, AreKnown};
 
 use crate::why::reasons_of;
 use client_core::client::Opened;
@@ -22,11 +22,15 @@ use hosted_core::hosted::Hosted;
 use inside_text::who::{Seat, Waiting, push_seat, push_waits, push_who};
 use live_core::call::Call;
 use path_tree::name::Name;
+use path_tree::node::OpId;
 use std::alloc::{AllocError, Global};
 use why_core::reason::Reason;
 
 // At most so many sessions are told.
 const MOST_TOLD: usize = 256;
+
+// The lines of a session and of its call that waits have some so many bytes.
+const USUAL_LINES: usize = 96;
 
 /// Who is asked for: those that have opened the object at a place by sessions of this number and of greater ones, in this
 /// second.
@@ -38,6 +42,13 @@ pub struct Whom {
     pub from: u64,
     /// The second.
     pub second: u64,
+}
+
+// The nodes that refuse a start of an operation now.
+#[derive(Drop)]
+struct Refusing {
+    operation: OpId,
+    reasons: Vec<Reason>,
 }
 
 // Whether one that has opened an object is asked for.
@@ -206,14 +217,10 @@ fn push_seats(
 ) -> Result<(), AllocError>
     ensures { OnOk result (AddsSeats (crowd_of clients.now whom) seats.now out.old.items out.new.items) }
 {
-    match seats.split_first() {
-        None => Ok(()),
-        Some((first, rest)) => {
-            push_one(out, clients, whom, *first)?;
-            push_seats(out, clients, whom, rest)?;
-            Ok(())
-        }
+    for place in 0..seats.len() {
+        push_one(out, clients, whom, seats[place])?;
     }
+    Ok(())
 }
 
 // Whether one waits for a call of this session of the object at a place, of which it was told this number.
@@ -346,7 +353,42 @@ fn push_rows(
     push_waits(out, object.live().object(), call, reasons)
 }
 
-// Adds the lines of a call that waits. It answers how many.
+// Adds the lines of a call that waits, for these reasons. It answers how many.
+fn push_waiting(
+    out: &mut Vec<u8>,
+    clients: &Clients,
+    object: &Hosted,
+    whom: Whom,
+    seats: &[(usize, Opened)],
+    call: &Call,
+    reasons: &[Reason],
+) -> Result<usize, AllocError>
+    requires { AreWhys object.now call.now.operation (whys_of reasons.now) }
+    ensures { IfOk result (λ n. AddsWaits (crowd_of clients.now whom) seats.now object.now (call.now ∷ []) n out.old.items
+        out.new.items) }
+{
+    let waiting = waiting_of(clients, object, whom, seats, call);
+    push_rows(out, object, waiting, reasons)?;
+    Ok(count_of(reasons))
+}
+
+// The reasons that are known of an operation.
+fn reasons_in(known: &[Refusing], operation: OpId) -> Option<&[Reason]>
+    ensures { IfSome result (λ reasons. (object : Scene) → AreKnown object known.now →
+        AreWhys object operation (whys_of reasons.now)) }
+{
+    match known {
+        [] => None,
+        [first, more @ ..] => {
+            if first.operation == operation {
+                return Some(&first.reasons);
+            }
+            reasons_in(more, operation)
+        }
+    }
+}
+
+// Adds the lines of a call that waits. It answers how many. What is found of its operation is known then.
 fn push_call(
     alloc: Global,
     out: &mut Vec<u8>,
@@ -354,15 +396,23 @@ fn push_call(
     object: &Hosted,
     whom: Whom,
     seats: &[(usize, Opened)],
+    known: &mut Vec<Refusing>,
     call: &Call,
 ) -> Result<usize, AllocError>
-    ensures { IfOk result (λ n. AddsWaits (crowd_of clients.now whom) seats.now object.now (call.now ∷ []) n out.old.items
-        out.new.items) }
+    requires { AreKnown object.now known.old.items }
+    ensures lines { IfOk result (λ n. AddsWaits (crowd_of clients.now whom) seats.now object.now (call.now ∷ []) n
+        out.old.items out.new.items) }
+    ensures known { OnOk result (AreKnown object.now known.new.items) }
 {
-    let reasons = reasons_of(alloc, object, call.operation())?;
-    let waiting = waiting_of(clients, object, whom, seats, call);
-    push_rows(out, object, waiting, &reasons)?;
-    Ok(count_of(&reasons))
+    let operation = call.operation();
+    if let Some(reasons) = reasons_in(known.as_slice(), operation) {
+        let lines = push_waiting(out, clients, object, whom, seats, call, reasons)?;
+        return Ok(lines);
+    }
+    let reasons = reasons_of(alloc, object, operation)?;
+    let lines = push_waiting(out, clients, object, whom, seats, call, &reasons)?;
+    known.push(Refusing { operation, reasons })?;
+    Ok(lines)
 }
 
 // Whether a session is one of those that are told.
@@ -388,15 +438,18 @@ fn push_if(
     whom: Whom,
     seats: &[(usize, Opened)],
     last: Option<u16>,
+    known: &mut Vec<Refusing>,
     call: &Call,
 ) -> Result<usize, AllocError>
-    ensures { IfOk result (λ n. AddsWaits (crowd_of clients.now whom) seats.now object.now
+    requires { AreKnown object.now known.old.items }
+    ensures lines { IfOk result (λ n. AddsWaits (crowd_of clients.now whom) seats.now object.now
         (waiting_in whom.from last (call.now ∷ [])) n out.old.items out.new.items) }
+    ensures known { OnOk result (AreKnown object.now known.new.items) }
 {
     if !is_between(call.session(), whom.from, last) {
         return Ok(0);
     }
-    let lines = push_call(alloc, out, clients, object, whom, seats, call)?;
+    let lines = push_call(alloc, out, clients, object, whom, seats, known, call)?;
     Ok(lines)
 }
 
@@ -414,6 +467,7 @@ fn push_calls(
         (waiting_in whom.from last object.now.hall.waiting) n out.old.items out.new.items) }
 {
     let waiting = object.live().waiting();
+    let mut known = Vec::new(alloc);
     let mut lines: usize = 0;
     for place in 0..waiting.len() {
         let more = push_if(
@@ -424,6 +478,7 @@ fn push_calls(
             whom,
             seats,
             last,
+            &mut known,
             &waiting[place],
         )?;
         lines = sum_of(lines, more)?;
@@ -452,12 +507,12 @@ pub fn who_of(
 {
     let all = seated(alloc, clients, whom)?;
     let seats = told(&all);
-    let mut lines = Vec::new(alloc);
+    let mut lines = Vec::with_capacity(alloc, seats.len().saturating_mul(USUAL_LINES))?;
     push_seats(&mut lines, clients, whom, seats)?;
     let last = last_told(&all);
     let calls = push_calls(alloc, &mut lines, clients, object, whom, seats, last)?;
     let count = sum_of(seats.len(), calls)?;
-    let mut out = Vec::new(alloc);
+    let mut out = Vec::with_capacity(alloc, lines.len().saturating_add(USUAL_LINES))?;
     push_who(&mut out, count as u64)?;
     out.extend_from_slice(&lines)?;
     Ok(out)

@@ -1,11 +1,11 @@
 //! The answer to `who`.
 
-ghost use Rattle.std.specs.Prelude.{◌≡◌, ◌++◌, [], flat_map, OnOk, option_map};
+ghost use Rattle.std.specs.Prelude.{◌≡◌, ◌++◌, [], decimal, flat_map, OnOk, option_map};
 ghost use Rattle.decl_core.specs.ObjectMap.{object_of};
 ghost use Rattle.word_core.specs.Words.{words_text, behind_word};
 ghost use Rattle.why_core.specs.Found.{why_of, whys_of};
 ghost use Rattle.inside_text.specs.Why.{node_words};
-ghost use Rattle.inside_text.specs.Who.{who_line, seat_words, count_words, seat_line, call_words, waits_line};
+ghost use Rattle.inside_text.specs.Who.{who_line, seat_words, count_words, time_words, seat_line, call_words, waits_line};
 
 use crate::name::name_of;
 use decl_core::object::Object;
@@ -13,7 +13,8 @@ use path_tree::name::Name;
 use path_tree::node::OpId;
 use std::alloc::AllocError;
 use why_core::reason::{Lack, Reason};
-use word_core::line::{push_line, push_more, push_words};
+use word_core::line::push_line;
+use word_core::print::push_integer;
 use word_core::word::Written;
 
 /// A session, for how many seconds it is there, where that is known, and how many calls it made.
@@ -48,25 +49,30 @@ pub fn push_who(out: &mut Vec<u8>, lines: u64) -> Result<(), AllocError>
     push_line(out, &[Written::Bare(b"who"), Written::Integer(lines)])
 }
 
+// Adds a number behind these bytes.
+fn push_behind(out: &mut Vec<u8>, front: &[u8], number: u64) -> Result<(), AllocError>
+    ensures { OnOk result (out.new.items ≡ out.old.items ++ (front.now ++ decimal number)) }
+{
+    out.extend_from_slice(front)?;
+    push_integer(out, number)
+}
+
+// Adds ` for T`, where it is known.
+fn push_time(out: &mut Vec<u8>, seconds: Option<u64>) -> Result<(), AllocError>
+    ensures { OnOk result (out.new.items ≡ out.old.items ++ behind_word (time_words seconds)) }
+{
+    match seconds {
+        None => Ok(()),
+        Some(seconds) => push_behind(out, b" for ", seconds),
+    }
+}
+
 // Adds `session sS`, and for how long it is there where that is known.
 fn push_session(out: &mut Vec<u8>, seat: Seat) -> Result<(), AllocError>
     ensures { OnOk result (out.new.items ≡ out.old.items ++ words_text (seat_words seat)) }
 {
-    match seat.seconds {
-        None => push_words(
-            out,
-            &[Written::Bare(b"session"), Written::Session(seat.session)],
-        ),
-        Some(seconds) => push_words(
-            out,
-            &[
-                Written::Bare(b"session"),
-                Written::Session(seat.session),
-                Written::Bare(b"for"),
-                Written::Integer(seconds),
-            ],
-        ),
-    }
+    push_behind(out, b"session s", seat.session)?;
+    push_time(out, seat.seconds)
 }
 
 // Adds ` calls C`, and the name where there is one.
@@ -74,17 +80,13 @@ fn push_count(out: &mut Vec<u8>, calls: u64, name: Option<&Name>) -> Result<(), 
     ensures { OnOk result (out.new.items ≡ out.old.items
         ++ behind_word (count_words calls (option_map (λ n. n.now) name.entry))) }
 {
+    push_behind(out, b" calls ", calls)?;
     match name {
-        None => push_more(out, &[Written::Bare(b"calls"), Written::Integer(calls)]),
-        Some(name) => push_more(
-            out,
-            &[
-                Written::Bare(b"calls"),
-                Written::Integer(calls),
-                Written::Bare(b"name"),
-                Written::Bare(name.as_bytes()),
-            ],
-        ),
+        None => Ok(()),
+        Some(name) => {
+            out.extend_from_slice(b" name ")?;
+            out.extend_from_slice(name.as_bytes())
+        }
     }
 }
 
@@ -102,56 +104,22 @@ pub fn push_seat(out: &mut Vec<u8>, seat: Seat, name: Option<&Name>) -> Result<(
 fn push_call(out: &mut Vec<u8>, object: &Object, call: Waiting) -> Result<(), AllocError>
     ensures { OnOk result (out.new.items ≡ out.old.items ++ words_text (call_words (object_of object.now) call)) }
 {
-    match call.seconds {
-        None => push_words(
-            out,
-            &[
-                Written::Bare(b"waits"),
-                Written::Integer(call.number),
-                Written::Session(call.session),
-                Written::Bare(name_of(object, call.operation)),
-            ],
-        ),
-        Some(seconds) => push_words(
-            out,
-            &[
-                Written::Bare(b"waits"),
-                Written::Integer(call.number),
-                Written::Session(call.session),
-                Written::Bare(name_of(object, call.operation)),
-                Written::Bare(b"for"),
-                Written::Integer(seconds),
-            ],
-        ),
-    }
+    push_behind(out, b"waits ", call.number)?;
+    push_behind(out, b" s", call.session)?;
+    out.push(b' ')?;
+    out.extend_from_slice(name_of(object, call.operation))?;
+    push_time(out, call.seconds)
 }
 
 // Adds ` path P node K full` or ` path P node K turn J`.
 fn push_node(out: &mut Vec<u8>, reason: &Reason) -> Result<(), AllocError>
     ensures { OnOk result (out.new.items ≡ out.old.items ++ behind_word (node_words (why_of reason.now) [])) }
 {
+    push_behind(out, b" path ", reason.path as u64)?;
+    push_behind(out, b" node ", reason.node as u64)?;
     match reason.lack {
-        Lack::Full => push_more(
-            out,
-            &[
-                Written::Bare(b"path"),
-                Written::Integer(reason.path as u64),
-                Written::Bare(b"node"),
-                Written::Integer(reason.node as u64),
-                Written::Bare(b"full"),
-            ],
-        ),
-        Lack::Turn(turn) => push_more(
-            out,
-            &[
-                Written::Bare(b"path"),
-                Written::Integer(reason.path as u64),
-                Written::Bare(b"node"),
-                Written::Integer(reason.node as u64),
-                Written::Bare(b"turn"),
-                Written::Integer(turn as u64),
-            ],
-        ),
+        Lack::Full => out.extend_from_slice(b" full"),
+        Lack::Turn(turn) => push_behind(out, b" turn ", turn as u64),
     }
 }
 

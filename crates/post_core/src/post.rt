@@ -130,7 +130,11 @@ fn cut(places: &mut Vec<Place>, at: usize, n: usize)
         ≡ (if at == k then drop n (owed_in (slice_get places.old.items k)) else owed_in (slice_get places.old.items k)) }
     ensures stage { (c k : ℕ) → stage_in c (slice_get places.new.items k) ≡ stage_in c (slice_get places.old.items k) }
 {
-    places[at].owed.drain(..n);
+    if n == places[at].owed.len() {
+        places[at].owed.clear();
+    } else {
+        places[at].owed.drain(..n);
+    }
     places[at].owed.shrink_to(MOST_ROOM);
 }
 

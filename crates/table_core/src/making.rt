@@ -1,6 +1,6 @@
 //! Calls: made, told, and cancelled.
 
-ghost use Rattle.std.specs.Prelude.{◌≡◌, [], Some, true, false, OnOk, OnErr, IfOk, slice_get};
+ghost use Rattle.std.specs.Prelude.{◌≡◌, ◌<◌, [], Some, true, false, OnOk, OnErr, IfOk, length, slice_get};
 ghost use Rattle.script_text.specs.Answers.{cancelled_line};
 ghost use Rattle.session_text.specs.Lines.{cancel_name, ended_text, withdrawn_text};
 ghost use Rattle.ask_core.specs.declared.answer.Cancelled.TheVariants as answers;
@@ -8,6 +8,7 @@ ghost use Rattle.client_core.specs.declared.client.Opened.{Opened as AnOpened};
 ghost use Rattle.hosted_core.specs.declared.hosted.Keyed.TheVariants as keys;
 ghost use Rattle.hosted_core.specs.Scene.{Scene, told_of};
 ghost use Rattle.post_core.specs.Posts.{Tells};
+ghost use Rattle.tally_core.specs.Tallies.{CountsTaken};
 ghost use Rattle.told_core.specs.Asked.{Sits, Ends, AllEnd, AnswersCall, AnswersCancel, keyed_text};
 ghost use Rattle.told_core.specs.Deeds.{OnlyTold};
 ghost use Rattle.told_core.specs.State.{counted, opened_at, session_by};
@@ -321,7 +322,8 @@ impl Table {
         Ok(())
     }
 
-    // A call was taken: its client is told so, and each client of those that ran the last line of its call.
+    // A call was taken: its client is told so, and each client of those that ran the last line of its call. All that is
+    // counted.
     fn taken(
         &mut self,
         place: usize,
@@ -329,14 +331,17 @@ impl Table {
         taken: &Taken,
         post: &mut Post,
     ) -> Result<(), AllocError>
-        ensures { OnOk result ((object : Scene) → slice_get self.old.objects.items seat.object ≡ Some object
+        ensures brings { OnOk result ((object : Scene) → slice_get self.old.objects.items seat.object ≡ Some object
             → Brings (TellsTaken place seat taken.now object) post.old (seen self.old) post.new (seen self.new)) }
+        ensures counts { OnOk result (seat.object < length self.old.tallies.objects.items
+            → CountsTaken seat.object taken.now self.old.tallies.objects.items self.new.tallies.objects.items) }
     {
         let at = seat.object;
         let told = told_at(&self.objects, at, taken.number);
         tell_accepted(&self.clients, &mut self.line, place, told, post)?;
         open_called(&mut self.clients, place, counted(seat, told), self.second);
         self.all_ended(at, &taken.ran, post)?;
+        self.tallies.count(at, taken);
         Ok(())
     }
 
@@ -347,8 +352,9 @@ impl Table {
         all: &[Ran],
         post: &mut Post,
     ) -> Result<(), AllocError>
-        ensures { OnOk result ((object : Scene) → slice_get self.old.objects.items at ≡ Some object
+        ensures brings { OnOk result ((object : Scene) → slice_get self.old.objects.items at ≡ Some object
             → Brings (AllEnd at object all.now) post.old (seen self.old) post.new (seen self.new)) }
+        ensures uncounted { self.new.tallies ≡ self.old.tallies }
     {
         match all.split_first() {
             None => Ok(()),
@@ -366,6 +372,7 @@ impl Table {
             → Brings (Ends at ran.now.call.session (told_of object ran.now.call.number) (ended_text (told_of object ran.now.call.number) ran.now.reply)) post.old
             (seen self.old) post.new (seen self.new)) }
         ensures same { self.new.objects ≡ self.old.objects }
+        ensures uncounted { self.new.tallies ≡ self.old.tallies }
     {
         let session = ran.call.session();
         let told = told_at(&self.objects, at, ran.call.number());

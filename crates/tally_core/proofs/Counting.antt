@@ -9,8 +9,8 @@ use Rattle.apply_core.specs.declared.reply.Reply.{Reply}
 use Rattle.apply_core.specs.declared.reply.Reply.TheVariants.{Done, Refused, Failed}
 use Rattle.live_core.specs.declared.call.Ran.{Ran}
 use Rattle.tally_core.specs.declared.tallies.CallEnds.{CallEnds}
-use Rattle.tally_core.specs.Tallies.{nones, next, more, put_more, counted}
-use Rattle.tally_core.specs.Laws.{is_done, is_refused, is_failed, ends_sum, sum_of, AreKnown, CountsAreOfTheCalls, SumsGrowAsTheHistory}
+use Rattle.tally_core.specs.Tallies.{nones, next, more, put_more, counted, counted_all, ends_of, taken_of}
+use Rattle.tally_core.specs.Laws.{is_done, is_refused, is_failed, ends_sum, sum_of, AreKnown, CountsAreOfTheCalls, SumsGrowAsTheHistory, TakenIsCounted}
 
 next_is : (n : ℕ) → n + 1 < 2 ^ 64 → next n ≡ n + 1
 next_is n small = min-eq_left (omega (arith, small))
@@ -140,6 +140,30 @@ sums_grow es (r ∷ rs) small known =
     let later = sums_grow (counted r es) rs (omega (arith, small, sum))
     (known_in (length es) (length (counted r es)) rs (sym (put_length es at r.reply (slice_get es at))) known.1) in
     omega (arith, sum, later)
+
+-- a value that is chosen by a test
+chosen : {X : Type 0} (b : Bool) (x y z : X) → z ≡ (if b then x else y) → b ≡ true → z ≡ x
+chosen b x y z is holds = subst (λ (t : Bool). z ≡ (if t then x else y)) holds is
+
+left : {X : Type 0} (b : Bool) (x y z : X) → z ≡ (if b then x else y) → b ≡ false → z ≡ y
+left b x y z is fails = subst (λ (t : Bool). z ≡ (if t then x else y)) fails is
+
+is_itself : (n : ℕ) → (n == n) ≡ true
+is_itself n = elim (eqb_tells n n) [ inl x ↦ x.0 | inr x ↦ absurd (x.1 refl) ]
+
+pub taken_counted : TakenIsCounted
+taken_counted at taken old new counts one small known =
+    let here : taken_of (slice_get new at) ≡ next (taken_of (slice_get old at)) =
+    chosen (at == at) (next (taken_of (slice_get old at))) (taken_of (slice_get old at)) (taken_of (slice_get new at)) (counts.calls at) (is_itself at) in
+    let ends : ends_of (slice_get new at) ≡ counted_all taken.ran.items (ends_of (slice_get old at)) =
+    chosen (at == at) (counted_all taken.ran.items (ends_of (slice_get old at))) (ends_of (slice_get old at)) (ends_of (slice_get new at)) (counts.ends at) (is_itself at) in (
+      here ∙ next_is (taken_of (slice_get old at)) one,
+      ap sum_of ends ∙ sums_grow (ends_of (slice_get old at)) taken.ran.items small known,
+      λ k other. (
+        left (at == k) (next (taken_of (slice_get old k))) (taken_of (slice_get old k)) (taken_of (slice_get new k)) (counts.calls k) other,
+        left (at == k) (counted_all taken.ran.items (ends_of (slice_get old k))) (ends_of (slice_get old k)) (ends_of (slice_get new k)) (counts.ends k) other,
+      ),
+    )
 
 -- one operation more
 nones_push : (n : ℕ) → nones n ++ record { done = 0; refused = 0; failed = 0 } ∷ [] ≡ nones (suc n)

@@ -3,8 +3,10 @@ use Rattle.std.specs.Prelude.{◌≡◌, ◌<◌, ℕ, ◌+◌, ◌^◌, ◌==�
 use Rattle.apply_core.specs.declared.reply.Reply.{Reply}
 use Rattle.apply_core.specs.declared.reply.Reply.TheVariants.{Done, Refused, Failed}
 use Rattle.live_core.specs.declared.call.Ran.{Ran}
+use Rattle.live_core.specs.declared.live.Taken.{Taken}
 use Rattle.tally_core.specs.declared.tallies.CallEnds.{CallEnds}
-use Rattle.tally_core.specs.Tallies.{counted_all}
+use Rattle.tally_core.specs.declared.tallies.ObjectTally.{ObjectTally}
+use Rattle.tally_core.specs.Tallies.{CountsTaken, counted_all, ends_of, taken_of}
 
 abbrev pub is_done : Reply → Bool
 is_done (Done value) = true
@@ -52,3 +54,15 @@ abbrev pub SumsGrowAsTheHistory : Type 0
 SumsGrowAsTheHistory =
     (es : List CallEnds) (all : List Ran) → sum_of es + length all < 2 ^ 64 → AreKnown (length es) all →
     sum_of (counted_all all es) ≡ sum_of es + length all
+
+-- A call that was taken is one more that was taken of its object, and all counts of ends of this object are more by the
+-- calls that ran, as long as there are numbers for them; another object has the counts that it had.
+abbrev pub TakenIsCounted : Type 0
+TakenIsCounted =
+    (at : ℕ) (taken : Taken) (old new : List ObjectTally) → CountsTaken at taken old new →
+    taken_of (slice_get old at) + 1 < 2 ^ 64 → sum_of (ends_of (slice_get old at)) + length taken.ran.items < 2 ^ 64 →
+    AreKnown (length (ends_of (slice_get old at))) taken.ran.items →
+    (taken_of (slice_get new at) ≡ taken_of (slice_get old at) + 1)
+    × (sum_of (ends_of (slice_get new at)) ≡ sum_of (ends_of (slice_get old at)) + length taken.ran.items)
+    × ((k : ℕ) → (at == k) ≡ false →
+    (taken_of (slice_get new k) ≡ taken_of (slice_get old k)) × (ends_of (slice_get new k) ≡ ends_of (slice_get old k)))

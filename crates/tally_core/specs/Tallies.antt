@@ -1,8 +1,9 @@
 -- Counts of calls that ran.
-use Rattle.std.specs.Prelude.{◌≡◌, ℕ, zero, suc, ◌+◌, ◌-◌, ◌^◌, List, [], ◌∷◌, ◌++◌, Option, Some, None, min, slice_get, slice_set}
+use Rattle.std.specs.Prelude.{◌≡◌, ℕ, zero, suc, ◌+◌, ◌-◌, ◌^◌, List, [], ◌∷◌, ◌++◌, ◌==◌, Option, Some, None, min, slice_get, slice_set, if◌then◌else◌}
 use Rattle.apply_core.specs.declared.reply.Reply.{Reply}
 use Rattle.apply_core.specs.declared.reply.Reply.TheVariants.{Done, Refused, Failed}
 use Rattle.live_core.specs.declared.call.Ran.{Ran}
+use Rattle.live_core.specs.declared.live.Taken.{Taken}
 use Rattle.tally_core.specs.declared.tallies.CallEnds.{CallEnds}
 use Rattle.tally_core.specs.declared.tallies.ObjectTally.{ObjectTally}
 
@@ -50,3 +51,11 @@ pub record HasOneMore (operations : ℕ) (old new : List ObjectTally) : Type 0 w
   pub untaken : tally.taken ≡ 0
   pub unended : tally.ends.items ≡ nones operations
   pub behind : new ≡ old ++ tally ∷ []
+
+-- A call of the object at a place was taken: it is counted there, and so is the end of each call that ran. Of the other
+-- objects the counts are as they were.
+pub record CountsTaken (at : ℕ) (taken : Taken) (old new : List ObjectTally) : Type 0 where
+  pub ends : (k : ℕ) → ends_of (slice_get new k)
+      ≡ (if at == k then counted_all taken.ran.items (ends_of (slice_get old k)) else ends_of (slice_get old k))
+  pub calls : (k : ℕ) → taken_of (slice_get new k)
+      ≡ (if at == k then next (taken_of (slice_get old k)) else taken_of (slice_get old k))

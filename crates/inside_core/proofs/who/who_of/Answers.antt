@@ -15,7 +15,7 @@ returns c =
     who_is crowd c.args.object.now c.args.whom.from all c.in_ok-calls.calls c.in_ok-count.count c.push_seats.new.out.items
     c.push_calls.new.out.items c.push_who.new.out.items c.extend_from_slice.new.self.items c.in_ok-all.ensures
     (subst (λ (l : List (ℕ × Opened)). AddsSeats crowd l [] c.push_seats.new.out.items) few
-    (subst (λ l. AddsSeats crowd c.told-seats.result.now l c.push_seats.new.out.items) c.new-lines.ensures.items c.in_ok-push_seats.ensures))
+    (subst (λ l. AddsSeats crowd c.told-seats.result.now l c.push_seats.new.out.items) c.in_ok-lines.ensures.items c.in_ok-push_seats.ensures))
     (subst
     (λ (l : List (ℕ × Opened)). AddsWaits crowd l c.args.object.now (waiting_in c.args.whom.from (last_told all) c.args.object.now.hall.waiting) c.in_ok-calls.calls c.push_seats.new.out.items c.push_calls.new.out.items)
     few
@@ -23,5 +23,5 @@ returns c =
     (λ o. AddsWaits crowd c.told-seats.result.now c.args.object.now (waiting_in c.args.whom.from o c.args.object.now.hall.waiting) c.in_ok-calls.calls c.push_seats.new.out.items c.push_calls.new.out.items)
     last c.in_ok-calls.ensures))
     (subst (λ (l : List (ℕ × Opened)). c.in_ok-count.count ≡ length l + c.in_ok-calls.calls) few c.in_ok-count.ensures)
-    (c.in_ok-push_who.ensures ∙ ap (λ l. l ++ who_line c.in_ok-count.count) c.new-out.ensures.items)
+    (c.in_ok-push_who.ensures ∙ ap (λ l. l ++ who_line c.in_ok-count.count) c.in_ok-out.ensures.items)
     (c.in_ok-extend_from_slice.ensures.items ∙ ap (λ l. c.push_who.new.out.items ++ l) c.deref-3.ensures.value)

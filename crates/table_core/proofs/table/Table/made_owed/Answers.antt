@@ -11,7 +11,7 @@ pub returns : goal.returns
 returns c = λ object there.
     let told : Brings (AllEnd c.args.at object c.args.taken.now.ran.items) c.args.post.now (seen c.args.self.now) c.all_ended.new.post (seen c.all_ended.new.self) =
     subst (λ (l : List Ran). Brings (AllEnd c.args.at object l) c.args.post.now (seen c.args.self.now) c.all_ended.new.post (seen c.all_ended.new.self))
-    c.deref.ensures.value (c.in_ok-all_ended.ensures object there) in
+    c.deref.ensures.value (c.in_ok-all_ended.ensures.brings object there) in
     ends_all c.args.post.now c.all_ended.new.post (seen c.args.self.now) (seen c.all_ended.new.self) (seen c.follow.new.self) c.args.at object c.args.taken.now.ran.items told
     (c.in_ok-follow.ensures object
     (ap (λ (l : List Scene). slice_get l c.args.at)

@@ -1,5 +1,0 @@
-use Rattle.std.proofs.Common.{length}
-use Rattle.inside_core.proofs.who.+push_seats.Given as goal
-
-abbrev pub decreases-push_seats : goal.decreases-push_seats
-decreases-push_seats l = length l.seats.now
